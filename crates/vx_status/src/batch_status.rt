@@ -1,0 +1,28 @@
+ghost use Rattle.std.specs.Prelude.{◌≡◌};
+ghost use Rattle.vx_status.specs.Tables.{batch_update};
+
+use crate::event_status::EventStatus;
+
+/// The status of a batch. Each batch begins as `Delivered`.
+#[derive(Clone, Copy, PartialEq, Eq, Debug)]
+pub enum BatchStatus {
+    Delivered,
+    Errored,
+    Rejected,
+}
+
+/// A batch's status after the status of one more event of it.
+pub fn batch_update(old: BatchStatus, event: EventStatus) -> BatchStatus
+    ensures { result ≡ batch_update old event }
+{
+    match (old, event) {
+        (BatchStatus::Delivered, EventStatus::Dropped | EventStatus::Delivered) => {
+            BatchStatus::Delivered
+        }
+        (BatchStatus::Delivered, EventStatus::Errored) => BatchStatus::Errored,
+        (BatchStatus::Delivered, EventStatus::Rejected) => BatchStatus::Rejected,
+        (BatchStatus::Errored, EventStatus::Rejected) => BatchStatus::Rejected,
+        (BatchStatus::Errored, _) => BatchStatus::Errored,
+        (BatchStatus::Rejected, _) => BatchStatus::Rejected,
+    }
+}

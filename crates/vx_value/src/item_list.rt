@@ -1,0 +1,120 @@
+ghost use Rattle.std.specs.Prelude.{◌≡◌, ℕ, ◌+◌, ◌<◌, ◌↔◌, [], ◌∷◌, ◌++◌, List, length, OnOk, OnErr, IfOk, IfErr, IfSome, IfNone, IsNone, IsTrue, slice_get, slice_index_or};
+ghost use Rattle.std.specs.Option.{option_copied};
+
+use crate::want_of_memory::WantOfMemory;
+use std::alloc::Global;
+use std::marker::Model;
+
+/// A list that contracts see as the list of its items.
+///
+/// Where the items must be used up, so must the list: `pop` takes them out, and `end` ends it.
+#[derive(Drop)]
+pub struct ItemList<T> {
+    items: Vec<T>,
+}
+
+/// A list of numbers, as those of copies.
+pub type NumberList = ItemList<u64>;
+
+impl<T> Model for ItemList<T> {
+    ghost use Rattle.std.specs.Prelude.{List};
+
+    ghost Value = { List T };
+
+    ghost view = { λ l. l.items.items };
+}
+
+impl<T> ItemList<T> {
+    /// The empty list. It takes no memory.
+    pub fn new(alloc: Global) -> Self
+        ensures { result ≡ [] }
+    {
+        ItemList {
+            items: Vec::new(alloc),
+        }
+    }
+
+    /// The list of a vector's items. It takes no memory.
+    pub fn from_vec(items: Vec<T>) -> Self
+        ensures { result ≡ items.items }
+    {
+        ItemList { items }
+    }
+
+    /// The vector of the list's items. It takes no memory.
+    pub fn into_vec(self) -> Vec<T>
+        ensures { result.items ≡ self }
+    {
+        let ItemList { items } = self;
+        items
+    }
+
+    /// How many items there are.
+    pub fn len(&self) -> usize
+        ensures { result ≡ length self.now }
+    {
+        self.items.len()
+    }
+
+    /// Whether there is no item.
+    pub fn is_empty(&self) -> bool
+        ensures { IsTrue result ↔ (self.now ≡ []) }
+    {
+        self.items.is_empty()
+    }
+
+    /// The items, in order.
+    pub fn as_slice(&self) -> &[T]
+        ensures { result.now ≡ self.now }
+    {
+        self.items.as_slice()
+    }
+
+    /// The item at an index, counted from 0. `None` exactly where the index isn't below the length.
+    pub fn get(&self, i: usize) -> Option<&T>
+        ensures { option_copied result ≡ slice_get self.now i }
+    {
+        self.items.get(i)
+    }
+
+    /// Adds an item at the end. For want of memory the item comes back, and the list is as before.
+    pub fn push(&mut self, item: T) -> Result<(), T>
+        ensures ok { OnOk result (self.new ≡ self.old ++ item ∷ []) }
+        ensures err { OnErr result (self.new ≡ self.old) }
+        ensures back { IfErr result (λ x. x ≡ item) }
+    {
+        match self.items.push(item) {
+            Ok(()) => Ok(()),
+            Err(full) => Err(full.value),
+        }
+    }
+
+    /// Takes the last item. `None` exactly where the list is empty.
+    pub fn pop(&mut self) -> Option<T>
+        ensures some { IfSome result (λ x. self.old ≡ self.new ++ x ∷ []) }
+        ensures none { IsNone result ↔ (self.old ≡ []) }
+        ensures empty { IfNone result (self.new ≡ []) }
+    {
+        self.items.pop()
+    }
+
+    /// Ends an empty list.
+    pub fn end(self)
+        requires { self ≡ [] }
+    {
+        let ItemList { items } = self;
+        items.destroy_empty();
+    }
+}
+
+impl ItemList<u64> {
+    /// The same numbers once more.
+    pub fn copy(&self) -> Result<NumberList, WantOfMemory>
+        ensures { IfOk result (λ numbers. numbers ≡ self.now) }
+    {
+        match self.items.clone() {
+            Ok(items) => Ok(ItemList { items }),
+            Err(_) => Err(WantOfMemory),
+        }
+    }
+}

@@ -1,0 +1,61 @@
+ghost use Rattle.std.specs.Prelude.{◌≡◌, ℕ, ◌↔◌, List, IfOk, IsTrue, string_bytes};
+ghost use Rattle.std.specs.Str.{IsUtf8};
+ghost use Rattle.std.specs.Str.Lossy.{utf8_lossy};
+
+use crate::item_list::ItemList;
+use crate::want_of_memory::WantOfMemory;
+use std::alloc::Global;
+use std::marker::Model;
+
+/// A text in UTF-8. Contracts see it as the list of its bytes.
+#[derive(Drop)]
+pub struct Text {
+    text: String,
+}
+
+/// A list of texts.
+pub type TextList = ItemList<Text>;
+
+impl Model for Text {
+    ghost use Rattle.std.specs.Prelude.{List, ℕ, string_bytes};
+
+    ghost Value = { List ℕ };
+
+    ghost view = { λ t. string_bytes t.text };
+}
+
+impl Text {
+    /// A copy of a text.
+    pub fn copy_of(alloc: Global, text: &str) -> Result<Self, WantOfMemory>
+        ensures { IfOk result (λ copy. copy ≡ text.now) }
+    {
+        match String::from_str(alloc, text) {
+            Ok(text) => Ok(Text { text }),
+            Err(_) => Err(WantOfMemory),
+        }
+    }
+
+    /// The text of some bytes, in which U+FFFD stands for each longest part that is no UTF-8.
+    pub fn lossy(alloc: Global, bytes: &[u8]) -> Result<Self, WantOfMemory>
+        ensures { IfOk result (λ text. text ≡ utf8_lossy bytes.now) }
+    {
+        match String::from_utf8_lossy(alloc, bytes) {
+            Ok(text) => Ok(Text { text }),
+            Err(_) => Err(WantOfMemory),
+        }
+    }
+
+    /// The text.
+    pub fn as_str(&self) -> &str
+        ensures { result.now ≡ self.now }
+    {
+        self.text.as_str()
+    }
+
+    /// The same text once more.
+    pub fn copy(&self, alloc: Global) -> Result<Self, WantOfMemory>
+        ensures { IfOk result (λ copy. copy ≡ self.now) }
+    {
+        Text::copy_of(alloc, self.text.as_str())
+    }
+}
