@@ -1,0 +1,147 @@
+-- What a port tells, and how a call changes it.
+use Rattle.std.specs.Prelude.{◌<◌, ◌≡◌, ◌⊎◌, ◌^◌, ◌-◌, ℕ, ◌≤◌, ◌==◌, if◌then◌else◌, List, [], ◌∷◌, ◌++◌, take, Bool, true, false, Result, Ok, Err, IsErrOf, Option, Some, None, IfSome, IsSomeAnd, Contains}
+use Rattle.vx_ends.specs.declared.trouble.Trouble.{Trouble}
+use Rattle.vx_ends.specs.declared.trouble.Trouble.TheVariants.{Failed, Refused}
+use Rattle.vx_ends.specs.declared.port.Took.{Took}
+use Rattle.vx_ends.specs.declared.port.Took.TheVariants.{Bytes, StreamEnded, AllEnded, Idle}
+use Rattle.vx_ends.specs.declared.position.Position.{Position}
+use Rattle.vx_ends.specs.declared.port_spec.PortSpec.{PortSpec}
+
+-- What a port tells. `None` says nothing.
+pub record Told : Type 0 where
+  -- the bytes that were taken of a stream
+  pub taken : ℕ → Option (List ℕ)
+  -- the bytes of a stream that are left to take
+  pub left : ℕ → Option (List ℕ)
+  -- the bytes that were given
+  pub given : Option (List ℕ)
+  -- the positions that were confirmed, in order
+  pub confirmed : Option (List Position)
+  -- what the port was made for
+  pub spec : Option PortSpec
+  -- the streams that have ended, in order
+  pub ended : List ℕ
+  -- whether it told the end of all
+  pub over : Bool
+  -- whether it is started and not closed since
+  pub started : Bool
+  -- its counts
+  pub faults : ℕ
+  pub idles : ℕ
+  pub refusals : ℕ
+
+-- a port that was just made: closed, with counts of 0, and nothing went through it
+pub record IsFresh (spec : PortSpec) (told : Told) : Type 0 where
+  pub taken : (stream : ℕ) → IfSome (told.taken stream) (λ bytes. bytes ≡ [])
+  pub given : IfSome told.given (λ bytes. bytes ≡ [])
+  pub confirmed : IfSome told.confirmed (λ positions. positions ≡ [])
+  pub made_for : IfSome told.spec (λ made. made ≡ spec)
+  pub ended : told.ended ≡ []
+  pub over : told.over ≡ false
+  pub closed : told.started ≡ false
+  pub faults : told.faults ≡ 0
+  pub idles : told.idles ≡ 0
+  pub refusals : told.refusals ≡ 0
+
+-- a list has this more at its end, where it is told; it is told afterwards exactly where it was before
+abbrev pub Grows : {X : Type 0} → Option (List X) → Option (List X) → List X → Type 0
+Grows None new more = new ≡ None
+Grows (Some old) new more = new ≡ Some (old ++ more)
+
+-- a list has lost these at its front, where it is told; it is told afterwards exactly where it was before
+abbrev pub Shrinks : {X : Type 0} → Option (List X) → Option (List X) → List X → Type 0
+Shrinks None new gone = new ≡ None
+Shrinks (Some old) new gone = IsSomeAnd new (λ rest. old ≡ gone ++ rest)
+
+-- no byte went in or out, no stream has ended, and nothing was confirmed
+pub record SameBytes (old new : Told) : Type 0 where
+  pub taken : new.taken ≡ old.taken
+  pub left : new.left ≡ old.left
+  pub given : new.given ≡ old.given
+  pub confirmed : new.confirmed ≡ old.confirmed
+  pub spec : new.spec ≡ old.spec
+  pub ended : new.ended ≡ old.ended
+  pub over : new.over ≡ old.over
+
+-- what a take leaves as it was
+pub record SameTelling (old new : Told) : Type 0 where
+  pub given : new.given ≡ old.given
+  pub confirmed : new.confirmed ≡ old.confirmed
+  pub spec : new.spec ≡ old.spec
+  pub started : new.started ≡ old.started
+
+-- a count that rose; at the end of its type it stands still
+abbrev pub Rose : ℕ → ℕ → Type 0
+Rose before now = (before < now) ⊎ (before ≡ 2 ^ 64 - 1)
+
+-- the count of faults never falls, and rises where the answer is `Failed`
+pub record HasCause {T : Type 0} (before now : ℕ) (result : Result T Trouble) : Type 0 where
+  pub later : before ≤ now
+  pub failed : IsErrOf result Failed → Rose before now
+
+-- the count of refusals never falls, and rises where the answer is `Refused`
+pub record HasRefusal {T : Type 0} (before now : ℕ) (result : Result T Trouble) : Type 0 where
+  pub later : before ≤ now
+  pub refused : IsErrOf result Refused → Rose before now
+
+-- the count of idles never falls, and rises where the answer is `Idle`
+pub record HasIdle (before now : ℕ) (result : Result Took Trouble) : Type 0 where
+  pub later : before ≤ now
+  pub idle : result ≡ Ok Idle → Rose before now
+
+-- the bytes of a stream that a take brought into the buffer
+abbrev pub piece_of : ℕ → Result Took Trouble → List ℕ → List ℕ
+piece_of stream (Ok (Bytes from n)) buffer = if from == stream then take n buffer else []
+piece_of stream (Ok (StreamEnded from)) buffer = []
+piece_of stream (Ok AllEnded) buffer = []
+piece_of stream (Ok Idle) buffer = []
+piece_of stream (Err e) buffer = []
+
+-- the bytes that a give took over
+abbrev pub part_of : Result ℕ Trouble → List ℕ → List ℕ
+part_of (Ok n) bytes = take n bytes
+part_of (Err e) bytes = []
+
+-- the streams whose end a take told
+abbrev pub ended_by : Result Took Trouble → List ℕ
+ended_by (Ok (Bytes from n)) = []
+ended_by (Ok (StreamEnded from)) = from ∷ []
+ended_by (Ok AllEnded) = []
+ended_by (Ok Idle) = []
+ended_by (Err e) = []
+
+-- whether the end of all was told after a take, from whether it was told before it
+abbrev pub over_after : Bool → Result Took Trouble → Bool
+over_after was (Ok (Bytes from n)) = was
+over_after was (Ok (StreamEnded from)) = was
+over_after was (Ok AllEnded) = true
+over_after was (Ok Idle) = was
+over_after was (Err e) = was
+
+-- a take brings at least one byte, and no more than there is room for
+abbrev pub IsWithin : ℕ → Took → Type 0
+IsWithin room (Bytes from n) = (0 < n) × (n ≤ room)
+IsWithin room (StreamEnded from) = Unit {0}
+IsWithin room AllEnded = Unit {0}
+IsWithin room Idle = Unit {0}
+
+-- a take answers nothing of a stream that has ended
+abbrev pub IsOfOpen : List ℕ → Took → Type 0
+IsOfOpen ended (Bytes from n) = Contains ended from → ⊥
+IsOfOpen ended (StreamEnded from) = Contains ended from → ⊥
+IsOfOpen ended AllEnded = Unit {0}
+IsOfOpen ended Idle = Unit {0}
+
+-- at the end of all nothing is left of any stream, where that is told
+abbrev pub EndsAll : Told → Took → Type 0
+EndsAll told (Bytes from n) = Unit {0}
+EndsAll told (StreamEnded from) = Unit {0}
+EndsAll told AllEnded = (stream : ℕ) → IfSome (told.left stream) (λ rest. rest ≡ [])
+EndsAll told Idle = Unit {0}
+
+-- at the end of a stream nothing is left of it, where that is told
+abbrev pub EndsStream : Told → Took → Type 0
+EndsStream told (Bytes from n) = Unit {0}
+EndsStream told (StreamEnded from) = IfSome (told.left from) (λ rest. rest ≡ [])
+EndsStream told AllEnded = Unit {0}
+EndsStream told Idle = Unit {0}
