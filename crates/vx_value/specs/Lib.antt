@@ -1,1 +1,10 @@
+pub mod Texts
+pub mod Datum
+pub mod DatumCode
+pub mod Values
+pub mod Falls
+pub mod Events
+pub mod Places
+pub mod Paths
+pub mod Reads
 pub mod Filled

@@ -1,4 +1,4 @@
-ghost use Rattle.std.specs.Prelude.{◌≡◌, ℕ, ◌+◌, ◌<◌, ◌↔◌, [], ◌∷◌, ◌++◌, List, length, OnOk, OnErr, IfOk, IfErr, IfSome, IfNone, IsNone, IsTrue, slice_get, slice_index_or};
+ghost use Rattle.std.specs.Prelude.{◌≡◌, ℕ, ◌+◌, ◌<◌, ◌↔◌, [], ◌∷◌, ◌++◌, List, length, take, OnOk, OnErr, IfOk, IfErr, IfSome, IfNone, IsNone, IsTrue, slice_get, slice_index_or};
 ghost use Rattle.std.specs.Option.{option_copied};
 
 use crate::want_of_memory::WantOfMemory;
@@ -89,6 +89,22 @@ impl<T> ItemList<T> {
         }
     }
 
+    /// Adds a list's items at the end. For want of memory that list comes back, and this one is as before.
+    pub fn append(&mut self, other: ItemList<T>) -> Result<(), ItemList<T>>
+        ensures ok { OnOk result (self.new ≡ self.old ++ other) }
+        ensures err { OnErr result (self.new ≡ self.old) }
+        ensures back { IfErr result (λ items. items ≡ other) }
+    {
+        let mut other = other;
+        match self.items.append(&mut other.items) {
+            Ok(()) => {
+                other.end();
+                Ok(())
+            }
+            Err(_) => Err(other),
+        }
+    }
+
     /// Takes the last item. `None` exactly where the list is empty.
     pub fn pop(&mut self) -> Option<T>
         ensures some { IfSome result (λ x. self.old ≡ self.new ++ x ∷ []) }
@@ -104,6 +120,15 @@ impl<T> ItemList<T> {
     {
         let ItemList { items } = self;
         items.destroy_empty();
+    }
+}
+
+impl<T: Drop> ItemList<T> {
+    /// Keeps the first `n` items. It takes no memory.
+    pub fn truncate(&mut self, n: usize)
+        ensures { self.new ≡ take n self.old }
+    {
+        self.items.truncate(n);
     }
 }
 

@@ -3,18 +3,35 @@
 
 mod bytes;
 mod event;
-mod fields;
+mod field;
+mod field_list;
 mod item_list;
+mod path;
+mod path_fault;
+mod path_mode;
+mod path_reader;
+mod put_fault;
 mod queue;
 mod text;
+mod value;
+mod value_list;
 mod variable;
 mod want_of_memory;
 
 pub use bytes::Bytes;
 pub use event::{Event, EventList};
-pub use fields::{Field, FieldList, Value};
+pub use field::Field;
+pub use field_list::FieldList;
 pub use item_list::{ItemList, NumberList};
+pub use path::Path;
+pub use path_fault::PathFault;
+pub use put_fault::PutFault;
 pub use queue::Queue;
 pub use text::{Text, TextList};
+pub use value::Value;
+pub use value_list::ValueList;
 pub use variable::{Variable, VariableList};
 pub use want_of_memory::WantOfMemory;
+
+#[cfg(test)]
+mod tests;

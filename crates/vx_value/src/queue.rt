@@ -61,6 +61,13 @@ impl<T> Queue<T> {
         self.items.len() == self.room
     }
 
+    /// The item at an index, counted from the oldest, 0. `None` exactly where the index isn't below the length.
+    pub fn get(&self, i: usize) -> Option<&T>
+        ensures { option_copied result ≡ slice_get self.now.items i }
+    {
+        self.items.get(i)
+    }
+
     /// Adds an item behind the others. It takes no memory.
     pub fn push(&mut self, item: T)
         requires { length self.old.items < self.old.room }

@@ -45,6 +45,17 @@ impl Text {
         }
     }
 
+    // The text of bytes that are UTF-8. It takes no memory.
+    pub(crate) fn from_utf8(bytes: Vec<u8>) -> Self
+        requires { IsUtf8 bytes.items }
+        ensures { result ≡ bytes.items }
+    {
+        match String::from_utf8(bytes) {
+            Ok(text) => Text { text },
+            Err(_) => unreachable!(),
+        }
+    }
+
     /// The text.
     pub fn as_str(&self) -> &str
         ensures { result.now ≡ self.now }
@@ -57,5 +68,21 @@ impl Text {
         ensures { IfOk result (λ copy. copy ≡ self.now) }
     {
         Text::copy_of(alloc, self.text.as_str())
+    }
+}
+
+impl ItemList<Text> {
+    /// The same texts once more.
+    pub fn copy(&self, alloc: Global) -> Result<TextList, WantOfMemory>
+        ensures { IfOk result (λ copy. copy ≡ self.now) }
+    {
+        let mut texts = ItemList::new(alloc);
+        for text in self.as_slice() {
+            match texts.push(text.copy(alloc)?) {
+                Ok(()) => {}
+                Err(_) => return Err(WantOfMemory),
+            }
+        }
+        Ok(texts)
     }
 }

@@ -1,0 +1,10 @@
+pub mod Rising
+pub mod Order
+pub mod Places
+pub mod Searches
+pub mod Depths
+pub mod With
+pub mod Steps
+pub mod Writes
+pub mod Puts
+pub mod PathReads
