@@ -1,4 +1,5 @@
 -- The status of each outcome, and the two tables that fold statuses.
+use Rattle.std.specs.Prelude.{ℕ}
 use Rattle.vx_status.specs.declared.outcome.Outcome.{Outcome}
 use Rattle.vx_status.specs.declared.event_status.EventStatus.{EventStatus}
 use Rattle.vx_status.specs.declared.batch_status.BatchStatus.{BatchStatus}
@@ -42,3 +43,16 @@ IsGood outcome.Filtered = Unit {0}
 IsGood outcome.NewestDropped = Unit {0}
 IsGood outcome.NoConsumer = Unit {0}
 IsGood other = ⊥
+
+-- how bad an event's status is, from 0 to 3
+abbrev pub event_rank : EventStatus → ℕ
+event_rank event.Dropped = 0
+event_rank event.Delivered = 1
+event_rank event.Errored = 2
+event_rank event.Rejected = 3
+
+-- how bad a batch's status is, on the same scale
+abbrev pub batch_rank : BatchStatus → ℕ
+batch_rank batch.Delivered = 1
+batch_rank batch.Errored = 2
+batch_rank batch.Rejected = 3

@@ -1,5 +1,5 @@
-ghost use Rattle.std.specs.Prelude.{◌≡◌};
-ghost use Rattle.vx_status.specs.Tables.{batch_update};
+ghost use Rattle.std.specs.Prelude.{◌≡◌, max};
+ghost use Rattle.vx_status.specs.Tables.{batch_update, batch_rank, event_rank};
 
 use crate::event_status::EventStatus;
 
@@ -11,9 +11,11 @@ pub enum BatchStatus {
     Rejected,
 }
 
-/// A batch's status after the status of one more event of it.
+/// A batch's status after the status of one more event of it: the worse of the two, where a dropped event
+/// leaves what stands.
 pub fn batch_update(old: BatchStatus, event: EventStatus) -> BatchStatus
-    ensures { result ≡ batch_update old event }
+    ensures table { result ≡ batch_update old event }
+    ensures worse { batch_rank result ≡ max (batch_rank old) (event_rank event) }
 {
     match (old, event) {
         (BatchStatus::Delivered, EventStatus::Dropped | EventStatus::Delivered) => {

@@ -1,5 +1,5 @@
-ghost use Rattle.std.specs.Prelude.{◌≡◌};
-ghost use Rattle.vx_status.specs.Tables.{event_update};
+ghost use Rattle.std.specs.Prelude.{◌≡◌, max};
+ghost use Rattle.vx_status.specs.Tables.{event_update, event_rank};
 
 /// The status of one event of a batch. Each event begins as `Dropped`.
 #[derive(Clone, Copy, PartialEq, Eq, Debug)]
@@ -10,9 +10,11 @@ pub enum EventStatus {
     Rejected,
 }
 
-/// An event's status after one more outcome of a copy of it.
+/// An event's status after one more outcome of a copy of it: the worse of the two. `Dropped` is the best and
+/// leaves what stands, and `Rejected` is the worst.
 pub fn event_update(old: EventStatus, new: EventStatus) -> EventStatus
-    ensures { result ≡ event_update old new }
+    ensures table { result ≡ event_update old new }
+    ensures worse { event_rank result ≡ max (event_rank old) (event_rank new) }
 {
     match (old, new) {
         (EventStatus::Dropped, _) => new,

@@ -8,3 +8,6 @@ mod outcome;
 pub use batch_status::{BatchStatus, batch_update};
 pub use event_status::{EventStatus, event_update};
 pub use outcome::Outcome;
+
+#[cfg(test)]
+mod tests;

@@ -1,4 +1,4 @@
-ghost use Rattle.std.specs.Prelude.{◌≡◌};
+ghost use Rattle.std.specs.Prelude.{◌≡◌, ◌≤◌, ◌↔◌};
 
 use crate::event_status::EventStatus;
 
@@ -22,11 +22,12 @@ pub enum Outcome {
 }
 
 impl Outcome {
-    ghost use Rattle.vx_status.specs.Tables.{status_of};
+    ghost use Rattle.vx_status.specs.Tables.{status_of, event_rank, IsGood};
 
-    /// The status that the outcome counts as.
+    /// The status that the outcome counts as. Four outcomes are good: no copy of the event failed.
     pub fn status(self) -> EventStatus
-        ensures { result ≡ status_of self }
+        ensures status { result ≡ status_of self }
+        ensures good { IsGood self ↔ (event_rank result ≤ 1) }
     {
         match self {
             Outcome::Delivered => EventStatus::Delivered,
