@@ -1,1 +1,6 @@
 pub mod Growing
+pub mod ScriptLemmas
+pub mod ScriptPassing
+pub mod ScriptTelling
+pub mod ActsLemmas
+pub mod ScriptsLemmas

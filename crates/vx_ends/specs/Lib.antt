@@ -1,2 +1,7 @@
 pub mod Told
 pub mod Texts
+pub mod Script
+pub mod Acts
+pub mod Playing
+pub mod Scripts
+pub mod Printing

@@ -7,7 +7,7 @@ use crate::trouble::Trouble;
 use vx_value::Bytes;
 
 // Gives the bytes until a give fails: how many were given, and whether all were.
-fn give_all<P: Port>(port: &mut P, bytes: &[u8]) -> (usize, bool)
+pub fn give_all<P: Port>(port: &mut P, bytes: &[u8]) -> (usize, bool)
     ensures within { result.0 ≤ length bytes.now }
     ensures given { Grows (P.told port.old).given (P.told port.new).given (take result.0 bytes.now) }
     ensures rest { SameBytes (record (P.told port.old) { given = (P.told port.new).given }) (P.told port.new) }
@@ -27,7 +27,7 @@ fn give_all<P: Port>(port: &mut P, bytes: &[u8]) -> (usize, bool)
 }
 
 // Takes once, and appends to `out` what came. The stream of which it came.
-fn take_once<P: Port>(
+pub fn take_once<P: Port>(
     port: &mut P,
     buffer: &mut [u8],
     out: &mut Bytes,
@@ -48,7 +48,7 @@ fn take_once<P: Port>(
 }
 
 // One attempt: starts the port, gives all the bytes, and finishes.
-fn attempt<P: Port>(port: &mut P, bytes: &[u8]) -> Result<(), Trouble>
+pub fn attempt<P: Port>(port: &mut P, bytes: &[u8]) -> Result<(), Trouble>
     ensures given { OnOk result (Grows (P.told port.old).given (P.told port.new).given bytes.now) }
     ensures taken { (P.told port.new).taken ≡ (P.told port.old).taken }
     ensures faults { (P.told port.old).faults ≤ (P.told port.new).faults }

@@ -1,4 +1,4 @@
-ghost use Rattle.std.specs.Prelude.{◌≡◌, ◌≢◌, ℕ, ◌<◌, ◌≤◌, ◌++◌, List, length, IfOk, OnOk, OnErr, IsOk, IsTrue};
+ghost use Rattle.std.specs.Prelude.{◌≡◌, ◌≢◌, ℕ, ◌<◌, ◌≤◌, ◌++◌, List, length, IfOk, OnOk, OnErr, IsOk, IsTrue, false};
 ghost use Rattle.vx_ends.specs.Told.{Told, Grows, Shrinks, SameBytes, SameTelling, HasCause, HasIdle, HasRefusal, piece_of, part_of, ended_by, over_after, IsWithin, IsOfOpen, EndsAll, EndsStream};
 
 use crate::position::PositionList;
@@ -86,7 +86,7 @@ pub trait Port: Drop {
 
     /// Closes the port. It can't fail.
     fn close(&mut self)
-        ensures closed { IsTrue (told self.new).started → ⊥ }
+        ensures closed { (told self.new).started ≡ false }
         ensures bytes { SameBytes (told self.old) (told self.new) }
         ensures faults { (told self.old).faults ≤ (told self.new).faults }
         ensures idles { (told self.old).idles ≤ (told self.new).idles }
