@@ -1,0 +1,114 @@
+-- Laws on lists of copies.
+use Rattle.std.proofs.Common.{◌≡◌, ℕ, zero, suc, ◌+◌, ◌*◌, ◌<◌, ◌≤◌, List, [], ◌∷◌, ◌++◌, length, take, drop, get_or, set, Some, refl, sym, append_assoc, arith, add-one, ◌==◌, ◌&&◌, if◌then◌else◌}
+use Rattle.std.specs.List.{slice_get}
+use Rattle.std.proofs.lemmas.Grind.{common_steps}
+use Rattle.vx_ledger.specs.Copies.{Copy, copies_of, numbered, renumbered, children_of, joined}
+
+-- copies of two lists
+pub copies_of-append : (batch place : ℕ) (xs ys : List Copy) →
+    copies_of batch place (xs ++ ys) ≡ copies_of batch place xs + copies_of batch place ys
+copies_of-append batch place [] ys = grind arith
+copies_of-append batch place (x ∷ xs) ys = grind (arith, copies_of-append batch place xs ys)
+
+-- there are no more copies of a batch than copies
+pub copies_of-bound : (batch place : ℕ) (xs : List Copy) → copies_of batch place xs ≤ length xs
+copies_of-bound batch place [] = grind arith
+copies_of-bound batch place (x ∷ xs) = grind (arith, copies_of-bound batch place xs)
+
+-- one more copy at the end
+pub numbered_more : (n batch place first : ℕ) →
+    numbered (n + 1) batch place first
+    ≡ numbered n batch place first ++ record { batch = batch; number = first + n; place = place } ∷ []
+numbered_more zero batch place first = grind arith
+numbered_more (suc n) batch place first =
+    rw add-one (grind (arith, numbered_more n batch place (first + 1), add-one))
+
+-- all copies of a birth are of its batch
+pub copies_of-numbered : (b p n batch place first : ℕ) →
+    copies_of b p (numbered n batch place first) ≡ (if (batch == b) && (place == p) then n else 0)
+copies_of-numbered b p zero batch place first = grind arith
+copies_of-numbered b p (suc n) batch place first = grind (arith, copies_of-numbered b p n batch place (first + 1))
+
+-- fresh numbers keep each batch
+pub copies_of-renumbered : (batch place first : ℕ) (cs : List Copy) →
+    copies_of batch place (renumbered first cs) ≡ copies_of batch place cs
+copies_of-renumbered batch place first [] = refl
+copies_of-renumbered batch place first (c ∷ cs) = grind (arith, copies_of-renumbered batch place (first + 1) cs)
+
+-- fresh numbers keep the length
+pub length-renumbered : (first : ℕ) (xs : List Copy) → length (renumbered first xs) ≡ length xs
+length-renumbered first [] = refl
+length-renumbered first (x ∷ xs) = grind (arith, length-renumbered (first + 1) xs)
+
+-- one more copy renumbered at the end
+pub renumbered_more : (first : ℕ) (xs : List Copy) (c : Copy) →
+    renumbered first (xs ++ c ∷ []) ≡ renumbered first xs ++ record { batch = c.batch; number = first + length xs; place = c.place } ∷ []
+renumbered_more first [] c = grind arith
+renumbered_more first (x ∷ xs) c = grind (arith, renumbered_more (first + 1) xs c)
+
+-- one more copy of the list renumbered in place
+pub renumbered_step : (first i : ℕ) (xs ys : List Copy) (c : Copy) → i < length xs →
+    ys ≡ renumbered first (take i xs) ++ drop i xs → c ≡ get_or ys i c →
+    set ys i (record { batch = c.batch; number = first + i; place = c.place }) ≡ renumbered first (take (i + 1) xs) ++ drop (i + 1) xs
+renumbered_step first i [] ys c l e g = grind arith
+renumbered_step first zero (x ∷ xs) ys c l e g = grind (arith, common_steps)
+renumbered_step first (suc i) (x ∷ xs) [] c l e g = grind (arith, common_steps)
+renumbered_step first (suc i) (x ∷ xs) (y ∷ ys) c l e g = grind (arith, common_steps, renumbered_step (first + 1) i xs ys c)
+
+-- one more copy of the list renumbered into a list of its own
+pub renumbered_copied : (first i : ℕ) (xs : List Copy) (c : Copy) → i < length xs → c ≡ get_or xs i c →
+    renumbered first (take (i + 1) xs)
+    ≡ renumbered first (take i xs) ++ record { batch = c.batch; number = first + i; place = c.place } ∷ []
+renumbered_copied first i [] c l g = grind arith
+renumbered_copied first zero (x ∷ xs) c l g = grind (arith, common_steps)
+renumbered_copied first (suc i) (x ∷ xs) c l g = grind (arith, common_steps, renumbered_copied (first + 1) i xs c)
+
+-- one more target at the end
+pub children_of_more : (k first : ℕ) (parent : List Copy) →
+    children_of (k + 1) first parent
+    ≡ children_of k first parent ++ renumbered (first + k * length parent) parent ∷ []
+children_of_more zero first parent = grind arith
+children_of_more (suc k) first parent =
+    rw add-one (grind (arith, children_of_more k (first + length parent) parent, add-one))
+
+-- there is a list for each target
+pub length-children_of : (k first : ℕ) (parent : List Copy) → length (children_of k first parent) ≡ k
+length-children_of zero first parent = refl
+length-children_of (suc k) first parent = grind (arith, length-children_of k (first + length parent) parent)
+
+-- the list of the t-th target begins t times the parent's length past the first number
+pub slice_get-children_of : (k t first : ℕ) (parent : List Copy) → t < k →
+    slice_get (children_of k first parent) t ≡ Some (renumbered (first + t * length parent) parent)
+slice_get-children_of zero t first parent l = grind arith
+slice_get-children_of (suc k) zero first parent l = grind arith
+slice_get-children_of (suc k) (suc t) first parent l =
+    grind (arith, slice_get-children_of k t (first + length parent) parent)
+
+-- a batch has k children for each copy
+pub copies_of-children_of : (batch place k first : ℕ) (parent : List Copy) →
+    copies_of batch place (joined (children_of k first parent)) ≡ k * copies_of batch place parent
+copies_of-children_of batch place zero first parent = grind arith
+copies_of-children_of batch place (suc k) first parent =
+    grind (
+      arith,
+      copies_of-children_of batch place k (first + length parent) parent,
+      copies_of-append batch place (renumbered first parent) (joined (children_of k (first + length parent) parent)),
+      copies_of-renumbered batch place first parent,
+    )
+
+-- several lists, and several more
+pub joined-append : (xs ys : List (List Copy)) → joined (xs ++ ys) ≡ joined xs ++ joined ys
+joined-append [] ys = refl
+joined-append (x ∷ xs) ys = rw (joined-append xs ys) (sym (append_assoc x (joined xs) (joined ys)))
+
+-- the copies of several lists, one more at the end
+pub copies_of-joined_push : (batch place : ℕ) (xs : List (List Copy)) (y : List Copy) →
+    copies_of batch place (joined (xs ++ y ∷ [])) ≡ copies_of batch place (joined xs) + copies_of batch place y
+copies_of-joined_push batch place [] y = grind (arith, copies_of-append batch place y [])
+copies_of-joined_push batch place (x ∷ xs) y =
+    grind (
+      arith,
+      copies_of-joined_push batch place xs y,
+      copies_of-append batch place x (joined xs),
+      copies_of-append batch place x (joined (xs ++ y ∷ [])),
+    )

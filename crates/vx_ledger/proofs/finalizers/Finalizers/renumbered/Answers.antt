@@ -1,0 +1,9 @@
+use Rattle.std.proofs.Common.{arith}
+use Rattle.std.proofs.lemmas.Grind.{common_steps}
+use Rattle.vx_ledger.proofs.CopyLaws.{renumbered_copied}
+use Rattle.vx_ledger.proofs.finalizers.Finalizers.renumbered.Goals as goal
+
+pub loop-i-preserved : goal.loop-i-preserved
+loop-i-preserved c =
+    let more = renumbered_copied c.args.first c.loop-i.i c.args.self.now c.at-copy.result.now (omega arith) c.at-copy.ensures in
+    grind (arith, common_steps, more, c.push_reserved.ensures.items, c.push_reserved.ensures.len, c.make.ensures)

@@ -1,0 +1,6 @@
+use Rattle.std.proofs.Common.{◌≡◌, take}
+use Rattle.vx_ledger.specs.Routing.{targets_from}
+use Rattle.vx_ledger.proofs.outlet.Outlet.targets.Given as goal
+
+abbrev pub invariant-loop-port : goal.invariant-loop-port
+invariant-loop-port l = l.targets.items ≡ targets_from l.ports 0 (take l.port l.self-inside.ports.items)

@@ -1,0 +1,166 @@
+ghost use Rattle.std.specs.Prelude.{◌≡◌, ℕ, ◌+◌, ◌-◌, ◌*◌, ◌^◌, ◌<◌, ◌≤◌, ◌↔◌, ◌==◌, [], ◌∷◌, ◌++◌, List, length, take, min, replicate, slice_set, All, IfOk, IfErr, OnErr, OnOk, IsErr, IsTrue, vec_capacity};
+ghost use Rattle.std.specs.Int.{bit_at};
+ghost use Rattle.vx_ledger.specs.Ledger.{AreLive, Exchanges, IsKept, IsShort, grown_rows};
+ghost use Rattle.vx_ledger.specs.Routing.{targets_of, child_of, children_for, copies_in, IfChildren, IfNoConsumer, IsNoConsumer};
+
+use crate::batches::{Batches, numbers_left};
+use crate::child::Child;
+use crate::parcel::Parcel;
+use crate::route;
+use crate::route_refused::RouteRefused;
+use crate::routed::Routed;
+use crate::short::Short;
+use std::alloc::Global;
+use std::marker::Model;
+use vx_value::{ItemList, NumberList, WantOfMemory};
+
+/// The ports of an instance, with the numbers of the instances that each of them goes to.
+///
+/// Contracts see the list of targets of each port.
+#[derive(Drop)]
+pub struct Outlet {
+    ports: Vec<NumberList>,
+}
+
+impl Model for Outlet {
+    ghost use Rattle.std.specs.Prelude.{List, ℕ, ◌<◌, ◌^◌, All};
+
+    ghost Value = { List (List ℕ) };
+
+    ghost view = { λ o. o.ports.items };
+
+    ghost invariant = { λ o. All (λ targets. All (λ t. t < 2 ^ 32) targets) o.ports.items };
+}
+
+impl Outlet {
+    /// An outlet with that many ports, none of which has a target.
+    pub fn new(alloc: Global, ports: u32) -> Result<Self, WantOfMemory>
+        ensures { IfOk result (λ outlet. outlet ≡ replicate ports []) }
+    {
+        let mut lists = Vec::with_capacity(alloc, ports as usize)?;
+        for _ in 0..ports {
+            lists.push_reserved(ItemList::new(alloc));
+        }
+        Ok(Outlet { ports: lists })
+    }
+
+    /// Gives a port other targets. It takes no memory.
+    pub fn rewire(&mut self, port: u32, targets: NumberList)
+        requires exists { port < length self.old }
+        requires instances { All (λ t. t < 2 ^ 32) targets }
+        ensures { self.new ≡ slice_set self.old port targets }
+    {
+        self.ports[port as usize] = targets;
+    }
+
+    /// Splits a parcel to all targets of a set of ports, which has the bit of each port that it names. Gives one
+    /// child for each target of each port, in port order, or the parcel where none of the ports has a target.
+    ///
+    /// The copies of the children are numbered as `Batches::split` numbers them. Each child has the parcel's
+    /// event. `Numbers` comes exactly where the numbers would pass 2^63, and before memory is asked for. A
+    /// refusal hands the parcel back, and nothing has changed.
+    pub fn route(
+        &self,
+        ports: u128,
+        parcel: Parcel,
+        batches: &mut Batches,
+    ) -> Result<Routed, RouteRefused>
+        requires { AreLive batches.old parcel.finalizers }
+
+        ensures children { IfChildren result (λ children. children ≡ children_for (targets_of ports self.now) batches.old.next parcel) }
+        ensures next { IfChildren result (λ _. batches.new.next ≡ batches.old.next + length (targets_of ports self.now) * length parcel.finalizers) }
+        ensures rows { IfChildren result (λ _. batches.new.open_rows ≡ grown_rows (length (targets_of ports self.now) - 1) parcel.finalizers batches.old.open_rows) }
+        ensures exchange { IfChildren result (λ children. Exchanges batches.old parcel.finalizers batches.new (copies_in children)) }
+        ensures kept { IsKept batches.new }
+
+        ensures no_consumer { IsNoConsumer result ↔ (targets_of ports self.now ≡ []) }
+        ensures whole { IfNoConsumer result (λ back. back ≡ parcel) }
+        ensures unmoved { IfNoConsumer result (λ _. batches.new ≡ batches.old) }
+
+        ensures numbers { 2 ^ 63 < batches.old.next + length (targets_of ports self.now) * length parcel.finalizers → IsErr result }
+        ensures cause { IfErr result (λ refused. IsShort batches.old.next (length (targets_of ports self.now) * length parcel.finalizers) refused.cause) }
+        ensures back { IfErr result (λ refused. refused.parcel ≡ parcel) }
+        ensures unchanged { OnErr result (batches.new ≡ batches.old) }
+    {
+        let count = self.count(ports);
+        let next = batches.next();
+        if count == 0 {
+            return Ok(Routed::NoConsumer(parcel));
+        }
+        let wanted = parcel.finalizers.len().saturating_mul(count);
+        if wanted > numbers_left(next) {
+            return Err(RouteRefused {
+                cause: Short::Numbers { next, wanted },
+                parcel,
+            });
+        }
+        let Ok((others, target)) = self.others(ports, &parcel, next) else {
+            return Err(RouteRefused {
+                cause: Short::WantOfMemory,
+                parcel,
+            });
+        };
+        let Parcel { event, finalizers } = parcel;
+        let finalizers = batches.replace(finalizers, count);
+        let last = Child {
+            target,
+            parcel: Parcel { event, finalizers },
+        };
+        Ok(Routed::Children(route::with_last(others, last)))
+    }
+
+    // The children for all targets but the last, and the last target.
+    fn others(
+        &self,
+        ports: u128,
+        parcel: &Parcel,
+        first: u64,
+    ) -> Result<(Vec<Child>, u32), WantOfMemory>
+        requires some { 0 < length (targets_of ports self.now) }
+        requires fits { first + length (targets_of ports self.now) * length parcel.now.finalizers ≤ 2 ^ 63 }
+        ensures children { IfOk result (λ r. children_for (targets_of ports self.now) first parcel.now ≡ r.0.items ++ child_of r.1 (first + (length (targets_of ports self.now) - 1) * length parcel.now.finalizers) parcel.now ∷ []) }
+        ensures room { IfOk result (λ r. length r.0.items < vec_capacity r.0) }
+        ensures few { OnOk result (length (targets_of ports self.now) < 2 ^ 63) }
+    {
+        let mut targets = self.targets(ports)?;
+        let Some(last) = targets.pop() else {
+            unreachable!();
+        };
+        let others = route::children(*self.ports.allocator(), targets.as_slice(), parcel, first)?;
+        Ok((others, last as u32))
+    }
+
+    // How many targets the ports have, or 2^64 - 1 where they are more.
+    fn count(&self, ports: u128) -> u64
+        ensures { result ≡ min (length (targets_of ports self.now)) (2 ^ 64 - 1) }
+    {
+        let mut count: u64 = 0;
+        for port in 0..self.ports.len() {
+            if is_named(ports, port) {
+                count = count.saturating_add(self.ports[port].len() as u64);
+            }
+        }
+        count
+    }
+
+    // The targets of the ports, in port order.
+    fn targets(&self, ports: u128) -> Result<Vec<u64>, WantOfMemory>
+        ensures targets { IfOk result (λ targets. targets.items ≡ targets_of ports self.now) }
+        ensures instances { IfOk result (λ targets. All (λ t. t < 2 ^ 32) targets.items) }
+    {
+        let mut targets = Vec::new(*self.ports.allocator());
+        for port in 0..self.ports.len() {
+            if is_named(ports, port) {
+                targets.extend_from_slice(self.ports[port].as_slice())?;
+            }
+        }
+        Ok(targets)
+    }
+}
+
+// Whether the set of ports has the bit of the port.
+fn is_named(ports: u128, port: usize) -> bool
+    ensures { result ≡ (bit_at ports port == 1) }
+{
+    port < 128 && (ports >> port) & 1 == 1
+}

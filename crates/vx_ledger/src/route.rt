@@ -1,0 +1,73 @@
+// The children that a route makes.
+ghost use Rattle.std.specs.Prelude.{◌≡◌, ℕ, ◌+◌, ◌*◌, ◌^◌, ◌<◌, ◌≤◌, [], ◌∷◌, ◌++◌, List, length, All, IfOk, vec_capacity};
+ghost use Rattle.vx_ledger.specs.Routing.{child_of, children_for};
+
+use crate::child::{Child, ChildList};
+use crate::parcel::Parcel;
+use std::alloc::Global;
+use vx_value::{ItemList, WantOfMemory};
+
+// The child for a target, with the event once more.
+fn child(alloc: Global, target: u64, parcel: &Parcel, first: u64) -> Result<Child, WantOfMemory>
+    requires instance { target < 2 ^ 32 }
+    requires fits { first + length parcel.now.finalizers ≤ 2 ^ 63 }
+    ensures { IfOk result (λ child. child ≡ child_of target first parcel.now) }
+{
+    let event = parcel.event.copy(alloc)?;
+    let finalizers = parcel.finalizers.renumbered(alloc, first)?;
+    Ok(Child {
+        target: target as u32,
+        parcel: Parcel { event, finalizers },
+    })
+}
+
+// Ends children that were never handed out.
+fn unmake_all(children: Vec<Child>) {
+    let mut rest = children;
+    while let Some(child) = rest.pop() {
+        let Child { target: _, parcel } = child;
+        let Parcel {
+            event: _,
+            finalizers,
+        } = parcel;
+        finalizers.unmake();
+    }
+    rest.destroy_empty();
+}
+
+// The children for the targets, with room for one child more.
+pub(crate) fn children(
+    alloc: Global,
+    targets: &[u64],
+    parcel: &Parcel,
+    first: u64,
+) -> Result<Vec<Child>, WantOfMemory>
+    requires instances { All (λ t. t < 2 ^ 32) targets.now }
+    requires fits { first + length targets.now * length parcel.now.finalizers ≤ 2 ^ 63 }
+    ensures children { IfOk result (λ children. children.items ≡ children_for targets.now first parcel.now) }
+    ensures room { IfOk result (λ children. length children.items < vec_capacity children) }
+{
+    let mut children = Vec::with_capacity(alloc, targets.len() + 1)?;
+    let mut number = first;
+    for target in targets {
+        match child(alloc, *target, parcel, number) {
+            Ok(child) => children.push_reserved(child),
+            Err(WantOfMemory) => {
+                unmake_all(children);
+                return Err(WantOfMemory);
+            }
+        }
+        number += parcel.finalizers.len();
+    }
+    Ok(children)
+}
+
+// The children with the last one behind them. It takes no memory.
+pub(crate) fn with_last(children: Vec<Child>, last: Child) -> ChildList
+    requires { length children.items < vec_capacity children }
+    ensures { result ≡ children.items ++ last ∷ [] }
+{
+    let mut children = children;
+    children.push_reserved(last);
+    ItemList::from_vec(children)
+}
