@@ -1,0 +1,37 @@
+//! An accepted configuration: its components, their settings and who reads whom.
+#![tactic(auto)]
+
+mod class;
+mod codec;
+mod component;
+mod console_target;
+mod decoding;
+mod global;
+mod names;
+mod patterns;
+mod plan;
+mod plan_fault;
+mod reading;
+mod settings;
+mod sink_settings;
+mod stage;
+mod targets;
+mod walk;
+mod when_full;
+
+pub use class::Class;
+pub use codec::Codec;
+pub use component::{Component, ComponentList};
+pub use console_target::ConsoleTarget;
+pub use decoding::Decoding;
+pub use global::Global;
+pub use plan::Plan;
+pub use plan_fault::PlanFault;
+pub use reading::read_plan;
+pub use settings::Settings;
+pub use sink_settings::SinkSettings;
+pub use stage::{Stage, StageList};
+pub use when_full::WhenFull;
+
+#[cfg(test)]
+mod tests;

@@ -1,0 +1,110 @@
+ghost use Rattle.std.specs.Prelude.{◌≡◌, IfOk};
+ghost use Rattle.std.specs.Option.{option_copied};
+ghost use Rattle.vx_plan.specs.Components.{component_named};
+ghost use Rattle.vx_plan.specs.Numbers.{reader_numbers};
+ghost use Rattle.vx_plan.specs.Ports.{port_spec};
+ghost use Rattle.vx_plan.specs.Targets.{targets, acknowledged};
+
+use crate::component::{Component, ComponentList};
+use crate::global::Global;
+use crate::names::named;
+use crate::targets::{numbers_of_names, readers};
+use crate::walk::leads;
+use std::alloc::Global as Allocator;
+use vx_ends::PortSpec;
+use vx_value::{NumberList, TextList, WantOfMemory};
+
+/// A configuration that was accepted.
+#[derive(Drop)]
+pub struct Plan {
+    pub global: Global,
+    pub components: ComponentList,
+}
+
+impl Plan {
+    /// The same plan once more.
+    pub fn copy(&self, alloc: Allocator) -> Result<Self, WantOfMemory>
+        ensures { IfOk result (λ copy. copy ≡ self.now) }
+    {
+        Ok(Plan {
+            global: self.global.copy(alloc)?,
+            components: copy_components(alloc, &self.components)?,
+        })
+    }
+
+    /// The component of a name; of several the first. `None` exactly where there is none.
+    pub fn component(&self, name: &str) -> Option<&Component>
+        ensures { option_copied result ≡ component_named self.now name.now }
+    {
+        named(self.components.as_slice(), name)
+    }
+
+    /// The names of the components that read a port of a component, in byte order.
+    ///
+    /// The list is empty where the component isn't in the plan, or doesn't have that port.
+    pub fn targets(&self, alloc: Allocator, name: &str, port: u32) -> Result<TextList, WantOfMemory>
+        ensures { IfOk result (λ names. names ≡ targets self.now name.now port) }
+    {
+        match self.component(name) {
+            Some(component) if component.class.has_port(port) => {
+                readers(alloc, self.components.as_slice(), name)
+            }
+            _ => Ok(TextList::new(alloc)),
+        }
+    }
+
+    /// The numbers of the components that read a port of a component, in byte order of their names.
+    ///
+    /// A component's number is its place among the plan's components, from 0 on.
+    pub fn readers(
+        &self,
+        alloc: Allocator,
+        name: &str,
+        port: u32,
+    ) -> Result<NumberList, WantOfMemory>
+        ensures { IfOk result (λ numbers. numbers ≡ reader_numbers self.now name.now port) }
+    {
+        let names = self.targets(alloc, name, port)?;
+        numbers_of_names(alloc, self.components.as_slice(), names.as_slice())
+    }
+
+    /// Whether the batches of a source wait: whether a walk along targets leads from it to a sink that acknowledges.
+    pub fn acknowledged(&self, source: &str) -> bool
+        ensures { result ≡ acknowledged self.now source.now }
+    {
+        leads(self, self.components.len(), source)
+    }
+
+    /// The port that a component needs; `None` exactly where it has no device, or isn't in the plan.
+    ///
+    /// `once` says whether its run ends with the input that is there; no type that there is minds.
+    pub fn port_spec(
+        &self,
+        alloc: Allocator,
+        name: &str,
+        once: bool,
+    ) -> Result<Option<PortSpec>, WantOfMemory>
+        ensures { IfOk result (λ spec. spec ≡ port_spec self.now name.now once) }
+    {
+        match self.component(name) {
+            Some(component) => component.port(alloc),
+            None => Ok(None),
+        }
+    }
+}
+
+/// The same components once more.
+fn copy_components(
+    alloc: Allocator,
+    components: &ComponentList,
+) -> Result<ComponentList, WantOfMemory>
+    ensures { IfOk result (λ copies. copies ≡ components.now) }
+{
+    let mut copies = ComponentList::new(alloc);
+    for component in components.as_slice() {
+        copies
+            .push(component.copy(alloc)?)
+            .map_err(|_| WantOfMemory)?;
+    }
+    Ok(copies)
+}

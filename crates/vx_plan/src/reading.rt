@@ -1,0 +1,132 @@
+ghost use Rattle.std.specs.Prelude.{◌≡◌, ◌≢◌, ◌↔◌, Err, IfOk};
+ghost use Rattle.vx_plan.specs.First.{first_configuration, default_global, default_sink, first_source, first_sink, first_plan};
+
+use crate::class::Class;
+use crate::codec::Codec;
+use crate::component::{Component, ComponentList};
+use crate::console_target::ConsoleTarget;
+use crate::decoding::Decoding;
+use crate::global::Global;
+use crate::plan::Plan;
+use crate::plan_fault::PlanFault;
+use crate::settings::Settings;
+use crate::sink_settings::SinkSettings;
+use crate::stage::{Stage, StageList};
+use crate::when_full::WhenFull;
+use std::alloc::Global as Allocator;
+use vx_value::{Text, TextList, VariableList, WantOfMemory};
+
+/// The configuration that is read so far: standard input to standard output.
+const FIRST_CONFIGURATION: &str = "[sources.in]
+type = \"stdin\"
+
+[sinks.out]
+type = \"console\"
+inputs = [\"in\"]
+encoding.codec = \"text\"
+";
+
+/// The plan of a configuration.
+///
+/// So far it reads one configuration, byte for byte, in which no variable stands. `NotBuilt` comes exactly where the
+/// bytes differ from it.
+pub fn read_plan(
+    alloc: Allocator,
+    bytes: &[u8],
+    _environment: &VariableList,
+) -> Result<Plan, PlanFault>
+    ensures plan { IfOk result (λ plan. plan ≡ first_plan) }
+    ensures accepted { IfOk result (λ plan. bytes.now ≡ first_configuration) }
+    ensures not_built { (result ≡ Err PlanFault.NotBuilt) ↔ (bytes.now ≢ first_configuration) }
+{
+    if bytes != FIRST_CONFIGURATION.as_bytes() {
+        return Err(PlanFault::NotBuilt);
+    }
+    match first_plan(alloc) {
+        Ok(plan) => Ok(plan),
+        Err(_) => Err(PlanFault::WantOfMemory),
+    }
+}
+
+/// What the configuration stands for.
+fn first_plan(alloc: Allocator) -> Result<Plan, WantOfMemory>
+    ensures { IfOk result (λ plan. plan ≡ first_plan) }
+{
+    let mut components = ComponentList::new(alloc);
+    components
+        .push(first_source(alloc)?)
+        .map_err(|_| WantOfMemory)?;
+    components
+        .push(first_sink(alloc)?)
+        .map_err(|_| WantOfMemory)?;
+    Ok(Plan {
+        global: default_global(alloc)?,
+        components,
+    })
+}
+
+/// Standard input, named `in`.
+fn first_source(alloc: Allocator) -> Result<Component, WantOfMemory>
+    ensures { IfOk result (λ source. source ≡ first_source) }
+{
+    Ok(Component {
+        name: Text::copy_of(alloc, "in")?,
+        class: Class::Source,
+        inputs: TextList::new(alloc),
+        settings: Settings::Stdin {
+            max_length: 102_400,
+            decoding_codec: Decoding::Bytes,
+        },
+    })
+}
+
+/// Standard output as text, named `out`, which reads `in`.
+fn first_sink(alloc: Allocator) -> Result<Component, WantOfMemory>
+    ensures { IfOk result (λ sink. sink ≡ first_sink) }
+{
+    let mut inputs = TextList::new(alloc);
+    inputs
+        .push(Text::copy_of(alloc, "in")?)
+        .map_err(|_| WantOfMemory)?;
+    Ok(Component {
+        name: Text::copy_of(alloc, "out")?,
+        class: Class::Sink,
+        inputs,
+        settings: Settings::Console {
+            target: ConsoleTarget::Stdout,
+            encoding_codec: Codec::Text,
+            sink: default_sink(alloc)?,
+        },
+    })
+}
+
+/// The options of a sink that says none.
+fn default_sink(alloc: Allocator) -> Result<SinkSettings, WantOfMemory>
+    ensures { IfOk result (λ sink. sink ≡ default_sink) }
+{
+    let mut buffer = StageList::new(alloc);
+    let stage = Stage {
+        max_events: 500,
+        when_full: WhenFull::Block,
+    };
+    buffer.push(stage).map_err(|_| WantOfMemory)?;
+    Ok(SinkSettings {
+        acknowledgements: false,
+        buffer,
+        batch_max_events: 1,
+        batch_timeout_secs: 1,
+        request_retry_attempts: 0x7fff_ffff_ffff_ffff,
+        request_retry_initial_backoff_secs: 1,
+        request_retry_max_duration_secs: 30,
+    })
+}
+
+/// The options of a whole configuration that says none.
+fn default_global(alloc: Allocator) -> Result<Global, WantOfMemory>
+    ensures { IfOk result (λ global. global ≡ default_global) }
+{
+    Ok(Global {
+        data_dir: Text::copy_of(alloc, "/var/lib/vector/")?,
+        acknowledgements: false,
+    })
+}
