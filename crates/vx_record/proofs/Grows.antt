@@ -1,0 +1,124 @@
+-- How one more entry changes bytes, confirms and counts: by the kind of the entry.
+use Rattle.std.proofs.Common.{◌≡◌, ℕ, true, ◌∷◌, refl, sym, arith, length}
+use Rattle.std.proofs.lemmas.List.{append-nil}
+use Rattle.std.proofs.lemmas.List.{length-append}
+use Rattle.vx_record.specs.declared.entry.Entry.{Entry}
+use Rattle.vx_record.specs.declared.entry.Entry.TheVariants.{Lease, Home, Read, Idle, SourceLost, Born, Take, Attempt, Notice, Closed, Retired, Abandon}
+use Rattle.vx_plan.specs.declared.class.Class.{Class}
+use Rattle.vx_plan.specs.declared.class.Class.TheVariants.{Source, Transform, Sink}
+use Rattle.vx_plan.specs.declared.component.Component.{Component}
+use Rattle.vx_record.specs.Records.{Record}
+use Rattle.vx_record.specs.Installs.{told}
+use Rattle.vx_record.specs.declared.tally.Tally.{Tally}
+use Rattle.vx_record.specs.Tally.{nothing_counted}
+use Rattle.vx_record.specs.Tallies.{source_tally, transform_tally, sink_tally}
+use Rattle.vx_record.specs.Growth.{counts_for_nobody}
+use Rattle.vx_record.specs.Reads.{taken}
+use Rattle.vx_record.specs.Confirms.{births, births_in}
+use Rattle.vx_record.specs.Reads.{bytes_taken}
+use Rattle.vx_record.specs.Tallies.{lines_read, all_lines_read, events_born, notices, takes, attempts_made, bytes_sent}
+use Rattle.vx_status.specs.declared.batch_status.BatchStatus.{BatchStatus}
+use Rattle.vx_record.specs.Growth.{Rises, bytes_in, lines_in, all_lines_in, events_in, batches_in, notices_in, takes_in, attempts_in, sent_in, TakenGrows, GivenGrows, ConfirmedGrows, EndedGrows, SourceRises, SinkRises, TallyStays}
+
+pub taken_grows : TakenGrows
+taken_grows (Read j stream' took) h i stream = refl
+taken_grows e h i stream = sym (append-nil (taken h i stream))
+
+pub given_grows : GivenGrows
+given_grows e h i = refl
+
+pub confirmed_grows : ConfirmedGrows
+confirmed_grows e h i = refl
+
+pub ended_grows : EndedGrows
+ended_grows e h i = refl
+
+bytes_rise : Rises bytes_taken bytes_in
+bytes_rise (Read j stream took) h i = refl
+bytes_rise e h i = omega arith
+
+lines_rise : Rises lines_read lines_in
+lines_rise (Read j stream took) h i = refl
+lines_rise e h i = omega arith
+
+all_lines_rise : Rises all_lines_read all_lines_in
+all_lines_rise (Read j stream took) h i = refl
+all_lines_rise e h i = omega arith
+
+events_rise : Rises events_born events_in
+events_rise (Born j b place copies events waits stream end) h i = refl
+events_rise e h i = omega arith
+
+takes_rise : Rises takes takes_in
+takes_rise (Take j stage copies) h i = refl
+takes_rise e h i = omega arith
+
+attempts_rise : Rises attempts_made attempts_in
+attempts_rise (Attempt j copies bytes reply) h i = refl
+attempts_rise e h i = omega arith
+
+sent_rise : Rises bytes_sent sent_in
+sent_rise (Attempt j copies bytes reply) h i = refl
+sent_rise e h i = omega arith
+
+batches_rise : Rises (λ h i. length (births h i)) batches_in
+batches_rise e h i = length-append (births h i) (births_in i e)
+
+notices_rise : (status : BatchStatus) → Rises (notices status) (notices_in status)
+notices_rise status (Notice b s) h i = refl
+notices_rise status e h i = omega arith
+
+pub source_rises : SourceRises
+source_rises = (bytes_rise, lines_rise, all_lines_rise, events_rise, batches_rise, notices_rise)
+
+pub sink_rises : SinkRises
+sink_rises = (takes_rise, attempts_rise, sent_rise)
+
+source_stays : (e : Entry) (h : Record) (i : ℕ) → counts_for_nobody e ≡ true → source_tally (e ∷ h) i ≡ source_tally h i
+source_stays (Lease j worker now polls) h i q = simp append-nil
+source_stays (Home j) h i q = simp append-nil
+source_stays (Idle j failed) h i q = simp append-nil
+source_stays (SourceLost j at failed) h i q = simp append-nil
+source_stays (Closed j) h i q = simp append-nil
+source_stays (Retired j) h i q = simp append-nil
+source_stays (Abandon cause) h i q = simp append-nil
+source_stays other h i q = absurd (cc)
+
+transform_stays : (e : Entry) (h : Record) (i : ℕ) → counts_for_nobody e ≡ true → transform_tally (e ∷ h) i ≡ transform_tally h i
+transform_stays (Lease j worker now polls) h i q = simp append-nil
+transform_stays (Home j) h i q = simp append-nil
+transform_stays (Idle j failed) h i q = simp append-nil
+transform_stays (SourceLost j at failed) h i q = simp append-nil
+transform_stays (Closed j) h i q = simp append-nil
+transform_stays (Retired j) h i q = simp append-nil
+transform_stays (Abandon cause) h i q = simp append-nil
+transform_stays other h i q = absurd (cc)
+
+sink_stays : (e : Entry) (h : Record) (i : ℕ) → counts_for_nobody e ≡ true → sink_tally (e ∷ h) i ≡ sink_tally h i
+sink_stays (Lease j worker now polls) h i q = simp append-nil
+sink_stays (Home j) h i q = simp append-nil
+sink_stays (Idle j failed) h i q = simp append-nil
+sink_stays (SourceLost j at failed) h i q = simp append-nil
+sink_stays (Closed j) h i q = simp append-nil
+sink_stays (Retired j) h i q = simp append-nil
+sink_stays (Abandon cause) h i q = simp append-nil
+sink_stays other h i q = absurd (cc)
+
+-- whatever the class
+class_stays : (k : Class) (e : Entry) (h : Record) (i : ℕ) → counts_for_nobody e ≡ true →
+    ◌≡◌ {A = Tally}
+    (elim k as (λ _. Tally) [ Source ↦ source_tally (e ∷ h) i | Transform ↦ transform_tally (e ∷ h) i | Sink ↦ sink_tally (e ∷ h) i ])
+    (elim k as (λ _. Tally) [ Source ↦ source_tally h i | Transform ↦ transform_tally h i | Sink ↦ sink_tally h i ])
+class_stays Source e h i q = source_stays e h i q
+class_stays Transform e h i q = transform_stays e h i q
+class_stays Sink e h i q = sink_stays e h i q
+
+pub tally_stays : TallyStays
+tally_stays (Lease j worker now polls) h i q = λ t. told nothing_counted (λ (c : Component). class_stays c.class (Lease j worker now polls) h i q t) h i
+tally_stays (Home j) h i q = λ t. told nothing_counted (λ (c : Component). class_stays c.class (Home j) h i q t) h i
+tally_stays (Idle j failed) h i q = λ t. told nothing_counted (λ (c : Component). class_stays c.class (Idle j failed) h i q t) h i
+tally_stays (SourceLost j at failed) h i q = λ t. told nothing_counted (λ (c : Component). class_stays c.class (SourceLost j at failed) h i q t) h i
+tally_stays (Closed j) h i q = λ t. told nothing_counted (λ (c : Component). class_stays c.class (Closed j) h i q t) h i
+tally_stays (Retired j) h i q = λ t. told nothing_counted (λ (c : Component). class_stays c.class (Retired j) h i q t) h i
+tally_stays (Abandon cause) h i q = λ t. told nothing_counted (λ (c : Component). class_stays c.class (Abandon cause) h i q t) h i
+tally_stays other h i q = absurd (cc)

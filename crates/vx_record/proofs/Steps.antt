@@ -1,0 +1,240 @@
+-- What each kind of entry does to a copy, where the entry is legal.
+use Rattle.std.proofs.Common.{◌≡◌, ℕ, Bool, ◌+◌, ◌*◌, ◌<◌, ◌≤◌, List, [], ◌∷◌, ◌++◌, sym, refl, ap, subst, arith, map, length, inl, inr}
+use Rattle.std.specs.Prelude.{if◌then◌else◌, ◌==◌}
+use Rattle.std.proofs.lemmas.Bool.Decides.{nat_tests}
+use Rattle.std.proofs.lemmas.Bool.{cases_lt}
+use Rattle.vx_record.specs.declared.entry.Entry.{Entry}
+use Rattle.vx_value.specs.declared.event.Event.{Event}
+use Rattle.vx_record.specs.Records.{Record}
+use Rattle.vx_record.specs.declared.child.Child.{Child}
+use Rattle.vx_status.specs.declared.outcome.Outcome.{Outcome}
+use Rattle.vx_record.specs.declared.entry.Entry.TheVariants.{Born, Split, Push, Take, Spent}
+use Rattle.vx_record.specs.Copies.{count, counting, children_of, next_copy, makes, splits, spends, IsLive}
+use Rattle.vx_record.specs.Places.{Place, Kind, kind, one_each, all_puts, left, puts, leaves}
+use Rattle.vx_record.specs.Places.Kind.{AnOutput, AChild, AStage, AHold}
+use Rattle.vx_record.specs.Places.Place.{Outputs, Waiting, Contents}
+use Rattle.vx_record.specs.Lists.{outputs, waiting, contents}
+use Rattle.vx_record.specs.Legal.{Allows}
+use Rattle.vx_record.specs.Parcels.{port_list}
+use Rattle.vx_record.specs.Routing.{routes}
+use Rattle.vx_record.proofs.Counts.{count-append, counting_before, counting_within, counting_after, only, only-add, only-zero, put_count}
+use Rattle.vx_record.proofs.Place.{count-parcels_at, count-oldest}
+use Rattle.vx_record.proofs.Tracked.{Moves, births}
+
+-- an entry that makes, moves and spends nothing
+pub record MovesNothing (e : Entry) : Type 0 where
+  pub puts : puts e ≡ []
+  pub births : births e ≡ []
+  pub leaves : (k : Kind) → leaves k e ≡ []
+  pub spends : spends e ≡ []
+  pub splits : splits e ≡ []
+  pub makes : makes e ≡ 0
+
+none_move : (h : Record) (e : Entry) (c : ℕ) → MovesNothing e → Moves h e c
+none_move h e c n =
+    let b = ap (count c) n.births in
+    let x = ap (count c) n.spends in
+    let y = ap (count c) n.splits in
+    let lo = ap (count c) (n.leaves AnOutput) in
+    let lw = ap (count c) (n.leaves AChild) in
+    let lc = ap (count c) (n.leaves AStage) in
+    let lh = ap (count c) (n.leaves AHold) in
+    let po = ap (λ ps. put_count AnOutput ps c) n.puts in
+    let pw = ap (λ ps. put_count AChild ps c) n.puts in
+    let pc = ap (λ ps. put_count AStage ps c) n.puts in
+    let ph = ap (λ ps. put_count AHold ps c) n.puts in
+    let m = n.makes in
+    record {
+      makes_old = λ l. omega arith;
+      makes_new = λ l u. absurd (omega arith);
+      makes_none = λ l. omega arith;
+      pushed = omega arith;
+      taken = omega arith;
+      answered = omega arith;
+      ended = omega arith;
+      push = omega arith;
+      take = omega arith;
+      birth = omega arith;
+      answer = omega arith;
+      split = omega arith;
+      once = omega arith;
+      live = λ l. absurd (omega arith);
+    }
+
+pub put_count-one_each : (k : Kind) (p : Place) (c : ℕ) (cs : List ℕ) → put_count k (one_each p cs) c ≡ only k (kind p) (count c cs)
+put_count-one_each k p c [] = sym (only-zero k (kind p))
+put_count-one_each k p c (x ∷ xs) =
+    let e = put_count-one_each k p c xs in
+    simp (only-add, only-zero) (omega arith)
+
+-- the copies of all children
+abbrev pub family : List Child → List ℕ
+family [] = []
+family (child ∷ rest) = child.copies ++ family rest
+
+pub put_count-children : (k : Kind) (i c : ℕ) (children : List Child) →
+    put_count k (map (λ (child : Child). record { place = Waiting i child.target; copies = child.copies }) children) c ≡ only k AChild (count c (family children))
+put_count-children k i c [] = sym (only-zero k AChild)
+put_count-children k i c (child ∷ rest) =
+    let e = put_count-children k i c rest in
+    let f = ap (only k AChild) (count-append c child.copies (family rest)) in
+    let g = only-add k AChild (count c child.copies) (count c (family rest)) in
+    omega arith
+
+pub length-children_of : (next m : ℕ) (targets : List ℕ) → length (children_of next m targets) ≡ length targets
+length-children_of next m [] = refl
+length-children_of next m (target ∷ rest) = let e = length-children_of (next + m) m rest in omega arith
+
+pub children_before : (c next m : ℕ) (targets : List ℕ) → c < next → count c (family (children_of next m targets)) ≡ 0
+children_before c next m [] l = refl
+children_before c next m (t ∷ ts) l =
+    let e = children_before c (next + m) m ts (omega arith) in
+    let f = counting_before c next m l in
+    omega (arith, count-append c (counting next m) (family (children_of (next + m) m ts)))
+
+children_within : (c next m : ℕ) (targets : List ℕ) → next ≤ c → c < next + length targets * m → count c (family (children_of next m targets)) ≡ 1
+children_within c next m [] l u = absurd (omega arith)
+children_within c next m (t ∷ ts) l u =
+    elim (cases_lt c (next + m)) [
+      | inl below ↦
+          let e = children_before c (next + m) m ts below in
+          let f = counting_within c next m l below in
+          omega (arith, count-append c (counting next m) (family (children_of (next + m) m ts)))
+      | inr above ↦
+          let e = children_within c (next + m) m ts above (omega arith) in
+          let f = counting_after c next m above in
+          omega (arith, count-append c (counting next m) (family (children_of (next + m) m ts)))
+    ]
+
+children_after : (c next m : ℕ) (targets : List ℕ) → next + length targets * m ≤ c → count c (family (children_of next m targets)) ≡ 0
+children_after c next m [] l = refl
+children_after c next m (t ∷ ts) l =
+    let e = children_after c (next + m) m ts (omega arith) in
+    let f = counting_after c next m (omega arith) in
+    omega (arith, count-append c (counting next m) (family (children_of (next + m) m ts)))
+
+born_moves : (h : Record) (c i b place : ℕ) (copies : List ℕ) (events : List Event) (waits : Bool) (stream end : ℕ) → Allows h (Born i b place copies events waits stream end) → Moves h (Born i b place copies events waits stream end) c
+born_moves h c i b place copies events waits stream end a =
+    let p = put_count-one_each AnOutput (Outputs i) c copies in
+    let q = put_count-one_each AChild (Outputs i) c copies in
+    let r = put_count-one_each AStage (Outputs i) c copies in
+    let s = put_count-one_each AHold (Outputs i) c copies in
+    let f = ap (count c) a.next in
+    record {
+      makes_old = λ l. let x = counting_before c (next_copy h) (length copies) l in omega arith;
+      makes_new = λ l u. let x = counting_within c (next_copy h) (length copies) l u in omega arith;
+      makes_none = λ l. let x = counting_after c (next_copy h) (length copies) l in omega arith;
+      pushed = omega arith;
+      taken = omega arith;
+      answered = omega arith;
+      ended = refl;
+      push = omega arith;
+      take = omega arith;
+      birth = omega arith;
+      answer = omega arith;
+      split = omega arith;
+      once = omega arith;
+      live = λ l. absurd (omega arith);
+    }
+
+split_moves : (h : Record) (c i ports : ℕ) (copies : List ℕ) (event : Event) (children : List Child) → Allows h (Split i ports copies event children) →
+    Moves h (Split i ports copies event children) c
+split_moves h c i ports copies event children a =
+    let p = put_count-children AnOutput i c children in
+    let q = put_count-children AChild i c children in
+    let r = put_count-children AStage i c children in
+    let s = put_count-children AHold i c children in
+    let targets = routes h i (port_list ports) in
+    let f = ap (λ (x : List Child). count c (family x)) a.split.made in
+    let same = ap (λ (x : List Child). length x * length copies) a.split.made in
+    let many = ap (λ n. n * length copies) (length-children_of (next_copy h) (length copies) targets) in
+    let e = count-oldest c copies (outputs h i) a.split.oldest in
+    let g = count-parcels_at c (Outputs i) (left h) (all_puts h) in
+    record {
+      makes_old = λ l. let x = children_before c (next_copy h) (length copies) targets l in omega arith;
+      makes_new = λ l u. let x = children_within c (next_copy h) (length copies) targets l (omega arith) in omega arith;
+      makes_none = λ l. let x = children_after c (next_copy h) (length copies) targets (omega arith) in omega arith;
+      pushed = omega arith;
+      taken = omega arith;
+      answered = omega arith;
+      ended = omega arith;
+      push = omega arith;
+      take = omega arith;
+      birth = omega arith;
+      answer = omega arith;
+      split = omega arith;
+      once = omega arith;
+      live = λ l. absurd (omega arith);
+    }
+
+push_moves : (h : Record) (c i t s : ℕ) (copies : List ℕ) → Allows h (Push i t s copies) → Moves h (Push i t s copies) c
+push_moves h c i t s copies a =
+    let e = count-oldest c copies (waiting h i t) a.oldest in
+    let f = count-parcels_at c (Waiting i t) (left h) (all_puts h) in
+    record {
+      makes_old = λ l. refl;
+      makes_new = λ l u. absurd (omega arith);
+      makes_none = λ l. refl;
+      pushed = omega arith;
+      taken = refl;
+      answered = refl;
+      ended = refl;
+      push = omega arith;
+      take = omega arith;
+      birth = omega arith;
+      answer = omega arith;
+      split = omega arith;
+      once = omega arith;
+      live = λ l. absurd (omega arith);
+    }
+
+take_moves : (h : Record) (c i s : ℕ) (copies : List ℕ) → Allows h (Take i s copies) → Moves h (Take i s copies) c
+take_moves h c i s copies a =
+    let e = count-oldest c copies (contents h i s) a.oldest in
+    let f = count-parcels_at c (Contents i s) (left h) (all_puts h) in
+    record {
+      makes_old = λ l. refl;
+      makes_new = λ l u. absurd (omega arith);
+      makes_none = λ l. refl;
+      pushed = refl;
+      taken = omega arith;
+      answered = refl;
+      ended = refl;
+      push = omega arith;
+      take = omega arith;
+      birth = omega arith;
+      answer = omega arith;
+      split = omega arith;
+      once = omega arith;
+      live = λ l. absurd (omega arith);
+    }
+
+same : (d c : ℕ) → 0 < (if d == c then 1 else 0) + 0 → d ≡ c
+same d c l = grind (arith, nat_tests)
+
+spent_moves : (h : Record) (c i d : ℕ) (outcome : Outcome) → Allows h (Spent i d outcome) → Moves h (Spent i d outcome) c
+spent_moves h c i d outcome a =
+    record {
+      makes_old = λ l. refl;
+      makes_new = λ l u. absurd (omega arith);
+      makes_none = λ l. refl;
+      pushed = omega arith;
+      taken = omega arith;
+      answered = omega arith;
+      ended = omega arith;
+      push = omega arith;
+      take = omega arith;
+      birth = omega arith;
+      answer = omega arith;
+      split = omega arith;
+      once = grind (arith, nat_tests);
+      live = λ l. let e = same d c l in let f : IsLive h c = subst (IsLive h) e a.live in (f.0, f.1, f.2, refl);
+    }
+
+pub moves : (h : Record) (e : Entry) (c : ℕ) → Allows h e → Moves h e c
+moves h (Born i b place copies events waits stream end) c a = born_moves h c i b place copies events waits stream end a
+moves h (Split i ports copies event children) c a = split_moves h c i ports copies event children a
+moves h (Push i t s copies) c a = push_moves h c i t s copies a
+moves h (Take i s copies) c a = take_moves h c i s copies a
+moves h (Spent i d outcome) c a = spent_moves h c i d outcome a
+moves h e c a = none_move h e c (record { puts = refl; births = refl; leaves = λ k. refl; spends = refl; splits = refl; makes = refl })

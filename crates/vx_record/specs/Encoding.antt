@@ -1,0 +1,59 @@
+-- The bytes of a sink batch.
+use Rattle.std.specs.Prelude.{ℕ, Bool, true, false, ◌&&◌, Option, Some, None, List, [], ◌∷◌, ◌++◌, map, ◌==◌, codes, if◌then◌else◌}
+use Rattle.vx_value.specs.Texts.{Word}
+use Rattle.vx_value.specs.Events.{value_under}
+use Rattle.vx_value.specs.Datum.{Datum, Null, Truth, Whole, Spelled, Words, Items, Fields}
+use Rattle.vx_value.specs.declared.event.Event.{Event}
+use Rattle.vx_plan.specs.declared.codec.Codec.{Codec}
+use Rattle.vx_plan.specs.declared.codec.Codec.TheVariants as codec
+use Rattle.vx_plan.specs.declared.settings.Settings.{Settings}
+use Rattle.vx_plan.specs.Options.{encoding}
+use Rattle.vx_plan.specs.declared.component.Component.{Component}
+use Rattle.vx_record.specs.declared.entry.Entry.{Entry}
+use Rattle.vx_record.specs.declared.entry.Entry.TheVariants.{Attempt}
+use Rattle.vx_record.specs.Records.{Record}
+use Rattle.vx_record.specs.Copies.{joined, all_of}
+use Rattle.vx_record.specs.Installs.{told}
+use Rattle.vx_record.specs.Parcels.{parcel_event}
+
+-- a text as its bytes, and nothing for a field that is not there; no source makes a message of another kind yet
+abbrev pub spelled : Option Datum → Word
+spelled None = []
+spelled (Some Null) = []
+spelled (Some (Truth b)) = []
+spelled (Some (Whole z)) = []
+spelled (Some (Spelled w)) = []
+spelled (Some (Words text)) = text
+spelled (Some (Items ds)) = []
+spelled (Some (Fields ns)) = []
+
+-- an event as a sink writes it: as text, its message and a line feed
+abbrev pub encode_event : Codec → Event → Word
+encode_event codec.Text event = spelled (value_under event.fields (codes "message")) ++ 10 ∷ []
+
+-- some events as a sink writes them, in a row
+abbrev pub encode : Codec → List Event → Word
+encode codec events = joined (map (encode_event codec) events)
+
+-- the bytes that a sink with these settings gives for some events
+abbrev pub bytes_for : Settings → List Event → Word
+bytes_for settings events = elim (encoding settings) [ None ↦ [] | Some c ↦ encode c events ]
+
+-- and those for some parcels
+abbrev pub encoded : Record → ℕ → List (List ℕ) → Word
+encoded h i parcels = told [] (λ (c : Component). bytes_for c.settings (map (parcel_event h) parcels)) h i
+
+-- whether some bytes are the beginning of others
+abbrev pub is_prefix : Word → Word → Bool
+is_prefix [] t = true
+is_prefix (a ∷ s) [] = false
+is_prefix (a ∷ s) (b ∷ t) = (a == b) && is_prefix s t
+
+-- the bytes that an entry gave to the instance's port
+abbrev pub given_in : ℕ → Entry → Word
+given_in i (Attempt j copies bytes reply) = if j == i then bytes else []
+given_in i other = []
+
+-- all the bytes that went to the instance's port
+abbrev pub given : Record → ℕ → Word
+given h i = all_of (given_in i) h

@@ -1,0 +1,118 @@
+-- The laws over every legal record.
+use Rattle.std.specs.Prelude.{ℕ, ◌+◌, ◌^◌, ◌<◌, ◌≤◌, ◌≡◌, false, List, [], ◌∷◌, ◌++◌, length, map, if◌then◌else◌, ◌==◌, ◌↔◌}
+use Rattle.vx_value.specs.declared.event.Event.{Event}
+use Rattle.vx_record.specs.Records.{Record}
+use Rattle.vx_record.specs.declared.child.Child.{Child}
+use Rattle.vx_record.specs.Parcels.{event_of, port_list}
+use Rattle.vx_record.specs.Routing.{routes}
+use Rattle.vx_record.specs.Abandoning.{abandoned}
+use Rattle.vx_record.specs.Confirms.{Birth, confirm_prefix}
+use Rattle.vx_status.specs.declared.outcome.Outcome.{Outcome}
+use Rattle.vx_status.specs.declared.batch_status.BatchStatus.{BatchStatus}
+use Rattle.vx_status.specs.declared.batch_status.BatchStatus.TheVariants.{Delivered}
+use Rattle.vx_record.specs.declared.entry.Entry.TheVariants.{Lease, Split, Spent, Notice}
+use Rattle.vx_record.specs.Copies.{count, joined, next_copy, times_split, times_spent, IsLive}
+use Rattle.vx_record.specs.Batches.{batch_of, batches, NoneLive, AwaitsNotice}
+use Rattle.vx_record.specs.Statuses.{batch_status, running, AllGood}
+use Rattle.vx_record.specs.Lists.{places, stands, parcels_at, times_among}
+use Rattle.vx_record.specs.Places.{Place}
+use Rattle.vx_record.specs.Legal.{IsLegal, IsClosed}
+
+-- Each copy that a record made by then was split once, or was spent once, or stands in one place, once: exactly one
+-- of the three. The part `earlier` of a record is what stood there before the entries `later`.
+abbrev pub OnePlace : Type 0
+OnePlace =
+    (later earlier : Record) → IsLegal (later ++ earlier) → (c : ℕ) → c < next_copy earlier →
+    times_split earlier c + times_spent earlier c + length (places earlier c) ≡ 1
+
+-- how often a batch was noticed
+abbrev pub times_noticed : Record → ℕ → ℕ
+times_noticed [] b = 0
+times_noticed (Notice b' status ∷ h) b = (if b' == b then 1 else 0) + times_noticed h b
+times_noticed (e ∷ h) b = times_noticed h b
+
+-- each batch of which no copy is live has exactly one Notice, unless the record ends where that Notice is due
+abbrev pub OneNotice : Type 0
+OneNotice =
+    (h : Record) → IsLegal h → (b : ℕ) → 0 < count b (batches h) → NoneLive h b → (AwaitsNotice h b → ⊥) → times_noticed h b ≡ 1
+
+-- and none before
+abbrev pub NoEarlyNotice : Type 0
+NoEarlyNotice =
+    (h : Record) → IsLegal h → (b c : ℕ) → batch_of h c ≡ b → IsLive h c → times_noticed h b ≡ 0
+
+-- so where nothing is left to do, each batch has exactly one
+abbrev pub OneNoticeAtLast : Type 0
+OneNoticeAtLast = (h : Record) → IsLegal h → IsClosed h → (b : ℕ) → 0 < count b (batches h) → times_noticed h b ≡ 1
+
+-- a Notice stands where the last live copy was just spent, and has the status that the tables fold
+abbrev pub NoticeAtOnce : Type 0
+NoticeAtOnce =
+    (later earlier : Record) (b : ℕ) (status : BatchStatus) → IsLegal (later ++ Notice b status ∷ earlier) →
+    AwaitsNotice earlier b × (status ≡ batch_status earlier b)
+
+-- no copy of a batch is spent behind its Notice
+abbrev pub NoSpentAfterNotice : Type 0
+NoSpentAfterNotice =
+    (later earlier : Record) (i c : ℕ) (outcome : Outcome) → IsLegal (later ++ Spent i c outcome ∷ earlier) →
+    times_noticed earlier (batch_of earlier c) ≡ 0
+
+-- a Notice says Delivered exactly where each outcome of the batch in the whole record, also behind it, is good
+abbrev pub NoticeTells : Type 0
+NoticeTells =
+    (later earlier : Record) (b : ℕ) (status : BatchStatus) → IsLegal (later ++ Notice b status ∷ earlier) →
+    (status ≡ Delivered) ↔ AllGood (later ++ Notice b status ∷ earlier) b
+
+-- what stood there before some entries of a legal record is legal
+abbrev pub BeginningLegal : Type 0
+BeginningLegal = (later earlier : Record) → IsLegal (later ++ earlier) → IsLegal earlier
+
+-- folding each spend into one status of the batch, in whatever order the copies are spent, gives the tables' status
+abbrev pub RunningStatus : Type 0
+RunningStatus = (h : Record) (b : ℕ) → IsLegal h → running h b ≡ batch_status h b
+
+-- `places` counts right: a copy stands as often in the list of a place as that place is among the copy's places
+abbrev pub PlacesMeant : Type 0
+PlacesMeant = (h : Record) (c : ℕ) (p : Place) → count c (joined (parcels_at p (stands h))) ≡ times_among p (places h c)
+
+-- a copy is live exactly where it stands in a place
+abbrev pub LiveStands : Type 0
+LiveStands = (h : Record) → IsLegal h → (c : ℕ) → IsLive h c ↔ (0 < length (places h c))
+
+-- a batch is delivered exactly where the outcome of each of its spent copies is good
+abbrev pub DeliveredWhereGood : Type 0
+DeliveredWhereGood = (h : Record) (b : ℕ) → IsLegal h → (batch_status h b ≡ Delivered) ↔ AllGood h b
+
+-- any two copies of a parcel have the same event
+abbrev pub HaveOneEvent : Record → List ℕ → Type 0
+HaveOneEvent h parcel = (c d : ℕ) → 0 < count c parcel → 0 < count d parcel → event_of h c ≡ event_of h d
+
+-- of each of some parcels the copies have one event
+abbrev pub EachHasOneEvent : Record → List (List ℕ) → Type 0
+EachHasOneEvent h [] = Unit {0}
+EachHasOneEvent h (parcel ∷ rest) = HaveOneEvent h parcel × EachHasOneEvent h rest
+
+-- wherever a parcel stands, its copies have one event
+abbrev pub OneEvent : Type 0
+OneEvent = (h : Record) (p : Place) → IsLegal h → EachHasOneEvent h (parcels_at p (stands h))
+
+-- copies are numbered below 2 ^ 63
+abbrev pub NumbersBounded : Type 0
+NumbersBounded = (h : Record) → IsLegal h → next_copy h ≤ 2 ^ 63
+
+-- each Split's children go to the targets that its instance has there, in order
+abbrev pub RoutingKept : Type 0
+RoutingKept =
+    (later earlier : Record) (i ports : ℕ) (copies : List ℕ) (event : Event) (children : List Child) →
+    IsLegal (later ++ Split i ports copies event children ∷ earlier) →
+    map (λ (child : Child). child.target) children ≡ routes earlier i (port_list ports)
+
+-- no instance is leased after an Abandon
+abbrev pub NoLeaseAfterAbandon : Type 0
+NoLeaseAfterAbandon =
+    (later earlier : Record) (i worker now polls : ℕ) → IsLegal (later ++ Lease i worker now polls ∷ earlier) → abandoned earlier ≡ false
+
+-- later entries only add to the births that may be confirmed
+abbrev pub PrefixGrows : Type 0
+PrefixGrows =
+    (later earlier : Record) (i : ℕ) → (more : List Birth) × (confirm_prefix (later ++ earlier) i ≡ confirm_prefix earlier i ++ more)

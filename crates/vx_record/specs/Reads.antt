@@ -1,0 +1,166 @@
+-- The bytes that an instance took, and the lines and events that a Read completes.
+use Rattle.std.specs.Prelude.{ℕ, ◌+◌, ◌-◌, Bool, true, false, not, ◌&&◌, ◌||◌, Option, Some, None, unwrap_or, List, [], ◌∷◌, ◌++◌, drop, length, map, if◌then◌else◌, ◌==◌, codes}
+use Rattle.std.specs.Str.Lossy.{utf8_lossy}
+use Rattle.vx_value.specs.Texts.{Word, is_empty}
+use Rattle.vx_value.specs.Datum.{Words}
+use Rattle.vx_value.specs.declared.event.Event.{Event}
+use Rattle.vx_plan.specs.declared.component.Component.{Component}
+use Rattle.vx_plan.specs.declared.settings.Settings.{Settings}
+use Rattle.vx_plan.specs.declared.decoding.Decoding.{Decoding}
+use Rattle.vx_plan.specs.declared.decoding.Decoding.TheVariants as codec
+use Rattle.vx_plan.specs.Options.{decoding, type_name}
+use Rattle.vx_plan.specs.Components.{longest_line}
+use Rattle.vx_record.specs.declared.taken.Taken.{Taken}
+use Rattle.vx_record.specs.declared.taken.Taken.TheVariants.{Bytes, StreamEnded, AllEnded}
+use Rattle.vx_record.specs.declared.entry.Entry.{Entry}
+use Rattle.vx_record.specs.declared.entry.Entry.TheVariants.{Read, SourceLost}
+use Rattle.vx_record.specs.Records.{Record}
+use Rattle.vx_record.specs.Copies.{all_of}
+use Rattle.vx_record.specs.Installs.{told}
+use Rattle.vx_record.specs.Frames.{Line, frames, all_lines}
+
+-- the bytes that a Read took, perhaps none
+abbrev pub bytes_of : Taken → Word
+bytes_of (Bytes bytes) = bytes
+bytes_of StreamEnded = []
+bytes_of AllEnded = []
+
+-- whether a Read took bytes
+abbrev pub has_bytes : Taken → Bool
+has_bytes (Bytes bytes) = not (is_empty bytes)
+has_bytes StreamEnded = false
+has_bytes AllEnded = false
+
+-- whether a Read told the end of all
+abbrev pub is_end : Taken → Bool
+is_end (Bytes bytes) = false
+is_end StreamEnded = false
+is_end AllEnded = true
+
+-- the bytes of a stream that the instance took
+abbrev pub taken : Record → ℕ → ℕ → Word
+taken [] i stream = []
+taken (Read j stream' took ∷ h) i stream = taken h i stream ++ (if (j == i) && (stream' == stream) then bytes_of took else [])
+taken (e ∷ h) i stream = taken h i stream
+
+-- how many bytes it took of all streams
+abbrev pub bytes_taken : Record → ℕ → ℕ
+bytes_taken [] i = 0
+bytes_taken (Read j stream took ∷ h) i = bytes_taken h i + (if j == i then length (bytes_of took) else 0)
+bytes_taken (e ∷ h) i = bytes_taken h i
+
+-- how many bytes all sources took
+abbrev pub bytes_of_all : Record → ℕ
+bytes_of_all [] = 0
+bytes_of_all (Read j stream took ∷ h) = bytes_of_all h + length (bytes_of took)
+bytes_of_all (e ∷ h) = bytes_of_all h
+
+-- whether a Read of the instance told the end of all
+abbrev pub all_ended : Record → ℕ → Bool
+all_ended [] i = false
+all_ended (Read j stream took ∷ h) i = ((j == i) && is_end took) || all_ended h i
+all_ended (e ∷ h) i = all_ended h i
+
+-- whether the instance was lost
+abbrev pub is_lost : Record → ℕ → Bool
+is_lost [] i = false
+is_lost (SourceLost j at failed ∷ h) i = (j == i) || is_lost h i
+is_lost (e ∷ h) i = is_lost h i
+
+-- the stream that bytes were last taken of
+abbrev pub last_stream : Record → ℕ → Option ℕ
+last_stream [] i = None
+last_stream (Read j stream took ∷ h) i = if (j == i) && has_bytes took then Some stream else last_stream h i
+last_stream (e ∷ h) i = last_stream h i
+
+-- the stream that an entry tells to have ended, for the instance
+abbrev pub ended_by : ℕ → Entry → List ℕ
+ended_by i (Read j stream StreamEnded) = if j == i then stream ∷ [] else []
+ended_by i other = []
+
+-- the streams that ended by themselves, in order
+abbrev pub ended_streams : Record → ℕ → List ℕ
+ended_streams h i = all_of (ended_by i) h
+
+-- the stream of which a Read completes lines: that of its bytes or its end, and at the end of all the last
+abbrev pub stream_of : Record → ℕ → ℕ → Taken → ℕ
+stream_of h i stream (Bytes bytes) = stream
+stream_of h i stream StreamEnded = stream
+stream_of h i stream AllEnded = unwrap_or (last_stream h i) 0
+
+-- a stream's bytes after one more Read of it
+abbrev pub still_open : Taken → Word → Word
+still_open (Bytes bytes) before = before ++ bytes
+still_open StreamEnded before = []
+still_open AllEnded before = []
+
+-- a stream's bytes since its last end
+abbrev pub open_bytes : Record → ℕ → ℕ → Word
+open_bytes [] i stream = []
+open_bytes (Read j stream' took ∷ h) i stream =
+    let before = open_bytes h i stream in
+    if (j == i) && (stream_of h i stream' took == stream) then still_open took before else before
+open_bytes (e ∷ h) i stream = open_bytes h i stream
+
+-- the lines that are there behind a Read of some open bytes, within a limit
+abbrev pub lines_after : ℕ → Word → Taken → List Line
+lines_after limit before (Bytes bytes) = frames (before ++ bytes) limit false
+lines_after limit before StreamEnded = frames before limit true
+lines_after limit before AllEnded = frames before limit true
+
+-- the lines that a Read of some open bytes adds
+abbrev pub lines_past : ℕ → Word → Taken → List Line
+lines_past limit before took = drop (length (frames before limit false)) (lines_after limit before took)
+
+-- the lines that are there behind it, of any length
+abbrev pub all_lines_after : Word → Taken → List Line
+all_lines_after before (Bytes bytes) = all_lines (before ++ bytes) false
+all_lines_after before StreamEnded = all_lines before true
+all_lines_after before AllEnded = all_lines before true
+
+-- those that it adds, of any length
+abbrev pub all_lines_past : Word → Taken → List Line
+all_lines_past before took = drop (length (all_lines before false)) (all_lines_after before took)
+
+-- the instance's limit
+abbrev pub limit_of : Record → ℕ → ℕ
+limit_of = told 0 (λ (c : Component). longest_line c.settings)
+
+-- the lines that a Read completes, without the overlong ones
+abbrev pub new_lines : Record → ℕ → ℕ → Taken → List Line
+new_lines h i stream took = lines_past (limit_of h i) (open_bytes h i (stream_of h i stream took)) took
+
+-- the lines that a Read completes, with the overlong ones
+abbrev pub all_new_lines : Record → ℕ → ℕ → Taken → List Line
+all_new_lines h i stream took = all_lines_past (open_bytes h i (stream_of h i stream took)) took
+
+-- the event of a line
+abbrev pub line_event : Settings → Word → Event
+line_event settings text = record {
+  fields = record { name = codes "message"; value = Words (utf8_lossy text) }
+      ∷ record { name = codes "source_type"; value = Words (type_name settings) } ∷ [];
+}
+
+-- the events of some lines by a codec: of codec bytes each line gives one
+abbrev pub decoded : Decoding → Settings → List Line → List Event
+decoded codec.Bytes settings lines = map (λ (line : Line). line_event settings line.text) lines
+
+-- the events of some lines by a component's codec, if it reads lines
+abbrev pub events_of_lines : Settings → List Line → List Event
+events_of_lines settings lines = elim (decoding settings) [ None ↦ [] | Some d ↦ decoded d settings lines ]
+
+-- the events that a Read gives
+abbrev pub events_of : Record → ℕ → ℕ → Taken → List Event
+events_of h i stream took = told [] (λ (c : Component). events_of_lines c.settings (new_lines h i stream took)) h i
+
+-- the end of the last of some lines
+abbrev pub last_end : List Line → ℕ
+last_end [] = 0
+last_end (line ∷ []) = line.end
+last_end (line ∷ next ∷ rest) = last_end (next ∷ rest)
+
+-- the position behind the last line that a Read completes, in the stream's bytes
+abbrev pub end_of : Record → ℕ → ℕ → Taken → ℕ
+end_of h i stream took =
+    let s = stream_of h i stream took in
+    (length (taken h i s) - length (open_bytes h i s)) + last_end (new_lines h i stream took)

@@ -1,0 +1,70 @@
+//! The laws of every legal record. A law's function does nothing: what it ensures is proved.
+
+ghost use Rattle.vx_record.specs.Laws.{OnePlace, PlacesMeant, LiveStands, OneNotice, OneNoticeAtLast, NoEarlyNotice, NoticeAtOnce, NoSpentAfterNotice, NoticeTells, BeginningLegal, RunningStatus, DeliveredWhereGood, OneEvent, NumbersBounded, RoutingKept, NoLeaseAfterAbandon, PrefixGrows};
+ghost use Rattle.vx_record.specs.Wirings.{WiringStays, StartedStays, ComponentOfFirst, TargetsOfFirst};
+ghost use Rattle.vx_record.specs.Growth.{TakenGrows, GivenGrows, ConfirmedGrows, EndedGrows, SourceRises, SinkRises, SpentRises, TallyStays};
+
+/// Each copy that a part of a legal record made was split once, or was spent once, or stands in one place, once.
+pub fn one_place()
+    ensures one { OnePlace }
+    ensures meant { PlacesMeant }
+    ensures live { LiveStands }
+{}
+
+/// Each batch has one notice, directly after the spend of its last copy, with the status that the tables fold.
+pub fn one_notice()
+    ensures one { OneNotice }
+    ensures at_last { OneNoticeAtLast }
+    ensures no_early { NoEarlyNotice }
+    ensures at_once { NoticeAtOnce }
+    ensures at_last_spent { NoSpentAfterNotice }
+    ensures tells { NoticeTells }
+{}
+
+/// One status for each batch, into which each spend is folded as it comes, is the status that the tables fold.
+pub fn running_status()
+    ensures running { RunningStatus }
+    ensures good { DeliveredWhereGood }
+{}
+
+/// The copies of a parcel have one event, and copies are numbered below 2^63.
+pub fn one_event()
+    ensures event { OneEvent }
+    ensures numbers { NumbersBounded }
+{}
+
+/// Children go where the routing in force says, no Lease follows an Abandon, and what may be confirmed stays so.
+pub fn routing_kept()
+    ensures routing { RoutingKept }
+    ensures leases { NoLeaseAfterAbandon }
+    ensures prefix { PrefixGrows }
+{}
+
+/// What stood in a legal record at any time is a legal record.
+pub fn beginnings()
+    ensures { BeginningLegal }
+{}
+
+/// One Install begins a record, and numbers an instance for each component by its place in the plan.
+pub fn first_wiring()
+    ensures wiring { WiringStays }
+    ensures started { StartedStays }
+    ensures component { ComponentOfFirst }
+    ensures targets { TargetsOfFirst }
+{}
+
+/// How one more entry changes the bytes that were taken and given, the ends that were told and what was confirmed.
+pub fn growth()
+    ensures taken { TakenGrows }
+    ensures given { GivenGrows }
+    ensures confirmed { ConfirmedGrows }
+    ensures ended { EndedGrows }
+{}
+
+/// How one more entry changes the counts of an instance.
+pub fn counting()
+    ensures source { SourceRises }
+    ensures sink { SinkRises }
+    ensures spent { SpentRises }
+    ensures stays { TallyStays }
+{}
