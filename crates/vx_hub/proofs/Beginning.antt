@@ -1,0 +1,85 @@
+-- Seats come and go at the end of a list.
+use Rattle.std.proofs.Common.{◌≡◌, ℕ, zero, suc, ◌+◌, ◌<◌, ◌≤◌, false, List, [], ◌∷◌, ◌++◌, length, IfSome, refl, sym, ap, subst, ◌∙◌, arith, get_or}
+use Rattle.std.specs.Prelude.{remove, ◌^◌}
+use Rattle.vx_hub.specs.declared.seat.Seat.{Seat}
+use Rattle.vx_hub.specs.declared.facts.Facts.{Facts}
+use Rattle.vx_hub.specs.declared.row.Row.{Row}
+use Rattle.vx_ledger.specs.Copies.{copies_of}
+use Rattle.vx_hub.specs.Making.{IsUnused, AreUnused, IsUntouched}
+use Rattle.vx_hub.specs.Rows.{row_at, row_copies, copies_in, port_at, task_port, role_parcels, role_copies, parcel_copies}
+use Rattle.vx_hub.specs.Stands.{Stands, IsTold, IsRecorded, facts_at, capped}
+use Rattle.vx_hub.specs.Beginning.{Begins, HasFirst}
+use Rattle.vx_hub.specs.declared.hub.Hub.{Hub}
+use Rattle.vx_hub.specs.declared.task.Role.{Role}
+use Rattle.vx_hub.specs.declared.task.Role.TheVariants.{Source, Sink}
+use Rattle.vx_ends.specs.Told.{Told}
+use Rattle.vx_record.specs.Records.{Record}
+use Rattle.vx_ledger.specs.Ledger.{live_count}
+use Rattle.vx_hub.proofs.StandsLaws.{some_mapped, told_quiet, known_quiet, bytes_quiet, losses_quiet, cause_quiet}
+
+pub unused_more : (seats : List Seat) (seat : Seat) → AreUnused seats → IsUnused seat → AreUnused (seats ++ seat ∷ [])
+unused_more [] seat a u = (u, tt)
+unused_more (s ∷ seats) seat a u = (a.0, unused_more seats seat a.1 u)
+
+pub unused_front : (seats : List Seat) (seat : Seat) → AreUnused (seats ++ seat ∷ []) → AreUnused seats
+unused_front [] seat a = tt
+unused_front (s ∷ seats) seat a = (a.0, unused_front seats seat a.1)
+
+pub unused_last : (seats : List Seat) (seat : Seat) → AreUnused (seats ++ seat ∷ []) → IsUnused seat
+unused_last [] seat a = a.0
+unused_last (s ∷ seats) seat a = unused_last seats seat a.1
+
+-- what holds of each row holds with one more
+pub rows_more : {P : Type 0} (F : Row P → Type 0) (rows : List (Row P)) (new : Row P) → ((i : ℕ) → IfSome (row_at rows i) F) → F new → (i : ℕ) → IfSome (row_at (rows ++ new ∷ []) i) F
+rows_more F [] new all f zero = f
+rows_more F [] new all f (suc i) = tt
+rows_more F (r ∷ rows) new all f zero = all zero
+rows_more F (r ∷ rows) new all f (suc i) = rows_more F rows new (λ j. all (suc j)) f i
+
+pub facts_more : (F : Facts → Type 0) (fs : List Facts) (new : Facts) → ((i : ℕ) → IfSome (facts_at fs i) F) → F new → (i : ℕ) → IfSome (facts_at (fs ++ new ∷ []) i) F
+facts_more F [] new all f zero = f
+facts_more F [] new all f (suc i) = tt
+facts_more F (r ∷ fs) new all f zero = all zero
+facts_more F (r ∷ fs) new all f (suc i) = facts_more F fs new (λ j. all (suc j)) f i
+
+pub copies_more : {P : Type 0} (batch place : ℕ) (rows : List (Row P)) (new : Row P) → copies_in batch place (rows ++ new ∷ []) ≡ copies_in batch place rows + copies_of batch place (row_copies new)
+copies_more batch place [] new = omega arith
+copies_more batch place (r ∷ rows) new = omega (arith, copies_more batch place rows new)
+
+pub ports_more : {P : Type 0} (G : P → Type 0) (rows : List (Row P)) (new : Row P) → ((i : ℕ) → IfSome (port_at rows i) G) → IfSome (task_port new.task) G → (i : ℕ) → IfSome (port_at (rows ++ new ∷ []) i) G
+ports_more G [] new all f zero = f
+ports_more G [] new all f (suc i) = tt
+ports_more G (r ∷ rows) new all f zero = all zero
+ports_more G (r ∷ rows) new all f (suc i) = ports_more G rows new (λ j. all (suc j)) f i
+
+-- a role that holds no parcel has no copy
+pub role_counts : (batch place : ℕ) (role : Role) → role_parcels role ≡ [] → copies_of batch place (role_copies role) ≡ 0
+role_counts batch place (Source core) e = refl
+role_counts batch place (Sink core) e = ap (λ ps. copies_of batch place (parcel_copies ps)) e
+
+-- the first of a list
+pub front_of : {X : Type 0} (xs : List X) (x : X) → 0 < length xs → x ≡ get_or xs 0 x → xs ≡ x ∷ remove xs 0
+front_of [] x l at = absurd (omega arith)
+front_of (y ∷ ys) x l at = ap (λ z. z ∷ ys) (sym at)
+
+untouched_told : (told : Told) (i : ℕ) → IsUntouched told → IsTold told [] i
+untouched_told told i u = record { taken = u.taken; given = u.given; faults = λ lost. cc }
+
+-- a hub whose instances were all seated stands for the record of their install
+pub begun_stands : {P : Type 0} (told_by : P → Told) (hub : Hub P) → Begins told_by hub → HasFirst hub.log.history → hub.ports.items ≡ [] → length hub.rows.items ≤ hub.ports.room → length hub.rows.items < 2 ^ 32 →
+    Stands told_by hub [] hub.log.history
+begun_stands told_by hub b first none room few = record {
+  history = refl;
+  balanced = λ batch place. let live : live_count batch place hub.batches.open_rows ≡ 0 = ap (live_count batch place) b.batches in omega (arith, b.copies batch place);
+  recorded = λ sound. subst (λ (h : Record). IsRecorded told_by hub h) (sym first.alone) (record {
+    ports = λ i. some_mapped _ _ (port_at hub.rows.items i) (λ port u. told_quiet (told_by port) [] i first.entry first.quiet (untouched_told (told_by port) i u)) (b.ports i);
+    facts = λ i. some_mapped _ _ (facts_at hub.facts.items i) (λ f n. known_quiet f [] i first.entry first.quiet (record { taken = n.taken; lost = n.lost })) (b.facts i);
+    bytes = b.bytes ∙ ap capped (sym (bytes_quiet [] first.entry first.quiet));
+    losses = losses_quiet [] first.entry first.quiet tt;
+    cause = b.abandoned ∙ sym (cause_quiet [] first.entry first.quiet);
+  });
+  shut = λ i. some_mapped _ _ (facts_at hub.facts.items i) (λ f n closed. let no : f.closed ≡ false = n.closed in cc) (b.facts i);
+  gone = λ i. some_mapped _ _ (facts_at hub.facts.items i) (λ f n retired. let no : f.retired ≡ false = n.retired in cc) (b.facts i);
+  size = b.size;
+  berths = record { none = none; room = room; few = few };
+}

@@ -1,0 +1,8 @@
+pub mod Tellings
+pub mod RowLaws
+pub mod Parcels
+pub mod StandsLaws
+pub mod Touching
+pub mod Beginning
+pub mod Remaining
+pub mod Returning

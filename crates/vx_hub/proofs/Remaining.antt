@@ -1,0 +1,100 @@
+-- What is left when each instance ended.
+use Rattle.std.proofs.Common.{◌≡◌, ℕ, suc, ◌+◌, List, [], ◌∷◌, ◌++◌, length, Option, Some, None, IfSome, IsSome, IsSomeAnd, true, false, refl, sym, ap, subst, ◌∙◌, arith}
+use Rattle.std.specs.Prelude.{All}
+use Rattle.std.proofs.lemmas.List.Elements.{All-head, All-tail}
+use Rattle.vx_ends.specs.Told.{Told}
+use Rattle.vx_record.specs.Records.{Record}
+use Rattle.vx_hub.specs.declared.facts.Facts.{Facts}
+use Rattle.vx_hub.specs.declared.row.Row.{Row}
+use Rattle.vx_hub.specs.declared.task.Task.{Task}
+use Rattle.vx_hub.specs.declared.parts.Numbered.{Numbered}
+use Rattle.vx_hub.specs.Rows.{IsBare, task_port, port_at}
+use Rattle.vx_hub.specs.Stands.{IsGone, IsShut, IsTold, facts_at}
+use Rattle.vx_hub.specs.Remains.{AreBare, numbered_port, ports_in, AreNumbered, AreClosed, AreTold}
+
+-- where all instances ended, nothing stands at any
+pub all_bare : {P : Type 0} (fs : List Facts) (rows : List (Row P)) → length fs ≡ length rows → All (λ f. f.retired ≡ true) fs →
+    ((i : ℕ) → IfSome (facts_at fs i) (IsGone rows i)) → AreBare rows
+all_bare [] [] size over gone = tt
+all_bare [] (r ∷ rows) size over gone = absurd (omega arith)
+all_bare (f ∷ fs) [] size over gone = absurd (omega arith)
+all_bare {P} (f ∷ fs) (r ∷ rows) size over gone =
+    let retired : f.retired ≡ true = All-head (λ g. g.retired ≡ true) f fs over in
+    ((gone 0 retired).1, all_bare fs rows (omega arith) (All-tail (λ g. g.retired ≡ true) f fs over) (λ i. gone (suc i)))
+
+-- where all instances ended, each port is closed
+pub all_shut : {P : Type 0} (told_by : P → Told) (fs : List Facts) (rows : List (Row P)) (first : ℕ) → length fs ≡ length rows → All (λ f. f.retired ≡ true) fs →
+    ((i : ℕ) → IfSome (facts_at fs i) (IsGone rows i)) → ((i : ℕ) → IfSome (facts_at fs i) (IsShut told_by rows i)) → AreClosed told_by (ports_in first rows)
+all_shut told_by [] [] first size over gone shut = tt
+all_shut told_by [] (r ∷ rows) first size over gone shut = absurd (omega arith)
+all_shut told_by (f ∷ fs) [] first size over gone shut = absurd (omega arith)
+all_shut {P} told_by (f ∷ fs) (r ∷ rows) first size over gone shut =
+    let retired : f.retired ≡ true = All-head (λ g. g.retired ≡ true) f fs over in
+    put (all_shut told_by fs rows (first + 1) (omega arith) (All-tail (λ g. g.retired ≡ true) f fs over) (λ i. gone (suc i)) (λ i. shut (suc i)))
+    (task_port r.task) (shut 0 (gone 0 retired).0)
+  where
+    put : AreClosed told_by (ports_in (first + 1) rows) → (o : Option P) → IsSomeAnd o (λ port. (told_by port).started ≡ false) → AreClosed told_by (numbered_port first o ++ ports_in (first + 1) rows)
+    put rest None s = absurd s
+    put rest (Some p) s = (s, rest)
+
+-- each port tells what the record has
+pub all_told : {P : Type 0} (told_by : P → Told) (h : Record) (rows : List (Row P)) (first : ℕ) →
+    ((i : ℕ) → IfSome (port_at rows i) (λ port. IsTold (told_by port) h (first + i))) → AreTold told_by h (ports_in first rows)
+all_told told_by h [] first told = tt
+all_told {P} told_by h (r ∷ rows) first told =
+    put (all_told told_by h rows (first + 1) (λ i. next i (told (suc i)))) (task_port r.task) (here (told 0))
+  where
+    same_first : first + 0 ≡ first
+    same_first = omega arith
+
+    here : IfSome (task_port r.task) (λ port. IsTold (told_by port) h (first + 0)) → IfSome (task_port r.task) (λ port. IsTold (told_by port) h first)
+    here t = subst (λ (n : ℕ). IfSome (task_port r.task) (λ port. IsTold (told_by port) h n)) same_first t
+
+    next : (i : ℕ) → IfSome (port_at rows i) (λ port. IsTold (told_by port) h (first + suc i)) → IfSome (port_at rows i) (λ port. IsTold (told_by port) h (first + 1 + i))
+    next i t = let same : first + suc i ≡ first + 1 + i = omega arith in subst (λ (n : ℕ). IfSome (port_at rows i) (λ port. IsTold (told_by port) h n)) same t
+
+    put : AreTold told_by h (ports_in (first + 1) rows) → (o : Option P) → IfSome o (λ port. IsTold (told_by port) h first) → AreTold told_by h (numbered_port first o ++ ports_in (first + 1) rows)
+    put rest None s = rest
+    put rest (Some p) s = (s, rest)
+
+-- a task at home has a port
+bare_port : {P : Type 0} (row : Row P) → IsBare row → IsSome (task_port row.task)
+bare_port {P} row b = go row.task b.home
+  where
+    go : (t : Option (Task P)) → IsSome t → IsSome (task_port t)
+    go None e = cc
+    go (Some task) e = refl
+
+-- each instance has its port
+pub all_numbered : {P : Type 0} (rows : List (Row P)) (first : ℕ) → AreBare rows → AreNumbered first (ports_in first rows)
+all_numbered [] first bare = tt
+all_numbered {P} (r ∷ rows) first bare = put (all_numbered rows (first + 1) bare.1) (task_port r.task) (bare_port r bare.0)
+  where
+    put : AreNumbered (first + 1) (ports_in (first + 1) rows) → (o : Option P) → IsSome o → AreNumbered first (numbered_port first o ++ ports_in (first + 1) rows)
+    put rest None s = cc
+    put rest (Some p) s = (refl, rest)
+
+pub all_counted : {P : Type 0} (rows : List (Row P)) (first : ℕ) → AreBare rows → length (ports_in first rows) ≡ length rows
+all_counted [] first bare = refl
+all_counted {P} (r ∷ rows) first bare = put (all_counted rows (first + 1) bare.1) (task_port r.task) (bare_port r bare.0)
+  where
+    put : length (ports_in (first + 1) rows) ≡ length rows → (o : Option P) → IsSome o → length (numbered_port first o ++ ports_in (first + 1) rows) ≡ suc (length rows)
+    put rest None s = cc
+    put rest (Some p) s = ap suc rest
+
+-- the ports, when the first is put behind those that there are
+pub ports_next : {P : Type 0} (before all : List (Numbered P)) (row : Row P) (rows : List (Row P)) (i : ℕ) (p : P) → task_port row.task ≡ Some p →
+    before ++ ports_in i (row ∷ rows) ≡ all → (before ++ record { instance = i; port = p } ∷ []) ++ ports_in (i + 1) rows ≡ all
+ports_next {P} before all row rows i p at e =
+    one before ∙ ap (λ o. before ++ (numbered_port i o ++ ports_in (i + 1) rows)) (sym at) ∙ e
+  where
+    one : (xs : List (Numbered P)) → (xs ++ record { instance = i; port = p } ∷ []) ++ ports_in (i + 1) rows ≡ xs ++ (record { instance = i; port = p } ∷ ports_in (i + 1) rows)
+    one [] = refl
+    one (x ∷ xs) = ap (λ ys. x ∷ ys) (one xs)
+
+pub ports_told : {P : Type 0} (told_by : P → Told) (h : Record) (rows : List (Row P)) →
+    ((i : ℕ) → IfSome (port_at rows i) (λ port. IsTold (told_by port) h i)) → AreTold told_by h (ports_in 0 rows)
+ports_told {P} told_by h rows told = all_told told_by h rows 0 (λ i. from_zero i (told i))
+  where
+    from_zero : (i : ℕ) → IfSome (port_at rows i) (λ port. IsTold (told_by port) h i) → IfSome (port_at rows i) (λ port. IsTold (told_by port) h (0 + i))
+    from_zero i t = let same : i ≡ 0 + i = omega arith in subst (λ (n : ℕ). IfSome (port_at rows i) (λ port. IsTold (told_by port) h n)) same t

@@ -1,0 +1,367 @@
+-- Entries that tell of the bytes or the loss of one instance, which is out.
+use Rattle.std.proofs.Common.{◌≡◌, ℕ, zero, suc, ◌+◌, ◌<◌, Bool, true, false, IsTrue, List, [], ◌∷◌, ◌++◌, length, get_or, Option, Some, None, IfSome, refl, sym, ap, subst, ◌∙◌, arith}
+use Rattle.std.specs.Prelude.{IsSomeAnd, slice_set, ◌==◌, ◌≢◌, ◌&&◌, if◌then◌else◌, Result, Ok, Err, OnOk, IsSome, is_some, min, ◌^◌, ◌-◌}
+use Rattle.std.proofs.lemmas.Bool.Decides.{nat_tests}
+use Rattle.std.proofs.lemmas.List.{append-nil, length-set}
+use Rattle.vx_ends.specs.Told.{Told}
+use Rattle.vx_ledger.specs.Copies.{Copy, copies_of, numbered}
+use Rattle.vx_ledger.specs.Ledger.{Ledger, live_count}
+use Rattle.vx_ledger.proofs.CopyLaws.{copies_of-append}
+use Rattle.vx_record.specs.Records.{Record}
+use Rattle.vx_record.specs.Reads.{taken, bytes_of_all, bytes_of}
+use Rattle.vx_record.specs.Encoding.{given}
+use Rattle.vx_record.specs.Noted.{Noted}
+use Rattle.vx_record.specs.declared.log.Log.{Log}
+use Rattle.vx_record.specs.declared.entry.Entry.{Entry}
+use Rattle.vx_record.specs.declared.entry.Entry.TheVariants.{Read, SourceLost, Attempt, Abandon}
+use Rattle.vx_hub.specs.declared.facts.Facts.{Facts}
+use Rattle.vx_hub.specs.declared.row.Row.{Row}
+use Rattle.vx_hub.specs.declared.hub.Hub.{Hub}
+use Rattle.vx_hub.specs.Rows.{port_at, port_of, task_port, row_at, copies_in, IsBareAt, IsOutAt, SameOtherPorts, KeepsOthersBare, KeepsBare, Gains, Loses}
+use Rattle.vx_hub.specs.Works.{IsClosedBy}
+use Rattle.vx_hub.specs.declared.task.Task.{Task}
+use Rattle.vx_hub.specs.Stands.{Stands, IsTold, IsKnown, IsRecorded, IsSound, IsShut, IsGone, LossesTold, facts_at, capped, touched, IsBalanced, IsQuiet, spare_of, cause_of}
+use Rattle.vx_hub.proofs.StandsLaws.{some_mapped, some_all, berths_kept, told_quiet, known_quiet, bytes_quiet, losses_quiet, cause_quiet}
+
+-- a list that gets nothing more
+nothing_more : (b : Bool) (xs ys : List ℕ) → b ≡ false → xs ≡ xs ++ (if b then ys else [])
+nothing_more true xs ys e = cc
+nothing_more false xs ys e = sym (append-nil xs)
+
+nothing_of : (a b : Bool) (xs ys : List ℕ) → a ≡ false → xs ≡ xs ++ (if a && b then ys else [])
+nothing_of true b xs ys e = cc
+nothing_of false b xs ys e = sym (append-nil xs)
+
+other_test : (i j : ℕ) → j ≢ i → (i == j) ≡ false
+other_test i j other = go (i == j) refl
+  where
+    go : (b : Bool) → (i == j) ≡ b → (i == j) ≡ false
+    go false e = e
+    go true e = absurd (other (grind (arith, nat_tests)))
+
+pub same_test : (i : ℕ) → (i == i) ≡ true
+same_test i = grind (arith, nat_tests)
+
+-- what another instance's port tells
+pub told_other : (told : Told) (h : Record) (i j : ℕ) (e : Entry) → touched e ≡ Some i → j ≢ i → IsTold told h j → IsTold told (e ∷ h) j
+told_other told h i j (Read k stream took) t other s =
+    let k_is : k ≡ i = cc in
+    let test : (k == j) ≡ false = other_test k j (λ e. other (e ∙ k_is)) in
+    record {
+      taken = λ from. subst (λ (g : List ℕ). IfSome (told.taken from) (λ bytes. bytes ≡ g)) (nothing_of (k == j) (stream == from) (taken h j from) (bytes_of took) test) (s.taken from);
+      given = subst (λ (g : List ℕ). IfSome told.given (λ bytes. bytes ≡ g)) (sym (append-nil (given h j))) s.given;
+      faults = s.faults;
+    }
+told_other told h i j (SourceLost k at failed) t other s =
+    let k_is : k ≡ i = cc in
+    let test : (k == j) ≡ false = other_test k j (λ e. other (e ∙ k_is)) in
+    record {
+      taken = s.taken;
+      given = subst (λ (g : List ℕ). IfSome told.given (λ bytes. bytes ≡ g)) (sym (append-nil (given h j))) s.given;
+      faults = λ lost. s.faults (grind (arith, nat_tests, test, lost));
+    }
+told_other told h i j (Attempt k copies bytes reply) t other s =
+    let k_is : k ≡ i = cc in
+    let test : (k == j) ≡ false = other_test k j (λ e. other (e ∙ k_is)) in
+    record {
+      taken = s.taken;
+      given = subst (λ (g : List ℕ). IfSome told.given (λ all. all ≡ g)) (nothing_more (k == j) (given h j) bytes test) s.given;
+      faults = s.faults;
+    }
+told_other told h i j e t other s = cc
+
+-- what is known of another instance
+pub known_other : (f : Facts) (h : Record) (i j : ℕ) (e : Entry) → touched e ≡ Some i → j ≢ i → IsKnown f h j → IsKnown f (e ∷ h) j
+known_other f h i j (Read k stream took) t other s =
+    let k_is : k ≡ i = cc in
+    let test : (k == j) ≡ false = other_test k j (λ e. other (e ∙ k_is)) in
+    record { taken = grind (arith, nat_tests, test, s.taken); lost = s.lost }
+known_other f h i j (SourceLost k at failed) t other s =
+    let k_is : k ≡ i = cc in
+    let test : (k == j) ≡ false = other_test k j (λ e. other (e ∙ k_is)) in
+    record { taken = s.taken; lost = grind (arith, nat_tests, test, s.lost) }
+known_other f h i j (Attempt k copies bytes reply) t other s = record { taken = s.taken; lost = s.lost }
+known_other f h i j e t other s = cc
+
+-- the facts of the instance that were written
+pub facts_written : (fs : List Facts) (i : ℕ) (new : Facts) → i < length fs → facts_at (slice_set fs i new) i ≡ Some new
+facts_written [] i new l = absurd (omega arith)
+facts_written (f ∷ fs) zero new l = refl
+facts_written (f ∷ fs) (suc i) new l = facts_written fs i new (omega arith)
+
+pub facts_read : (fs : List Facts) (i : ℕ) (f : Facts) → i < length fs → f ≡ get_or fs i f → facts_at fs i ≡ Some f
+facts_read [] i f l at = absurd (omega arith)
+facts_read (x ∷ fs) zero f l at = ap Some (sym at)
+facts_read (x ∷ fs) (suc i) f l at = facts_read fs i f (omega arith) at
+
+pub facts_other : (fs : List Facts) (i j : ℕ) (new : Facts) → j ≢ i → facts_at (slice_set fs i new) j ≡ facts_at fs j
+facts_other [] i j new other = refl
+facts_other (x ∷ fs) zero zero new other = absurd (other refl)
+facts_other (x ∷ fs) zero (suc j) new other = refl
+facts_other (x ∷ fs) (suc i) zero new other = refl
+facts_other (x ∷ fs) (suc i) (suc j) new other = facts_other fs i j new (λ e. other (ap suc e))
+
+-- what holds of the facts of each instance, when those of one are written
+pub facts_keep : (Q : ℕ → Option Facts → Type 0) (fs : List Facts) (i : ℕ) (new : Facts) → i < length fs →
+    Q i (Some new) → ((j : ℕ) → j ≢ i → Q j (facts_at fs j)) → (j : ℕ) → Q j (facts_at (slice_set fs i new) j)
+facts_keep Q fs i new l here others j = go (j == i) refl
+  where
+    go : (b : Bool) → (j == i) ≡ b → Q j (facts_at (slice_set fs i new) j)
+    go true e =
+        let same : j ≡ i = grind (arith, nat_tests) in
+        subst (λ (k : ℕ). Q k (facts_at (slice_set fs i new) k)) (sym same) (subst (λ (r : Option Facts). Q i r) (sym (facts_written fs i new l)) here)
+    go false e =
+        let other : j ≢ i = grind (arith, nat_tests) in
+        subst (λ (r : Option Facts). Q j r) (sym (facts_other fs i j new other)) (others j other)
+
+-- an instance that is out has no port at home
+out_port : {P : Type 0} (r : Option (Row P)) → IfSome r (λ row. row.task ≡ None) → port_of r ≡ None
+out_port None out = refl
+out_port (Some row) out = ap task_port out
+
+-- what holds of one number, and of each other
+pub other_number : (Q : ℕ → Type 0) (i : ℕ) → Q i → ((j : ℕ) → j ≢ i → Q j) → (j : ℕ) → Q j
+other_number Q i here others j = go (j == i) refl
+  where
+    go : (b : Bool) → (j == i) ≡ b → Q j
+    go true e = let same : j ≡ i = grind (arith, nat_tests) in subst (λ (k : ℕ). Q k) (sym same) here
+    go false e = let other : j ≢ i = grind (arith, nat_tests) in others j other
+
+-- what holds of the port of one instance, and of each other
+pub other_port : {P : Type 0} (Q : ℕ → Option P → Type 0) (i : ℕ) (rows : List (Row P)) → Q i (port_at rows i) → ((j : ℕ) → j ≢ i → Q j (port_at rows j)) → (j : ℕ) → Q j (port_at rows j)
+other_port Q i rows here others = other_number (λ k. Q k (port_at rows k)) i here others
+
+-- of an instance that isn't closed for good nothing is claimed
+unclosed_shut : {P : Type 0} (told_by : P → Told) (rows : List (Row P)) (i : ℕ) (o : Option Facts) → IsSomeAnd o (λ f. f.closed ≡ false) → IfSome o (IsShut told_by rows i)
+unclosed_shut told_by rows i None u = absurd u
+unclosed_shut told_by rows i (Some f) u = λ closed. cc
+
+unclosed_gone : {P : Type 0} (old new : List (Row P)) (i : ℕ) (o : Option Facts) → IsSomeAnd o (λ f. f.closed ≡ false) → IfSome o (IsGone old i) → IfSome o (IsGone new i)
+unclosed_gone old new i None u g = absurd u
+unclosed_gone old new i (Some f) u g = λ retired. let c : f.closed ≡ true = (g retired).0 in cc
+
+-- why the run was abandoned, when bytes or a loss are told
+cause_touched : (h : Record) (e : Entry) (i : ℕ) → touched e ≡ Some i → cause_of (e ∷ h) ≡ cause_of h
+cause_touched h (Abandon cause) i t = cc
+cause_touched h e i t = refl
+
+-- bytes or the loss of an instance that is out are told
+pub stands_touched : {P : Type 0} (told_by : P → Told) (d e : Hub P) (hand : List Copy) (entry : Entry) (i : ℕ) (f g : Facts) →
+    Stands told_by d hand d.log.history → IsOutAt d.rows.items i → i < length d.facts.items → f ≡ get_or d.facts.items i f →
+    e.facts.items ≡ slice_set d.facts.items i g → g.closed ≡ f.closed → g.retired ≡ f.retired →
+    e.rows ≡ d.rows → spare_of e ≡ spare_of d → e.batches ≡ d.batches → e.starved ≡ d.starved → Noted d.log entry e.log → touched entry ≡ Some i →
+    (IsKnown f d.log.history i → IsKnown g (entry ∷ d.log.history) i) →
+    (d.bytes ≡ capped (bytes_of_all d.log.history) → e.bytes ≡ capped (bytes_of_all (entry ∷ d.log.history))) →
+    (IsKnown f d.log.history i → LossesTold d.log.history → LossesTold (entry ∷ d.log.history)) →
+    Stands told_by e hand e.log.history
+stands_touched {P} told_by d e hand entry i f g s out within at written closed retired rows berths batches starved noted touch known bytes losses =
+    let was : facts_at d.facts.items i ≡ Some f = facts_read d.facts.items i f within at in
+    let none : port_at d.rows.items i ≡ None = out_port (row_at d.rows.items i) out in
+    let port_gone : (Q : Option P → Type 0) → Q None → Q (port_at d.rows.items i) = λ Q q. subst (λ (p : Option P). Q p) (sym none) q in
+    record {
+      history = refl;
+      balanced = λ batch place. subst (λ (b : _). live_count batch place b.open_rows ≡ copies_in batch place e.rows.items + copies_of batch place hand) (sym batches)
+          (subst (λ (r : _). live_count batch place d.batches.open_rows ≡ copies_in batch place r.items + copies_of batch place hand) (sym rows) (s.balanced batch place));
+      recorded = λ sound.
+          let w = noted.whole sound.whole in
+          let r : IsRecorded told_by d d.log.history = s.recorded (record { whole = w.0; fed = sym starved ∙ sound.fed }) in
+          let mine : IsKnown f d.log.history i = subst (λ (o : Option Facts). IfSome o (λ x. IsKnown x d.log.history i)) was (r.facts i) in
+          subst (λ (h : Record). IsRecorded told_by e h) (sym w.1) (record {
+            ports = λ j. subst (λ (v : _). IfSome (port_at v.items j) (λ port. IsTold (told_by port) (entry ∷ d.log.history) j)) (sym rows)
+                (other_port (λ k p. IfSome p (λ port. IsTold (told_by port) (entry ∷ d.log.history) k)) i d.rows.items (port_gone (λ p. IfSome p (λ port. IsTold (told_by port) (entry ∷ d.log.history) i)) tt)
+                (λ k other. some_mapped _ _ (port_at d.rows.items k) (λ port t. told_other (told_by port) d.log.history i k entry touch other t) (r.ports k)) j);
+            facts = λ j. subst (λ (fs : List Facts). IfSome (facts_at fs j) (λ x. IsKnown x (entry ∷ d.log.history) j)) (sym written)
+                (facts_keep (λ k o. IfSome o (λ x. IsKnown x (entry ∷ d.log.history) k)) d.facts.items i g within (known mine)
+                (λ k other. some_mapped _ _ (facts_at d.facts.items k) (λ x t. known_other x d.log.history i k entry touch other t) (r.facts k)) j);
+            bytes = bytes r.bytes;
+            losses = losses mine r.losses;
+            cause = ap (λ (t : _). t.1) berths ∙ r.cause ∙ sym (cause_touched d.log.history entry i touch);
+          });
+      shut = λ j. subst (λ (v : _). IfSome (facts_at e.facts.items j) (IsShut told_by v.items j)) (sym rows)
+          (subst (λ (fs : List Facts). IfSome (facts_at fs j) (IsShut told_by d.rows.items j)) (sym written)
+          (facts_keep (λ k o. IfSome o (IsShut told_by d.rows.items k)) d.facts.items i g within
+          (λ c. subst (λ (o : Option Facts). IfSome o (IsShut told_by d.rows.items i)) was (s.shut i) (sym closed ∙ c)) (λ k other. s.shut k) j));
+      gone = λ j. subst (λ (v : _). IfSome (facts_at e.facts.items j) (IsGone v.items j)) (sym rows)
+          (subst (λ (fs : List Facts). IfSome (facts_at fs j) (IsGone d.rows.items j)) (sym written)
+          (facts_keep (λ k o. IfSome o (IsGone d.rows.items k)) d.facts.items i g within
+          (λ c. let b = subst (λ (o : Option Facts). IfSome o (IsGone d.rows.items i)) was (s.gone i) (sym retired ∙ c) in (closed ∙ b.0, b.1)) (λ k other. s.gone k) j));
+      size = ap length written ∙ length-set d.facts.items i g ∙ s.size ∙ sym (ap (λ (v : _). length v.items) rows);
+      berths = berths_kept d.ports e.ports d.rows.items e.rows.items (ap (λ (t : _). t.0) berths) (ap (λ (v : _). length v.items) rows) s.berths;
+    }
+
+-- an instance is marked, and a quiet entry tells it
+pub stands_marked : {P : Type 0} (told_by : P → Told) (d e : Hub P) (hand : List Copy) (entry : Entry) (i : ℕ) (f g : Facts) →
+    Stands told_by d hand d.log.history → i < length d.facts.items → f ≡ get_or d.facts.items i f →
+    e.facts.items ≡ slice_set d.facts.items i g → g.taken ≡ f.taken → g.lost ≡ f.lost →
+    e.rows ≡ d.rows → spare_of e ≡ spare_of d → e.batches ≡ d.batches → e.starved ≡ d.starved → e.bytes ≡ d.bytes → Noted d.log entry e.log → IsQuiet entry →
+    IsShut told_by d.rows.items i g → IsGone d.rows.items i g →
+    Stands told_by e hand e.log.history
+stands_marked {P} told_by d e hand entry i f g s within at written taken_same lost_same rows berths batches starved bytes noted quiet shut gone =
+    let was : facts_at d.facts.items i ≡ Some f = facts_read d.facts.items i f within at in
+    record {
+      history = refl;
+      balanced = λ batch place. subst (λ (b : _). live_count batch place b.open_rows ≡ copies_in batch place e.rows.items + copies_of batch place hand) (sym batches)
+          (subst (λ (r : _). live_count batch place d.batches.open_rows ≡ copies_in batch place r.items + copies_of batch place hand) (sym rows) (s.balanced batch place));
+      recorded = λ sound.
+          let w = noted.whole sound.whole in
+          let r : IsRecorded told_by d d.log.history = s.recorded (record { whole = w.0; fed = sym starved ∙ sound.fed }) in
+          let mine : IsKnown f d.log.history i = subst (λ (o : Option Facts). IfSome o (λ x. IsKnown x d.log.history i)) was (r.facts i) in
+          subst (λ (h : Record). IsRecorded told_by e h) (sym w.1) (record {
+            ports = λ j. subst (λ (v : _). IfSome (port_at v.items j) (λ port. IsTold (told_by port) (entry ∷ d.log.history) j)) (sym rows)
+                (some_mapped _ _ (port_at d.rows.items j) (λ port t. told_quiet (told_by port) d.log.history j entry quiet t) (r.ports j));
+            facts = λ j. subst (λ (fs : List Facts). IfSome (facts_at fs j) (λ x. IsKnown x (entry ∷ d.log.history) j)) (sym written)
+                (facts_keep (λ k o. IfSome o (λ x. IsKnown x (entry ∷ d.log.history) k)) d.facts.items i g within
+                (known_quiet g d.log.history i entry quiet (record { taken = taken_same ∙ mine.taken; lost = lost_same ∙ mine.lost }))
+                (λ k other. some_mapped _ _ (facts_at d.facts.items k) (λ x t. known_quiet x d.log.history k entry quiet t) (r.facts k)) j);
+            bytes = bytes ∙ r.bytes ∙ ap capped (sym (bytes_quiet d.log.history entry quiet));
+            losses = losses_quiet d.log.history entry quiet r.losses;
+            cause = ap (λ (t : _). t.1) berths ∙ r.cause ∙ sym (cause_quiet d.log.history entry quiet);
+          });
+      shut = λ j. subst (λ (v : _). IfSome (facts_at e.facts.items j) (IsShut told_by v.items j)) (sym rows)
+          (subst (λ (fs : List Facts). IfSome (facts_at fs j) (IsShut told_by d.rows.items j)) (sym written)
+          (facts_keep (λ k o. IfSome o (IsShut told_by d.rows.items k)) d.facts.items i g within shut (λ k other. s.shut k) j));
+      gone = λ j. subst (λ (v : _). IfSome (facts_at e.facts.items j) (IsGone v.items j)) (sym rows)
+          (subst (λ (fs : List Facts). IfSome (facts_at fs j) (IsGone d.rows.items j)) (sym written)
+          (facts_keep (λ k o. IfSome o (IsGone d.rows.items k)) d.facts.items i g within gone (λ k other. s.gone k) j));
+      size = ap length written ∙ length-set d.facts.items i g ∙ s.size ∙ sym (ap (λ (v : _). length v.items) rows);
+      berths = berths_kept d.ports e.ports d.rows.items e.rows.items (ap (λ (t : _). t.0) berths) (ap (λ (v : _). length v.items) rows) s.berths;
+    }
+
+-- a task comes home with a port that tells what the record has
+pub stands_brought : {P : Type 0} (told_by : P → Told) (d e : Hub P) (copies : List Copy) (port : P) (i : ℕ) →
+    Stands told_by d copies d.log.history → IsSomeAnd (facts_at d.facts.items i) (λ f. f.closed ≡ false) →
+    (IsSound d → IsTold (told_by port) d.log.history i) →
+    IsBalanced e.batches e.rows.items [] → port_at e.rows.items i ≡ Some port → SameOtherPorts i d.rows.items e.rows.items → KeepsOthersBare i d.rows.items e.rows.items →
+    length e.rows.items ≡ length d.rows.items → e.facts ≡ d.facts → e.log ≡ d.log → e.starved ≡ d.starved → e.bytes ≡ d.bytes → spare_of e ≡ spare_of d →
+    Stands told_by e [] e.log.history
+stands_brought {P} told_by d e copies port i s unclosed told balanced here ports bare size facts log starved bytes berths =
+    record {
+      history = refl;
+      balanced = balanced;
+      recorded = λ sound.
+          let fine : IsSound d = record { whole = sym (ap (λ (l : Log). l.whole) log) ∙ sound.whole; fed = sym starved ∙ sound.fed } in
+          let r : IsRecorded told_by d d.log.history = s.recorded fine in
+          subst (λ (h : Record). IsRecorded told_by e h) (sym (ap (λ (l : Log). l.history) log)) (record {
+            ports = other_port (λ k p. IfSome p (λ q. IsTold (told_by q) d.log.history k)) i e.rows.items
+                (subst (λ (p : Option P). IfSome p (λ q. IsTold (told_by q) d.log.history i)) (sym here) (told fine))
+                (λ k other. subst (λ (p : Option P). IfSome p (λ q. IsTold (told_by q) d.log.history k)) (sym (ports k other)) (r.ports k));
+            facts = λ k. subst (λ (v : _). IfSome (facts_at v.items k) (λ f. IsKnown f d.log.history k)) (sym facts) (r.facts k);
+            bytes = bytes ∙ r.bytes;
+            losses = r.losses;
+            cause = ap (λ (t : _). t.1) berths ∙ r.cause;
+          });
+      shut = λ k. subst (λ (v : _). IfSome (facts_at v.items k) (IsShut told_by e.rows.items k)) (sym facts)
+          (other_number (λ m. IfSome (facts_at d.facts.items m) (IsShut told_by e.rows.items m)) i (unclosed_shut told_by e.rows.items i (facts_at d.facts.items i) unclosed)
+          (λ m other. some_mapped _ _ (facts_at d.facts.items m) (λ f shut c. subst (λ (p : Option P). IsSomeAnd p (λ q. (told_by q).started ≡ false)) (sym (ports m other)) (shut c)) (s.shut m)) k);
+      gone = λ k. subst (λ (v : _). IfSome (facts_at v.items k) (IsGone e.rows.items k)) (sym facts)
+          (other_number (λ m. IfSome (facts_at d.facts.items m) (IsGone e.rows.items m)) i (unclosed_gone d.rows.items e.rows.items i (facts_at d.facts.items i) unclosed (s.gone i))
+          (λ m other. some_mapped _ _ (facts_at d.facts.items m) (λ f gone c. ((gone c).0, bare m other (gone c).1)) (s.gone m)) k);
+      size = ap (λ (v : _). length v.items) facts ∙ s.size ∙ sym size;
+      berths = berths_kept d.ports e.ports d.rows.items e.rows.items (ap (λ (t : _). t.0) berths) size s.berths;
+    }
+
+-- a fact of the facts that were read
+pub facts_has : (F : Facts → Type 0) (fs : List Facts) (i : ℕ) (f : Facts) → i < length fs → f ≡ get_or fs i f → IfSome (facts_at fs i) F → F f
+facts_has F fs i f l at h = subst (λ (o : Option Facts). IfSome o F) (facts_read fs i f l at) h
+
+pub facts_surely : (F : Facts → Type 0) (fs : List Facts) (i : ℕ) (f : Facts) → i < length fs → f ≡ get_or fs i f → IsSomeAnd (facts_at fs i) F → F f
+facts_surely F fs i f l at h = subst (λ (o : Option Facts). IsSomeAnd o F) (facts_read fs i f l at) h
+
+pub facts_get : (F : Facts → Type 0) (fs : List Facts) (i : ℕ) (g : Facts) → i < length fs → F g → IsSomeAnd (facts_at (slice_set fs i g) i) F
+facts_get F fs i g l h = subst (λ (o : Option Facts). IsSomeAnd o F) (sym (facts_written fs i g l)) h
+
+-- a count that stands still goes on
+pub capped_on : (a b n m : ℕ) → a ≡ min b m → min (a + n) m ≡ min (b + n) m
+capped_on a b n m e = omega arith
+
+-- a copy of the hand is put down
+pub rest_balanced : {P : Type 0} (ledger : Ledger) (before after : List (Row P)) (rest copies : List Copy) → IsBalanced ledger before (rest ++ copies) → Gains before copies after →
+    IsBalanced ledger after rest
+rest_balanced ledger before after rest copies b g batch place = omega (arith, b batch place, g batch place, copies_of-append batch place rest copies)
+
+-- an instance that isn't closed gets something
+pub bare_unclosed : {P : Type 0} (fs : List Facts) (old new : List (Row P)) (i : ℕ) → IsSomeAnd (facts_at fs i) (λ f. f.closed ≡ false) →
+    ((j : ℕ) → IfSome (facts_at fs j) (IsGone old j)) → KeepsOthersBare i old new → (j : ℕ) → IfSome (facts_at fs j) (λ f. IsTrue f.retired → IsBareAt old j → IsBareAt new j)
+bare_unclosed fs old new i unclosed gone keeps = other_number (λ k. IfSome (facts_at fs k) (λ f. IsTrue f.retired → IsBareAt old k → IsBareAt new k)) i
+    (never (facts_at fs i) unclosed (gone i)) (λ k other. some_all _ (facts_at fs k) (λ f retired. keeps k other))
+  where
+    never : (o : Option Facts) → IsSomeAnd o (λ f. f.closed ≡ false) → IfSome o (IsGone old i) → IfSome o (λ f. IsTrue f.retired → IsBareAt old i → IsBareAt new i)
+    never None u g = absurd u
+    never (Some f) u g = λ retired bare. let c : f.closed ≡ true = (g retired).0 in cc
+
+-- a count of what an instance took, after more
+pub capped_mine : (i a b n : ℕ) → a ≡ capped b → min (a + n) (2 ^ 64 - 1) ≡ capped (b + (if i == i then n else 0))
+capped_mine i a b n e = capped_on a b n (2 ^ 64 - 1) e ∙ ap (λ t. capped (b + (if t then n else 0))) (sym (same_test i))
+
+-- what holds where a call answers well
+pub on_ok : {X E : Type 0} (P Q : Type 0) (r : Result X E) → (P → Q) → OnOk r P → OnOk r Q
+on_ok P Q (Ok x) f h = f h
+on_ok P Q (Err e) f h = tt
+
+pub length_numbered : (n batch place first : ℕ) → length (numbered n batch place first) ≡ n
+length_numbered zero batch place first = refl
+length_numbered (suc n) batch place first = ap suc (length_numbered n batch place (first + 1))
+
+pub not_true : (b : Bool) → (IsTrue b → ⊥) → b ≡ false
+not_true true n = absurd (n refl)
+not_true false n = refl
+
+-- a task at home has a port
+pub home_port : {P : Type 0} (t : Option (Task P)) → is_some t ≡ true → IsSome (task_port t)
+home_port None e = cc
+home_port (Some task) e = refl
+
+-- what a closed port tells
+pub told_closed : (told after : Told) (h : Record) (i : ℕ) → IsClosedBy told after → IsTold told h i → IsTold after h i
+told_closed told after h i c t = record {
+  taken = λ stream. subst (λ (f : _). IfSome (f stream) (λ bytes. bytes ≡ taken h i stream)) (sym c.bytes.taken) (t.taken stream);
+  given = subst (λ (o : _). IfSome o (λ bytes. bytes ≡ given h i)) (sym c.bytes.given) t.given;
+  faults = λ lost. let before : 0 < told.faults = t.faults lost in omega (arith, c.faults);
+}
+
+-- what holds of the port that there is, and of the one that it becomes
+pub port_becomes : {P : Type 0} (F : P → P → Type 0) (G K : P → Type 0) (old new : Option P) → IfSome old (λ o. IsSomeAnd new (F o)) → IsSome old → ((o n : P) → F o n → G o → K n) →
+    IfSome old G → IfSome new K
+port_becomes F G K None new f home keep g = cc
+port_becomes F G K (Some o) None f home keep g = tt
+port_becomes F G K (Some o) (Some n) f home keep g = keep o n f g
+
+pub port_is : {P : Type 0} (F : P → P → Type 0) (K : P → Type 0) (old new : Option P) → IfSome old (λ o. IsSomeAnd new (F o)) → IsSome old → ((o n : P) → F o n → K n) → IsSomeAnd new K
+port_is F K None new f home keep = cc
+port_is F K (Some o) None f home keep = absurd f
+port_is F K (Some o) (Some n) f home keep = keep o n f
+
+-- the port of an instance at home is closed
+pub stands_shut : {P : Type 0} (told_by : P → Told) (d e : Hub P) (i : ℕ) →
+    Stands told_by d [] d.log.history → IsSome (port_at d.rows.items i) →
+    IfSome (port_at d.rows.items i) (λ old. IsSomeAnd (port_at e.rows.items i) (λ new. IsClosedBy (told_by old) (told_by new))) →
+    Loses d.rows.items [] e.rows.items → SameOtherPorts i d.rows.items e.rows.items → KeepsBare d.rows.items e.rows.items →
+    length e.rows.items ≡ length d.rows.items → e.batches ≡ d.batches → e.facts ≡ d.facts → e.log ≡ d.log → e.starved ≡ d.starved → e.bytes ≡ d.bytes → spare_of e ≡ spare_of d →
+    Stands told_by e [] e.log.history
+stands_shut {P} told_by d e i s home becomes loses ports bare size batches facts log starved bytes berths =
+    record {
+      history = refl;
+      balanced = λ batch place. subst (λ (b : _). live_count batch place b.open_rows ≡ copies_in batch place e.rows.items + 0) (sym batches)
+          (let b : live_count batch place d.batches.open_rows ≡ copies_in batch place d.rows.items + 0 = s.balanced batch place in omega (arith, loses batch place));
+      recorded = λ sound.
+          let fine : IsSound d = record { whole = sym (ap (λ (l : Log). l.whole) log) ∙ sound.whole; fed = sym starved ∙ sound.fed } in
+          let r : IsRecorded told_by d d.log.history = s.recorded fine in
+          subst (λ (h : Record). IsRecorded told_by e h) (sym (ap (λ (l : Log). l.history) log)) (record {
+            ports = other_port (λ k p. IfSome p (λ q. IsTold (told_by q) d.log.history k)) i e.rows.items
+                (port_becomes (λ o n. IsClosedBy (told_by o) (told_by n)) (λ q. IsTold (told_by q) d.log.history i) (λ q. IsTold (told_by q) d.log.history i) (port_at d.rows.items i) (port_at e.rows.items i)
+                becomes home (λ o n c t. told_closed (told_by o) (told_by n) d.log.history i c t) (r.ports i))
+                (λ k other. subst (λ (p : Option P). IfSome p (λ q. IsTold (told_by q) d.log.history k)) (sym (ports k other)) (r.ports k));
+            facts = λ k. subst (λ (v : _). IfSome (facts_at v.items k) (λ f. IsKnown f d.log.history k)) (sym facts) (r.facts k);
+            bytes = bytes ∙ r.bytes;
+            losses = r.losses;
+            cause = ap (λ (t : _). t.1) berths ∙ r.cause;
+          });
+      shut = λ k. subst (λ (v : _). IfSome (facts_at v.items k) (IsShut told_by e.rows.items k)) (sym facts)
+          (other_number (λ m. IfSome (facts_at d.facts.items m) (IsShut told_by e.rows.items m)) i
+          (some_all _ (facts_at d.facts.items i) (λ f closed. port_is (λ o n. IsClosedBy (told_by o) (told_by n)) (λ q. (told_by q).started ≡ false) (port_at d.rows.items i) (port_at e.rows.items i) becomes home (λ o n c. c.closed)))
+          (λ m other. some_mapped _ _ (facts_at d.facts.items m) (λ f shut c. subst (λ (p : Option P). IsSomeAnd p (λ q. (told_by q).started ≡ false)) (sym (ports m other)) (shut c)) (s.shut m)) k);
+      gone = λ k. subst (λ (v : _). IfSome (facts_at v.items k) (IsGone e.rows.items k)) (sym facts)
+          (some_mapped _ _ (facts_at d.facts.items k) (λ f gone c. ((gone c).0, bare k (gone c).1)) (s.gone k));
+      size = ap (λ (v : _). length v.items) facts ∙ s.size ∙ sym size;
+      berths = berths_kept d.ports e.ports d.rows.items e.rows.items (ap (λ (t : _). t.0) berths) size s.berths;
+    }

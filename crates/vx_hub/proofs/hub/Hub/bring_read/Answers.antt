@@ -1,0 +1,8 @@
+use Rattle.vx_hub.specs.Rows.{role_copies}
+use Rattle.vx_hub.proofs.hub.Hub.bring_read.Goals as goal
+
+pub bring-requires-clause-stands : goal.bring-requires-clause-stands
+bring-requires-clause-stands g c = c.note_taken.ensures.stands (role_copies c.args.task.role) c.requires.stands
+
+pub bring-requires-in-Failed-clause-stands : goal.bring-requires-in-Failed-clause-stands
+bring-requires-in-Failed-clause-stands g c = c.note_lost.ensures.stands (role_copies c.args.task.role) c.requires.stands

@@ -1,0 +1,23 @@
+use Rattle.std.proofs.Common.{ap, ◌∙◌, subst, sym, List, length}
+use Rattle.vx_hub.specs.declared.parts.Numbered.{Numbered}
+use Rattle.vx_hub.specs.Remains.{AreNumbered, AreClosed, AreTold}
+use Rattle.vx_hub.proofs.Remaining.{all_bare, all_shut, ports_told, all_numbered, all_counted}
+use Rattle.vx_hub.proofs.hub.Hub.end.Goals as goal
+
+pub ports_of-requires-clause-bare : goal.ports_of-requires-clause-bare
+ports_of-requires-clause-bare g c = all_bare c.args.self.facts.items c.args.self.rows.items c.requires.stands.size c.requires.over c.requires.stands.gone
+
+pub returns-clause-numbers : goal.returns-clause-numbers
+returns-clause-numbers g c = subst (λ (ns : List (Numbered _)). AreNumbered 0 ns) (sym c.ports_of.ensures)
+    (all_numbered c.args.self.rows.items 0 (all_bare c.args.self.facts.items c.args.self.rows.items c.requires.stands.size c.requires.over c.requires.stands.gone))
+
+pub returns-clause-count : goal.returns-clause-count
+returns-clause-count g c = ap length c.ports_of.ensures ∙ all_counted c.args.self.rows.items 0 (all_bare c.args.self.facts.items c.args.self.rows.items c.requires.stands.size c.requires.over c.requires.stands.gone)
+
+pub returns-clause-closed : goal.returns-clause-closed
+returns-clause-closed g c = subst (λ (ns : List (Numbered _)). AreClosed g.P.Port.told ns) (sym c.ports_of.ensures)
+    (all_shut g.P.Port.told c.args.self.facts.items c.args.self.rows.items 0 c.requires.stands.size c.requires.over c.requires.stands.gone c.requires.stands.shut)
+
+pub returns-clause-told : goal.returns-clause-told
+returns-clause-told g c sound = subst (λ (ns : List (Numbered _)). AreTold g.P.Port.told c.args.self.log.history ns) (sym c.ports_of.ensures)
+    (ports_told g.P.Port.told c.args.self.log.history c.args.self.rows.items (c.requires.stands.recorded sound).ports)

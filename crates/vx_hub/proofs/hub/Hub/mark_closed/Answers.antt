@@ -1,0 +1,15 @@
+use Rattle.std.proofs.Common.{refl, arith, [], ◌<◌, length}
+use Rattle.vx_hub.specs.Stands.{IsGone}
+use Rattle.vx_hub.proofs.Touching.{stands_marked, facts_has}
+use Rattle.vx_hub.proofs.hub.Hub.mark_closed.Goals as goal
+
+pub returns-clause-stands : goal.returns-clause-stands
+returns-clause-stands g c =
+    let within : c.args.instance < length c.args.self.now.facts.items = omega (arith, c.requires.stands.size) in
+    stands_marked g.P.Port.told c.args.self.now _ [] _ c.args.instance c.index_mut.result.now _ c.requires.stands within c.index_mut.ensures.value
+    refl refl refl refl refl refl refl refl c.note.ensures.noted tt (λ closed. c.requires.shut)
+    (λ retired. (
+      refl,
+      (facts_has (IsGone c.args.self.now.rows.items c.args.instance) c.args.self.now.facts.items c.args.instance c.index_mut.result.now within c.index_mut.ensures.value
+          (c.requires.stands.gone c.args.instance) retired).1,
+    ))

@@ -1,0 +1,19 @@
+use Rattle.std.proofs.Common.{refl, false, ◌≡◌, ◌+◌, ◌∙◌, ap, length}
+use Rattle.std.specs.Prelude.{min, ◌^◌, ◌-◌}
+use Rattle.vx_hub.proofs.Touching.{stands_touched, facts_surely, facts_get, capped_on, capped_mine}
+use Rattle.vx_hub.proofs.hub.Hub.note_taken.Goals as goal
+
+pub returns-clause-stands : goal.returns-clause-stands
+returns-clause-stands g c hand s =
+    stands_touched g.P.Port.told c.args.self.now _ hand _ c.args.instance c.index_mut-facts.result.now _ s c.requires.out c.requires.within c.index_mut-facts.ensures.value
+    refl refl refl refl refl refl refl c.note.ensures.noted refl
+    (λ known. record { taken = c.saturating_add-facts.ensures ∙ ap (λ n. min (c.index_mut-facts.result.now.taken + n) (2 ^ 64 - 1)) c.len-n.ensures ∙ capped_mine c.args.instance c.index_mut-facts.result.now.taken _ (length c.args.bytes) known.taken; lost = known.lost })
+    (λ bytes. c.saturating_add-self.ensures ∙ ap (λ n. min (c.args.self.now.bytes + n) (2 ^ 64 - 1)) c.len-n.ensures ∙ capped_on c.args.self.now.bytes _ (length c.args.bytes) _ bytes)
+    (λ known losses. losses)
+
+pub returns-clause-open : goal.returns-clause-open
+returns-clause-open g c open_at = record {
+  within = open_at.within;
+  unclosed = facts_get (λ f. f.closed ≡ false) c.args.self.now.facts.items c.args.instance _ c.requires.within
+      (facts_surely (λ f. f.closed ≡ false) c.args.self.now.facts.items c.args.instance c.index_mut-facts.result.now c.requires.within c.index_mut-facts.ensures.value open_at.unclosed);
+}

@@ -1,0 +1,9 @@
+use Rattle.std.proofs.Common.{◌≡◌, length, []}
+use Rattle.vx_hub.specs.Stands.{Stands}
+use Rattle.vx_hub.proofs.hub.Hub.push_pending.Given as goal
+
+abbrev pub invariant-loop : goal.invariant-loop
+invariant-loop g l = record {
+  stands : Stands g.P.Port.told l.self [] l.self.log.history;
+  size : length l.self.rows.items ≡ length l.fn.self.rows.items;
+}

@@ -1,0 +1,28 @@
+use Rattle.std.proofs.Common.{arith, ap, sym, subst, length, ◌≡◌, ◌+◌, ◌∙◌, ◌++◌, ◌∷◌, [], List, false}
+use Rattle.std.specs.Prelude.{IsSomeAnd}
+use Rattle.std.proofs.lemmas.List.{length-append}
+use Rattle.vx_ledger.specs.Copies.{Copy}
+use Rattle.vx_hub.specs.Rows.{HasOutputRoom}
+use Rattle.vx_hub.specs.Stands.{Stands, facts_at}
+use Rattle.vx_hub.proofs.hub.Hub.put_out.Goals as goal
+
+pub loop-event-preserved : goal.loop-event-preserved
+loop-event-preserved g c =
+    let some : c.loop-event.finalizers ≡ c.take_last.new.self ++ c.in-Ok-Some.copy = rw c.in-Ok-Some.field-0-is at c.in-Ok-Some.ensures.some in
+    let one : length c.in-Ok-Some.copy ≡ 1 = rw c.in-Ok-Some.field-0-is at c.in-Ok-Some.ensures.one in
+    let shorter : length c.loop-event.events ≡ length c.pop.new.self + 1 = omega (arith, ap length c.in-Some.ensures.some, length-append c.pop.new.self (c.in-Some.event ∷ [])) in
+    let inv = c.loop-event.invariant in
+    record {
+      stands = c.put_one.ensures.stands c.take_last.new.self (subst (λ (fs : List Copy). Stands g.P.Port.told c.loop-event.self fs c.loop-event.self.log.history) some inv.stands);
+      open_at = record {
+        within = omega (arith, c.put_one.ensures.size, inv.open_at.within);
+        unclosed = subst (λ (v : _). IsSomeAnd (facts_at v.items c.args.instance) (λ f. f.closed ≡ false)) (sym c.put_one.ensures.facts) inv.open_at.unclosed;
+      };
+      each = omega (arith, inv.each, shorter, ap length some, length-append c.take_last.new.self c.in-Ok-Some.copy, one);
+      room = c.put_one.ensures.room (length c.pop.new.self) (subst (λ n. HasOutputRoom c.loop-event.self.rows.items c.args.instance n) shorter inv.room);
+      size = c.put_one.ensures.size ∙ inv.size;
+    }
+
+pub returns-in-Err-clause-stands : goal.returns-in-Err-clause-stands
+returns-in-Err-clause-stands g c =
+    c.put_one-in-Err.ensures.stands [] (subst (λ (fs : List Copy). Stands g.P.Port.told c.loop-event.self fs c.loop-event.self.log.history) (sym c.in-Err.ensures.err) c.loop-event.invariant.stands)

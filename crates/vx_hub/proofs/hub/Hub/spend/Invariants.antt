@@ -1,0 +1,13 @@
+use Rattle.std.proofs.Common.{◌≡◌, length}
+use Rattle.vx_hub.specs.Stands.{Stands}
+use Rattle.vx_hub.proofs.hub.Hub.spend.Given as goal
+
+abbrev pub invariant-loop-finalizer : goal.invariant-loop-finalizer
+invariant-loop-finalizer g l = record {
+  stands : Stands g.P.Port.told l.self l.finalizers l.self.log.history;
+  rows : l.self.rows ≡ l.fn.self.rows;
+  facts : l.self.facts ≡ l.fn.self.facts;
+}
+
+abbrev pub decreases-loop-finalizer : goal.decreases-loop-finalizer
+decreases-loop-finalizer g l = length l.finalizers

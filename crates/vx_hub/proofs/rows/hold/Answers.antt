@@ -1,0 +1,25 @@
+use Rattle.std.proofs.Common.{arith, ap, sym, Some}
+use Rattle.vx_ledger.specs.Copies.{copies_of}
+use Rattle.vx_hub.specs.Rows.{task_port, parcel_copies}
+use Rattle.vx_hub.specs.declared.task.Role.TheVariants.{Sink}
+use Rattle.vx_hub.proofs.Parcels.{row_counts, parcels_pushed, held_copies}
+use Rattle.vx_hub.proofs.RowLaws.{rows_gain, ports_kept, others_bare}
+use Rattle.vx_hub.proofs.rows.hold.Goals as goal
+
+pub returns-clause-gains : goal.returns-clause-gains
+returns-clause-gains g c =
+    rows_gain c.args.rows.now.items c.args.i c.index_mut.result.now _ _ c.requires.within c.index_mut.ensures.value (λ batch place.
+    omega (
+      arith,
+      row_counts batch place c.index_mut.result.now,
+      held_copies batch place c.index_mut.result.now.task c.in-Some.task c.in-Sink.core c.in-Some.is c.in-Sink.is,
+      row_counts batch place (record c.index_mut.result.now { task = Some (record { port = c.in-Some.task.port; role = Sink (record { held = c.push.new.self; since = c.if-is_empty.core; timeout = c.in-Sink.core.timeout }) }) }),
+      ap (λ ps. copies_of batch place (parcel_copies ps)) c.push.ensures.items,
+      parcels_pushed batch place c.in-Sink.core.held.items c.args.parcel,
+    ))
+
+pub returns-clause-ports : goal.returns-clause-ports
+returns-clause-ports g c = ports_kept c.args.rows.now.items c.args.i c.index_mut.result.now _ c.requires.within c.index_mut.ensures.value (sym (ap task_port c.in-Some.is))
+
+pub returns-clause-bare : goal.returns-clause-bare
+returns-clause-bare g c = others_bare c.args.rows.now.items c.args.i _

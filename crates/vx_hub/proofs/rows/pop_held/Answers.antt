@@ -1,0 +1,30 @@
+use Rattle.std.proofs.Common.{arith, refl, ap, sym, Some}
+use Rattle.vx_hub.specs.Rows.{task_port}
+use Rattle.vx_hub.specs.declared.task.Role.TheVariants.{Sink}
+use Rattle.vx_hub.proofs.Parcels.{row_counts, popped_first, held_copies, none_held, none_first}
+use Rattle.vx_hub.proofs.RowLaws.{rows_lose, ports_kept, bare_kept}
+use Rattle.vx_hub.proofs.rows.pop_held.Goals as goal
+
+pub returns-in-Sink-clause-loses : goal.returns-in-Sink-clause-loses
+returns-in-Sink-clause-loses g c =
+    rows_lose c.args.rows.now.items c.args.i c.index_mut.result.now _ _ c.requires c.index_mut.ensures.value (λ batch place.
+    omega (
+      arith,
+      row_counts batch place c.index_mut.result.now,
+      held_copies batch place c.index_mut.result.now.task c.in-Some.task c.in-Sink.core c.in-Some.is c.in-Sink.is,
+      row_counts batch place (record c.index_mut.result.now { task = Some (record { port = c.in-Some.task.port; role = Sink (record { held = c.pop.new.self; since = c.in-Sink.core.since; timeout = c.in-Sink.core.timeout }) }) }),
+      popped_first batch place c.pop.result c.in-Sink.core.held.items c.pop.new.self.items c.pop.ensures.some c.pop.ensures.none c.pop.ensures.empty,
+    ))
+
+pub returns-in-Sink-clause-ports : goal.returns-in-Sink-clause-ports
+returns-in-Sink-clause-ports g c = ports_kept c.args.rows.now.items c.args.i c.index_mut.result.now _ c.requires c.index_mut.ensures.value (sym (ap task_port c.in-Some.is))
+
+pub returns-in-Sink-clause-bare : goal.returns-in-Sink-clause-bare
+returns-in-Sink-clause-bare g c = bare_kept c.args.rows.now.items c.args.i c.index_mut.result.now _ c.requires c.index_mut.ensures.value (λ b. record {
+  outputs = b.outputs;
+  waiting = b.waiting;
+  buffer = b.buffer;
+  held = none_first c.pop.result c.in-Sink.core.held.items c.pop.new.self.items c.pop.ensures.some c.pop.ensures.empty
+      (none_held c.index_mut.result.now.task c.in-Some.task c.in-Sink.core c.in-Some.is c.in-Sink.is b.held);
+  home = refl;
+})

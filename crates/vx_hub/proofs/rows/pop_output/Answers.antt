@@ -1,0 +1,38 @@
+use Rattle.std.proofs.Common.{arith, refl, ◌≡◌, []}
+use Rattle.vx_hub.specs.Rows.{IsBare}
+use Rattle.vx_hub.proofs.Parcels.{row_counts, popped_last, none_last, popped_room, some_held}
+use Rattle.vx_hub.proofs.RowLaws.{rows_lose, row_gets, row_has, each_keeps, ports_kept, bare_kept}
+use Rattle.vx_hub.proofs.rows.pop_output.Goals as goal
+
+pub returns-clause-loses : goal.returns-clause-loses
+returns-clause-loses g c =
+    rows_lose c.args.rows.now.items c.args.i c.index_mut.result.now _ _ c.requires c.index_mut.ensures.value (λ batch place.
+    omega (
+      arith,
+      row_counts batch place c.index_mut.result.now,
+      row_counts batch place (record c.index_mut.result.now { outputs = c.pop.new.self }),
+      popped_last batch place c.pop.result c.index_mut.result.now.outputs.items c.pop.new.self.items c.pop.ensures.some c.pop.ensures.none c.pop.ensures.empty,
+    ))
+
+pub returns-clause-ports : goal.returns-clause-ports
+returns-clause-ports g c = ports_kept c.args.rows.now.items c.args.i c.index_mut.result.now _ c.requires c.index_mut.ensures.value refl
+
+pub returns-clause-bare : goal.returns-clause-bare
+returns-clause-bare g c = bare_kept c.args.rows.now.items c.args.i c.index_mut.result.now _ c.requires c.index_mut.ensures.value (λ b. record {
+  outputs = none_last c.pop.result c.index_mut.result.now.outputs.items c.pop.new.self.items c.pop.ensures.some c.pop.ensures.empty b.outputs;
+  waiting = b.waiting;
+  buffer = b.buffer;
+  held = b.held;
+  home = b.home;
+})
+
+pub returns-clause-room : goal.returns-clause-room
+returns-clause-room g c some = row_gets _ c.args.rows.now.items c.args.i _ c.requires (popped_room c.pop.result c.index_mut.result.now.outputs.items c.pop.new.self.items _ _ some c.pop.ensures.some c.pop.ensures.room c.pop.ensures.within)
+
+pub returns-clause-waits : goal.returns-clause-waits
+returns-clause-waits g c = each_keeps (λ row. row.waiting.items ≡ []) c.args.rows.now.items c.args.i c.index_mut.result.now _ c.requires c.index_mut.ensures.value (λ none. none)
+
+pub returns-clause-held : goal.returns-clause-held
+returns-clause-held g c some bare =
+    some_held c.pop.result c.index_mut.result.now.outputs.items c.pop.new.self.items some c.pop.ensures.some
+    (row_has (λ row. IsBare row) c.args.rows.now.items c.args.i c.index_mut.result.now c.requires c.index_mut.ensures.value bare).outputs

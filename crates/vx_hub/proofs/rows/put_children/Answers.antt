@@ -1,0 +1,23 @@
+use Rattle.std.proofs.Common.{arith, refl, ap, ◌≡◌, []}
+use Rattle.vx_ledger.specs.Copies.{copies_of}
+use Rattle.vx_hub.specs.Rows.{child_copies}
+use Rattle.vx_hub.proofs.Parcels.{row_counts}
+use Rattle.vx_hub.proofs.RowLaws.{rows_gain, row_has, ports_kept, others_bare}
+use Rattle.vx_hub.proofs.rows.put_children.Goals as goal
+
+pub returns-clause-gains : goal.returns-clause-gains
+returns-clause-gains g c =
+    rows_gain c.args.rows.now.items c.args.i c.index_mut.result.now _ _ c.requires.within c.index_mut.ensures.value (λ batch place.
+    omega (
+      arith,
+      row_counts batch place c.index_mut.result.now,
+      row_counts batch place (record c.index_mut.result.now { waiting = c.replace-none.new.dest }),
+      ap (λ (v : _). copies_of batch place (child_copies v.items)) c.replace-none.ensures.after,
+      ap (λ cs. copies_of batch place (child_copies cs)) (row_has (λ row. row.waiting.items ≡ []) c.args.rows.now.items c.args.i c.index_mut.result.now c.requires.within c.index_mut.ensures.value c.requires.none),
+    ))
+
+pub returns-clause-ports : goal.returns-clause-ports
+returns-clause-ports g c = ports_kept c.args.rows.now.items c.args.i c.index_mut.result.now _ c.requires.within c.index_mut.ensures.value refl
+
+pub returns-clause-bare : goal.returns-clause-bare
+returns-clause-bare g c = others_bare c.args.rows.now.items c.args.i _

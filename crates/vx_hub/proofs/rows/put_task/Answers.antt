@@ -1,0 +1,26 @@
+use Rattle.std.proofs.Common.{arith, ap, ◌≡◌, ◌∙◌, None}
+use Rattle.vx_ledger.specs.Copies.{copies_of}
+use Rattle.vx_hub.specs.Rows.{task_copies, port_of, task_port}
+use Rattle.vx_hub.proofs.Parcels.{row_counts}
+use Rattle.vx_hub.proofs.RowLaws.{rows_gain, row_has, row_written, other_ports, others_bare}
+use Rattle.vx_hub.proofs.rows.put_task.Goals as goal
+
+pub returns-clause-gains : goal.returns-clause-gains
+returns-clause-gains g c =
+    rows_gain c.args.rows.now.items c.args.i c.index_mut.result.now _ _ c.requires.within c.index_mut.ensures.value (λ batch place.
+    omega (
+      arith,
+      row_counts batch place c.index_mut.result.now,
+      row_counts batch place (record c.index_mut.result.now { task = c.replace.new.dest }),
+      ap (λ (t : _). copies_of batch place (task_copies t)) c.replace.ensures.after,
+      ap (λ (t : _). copies_of batch place (task_copies t)) (row_has (λ row. row.task ≡ None) c.args.rows.now.items c.args.i c.index_mut.result.now c.requires.within c.index_mut.ensures.value c.requires.out),
+    ))
+
+pub returns-clause-port : goal.returns-clause-port
+returns-clause-port g c = ap port_of (row_written c.args.rows.now.items c.args.i _ c.requires.within) ∙ ap task_port c.replace.ensures.after
+
+pub returns-clause-ports : goal.returns-clause-ports
+returns-clause-ports g c = other_ports c.args.rows.now.items c.args.i _
+
+pub returns-clause-bare : goal.returns-clause-bare
+returns-clause-bare g c = others_bare c.args.rows.now.items c.args.i _

@@ -1,0 +1,30 @@
+use Rattle.std.proofs.Common.{arith, ap, sym, ◌∙◌}
+use Rattle.vx_ledger.specs.Copies.{copies_of}
+use Rattle.vx_hub.specs.Rows.{task_copies, port_of, task_port}
+use Rattle.vx_hub.proofs.Parcels.{row_counts, some_port}
+use Rattle.vx_hub.proofs.RowLaws.{rows_lose, row_read, row_gets, other_ports, others_bare}
+use Rattle.vx_hub.proofs.rows.take_task.Goals as goal
+
+pub returns-clause-loses : goal.returns-clause-loses
+returns-clause-loses g c =
+    rows_lose c.args.rows.now.items c.args.i c.index_mut.result.now _ _ c.requires c.index_mut.ensures.value (λ batch place.
+    omega (
+      arith,
+      row_counts batch place c.index_mut.result.now,
+      row_counts batch place (record c.index_mut.result.now { task = c.take.new.self }),
+      ap (λ (t : _). copies_of batch place (task_copies t)) c.take.ensures.value,
+      ap (λ (t : _). copies_of batch place (task_copies t)) c.take.ensures.after,
+    ))
+
+pub returns-clause-port : goal.returns-clause-port
+returns-clause-port g c =
+    some_port c.take.result _ (ap port_of (row_read c.args.rows.now.items c.args.i c.index_mut.result.now c.requires c.index_mut.ensures.value) ∙ ap task_port (sym c.take.ensures.value))
+
+pub returns-clause-out : goal.returns-clause-out
+returns-clause-out g c = row_gets _ c.args.rows.now.items c.args.i _ c.requires c.take.ensures.after
+
+pub returns-clause-ports : goal.returns-clause-ports
+returns-clause-ports g c = other_ports c.args.rows.now.items c.args.i _
+
+pub returns-clause-bare : goal.returns-clause-bare
+returns-clause-bare g c = others_bare c.args.rows.now.items c.args.i _

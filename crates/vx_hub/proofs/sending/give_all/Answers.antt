@@ -1,0 +1,18 @@
+use Rattle.std.proofs.Common.{arith}
+use Rattle.vx_ends.proofs.Growing.{grows_on, take_on}
+use Rattle.vx_hub.proofs.Tellings.{gives_on}
+use Rattle.vx_hub.proofs.sending.give_all.Goals as goal
+
+pub loop-at-preserved : goal.loop-at-preserved
+loop-at-preserved g c = record {
+  within = omega (arith, c.in-Ok.ensures.within);
+  given = grows_on _ _ _ _ _ _ c.loop-at.invariant.given c.in-Ok.ensures.given (take_on _ _ _);
+  others = gives_on (g.P.Port.told c.args.port.now) (g.P.Port.told c.loop-at.port) (g.P.Port.told c.give.new.self) c.loop-at.invariant.others (record {
+    taken = c.give.ensures.rest.taken;
+    confirmed = c.give.ensures.rest.confirmed;
+    spec = c.give.ensures.rest.spec;
+    ended = c.give.ensures.rest.ended;
+    faults = c.give.ensures.cause.later;
+    refusals = c.give.ensures.refusal.later;
+  });
+}

@@ -1,0 +1,9 @@
+pub mod Turns
+pub mod Attempts
+pub mod Rows
+pub mod Works
+pub mod Stands
+pub mod Leases
+pub mod Making
+pub mod Beginning
+pub mod Remains

@@ -1,0 +1,35 @@
+-- What a hub begins with.
+use Rattle.std.specs.Prelude.{◌≡◌, ℕ, false, List, [], ◌∷◌, None, IfSome}
+use Rattle.vx_ends.specs.Told.{Told}
+use Rattle.vx_hub.specs.declared.facts.Facts.{Facts}
+use Rattle.vx_hub.specs.declared.parts.Named.{Named}
+use Rattle.vx_hub.specs.declared.seat.Seat.{Seat}
+use Rattle.vx_hub.specs.Rows.{role_parcels}
+
+-- the facts of an instance that begins
+pub record AreNew (f : Facts) : Type 0 where
+  pub taken : f.taken ≡ 0
+  pub lost : f.lost ≡ None
+  pub closed : f.closed ≡ false
+  pub retired : f.retired ≡ false
+
+-- nothing stands at a seat, and its instance begins
+pub record IsUnused (seat : Seat) : Type 0 where
+  pub outputs : seat.outputs.items ≡ []
+  pub buffer : seat.buffer.items ≡ []
+  pub held : role_parcels seat.role ≡ []
+  pub facts : AreNew seat.facts
+
+abbrev pub AreUnused : List Seat → Type 0
+AreUnused [] = Unit {0}
+AreUnused (seat ∷ seats) = IsUnused seat × AreUnused seats
+
+-- nothing went through a port
+pub record IsUntouched (told : Told) : Type 0 where
+  pub taken : (stream : ℕ) → IfSome (told.taken stream) (λ bytes. bytes ≡ [])
+  pub given : IfSome told.given (λ bytes. bytes ≡ [])
+
+-- nothing went through the ports
+abbrev pub AreUntouched : {P : Type 0} → (P → Told) → List (Named P) → Type 0
+AreUntouched told_by [] = Unit {0}
+AreUntouched told_by (named ∷ rest) = IsUntouched (told_by named.port) × AreUntouched told_by rest

@@ -1,0 +1,38 @@
+-- What a hub leaves behind.
+use Rattle.std.specs.Prelude.{◌≡◌, ℕ, ◌+◌, List, [], ◌∷◌, ◌++◌, Option, Some, None, false}
+use Rattle.vx_ends.specs.Told.{Told}
+use Rattle.vx_record.specs.Records.{Record}
+use Rattle.vx_hub.specs.declared.row.Row.{Row}
+use Rattle.vx_hub.specs.declared.parts.Numbered.{Numbered}
+use Rattle.vx_hub.specs.Rows.{IsBare, task_port}
+use Rattle.vx_hub.specs.Stands.{IsTold}
+
+-- nothing stands at any instance, and each is at home
+abbrev pub AreBare : {P : Type 0} → List (Row P) → Type 0
+AreBare [] = Unit {0}
+AreBare (row ∷ rows) = IsBare row × AreBare rows
+
+-- a port with its number, if there is one
+abbrev pub numbered_port : {P : Type 0} → ℕ → Option P → List (Numbered P)
+numbered_port i None = []
+numbered_port i (Some p) = record { instance = i; port = p } ∷ []
+
+-- the ports at home, with the numbers of their instances from `first` on
+abbrev pub ports_in : {P : Type 0} → ℕ → List (Row P) → List (Numbered P)
+ports_in first [] = []
+ports_in first (row ∷ rows) = numbered_port first (task_port row.task) ++ ports_in (first + 1) rows
+
+-- the ports are those of the instances from `first` on, none left out
+abbrev pub AreNumbered : {P : Type 0} → ℕ → List (Numbered P) → Type 0
+AreNumbered first [] = Unit {0}
+AreNumbered first (n ∷ ns) = (n.instance ≡ first) × AreNumbered (first + 1) ns
+
+-- no port is started
+abbrev pub AreClosed : {P : Type 0} → (P → Told) → List (Numbered P) → Type 0
+AreClosed told_by [] = Unit {0}
+AreClosed told_by (n ∷ ns) = ((told_by n.port).started ≡ false) × AreClosed told_by ns
+
+-- each port tells what the record has of its instance
+abbrev pub AreTold : {P : Type 0} → (P → Told) → Record → List (Numbered P) → Type 0
+AreTold told_by h [] = Unit {0}
+AreTold told_by h (n ∷ ns) = IsTold (told_by n.port) h n.instance × AreTold told_by h ns

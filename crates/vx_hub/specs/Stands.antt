@@ -1,0 +1,125 @@
+-- What the hub's state means for a record.
+use Rattle.std.specs.Prelude.{◌≡◌, ℕ, zero, suc, ◌+◌, ◌<◌, ◌≤◌, ◌^◌, true, false, IsTrue, List, [], ◌∷◌, length, Option, Some, None, IfSome, IsSomeAnd, if◌then◌else◌, ◌==◌}
+use Rattle.vx_ends.specs.Told.{Told}
+use Rattle.vx_ledger.specs.Copies.{Copy, copies_of}
+use Rattle.vx_ledger.specs.Ledger.{Ledger, live_count}
+pub use Rattle.vx_record.specs.Records.{capped}
+use Rattle.vx_record.specs.Records.{Record}
+use Rattle.vx_record.specs.Reads.{taken, bytes_taken, bytes_of_all, is_lost}
+use Rattle.vx_record.specs.Encoding.{given}
+use Rattle.vx_record.specs.declared.entry.Entry.{Entry}
+use Rattle.vx_record.specs.declared.entry.Entry.TheVariants.{Read, SourceLost, Attempt, Abandon}
+use Rattle.vx_record.specs.declared.abandon_cause.AbandonCause.{AbandonCause}
+use Rattle.vx_hub.specs.declared.facts.Facts.{Facts}
+use Rattle.vx_hub.specs.declared.row.Row.{Row}
+use Rattle.vx_hub.specs.declared.hub.Hub.{Hub}
+use Rattle.vx_hub.specs.declared.parts.Numbered.{Numbered}
+use Rattle.vx_value.specs.Filled.{Filled}
+use Rattle.vx_hub.specs.Rows.{copies_in, port_at, IsBareAt, HasRoom}
+
+-- after how many bytes a source was lost
+abbrev pub lost_at : Record → ℕ → Option ℕ
+lost_at [] i = None
+lost_at (SourceLost j at failed ∷ h) i = if j == i then Some at else lost_at h i
+lost_at (e ∷ h) i = lost_at h i
+
+-- each loss of a source tells the number of bytes that it took
+abbrev pub LossesTold : Record → Type 0
+LossesTold [] = Unit {0}
+LossesTold (SourceLost j at failed ∷ h) = (at ≡ capped (bytes_taken h j)) × LossesTold h
+LossesTold (e ∷ h) = LossesTold h
+
+-- what a port tells is what the record has of its instance
+pub record IsTold (told : Told) (h : Record) (i : ℕ) : Type 0 where
+  pub taken : (stream : ℕ) → IfSome (told.taken stream) (λ bytes. bytes ≡ taken h i stream)
+  pub given : IfSome told.given (λ bytes. bytes ≡ given h i)
+  pub faults : is_lost h i ≡ true → 0 < told.faults
+
+-- the facts of an instance; none past the end
+abbrev pub facts_at : List Facts → ℕ → Option Facts
+facts_at [] i = None
+facts_at (f ∷ fs) zero = Some f
+facts_at (f ∷ fs) (suc i) = facts_at fs i
+
+-- what is known of an instance is what the record has of it
+pub record IsKnown (f : Facts) (h : Record) (i : ℕ) : Type 0 where
+  pub taken : f.taken ≡ capped (bytes_taken h i)
+  pub lost : f.lost ≡ lost_at h i
+
+-- whatever is live stands at an instance or in the hand
+abbrev pub IsBalanced : {P : Type 0} → Ledger → List (Row P) → List Copy → Type 0
+IsBalanced ledger rows hand =
+    (batch place : ℕ) → live_count batch place ledger.open_rows ≡ copies_in batch place rows + copies_of batch place hand
+
+-- why the run was abandoned
+abbrev pub cause_of : Record → Option AbandonCause
+cause_of [] = None
+cause_of (Abandon cause ∷ h) = Some cause
+cause_of (e ∷ h) = cause_of h
+
+-- what is known and told, where the record has all that happened
+pub record IsRecorded {P : Type 0} (told_by : P → Told) (hub : Hub P) (h : Record) : Type 0 where
+  pub ports : (i : ℕ) → IfSome (port_at hub.rows.items i) (λ port. IsTold (told_by port) h i)
+  pub facts : (i : ℕ) → IfSome (facts_at hub.facts.items i) (λ f. IsKnown f h i)
+  pub bytes : hub.bytes ≡ capped (bytes_of_all h)
+  pub losses : LossesTold h
+  pub cause : hub.abandoned ≡ cause_of h
+
+-- whether the record has all that happened
+pub record IsSound {P : Type 0} (hub : Hub P) : Type 0 where
+  pub whole : IsTrue hub.log.whole
+  pub fed : hub.starved ≡ false
+
+-- an instance whose port is closed for good is at home, and the port isn't started
+abbrev pub IsShut : {P : Type 0} → (P → Told) → List (Row P) → ℕ → Facts → Type 0
+IsShut told_by rows i f = IsTrue f.closed → IsSomeAnd (port_at rows i) (λ port. (told_by port).started ≡ false)
+
+-- nothing stands at an instance that ended, and its port is closed
+abbrev pub IsGone : {P : Type 0} → List (Row P) → ℕ → Facts → Type 0
+IsGone rows i f = IsTrue f.retired → IsTrue f.closed × IsBareAt rows i
+
+-- there is room for the port of each instance at the end, and their numbers have 32 bits
+pub record HasBerths {P : Type 0} (ports : Filled (Numbered P)) (rows : List (Row P)) : Type 0 where
+  pub none : ports.items ≡ []
+  pub room : length rows ≤ ports.room
+  pub few : length rows < 2 ^ 32
+
+-- what only the beginning, the end and an abandonment change
+abbrev pub spare_of : {P : Type 0} → Hub P → Filled (Numbered P) × Option AbandonCause
+spare_of hub = (hub.ports, hub.abandoned)
+
+-- the hub stands for a record, while the copies in the hand are neither at an instance nor spent
+pub record Stands {P : Type 0} (told_by : P → Told) (hub : Hub P) (hand : List Copy) (h : Record) : Type 0 where
+  pub history : hub.log.history ≡ h
+  pub balanced : IsBalanced hub.batches hub.rows.items hand
+  pub recorded : IsSound hub → IsRecorded told_by hub h
+  pub shut : (i : ℕ) → IfSome (facts_at hub.facts.items i) (IsShut told_by hub.rows.items i)
+  pub gone : (i : ℕ) → IfSome (facts_at hub.facts.items i) (IsGone hub.rows.items i)
+  pub size : length hub.facts.items ≡ length hub.rows.items
+  pub berths : HasBerths hub.ports hub.rows.items
+
+-- an entry that tells nothing of bytes, loses no source and abandons nothing
+abbrev pub IsQuiet : Entry → Type 0
+IsQuiet (Read i stream took) = ⊥
+IsQuiet (SourceLost i at failed) = ⊥
+IsQuiet (Attempt i copies bytes reply) = ⊥
+IsQuiet (Abandon cause) = ⊥
+IsQuiet other = Unit {0}
+
+-- an instance that hasn't ended has room in its buffer
+pub record IsOpenTarget {P : Type 0} (hub : Hub P) (target : ℕ) : Type 0 where
+  pub within : target < length hub.rows.items
+  pub room : HasRoom hub.rows.items target
+  pub running : IfSome (facts_at hub.facts.items target) (λ f. f.retired ≡ false)
+
+-- the instance of whose bytes or loss an entry tells
+abbrev pub touched : Entry → Option ℕ
+touched (Read i stream took) = Some i
+touched (SourceLost i at failed) = Some i
+touched (Attempt i copies bytes reply) = Some i
+touched other = None
+
+-- after how many bytes an instance was lost, by what is known of it
+abbrev pub lost_of : Option Facts → Option ℕ
+lost_of None = None
+lost_of (Some f) = f.lost

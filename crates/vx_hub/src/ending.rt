@@ -1,0 +1,185 @@
+ghost use Rattle.std.specs.Prelude.{◌≡◌, ◌<◌, ◌↔◌, [], length, IfSome, IsSomeAnd, IsTrue, IsSome, All, false, true};
+ghost use Rattle.vx_hub.specs.Stands.{Stands, facts_at};
+ghost use Rattle.vx_hub.specs.Rows.{IsBareAt, option_copies, port_at};
+
+use crate::hub::Hub;
+use crate::rows::{close_at, pop_buffer, pop_held, pop_output, take_last_child};
+use vx_ends::Port;
+use vx_ledger::Parcel;
+use vx_record::{AbandonCause, Entry};
+use vx_status::Outcome;
+
+impl<P: Port> Hub<P> {
+    /// Ends an instance whose port is closed for good and at which nothing stands. `None` where there is none.
+    pub fn retire(&mut self) -> Option<u32>
+        requires { Stands P.told self.old [] self.old.log.history }
+        ensures stands { Stands P.told self.new [] self.new.log.history }
+        ensures size { length self.new.rows.items ≡ length self.old.rows.items }
+    {
+        for i in 0..self.rows.len() {
+            if self.can_retire(i) {
+                let instance = u32::try_from(i).ok()?;
+                self.mark_retired(instance);
+                return Some(instance);
+            }
+        }
+        None
+    }
+
+    /// Whether an instance hasn't ended, its port is closed for good, and nothing stands at it.
+    fn can_retire(&self, i: usize) -> bool
+        requires { i < length self.now.rows.items }
+        ensures within { IsTrue result → i < length self.now.facts.items }
+        ensures closed { IsTrue result → IsSomeAnd (facts_at self.now.facts.items i) (λ f. f.closed ≡ true) }
+        ensures bare { IsTrue result → IsBareAt self.now.rows.items i }
+    {
+        if i >= self.facts.len() || self.facts[i].retired || !self.facts[i].closed {
+            return false;
+        }
+        self.is_bare(i)
+    }
+
+    /// Whether nothing stands at an instance, and it is at home.
+    fn is_bare(&self, i: usize) -> bool
+        requires { i < length self.now.rows.items }
+        ensures { IsTrue result → IsBareAt self.now.rows.items i }
+    {
+        self.rows[i].is_bare()
+    }
+
+    /// Notes that an instance ended.
+    fn mark_retired(&mut self, instance: u32)
+        requires stands { Stands P.told self.old [] self.old.log.history }
+        requires within { instance < length self.old.facts.items }
+        requires closed { IsSomeAnd (facts_at self.old.facts.items instance) (λ f. f.closed ≡ true) }
+        requires bare { IsBareAt self.old.rows.items instance }
+        ensures stands { Stands P.told self.new [] self.new.log.history }
+        ensures rows { self.new.rows ≡ self.old.rows }
+    {
+        self.log.note(Ok(Entry::Retired { instance }));
+        self.facts[instance as usize].retired = true;
+    }
+
+    /// Whether every instance ended.
+    pub fn over(&self) -> bool
+        ensures { IsTrue result ↔ All (λ f. f.retired ≡ true) self.now.facts.items }
+    {
+        self.facts.iter().all(|f| f.retired)
+    }
+
+    /// Gives the run up: spends every copy that stands at an instance as `Abandoned`, and closes the ports at home. It
+    /// takes no memory but for the record.
+    pub fn abandon(&mut self, cause: AbandonCause)
+        requires { Stands P.told self.old [] self.old.log.history }
+        ensures stands { Stands P.told self.new [] self.new.log.history }
+        ensures size { length self.new.rows.items ≡ length self.old.rows.items }
+    {
+        self.note_abandoned(cause);
+        for i in 0..self.rows.len() {
+            if let Ok(instance) = u32::try_from(i) {
+                self.abandon_at(instance);
+            }
+        }
+    }
+
+    /// Notes that the run is given up.
+    fn note_abandoned(&mut self, cause: AbandonCause)
+        requires { Stands P.told self.old [] self.old.log.history }
+        ensures stands { Stands P.told self.new [] self.new.log.history }
+        ensures size { length self.new.rows.items ≡ length self.old.rows.items }
+    {
+        self.abandoned = Some(cause);
+        self.log.note(Ok(Entry::Abandon { cause }));
+    }
+
+    /// Spends every copy that stands at an instance, and closes its port if it is at home.
+    fn abandon_at(&mut self, instance: u32)
+        requires stands { Stands P.told self.old [] self.old.log.history }
+        requires within { instance < length self.old.rows.items }
+        ensures stands { Stands P.told self.new [] self.new.log.history }
+        ensures size { length self.new.rows.items ≡ length self.old.rows.items }
+    {
+        for _ in 0..u64::MAX {
+            if !self.spend_next(instance) {
+                break;
+            }
+        }
+        if self.is_home(instance as usize) && !self.is_closed(instance as usize) {
+            self.shut_down(instance);
+        }
+    }
+
+    /// Whether the port of an instance is closed for good.
+    fn is_closed(&self, i: usize) -> bool {
+        match self.facts.get(i) {
+            Some(facts) => facts.closed,
+            None => true,
+        }
+    }
+
+    /// Whether an instance is at home.
+    fn is_home(&self, i: usize) -> bool
+        requires { i < length self.now.rows.items }
+        ensures { IsTrue result → IsSome (port_at self.now.rows.items i) }
+    {
+        self.rows[i].task.is_some()
+    }
+
+    /// Spends one of the parcels that stand at an instance, if there is one.
+    fn spend_next(&mut self, instance: u32) -> bool
+        requires stands { Stands P.told self.old [] self.old.log.history }
+        requires within { instance < length self.old.rows.items }
+        ensures stands { Stands P.told self.new [] self.new.log.history }
+        ensures size { length self.new.rows.items ≡ length self.old.rows.items }
+    {
+        match self.next_parcel(instance as usize) {
+            Some(parcel) => {
+                self.spend(instance, parcel, Outcome::Abandoned);
+                true
+            }
+            None => false,
+        }
+    }
+
+    /// Takes one of the parcels that stand at an instance, if there is one.
+    fn next_parcel(&mut self, i: usize) -> Option<Parcel>
+        requires stands { Stands P.told self.old [] self.old.log.history }
+        requires within { i < length self.old.rows.items }
+        ensures stands { Stands P.told self.new (option_copies result) self.new.log.history }
+        ensures size { length self.new.rows.items ≡ length self.old.rows.items }
+    {
+        if !self.rows[i].outputs.is_empty() {
+            pop_output(&mut self.rows, i)
+        } else if !self.rows[i].waiting.is_empty() {
+            take_last_child(&mut self.rows, i)
+        } else if !self.rows[i].buffer.is_empty() {
+            pop_buffer(&mut self.rows, i)
+        } else {
+            pop_held(&mut self.rows, i)
+        }
+    }
+
+    /// Closes the port of an instance at home for good.
+    fn shut_down(&mut self, instance: u32)
+        requires stands { Stands P.told self.old [] self.old.log.history }
+        requires within { instance < length self.old.rows.items }
+        requires home { IsSome (port_at self.old.rows.items instance) }
+        ensures stands { Stands P.told self.new [] self.new.log.history }
+        ensures size { length self.new.rows.items ≡ length self.old.rows.items }
+    {
+        self.close_port(instance as usize);
+        self.mark_closed(instance);
+    }
+
+    /// Closes the port of an instance at home.
+    fn close_port(&mut self, i: usize)
+        requires stands { Stands P.told self.old [] self.old.log.history }
+        requires within { i < length self.old.rows.items }
+        requires home { IsSome (port_at self.old.rows.items i) }
+        ensures stands { Stands P.told self.new [] self.new.log.history }
+        ensures shut { IsSomeAnd (port_at self.new.rows.items i) (λ port. (P.told port).started ≡ false) }
+        ensures size { length self.new.rows.items ≡ length self.old.rows.items }
+    {
+        close_at(&mut self.rows, i);
+    }
+}

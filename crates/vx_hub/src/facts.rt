@@ -1,0 +1,29 @@
+use vx_plan::Class;
+use vx_value::{ItemList, Text};
+
+/// What is known of an instance beside its places.
+#[derive(Drop)]
+pub struct Facts {
+    /// The name of its component.
+    pub name: Text,
+    pub class: Class,
+    /// The instances that read it, in byte order of their components' names.
+    pub targets: ItemList<u32>,
+    /// How many bytes it took, at most 2^64 - 1.
+    pub taken: u64,
+    /// After how many bytes it was lost.
+    pub lost: Option<u64>,
+    /// Whether its port is closed for good.
+    pub closed: bool,
+    /// Whether it ended.
+    pub retired: bool,
+}
+
+/// How far a source has come.
+#[derive(Clone, Copy, Debug)]
+pub struct Progress {
+    /// Whether it was told the end of all.
+    pub over: bool,
+    /// How many of its batches have no notice yet.
+    pub unnoticed: u64,
+}

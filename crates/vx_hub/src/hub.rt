@@ -1,0 +1,35 @@
+use crate::facts::{Facts, Progress};
+use crate::parts::Numbered;
+use crate::row::Row;
+use crate::stack::Stack;
+use std::alloc::Global;
+use vx_ends::Port;
+use vx_ledger::Batches;
+use vx_record::{AbandonCause, Log};
+
+/// The engine of a run: the instances, their places, the open batches, and the record of all that happened.
+///
+/// It can't be dropped: `end` ends it once each instance is retired.
+pub struct Hub<P: Port> {
+    pub alloc: Global,
+    /// The open batches.
+    pub batches: Batches,
+    /// What is known of each instance, by its number.
+    pub facts: Vec<Facts>,
+    /// How far each instance has come, by its number.
+    pub progress: Vec<Progress>,
+    /// The places of each instance, by its number.
+    pub rows: Vec<Row<P>>,
+    /// Room for the ports at the end.
+    pub ports: Stack<Numbered<P>>,
+    /// The record.
+    pub log: Log,
+    /// How many bytes all sources took, at most 2^64 - 1.
+    pub bytes: u64,
+    /// Whether a landing carried want of memory.
+    pub starved: bool,
+    /// Whether a call answered `Fatal`.
+    pub fatal: bool,
+    /// Why the run was abandoned.
+    pub abandoned: Option<AbandonCause>,
+}

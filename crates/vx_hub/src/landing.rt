@@ -1,0 +1,171 @@
+ghost use Rattle.std.specs.Prelude.{◌≡◌, ◌<◌, ◌≤◌, ◌++◌, [], length, IfSome, IsSomeAnd, Some, false, IsTrue};
+ghost use Rattle.vx_hub.specs.Stands.{Stands, IsTold, IsSound};
+ghost use Rattle.vx_hub.specs.Leases.{IsBack, IsOpenAt, Adds};
+ghost use Rattle.vx_hub.specs.Turns.{event_count};
+ghost use Rattle.vx_hub.specs.Rows.{role_copies, port_at, IsOutAt};
+
+use crate::fatal::Fatal;
+use crate::hub::Hub;
+use crate::notes::note_attempt;
+use crate::rows::{pop_held, put_task};
+use crate::task::Task;
+use crate::work::{Done, Landing};
+use vx_ends::{Port, Reply};
+use vx_record::Entry;
+use vx_status::Outcome;
+use vx_value::Bytes;
+
+impl<P: Port> Hub<P> {
+    /// Brings a task home with what was done, and notes it.
+    ///
+    /// `Fatal` comes where a birth found no numbers or no memory, where the work found no memory, or where an entry
+    /// couldn't be noted. Each entry that was made stands then, and every copy that isn't spent is still held.
+    pub fn land(&mut self, landing: Landing<P>) -> Result<(), Fatal>
+        requires { IsBack P.told self.old landing }
+        ensures stands { Stands P.told self.new [] self.new.log.history }
+        ensures size { length self.new.rows.items ≡ length self.old.rows.items }
+    {
+        let Landing {
+            instance,
+            task,
+            done,
+        } = landing;
+        let landed = match done {
+            Done::Nothing => {
+                self.bring(instance, task);
+                Ok(())
+            }
+            Done::Closed => {
+                self.bring(instance, task);
+                self.mark_closed(instance);
+                Ok(())
+            }
+            Done::Starved => {
+                self.bring_starved(instance, task);
+                Err(Fatal::WantOfMemory)
+            }
+            Done::Attempted { bytes, reply } => {
+                self.bring_attempt(instance, task, bytes, reply);
+                self.spend_held(instance, outcome_of(reply));
+                Ok(())
+            }
+            Done::Read(turned) => self.bring_read(instance, task, turned),
+        };
+        self.log.note(Ok(Entry::Home { instance }));
+        self.settled(landed)
+    }
+
+    /// The answer of a landing. An entry that couldn't be noted is want of memory.
+    fn settled(&mut self, landed: Result<(), Fatal>) -> Result<(), Fatal>
+        ensures { self.new ≡ record self.old { fatal = self.new.fatal } }
+    {
+        let answer = match landed {
+            Ok(()) if !self.log.whole => Err(Fatal::WantOfMemory),
+            answer => answer,
+        };
+        if answer.is_err() {
+            self.fatal = true;
+        }
+        answer
+    }
+
+    /// Puts a task back whose port tells what the record has.
+    pub(crate) fn bring(&mut self, instance: u32, task: Task<P>)
+        requires stands { Stands P.told self.old (role_copies task.role) self.old.log.history }
+        requires open { IsOpenAt self.old instance }
+        requires out { IsOutAt self.old.rows.items instance }
+        requires told { IsSound self.old → IsTold (P.told task.port) self.old.log.history instance }
+        ensures stands { Stands P.told self.new [] self.new.log.history }
+        ensures port { port_at self.new.rows.items instance ≡ Some task.port }
+        ensures facts { self.new.facts ≡ self.old.facts }
+        ensures size { length self.new.rows.items ≡ length self.old.rows.items }
+    {
+        put_task(&mut self.rows, instance as usize, task);
+    }
+
+    /// Puts a task back of which it isn't known what its port did.
+    fn bring_starved(&mut self, instance: u32, task: Task<P>)
+        requires stands { Stands P.told self.old (role_copies task.role) self.old.log.history }
+        requires open { IsOpenAt self.old instance }
+        requires out { IsOutAt self.old.rows.items instance }
+        ensures stands { Stands P.told self.new [] self.new.log.history }
+        ensures size { length self.new.rows.items ≡ length self.old.rows.items }
+    {
+        self.starved = true;
+        put_task(&mut self.rows, instance as usize, task);
+    }
+
+    /// Notes that the port of an instance at home is closed for good.
+    pub(crate) fn mark_closed(&mut self, instance: u32)
+        requires stands { Stands P.told self.old [] self.old.log.history }
+        requires within { instance < length self.old.rows.items }
+        requires shut { IsSomeAnd (port_at self.old.rows.items instance) (λ port. (P.told port).started ≡ false) }
+        ensures stands { Stands P.told self.new [] self.new.log.history }
+        ensures rows { self.new.rows ≡ self.old.rows }
+    {
+        self.log.note(Ok(Entry::Closed { instance }));
+        self.facts[instance as usize].closed = true;
+    }
+
+    /// Notes an attempt, and puts the task back.
+    fn bring_attempt(&mut self, instance: u32, task: Task<P>, bytes: Bytes, reply: Reply)
+        requires stands { Stands P.told self.old (role_copies task.role) self.old.log.history }
+        requires open { IsOpenAt self.old instance }
+        requires out { IsOutAt self.old.rows.items instance }
+        requires brings { IsSound self.old → Adds (P.told task.port) self.old.log.history instance (Done.Attempted bytes reply) }
+        ensures stands { Stands P.told self.new [] self.new.log.history }
+        ensures facts { self.new.facts ≡ self.old.facts }
+        ensures size { length self.new.rows.items ≡ length self.old.rows.items }
+    {
+        note_attempt(
+            self.alloc,
+            &mut self.log,
+            instance,
+            &task.role,
+            bytes,
+            reply,
+        );
+        self.bring(instance, task);
+    }
+
+    /// Spends what a sink at home holds.
+    pub(crate) fn spend_held(&mut self, instance: u32, outcome: Outcome)
+        requires stands { Stands P.told self.old [] self.old.log.history }
+        requires within { instance < length self.old.rows.items }
+        ensures stands { Stands P.told self.new [] self.new.log.history }
+        ensures facts { self.new.facts ≡ self.old.facts }
+        ensures size { length self.new.rows.items ≡ length self.old.rows.items }
+    {
+        for _ in 0..u64::MAX {
+            if !self.spend_first(instance, outcome) {
+                break;
+            }
+        }
+    }
+
+    /// Spends the oldest parcel that a sink at home holds, if there is one.
+    fn spend_first(&mut self, instance: u32, outcome: Outcome) -> bool
+        requires stands { Stands P.told self.old [] self.old.log.history }
+        requires within { instance < length self.old.rows.items }
+        ensures stands { Stands P.told self.new [] self.new.log.history }
+        ensures facts { self.new.facts ≡ self.old.facts }
+        ensures size { length self.new.rows.items ≡ length self.old.rows.items }
+    {
+        match pop_held(&mut self.rows, instance as usize) {
+            Some(parcel) => {
+                self.spend(instance, parcel, outcome);
+                true
+            }
+            None => false,
+        }
+    }
+}
+
+/// What becomes of the copies of a sink batch that was attempted. No attempt is made again so far.
+fn outcome_of(reply: Reply) -> Outcome {
+    match reply {
+        Reply::Ok => Outcome::Delivered,
+        Reply::Failed => Outcome::Attempts,
+        Reply::Refused => Outcome::Refusal,
+    }
+}

@@ -1,0 +1,266 @@
+ghost use Rattle.std.specs.Prelude.{◌≡◌, ◌<◌, [], length, IfSome, IfNone, IsTrue};
+ghost use Rattle.vx_hub.specs.Stands.{Stands};
+ghost use Rattle.vx_hub.specs.Leases.{IsLeased, IsOpenAt};
+ghost use Rattle.vx_hub.specs.Rows.{CanHold};
+
+use crate::hub::Hub;
+use crate::notes::note_take;
+use crate::rows::{hold, pop_buffer, take_task};
+use crate::task::{Role, SinkCore};
+use crate::work::{Job, Work};
+use vx_ends::Port;
+use vx_plan::Class;
+use vx_record::Entry;
+
+/// How many parcels one lease takes from a buffer at the most.
+const TAKES: u32 = 64;
+
+/// After how many bytes of all sources together each source drains: 2^48.
+pub const MOST_BYTES: u64 = 1 << 48;
+
+/// An instance at home that has work.
+#[derive(Clone, Copy)]
+struct Ready {
+    instance: u32,
+    job: Job,
+}
+
+impl<P: Port> Hub<P> {
+    /// Hands out the task of an instance that has work, a sink before a source. It takes no memory but for the record.
+    /// `None` where no instance at home has work, and after a call that answered `Fatal` or an abandonment.
+    pub fn lease(&mut self, worker: u32, now: u64) -> Option<Work<P>>
+        requires { Stands P.told self.old [] self.old.log.history }
+        ensures leased { IfSome result (IsLeased P.told self.new) }
+        ensures none { IfNone result (Stands P.told self.new [] self.new.log.history) }
+        ensures size { length self.new.rows.items ≡ length self.old.rows.items }
+    {
+        if self.fatal || self.abandoned.is_some() || !self.log.whole {
+            return None;
+        }
+        let Ready { instance, job } = self.ready(now)?;
+        self.log.note(Ok(Entry::Lease {
+            instance,
+            worker,
+            now,
+            polls: 0,
+        }));
+        self.collect(instance, now);
+        let job = self.decided(instance as usize, job, now);
+        let task = take_task(&mut self.rows, instance as usize)?;
+        Some(Work {
+            instance,
+            job,
+            task,
+        })
+    }
+
+    /// The instance that is leased next: the last one that has work.
+    fn ready(&self, now: u64) -> Option<Ready>
+        ensures { IfSome result (λ ready. IsOpenAt self.now ready.instance) }
+    {
+        for i in (0..self.rows.len()).rev() {
+            if let Some(job) = self.job(i, now) {
+                return Some(Ready {
+                    instance: u32::try_from(i).ok()?,
+                    job,
+                });
+            }
+        }
+        None
+    }
+
+    /// What an instance has to do, if it is at home and has work.
+    fn job(&self, i: usize, now: u64) -> Option<Job>
+        requires { i < length self.now.rows.items }
+        ensures { IfSome result (λ job. IsOpenAt self.now i) }
+    {
+        if i >= self.facts.len() || self.facts[i].closed || self.rows[i].task.is_none() {
+            return None;
+        }
+        match self.facts[i].class {
+            Class::Source => self.source_job(i),
+            Class::Transform => None,
+            Class::Sink => self.sink_job(i, now),
+        }
+    }
+
+    /// A source is read until it is dry, and closed once all its batches have their notices.
+    fn source_job(&self, i: usize) -> Option<Job>
+        requires { i < length self.now.rows.items }
+    {
+        if !self.has_sent(i) {
+            None
+        } else if !self.is_dry(i) {
+            Some(Job::Read)
+        } else if self.unnoticed(i) == 0 {
+            Some(Job::Close)
+        } else {
+            None
+        }
+    }
+
+    /// A sink takes what is in its buffer, writes its sink batch once that is closed, and is closed in the end.
+    fn sink_job(&self, i: usize, now: u64) -> Option<Job>
+        requires { i < length self.now.rows.items }
+    {
+        if self.is_batch_closed(i, now) {
+            Some(Job::Attempt)
+        } else if !self.rows[i].buffer.is_empty() {
+            Some(Job::Collect)
+        } else if self.is_ending(i) && self.held(i) == 0 {
+            Some(Job::Close)
+        } else {
+            None
+        }
+    }
+
+    /// Moves parcels from a sink's buffer to its sink batch, as many as it may take.
+    fn collect(&mut self, instance: u32, now: u64)
+        requires stands { Stands P.told self.old [] self.old.log.history }
+        requires open { IsOpenAt self.old instance }
+        ensures stands { Stands P.told self.new [] self.new.log.history }
+        ensures open { IsOpenAt self.new instance }
+        ensures size { length self.new.rows.items ≡ length self.old.rows.items }
+    {
+        for _ in 0..TAKES {
+            if !self.take(instance, now) {
+                break;
+            }
+        }
+    }
+
+    /// Moves the oldest parcel of a sink's buffer to its sink batch, if there is one and it may take more.
+    fn take(&mut self, instance: u32, now: u64) -> bool
+        requires stands { Stands P.told self.old [] self.old.log.history }
+        requires open { IsOpenAt self.old instance }
+        ensures stands { Stands P.told self.new [] self.new.log.history }
+        ensures facts { self.new.facts ≡ self.old.facts }
+        ensures size { length self.new.rows.items ≡ length self.old.rows.items }
+    {
+        if !self.can_hold(instance as usize) {
+            return false;
+        }
+        let Some(parcel) = pop_buffer(&mut self.rows, instance as usize) else {
+            return false;
+        };
+        note_take(self.alloc, &mut self.log, instance, &parcel.finalizers);
+        hold(&mut self.rows, instance as usize, parcel, now);
+        true
+    }
+
+    /// What is to be done once parcels were taken.
+    fn decided(&self, i: usize, job: Job, now: u64) -> Job
+        requires { i < length self.now.rows.items }
+    {
+        if job == Job::Collect && self.is_batch_closed(i, now) {
+            Job::Attempt
+        } else {
+            job
+        }
+    }
+
+    /// Whether an instance at home is a sink that may take one more parcel.
+    fn can_hold(&self, i: usize) -> bool
+        requires { i < length self.now.rows.items }
+        ensures { IsTrue result → CanHold self.now.rows.items i }
+    {
+        match &self.rows[i].task {
+            Some(task) => match &task.role {
+                Role::Sink(core) => !core.held.is_full(),
+                Role::Source(_) => false,
+            },
+            None => false,
+        }
+    }
+
+    /// The sink batch of a sink at home.
+    fn sink(&self, i: usize) -> Option<&SinkCore>
+        requires { i < length self.now.rows.items }
+    {
+        match &self.rows[i].task {
+            Some(task) => match &task.role {
+                Role::Sink(core) => Some(core),
+                Role::Source(_) => None,
+            },
+            None => None,
+        }
+    }
+
+    /// How many parcels a sink at home holds.
+    fn held(&self, i: usize) -> usize
+        requires { i < length self.now.rows.items }
+    {
+        match self.sink(i) {
+            Some(core) => core.held.len(),
+            None => 0,
+        }
+    }
+
+    /// Whether a sink batch is written without waiting for more: it is full, or old enough, or nothing more comes.
+    fn is_batch_closed(&self, i: usize, now: u64) -> bool
+        requires { i < length self.now.rows.items }
+    {
+        match self.sink(i) {
+            Some(core) if !core.held.is_empty() => {
+                core.held.is_full()
+                    || now.saturating_sub(core.since) >= core.timeout
+                    || (self.is_ending(i) && self.rows[i].buffer.is_empty())
+            }
+            _ => false,
+        }
+    }
+
+    /// How many batches of a source have no notice yet.
+    fn unnoticed(&self, i: usize) -> u64 {
+        match self.progress.get(i) {
+            Some(progress) => progress.unnoticed,
+            None => 0,
+        }
+    }
+
+    /// Whether an instance has no output and no waiting child.
+    pub(crate) fn has_sent(&self, i: usize) -> bool
+        requires { i < length self.now.rows.items }
+    {
+        self.rows[i].outputs.is_empty() && self.rows[i].waiting.is_empty()
+    }
+
+    /// Whether a source takes no more bytes: it was told the end of all, or lost, or all sources took enough.
+    pub(crate) fn is_dry(&self, i: usize) -> bool {
+        let over = match self.progress.get(i) {
+            Some(progress) => progress.over,
+            None => true,
+        };
+        let lost = match self.facts.get(i) {
+            Some(facts) => facts.lost.is_some(),
+            None => true,
+        };
+        over || lost || self.bytes >= MOST_BYTES
+    }
+
+    /// Whether nothing more comes to an instance: every source is dry, and no parcel is on its way to it.
+    pub(crate) fn is_ending(&self, i: usize) -> bool {
+        for j in 0..self.rows.len() {
+            if j < self.facts.len() && self.feeds(j, i) {
+                return false;
+            }
+        }
+        true
+    }
+
+    /// Whether an instance may still put something out that goes to another.
+    fn feeds(&self, j: usize, i: usize) -> bool
+        requires rows { j < length self.now.rows.items }
+        requires facts { j < length self.now.facts.items }
+    {
+        if self.facts[j].class != Class::Source || self.facts[j].retired {
+            return false;
+        }
+        let names = self.facts[j]
+            .targets
+            .as_slice()
+            .iter()
+            .any(|target| *target as usize == i);
+        !self.is_dry(j) || (names && !self.has_sent(j))
+    }
+}

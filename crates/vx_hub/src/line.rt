@@ -1,0 +1,49 @@
+ghost use Rattle.std.specs.Prelude.{◌≡◌, [], ◌∷◌, ◌++◌, OnOk, IsTrue};
+ghost use Rattle.vx_value.specs.Events.{last_below};
+ghost use Rattle.vx_value.specs.Values.{named_datum};
+
+use std::alloc::Global;
+use vx_value::{Bytes, Event, Field, FieldList, Text, Value, WantOfMemory};
+
+/// The event of a line: `message` has the line, and `source_type` the type of the source.
+pub(crate) fn event_of_line(
+    alloc: Global,
+    line: &[u8],
+    source_type: &Text,
+) -> Result<Event, WantOfMemory> {
+    let mut fields = FieldList::new(alloc);
+    let message = Field {
+        name: Text::copy_of(alloc, "message")?,
+        value: Value::Words(Text::lossy(alloc, line)?),
+    };
+    push(&mut fields, message)?;
+    let source = Field {
+        name: Text::copy_of(alloc, "source_type")?,
+        value: Value::Words(source_type.copy(alloc)?),
+    };
+    push(&mut fields, source)?;
+    Ok(Event { fields })
+}
+
+/// Adds a field behind the others.
+fn push(fields: &mut FieldList, field: Field) -> Result<(), WantOfMemory>
+    requires { IsTrue (last_below fields.old field.name) }
+    ensures { OnOk result (fields.new ≡ fields.old ++ named_datum field ∷ []) }
+{
+    match fields.push(field) {
+        Ok(()) => Ok(()),
+        Err(_) => Err(WantOfMemory),
+    }
+}
+
+/// Adds what the codec `text` writes of an event: its message and a line feed.
+pub(crate) fn write_text(event: &Event, out: &mut Bytes) -> Result<(), WantOfMemory> {
+    for field in event.fields.as_slice() {
+        if field.name.as_str() == "message"
+            && let Value::Words(message) = &field.value
+        {
+            out.push_slice(message.as_str().as_bytes())?;
+        }
+    }
+    out.push_slice(b"\n")
+}

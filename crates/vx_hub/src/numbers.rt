@@ -1,0 +1,61 @@
+// The numbers of copies, as entries of the record have them.
+
+use crate::child::Child;
+use crate::task::Role;
+use std::alloc::Global;
+use vx_ledger::Finalizers;
+use vx_record::ChildList;
+use vx_value::{NumberList, WantOfMemory};
+
+/// Adds the numbers of some copies.
+fn append(numbers: &mut NumberList, finalizers: &Finalizers) -> Result<(), WantOfMemory> {
+    for i in 0..finalizers.len() {
+        if let Some(finalizer) = finalizers.get(i) {
+            match numbers.push(finalizer.number()) {
+                Ok(()) => {}
+                Err(_) => return Err(WantOfMemory),
+            }
+        }
+    }
+    Ok(())
+}
+
+/// The numbers of some copies.
+pub(crate) fn numbers_of(
+    alloc: Global,
+    finalizers: &Finalizers,
+) -> Result<NumberList, WantOfMemory> {
+    let mut numbers = NumberList::new(alloc);
+    append(&mut numbers, finalizers)?;
+    Ok(numbers)
+}
+
+/// The numbers of the copies that a task holds.
+pub(crate) fn numbers_held(alloc: Global, role: &Role) -> Result<NumberList, WantOfMemory> {
+    let mut numbers = NumberList::new(alloc);
+    if let Role::Sink(core) = role {
+        for i in 0..core.held.len() {
+            if let Some(parcel) = core.held.get(i) {
+                append(&mut numbers, &parcel.finalizers)?;
+            }
+        }
+    }
+    Ok(numbers)
+}
+
+/// The children of a split, as its entry has them.
+pub(crate) fn noted_children(alloc: Global, children: &[Child]) -> Result<ChildList, WantOfMemory> {
+    let mut noted = ChildList::new(alloc);
+    for child in children {
+        let copies = numbers_of(alloc, &child.parcel.finalizers)?;
+        let entry = vx_record::Child {
+            target: child.target,
+            copies,
+        };
+        match noted.push(entry) {
+            Ok(()) => {}
+            Err(_) => return Err(WantOfMemory),
+        }
+    }
+    Ok(noted)
+}

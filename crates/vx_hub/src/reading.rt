@@ -1,0 +1,146 @@
+ghost use Rattle.std.specs.Prelude.{◌≡◌, ◌<◌, ◌≤◌, ℕ, [], length, List};
+ghost use Rattle.vx_ledger.specs.Copies.{Copy};
+ghost use Rattle.vx_record.specs.Noted.{Noted};
+ghost use Rattle.vx_hub.specs.Stands.{Stands, IsTold, IsSound};
+ghost use Rattle.vx_hub.specs.Leases.{IsOpenAt, Adds};
+ghost use Rattle.vx_hub.specs.Turns.{event_count};
+ghost use Rattle.vx_hub.specs.declared.work.Done.TheVariants.{Read};
+ghost use Rattle.vx_hub.specs.Rows.{role_copies, IsOutAt};
+ghost use Rattle.vx_record.specs.Reads.{bytes_of};
+
+use crate::fatal::Fatal;
+use crate::hub::Hub;
+use crate::source::Turned;
+use crate::task::Task;
+use vx_ends::{Port, Position};
+use vx_record::{Entry, Taken};
+use vx_value::Bytes;
+
+impl<P: Port> Hub<P> {
+    /// Notes what a source took, puts its task back, and gives birth to the batch of its events.
+    pub(crate) fn bring_read(
+        &mut self,
+        instance: u32,
+        task: Task<P>,
+        turned: Turned,
+    ) -> Result<(), Fatal>
+        requires stands { Stands P.told self.old (role_copies task.role) self.old.log.history }
+        requires open { IsOpenAt self.old instance }
+        requires out { IsOutAt self.old.rows.items instance }
+        requires brings { IsSound self.old → Adds (P.told task.port) self.old.log.history instance (Read turned) }
+        requires events { event_count turned ≤ 65536 }
+        ensures stands { Stands P.told self.new [] self.new.log.history }
+        ensures size { length self.new.rows.items ≡ length self.old.rows.items }
+    {
+        match turned {
+            Turned::Lines {
+                stream,
+                bytes,
+                events,
+                end,
+            } => {
+                self.note_taken(instance, stream, bytes);
+                self.bring(instance, task);
+                self.give_birth(instance, events, Position { stream, end })
+            }
+            Turned::StreamEnded {
+                stream,
+                events,
+                end,
+            } => {
+                self.note_end(instance, stream, Taken::StreamEnded);
+                self.bring(instance, task);
+                self.give_birth(instance, events, Position { stream, end })
+            }
+            Turned::AllEnded {
+                stream,
+                events,
+                end,
+            } => {
+                self.note_end(instance, stream, Taken::AllEnded);
+                self.bring(instance, task);
+                self.mark_over(instance);
+                self.give_birth(instance, events, Position { stream, end })
+            }
+            Turned::Idle => {
+                self.log.note(Ok(Entry::Idle {
+                    instance,
+                    start_failed: false,
+                }));
+                self.bring(instance, task);
+                Ok(())
+            }
+            Turned::Failed { at_start } => {
+                self.note_lost(instance, at_start);
+                self.bring(instance, task);
+                Ok(())
+            }
+        }
+    }
+
+    /// Notes bytes that a source took.
+    fn note_taken(&mut self, instance: u32, stream: u64, bytes: Bytes)
+        requires out { IsOutAt self.old.rows.items instance }
+        requires within { instance < length self.old.facts.items }
+        ensures stands { (hand : List Copy) → Stands P.told self.old hand self.old.log.history → Stands P.told self.new hand self.new.log.history }
+        ensures noted { Noted self.old.log (Entry.Read instance stream (Taken.Bytes bytes)) self.new.log }
+        ensures rows { self.new.rows ≡ self.old.rows }
+        ensures starved { self.new.starved ≡ self.old.starved }
+        ensures open { IsOpenAt self.old instance → IsOpenAt self.new instance }
+    {
+        let n = bytes.len() as u64;
+        let facts = &mut self.facts[instance as usize];
+        facts.taken = facts.taken.saturating_add(n);
+        self.bytes = self.bytes.saturating_add(n);
+        self.log.note(Ok(Entry::Read {
+            instance,
+            stream,
+            taken: Taken::Bytes(bytes),
+        }));
+    }
+
+    /// Notes that a stream, or all, has ended.
+    fn note_end(&mut self, instance: u32, stream: u64, taken: Taken)
+        requires out { IsOutAt self.old.rows.items instance }
+        requires within { instance < length self.old.facts.items }
+        requires end { bytes_of taken ≡ [] }
+        ensures stands { (hand : List Copy) → Stands P.told self.old hand self.old.log.history → Stands P.told self.new hand self.new.log.history }
+        ensures noted { Noted self.old.log (Entry.Read instance stream taken) self.new.log }
+        ensures rest { self.new ≡ record self.old { log = self.new.log } }
+    {
+        self.log.note(Ok(Entry::Read {
+            instance,
+            stream,
+            taken,
+        }));
+    }
+
+    /// Notes that a source is lost, after as many bytes as it took.
+    fn note_lost(&mut self, instance: u32, start_failed: bool)
+        requires out { IsOutAt self.old.rows.items instance }
+        requires within { instance < length self.old.facts.items }
+        ensures stands { (hand : List Copy) → Stands P.told self.old hand self.old.log.history → Stands P.told self.new hand self.new.log.history }
+        ensures noted { (at : ℕ) × Noted self.old.log (Entry.SourceLost instance at start_failed) self.new.log }
+        ensures rows { self.new.rows ≡ self.old.rows }
+        ensures starved { self.new.starved ≡ self.old.starved }
+        ensures open { IsOpenAt self.old instance → IsOpenAt self.new instance }
+    {
+        let facts = &mut self.facts[instance as usize];
+        let at = facts.taken;
+        facts.lost = Some(at);
+        self.log.note(Ok(Entry::SourceLost {
+            instance,
+            at,
+            start_failed,
+        }));
+    }
+
+    /// Marks that a source was told the end of all.
+    fn mark_over(&mut self, instance: u32)
+        ensures { self.new ≡ record self.old { progress = self.new.progress } }
+    {
+        if let Some(progress) = self.progress.get_mut(instance as usize) {
+            progress.over = true;
+        }
+    }
+}

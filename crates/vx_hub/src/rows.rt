@@ -1,0 +1,207 @@
+// The places of the instances, one call for each way in which a parcel or a task moves.
+ghost use Rattle.std.specs.Prelude.{◌≡◌, ◌+◌, ◌<◌, ℕ, [], length, OnOk, IfSome, IsSome, IsSomeAnd, Some};
+ghost use Rattle.vx_hub.specs.Works.{IsClosedBy};
+ghost use Rattle.vx_hub.specs.Rows.{child_copies, role_copies, option_copies, task_copies, port_at, Loses, Gains, SamePorts, SameOtherPorts, KeepsBare, KeepsOthersBare, HasOutputRoom, HasRoom, NoneWaits, HasChild, IsOutAt, IsBareAt, CanHold};
+
+use crate::child::Child;
+use crate::row::Row;
+use crate::task::{Role, Task};
+use std::mem;
+use vx_ends::Port;
+use vx_ledger::Parcel;
+use vx_value::WantOfMemory;
+
+/// Takes the oldest output of an instance.
+pub(crate) fn pop_output<P>(rows: &mut Vec<Row<P>>, i: usize) -> Option<Parcel>
+    requires { i < length rows.old.items }
+    ensures loses { Loses rows.old.items (option_copies result) rows.new.items }
+    ensures room { IsSome result → HasOutputRoom rows.new.items i 1 }
+    ensures ports { SamePorts rows.old.items rows.new.items }
+    ensures bare { KeepsBare rows.old.items rows.new.items }
+    ensures waits { (j : ℕ) → NoneWaits rows.old.items j → NoneWaits rows.new.items j }
+    ensures held { IsSome result → IsBareAt rows.old.items i → ⊥ }
+    ensures size { length rows.new.items ≡ length rows.old.items }
+{
+    rows[i].outputs.pop()
+}
+
+/// Puts an output on top of an instance's.
+pub(crate) fn push_output<P>(rows: &mut Vec<Row<P>>, i: usize, parcel: Parcel)
+    requires within { i < length rows.old.items }
+    requires room { HasOutputRoom rows.old.items i 1 }
+    ensures gains { Gains rows.old.items parcel.finalizers rows.new.items }
+    ensures ports { SamePorts rows.old.items rows.new.items }
+    ensures bare { KeepsOthersBare i rows.old.items rows.new.items }
+    ensures room { (n : ℕ) → HasOutputRoom rows.old.items i (n + 1) → HasOutputRoom rows.new.items i n }
+    ensures size { length rows.new.items ≡ length rows.old.items }
+{
+    rows[i].outputs.push(parcel);
+}
+
+/// Makes room for that many outputs more.
+pub(crate) fn reserve_outputs<P>(
+    rows: &mut Vec<Row<P>>,
+    i: usize,
+    n: usize,
+) -> Result<(), WantOfMemory>
+    requires { i < length rows.old.items }
+    ensures loses { Loses rows.old.items [] rows.new.items }
+    ensures room { OnOk result (HasOutputRoom rows.new.items i n) }
+    ensures ports { SamePorts rows.old.items rows.new.items }
+    ensures bare { KeepsBare rows.old.items rows.new.items }
+    ensures size { length rows.new.items ≡ length rows.old.items }
+{
+    rows[i].outputs.reserve(n)
+}
+
+/// Puts the children of a split into an instance of which no child waits.
+pub(crate) fn put_children<P>(rows: &mut Vec<Row<P>>, i: usize, children: Vec<Child>)
+    requires within { i < length rows.old.items }
+    requires none { NoneWaits rows.old.items i }
+    ensures gains { Gains rows.old.items (child_copies children.items) rows.new.items }
+    ensures ports { SamePorts rows.old.items rows.new.items }
+    ensures bare { KeepsOthersBare i rows.old.items rows.new.items }
+    ensures size { length rows.new.items ≡ length rows.old.items }
+{
+    let none = mem::replace(&mut rows[i].waiting, children);
+    none.destroy_empty();
+}
+
+/// Takes a waiting child of an instance.
+pub(crate) fn take_child<P>(rows: &mut Vec<Row<P>>, i: usize, k: usize) -> Child
+    requires within { i < length rows.old.items }
+    requires child { HasChild rows.old.items i k }
+    ensures loses { Loses rows.old.items result.parcel.finalizers rows.new.items }
+    ensures ports { SamePorts rows.old.items rows.new.items }
+    ensures bare { KeepsBare rows.old.items rows.new.items }
+    ensures rooms { (j : ℕ) → HasRoom rows.old.items j → HasRoom rows.new.items j }
+    ensures size { length rows.new.items ≡ length rows.old.items }
+{
+    rows[i].waiting.remove(k)
+}
+
+/// Takes the last waiting child of an instance, as a parcel.
+pub(crate) fn take_last_child<P>(rows: &mut Vec<Row<P>>, i: usize) -> Option<Parcel>
+    requires { i < length rows.old.items }
+    ensures loses { Loses rows.old.items (option_copies result) rows.new.items }
+    ensures ports { SamePorts rows.old.items rows.new.items }
+    ensures bare { KeepsBare rows.old.items rows.new.items }
+    ensures size { length rows.new.items ≡ length rows.old.items }
+{
+    match rows[i].waiting.pop() {
+        Some(Child { target: _, parcel }) => Some(parcel),
+        None => None,
+    }
+}
+
+/// Takes the oldest parcel of an instance's buffer.
+pub(crate) fn pop_buffer<P>(rows: &mut Vec<Row<P>>, i: usize) -> Option<Parcel>
+    requires { i < length rows.old.items }
+    ensures loses { Loses rows.old.items (option_copies result) rows.new.items }
+    ensures ports { SamePorts rows.old.items rows.new.items }
+    ensures bare { KeepsBare rows.old.items rows.new.items }
+    ensures holds { (j : ℕ) → CanHold rows.old.items j → CanHold rows.new.items j }
+    ensures held { IsSome result → IsBareAt rows.old.items i → ⊥ }
+    ensures size { length rows.new.items ≡ length rows.old.items }
+{
+    rows[i].buffer.pop()
+}
+
+/// Puts a parcel into an instance's buffer.
+pub(crate) fn push_buffer<P>(rows: &mut Vec<Row<P>>, i: usize, parcel: Parcel)
+    requires within { i < length rows.old.items }
+    requires room { HasRoom rows.old.items i }
+    ensures gains { Gains rows.old.items parcel.finalizers rows.new.items }
+    ensures ports { SamePorts rows.old.items rows.new.items }
+    ensures bare { KeepsOthersBare i rows.old.items rows.new.items }
+    ensures size { length rows.new.items ≡ length rows.old.items }
+{
+    rows[i].buffer.push(parcel);
+}
+
+/// Takes the task of an instance, which is out from then on.
+pub(crate) fn take_task<P>(rows: &mut Vec<Row<P>>, i: usize) -> Option<Task<P>>
+    requires { i < length rows.old.items }
+    ensures loses { Loses rows.old.items (task_copies result) rows.new.items }
+    ensures port { IfSome result (λ task. port_at rows.old.items i ≡ Some task.port) }
+    ensures out { IsOutAt rows.new.items i }
+    ensures ports { SameOtherPorts i rows.old.items rows.new.items }
+    ensures bare { KeepsOthersBare i rows.old.items rows.new.items }
+    ensures size { length rows.new.items ≡ length rows.old.items }
+{
+    rows[i].task.take()
+}
+
+/// Brings the task of an instance home that is out.
+pub(crate) fn put_task<P>(rows: &mut Vec<Row<P>>, i: usize, task: Task<P>)
+    requires within { i < length rows.old.items }
+    requires out { IsOutAt rows.old.items i }
+    ensures gains { Gains rows.old.items (role_copies task.role) rows.new.items }
+    ensures port { port_at rows.new.items i ≡ Some task.port }
+    ensures ports { SameOtherPorts i rows.old.items rows.new.items }
+    ensures bare { KeepsOthersBare i rows.old.items rows.new.items }
+    ensures size { length rows.new.items ≡ length rows.old.items }
+{
+    match mem::replace(&mut rows[i].task, Some(task)) {
+        None => {}
+        Some(_) => unreachable!(),
+    }
+}
+
+/// Takes the oldest parcel that a sink at home holds.
+pub(crate) fn pop_held<P>(rows: &mut Vec<Row<P>>, i: usize) -> Option<Parcel>
+    requires { i < length rows.old.items }
+    ensures loses { Loses rows.old.items (option_copies result) rows.new.items }
+    ensures ports { SamePorts rows.old.items rows.new.items }
+    ensures bare { KeepsBare rows.old.items rows.new.items }
+    ensures size { length rows.new.items ≡ length rows.old.items }
+{
+    match &mut rows[i].task {
+        Some(task) => match &mut task.role {
+            Role::Sink(core) => core.held.pop(),
+            Role::Source(_) => None,
+        },
+        None => None,
+    }
+}
+
+/// Adds a parcel to the sink batch of a sink at home. The batch's age counts from its first parcel.
+pub(crate) fn hold<P>(rows: &mut Vec<Row<P>>, i: usize, parcel: Parcel, now: u64)
+    requires within { i < length rows.old.items }
+    requires room { CanHold rows.old.items i }
+    ensures gains { Gains rows.old.items parcel.finalizers rows.new.items }
+    ensures ports { SamePorts rows.old.items rows.new.items }
+    ensures bare { KeepsOthersBare i rows.old.items rows.new.items }
+    ensures size { length rows.new.items ≡ length rows.old.items }
+{
+    match &mut rows[i].task {
+        Some(task) => match &mut task.role {
+            Role::Sink(core) => {
+                core.since = if core.held.is_empty() {
+                    now
+                } else {
+                    core.since
+                };
+                core.held.push(parcel);
+            }
+            Role::Source(_) => unreachable!(),
+        },
+        None => unreachable!(),
+    }
+}
+
+/// Closes the port of an instance at home.
+pub(crate) fn close_at<P: Port>(rows: &mut Vec<Row<P>>, i: usize)
+    requires within { i < length rows.old.items }
+    requires home { IsSome (port_at rows.old.items i) }
+    ensures loses { Loses rows.old.items [] rows.new.items }
+    ensures port { IfSome (port_at rows.old.items i) (λ old. IsSomeAnd (port_at rows.new.items i) (λ new. IsClosedBy (P.told old) (P.told new))) }
+    ensures ports { SameOtherPorts i rows.old.items rows.new.items }
+    ensures bare { KeepsBare rows.old.items rows.new.items }
+    ensures size { length rows.new.items ≡ length rows.old.items }
+{
+    match &mut rows[i].task {
+        Some(task) => task.port.close(),
+        None => unreachable!(),
+    }
+}

@@ -1,0 +1,157 @@
+ghost use Rattle.std.specs.Prelude.{◌≡◌, ◌++◌, ◌∷◌, [], length, IfOk};
+ghost use Rattle.vx_hub.specs.Making.{IsUnused, AreUnused};
+ghost use Rattle.vx_hub.specs.Rows.{role_parcels};
+
+use crate::facts::Facts;
+use crate::source::SourceCore;
+use crate::stack::Stack;
+use crate::task::{Role, SinkCore};
+use std::alloc::Global;
+use vx_ledger::Parcel;
+use vx_plan::{Component, Plan, Settings};
+use vx_value::{ItemList, Queue, Text, WantOfMemory};
+
+/// What an instance begins with, but for its port.
+pub struct Seat {
+    pub facts: Facts,
+    pub outputs: Stack<Parcel>,
+    pub buffer: Queue<Parcel>,
+    pub role: Role,
+}
+
+/// What each component of a plan begins with, in order.
+pub(crate) fn seats(alloc: Global, plan: &Plan) -> Result<Vec<Seat>, WantOfMemory>
+    ensures unused { IfOk result (λ seats. AreUnused seats.items) }
+    ensures count { IfOk result (λ seats. length seats.items ≡ length plan.now.components) }
+{
+    let mut seats = Vec::with_capacity(alloc, plan.components.len())?;
+    for component in plan.components.as_slice() {
+        match make_seat(alloc, plan, component) {
+            Ok(seat) => seats.push_reserved(seat),
+            Err(none) => {
+                end_seats(seats);
+                return Err(none);
+            }
+        }
+    }
+    Ok(seats)
+}
+
+/// What a component begins with.
+fn make_seat(alloc: Global, plan: &Plan, component: &Component) -> Result<Seat, WantOfMemory>
+    ensures { IfOk result IsUnused }
+{
+    let facts = Facts {
+        name: component.name.copy(alloc)?,
+        class: component.class,
+        targets: targets(alloc, plan, component)?,
+        taken: 0,
+        lost: None,
+        closed: false,
+        retired: false,
+    };
+    let buffer = Queue::new(alloc, buffer_room(&component.settings))?;
+    match role(alloc, &component.settings) {
+        Ok(role) => Ok(Seat {
+            facts,
+            outputs: Stack::new(alloc),
+            buffer,
+            role,
+        }),
+        Err(none) => {
+            buffer.end();
+            Err(none)
+        }
+    }
+}
+
+/// The instances that read a component: their numbers are the places of their components in the plan.
+fn targets(
+    alloc: Global,
+    plan: &Plan,
+    component: &Component,
+) -> Result<ItemList<u32>, WantOfMemory> {
+    let mut targets = ItemList::new(alloc);
+    for number in plan.readers(alloc, component.name.as_str(), 0)?.as_slice() {
+        match u32::try_from(*number) {
+            Ok(target) => match targets.push(target) {
+                Ok(()) => {}
+                Err(_) => return Err(WantOfMemory),
+            },
+            Err(_) => return Err(WantOfMemory),
+        }
+    }
+    Ok(targets)
+}
+
+/// For how many parcels the buffer of a component has room.
+fn buffer_room(settings: &Settings) -> usize {
+    match settings.sink() {
+        Some(sink) => match sink.buffer.get(0) {
+            Some(stage) => stage.max_events as usize,
+            None => 0,
+        },
+        None => 0,
+    }
+}
+
+/// What a component does with its port.
+fn role(alloc: Global, settings: &Settings) -> Result<Role, WantOfMemory>
+    ensures { IfOk result (λ role. role_parcels role ≡ []) }
+{
+    match settings.sink() {
+        None => {
+            let limit = settings.line_limit().unwrap_or(0);
+            let source_type = Text::copy_of(alloc, "stdin")?;
+            Ok(Role::Source(SourceCore::new(alloc, limit, source_type)?))
+        }
+        Some(sink) => Ok(Role::Sink(SinkCore {
+            held: Queue::new(alloc, sink.batch_max_events as usize)?,
+            since: 0,
+            timeout: u64::from(sink.batch_timeout_secs) * 1000,
+        })),
+    }
+}
+
+/// Ends seats that are not used.
+pub(crate) fn end_seats(seats: Vec<Seat>)
+    requires { AreUnused seats.items }
+{
+    let mut seats = seats;
+    while let Some(seat) = seats.pop() {
+        end_seat(seat);
+    }
+    seats.destroy_empty();
+}
+
+/// Ends a seat that is not used.
+fn end_seat(seat: Seat)
+    requires { IsUnused seat }
+{
+    let Seat {
+        facts: _,
+        outputs,
+        buffer,
+        role,
+    } = seat;
+    outputs.end();
+    buffer.end();
+    end_role(role);
+}
+
+/// Ends a role that holds nothing.
+pub(crate) fn end_role(role: Role)
+    requires { role_parcels role ≡ [] }
+{
+    match role {
+        Role::Source(_) => {}
+        Role::Sink(core) => {
+            let SinkCore {
+                held,
+                since: _,
+                timeout: _,
+            } = core;
+            held.end();
+        }
+    }
+}

@@ -1,0 +1,63 @@
+ghost use Rattle.std.specs.Prelude.{◌≡◌, List, [], ◌∷◌, ◌++◌, length};
+ghost use Rattle.vx_ledger.specs.Copies.{Copy};
+ghost use Rattle.vx_ledger.specs.Ledger.{AreLive};
+ghost use Rattle.vx_hub.specs.Stands.{Stands};
+
+use crate::hub::Hub;
+use vx_ends::Port;
+use vx_ledger::{Finalizer, Notice, Parcel};
+use vx_record::Entry;
+use vx_status::Outcome;
+
+impl<P: Port> Hub<P> {
+    /// Spends the copies behind a parcel that an instance had, each with the same outcome.
+    pub(crate) fn spend(&mut self, instance: u32, parcel: Parcel, outcome: Outcome)
+        requires { Stands P.told self.old parcel.finalizers self.old.log.history }
+        ensures stands { Stands P.told self.new [] self.new.log.history }
+        ensures rows { self.new.rows ≡ self.old.rows }
+        ensures facts { self.new.facts ≡ self.old.facts }
+    {
+        let Parcel {
+            event: _,
+            mut finalizers,
+        } = parcel;
+        while let Some(finalizer) = finalizers.pop() {
+            self.spend_one(instance, finalizer, outcome);
+        }
+        finalizers.end();
+    }
+
+    /// Spends one copy, and notes the notice that is due.
+    fn spend_one(&mut self, instance: u32, finalizer: Finalizer, outcome: Outcome)
+        requires { AreLive self.old.batches (finalizer ∷ []) }
+        ensures stands { (rest : List Copy) → Stands P.told self.old (rest ++ finalizer ∷ []) self.old.log.history → Stands P.told self.new rest self.new.log.history }
+        ensures rows { self.new.rows ≡ self.old.rows }
+        ensures facts { self.new.facts ≡ self.old.facts }
+    {
+        let copy = finalizer.number();
+        let notice = self.batches.spend(finalizer, outcome);
+        self.log.note(Ok(Entry::Spent {
+            instance,
+            copy,
+            outcome,
+        }));
+        if let Some(notice) = notice {
+            self.tell(notice);
+        }
+    }
+
+    /// Notes a notice, and counts it at the source.
+    fn tell(&mut self, notice: Notice)
+        ensures stands { (hand : List Copy) → Stands P.told self.old hand self.old.log.history → Stands P.told self.new hand self.new.log.history }
+        ensures rows { self.new.rows ≡ self.old.rows }
+        ensures facts { self.new.facts ≡ self.old.facts }
+    {
+        self.log.note(Ok(Entry::Notice {
+            batch: notice.batch,
+            status: notice.status,
+        }));
+        if let Some(progress) = self.progress.get_mut(notice.instance as usize) {
+            progress.unnoticed = progress.unnoticed.saturating_sub(1);
+        }
+    }
+}
