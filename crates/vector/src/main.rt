@@ -1,0 +1,41 @@
+//! The program `vector`: it runs a pipeline between the real ends of this process.
+#![tactic(auto)]
+
+mod os_clock;
+mod os_port;
+mod os_printer;
+mod os_world;
+mod words;
+
+use os_clock::OsClock;
+use os_printer::OsPrinter;
+use os_world::OsWorld;
+use std::process::ExitCode;
+use vx_value::VariableList;
+
+/// The status where not even the words find memory.
+const WANT_OF_MEMORY: u8 = 71;
+
+/// Runs what the words ask for, and ends with the status of that run.
+fn main(rt: HostRuntime) -> ExitCode {
+    let alloc = rt.alloc();
+    let Ok(words) = words::read(&rt, alloc) else {
+        return ExitCode::from(WANT_OF_MEMORY);
+    };
+    let environment = VariableList::new(alloc);
+    let world = OsWorld::new(rt);
+    let clock = OsClock::new(rt);
+    let mut out = OsPrinter::new(rt, false);
+    let mut err = OsPrinter::new(rt, true);
+    let ended = vx_run::vector(
+        &rt,
+        alloc,
+        &words,
+        &environment,
+        world,
+        &clock,
+        &mut out,
+        &mut err,
+    );
+    ExitCode::from(ended.status)
+}

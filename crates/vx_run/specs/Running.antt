@@ -1,0 +1,31 @@
+-- What a run leaves behind.
+use Rattle.std.specs.Prelude.{◌≡◌, ◌⊎◌, List, [], length, Option, Some}
+use Rattle.vx_ends.specs.Told.{Told}
+use Rattle.vx_plan.specs.First.{first_plan}
+use Rattle.vx_record.specs.Records.{Record}
+use Rattle.vx_hub.specs.declared.parts.Numbered.{Numbered}
+use Rattle.vx_hub.specs.Stands.{LossesTold}
+use Rattle.vx_hub.specs.Remains.{AreTold}
+use Rattle.vx_run.specs.declared.fault.Fault.{Fault}
+use Rattle.vx_run.specs.declared.fault.Fault.TheVariants.{Usage, ConfigRead, ConfigRefused, WantOfMemory}
+
+-- but for want of memory, the ports tell what the record has, and each loss tells how many bytes were taken
+abbrev pub IsTrueTo : {P : Type 0} → (P → Told) → Record → List (Numbered P) → Option Fault → Type 0
+IsTrueTo told_by h ports (Some WantOfMemory) = Unit {0}
+IsTrueTo told_by h ports fault = AreTold told_by h ports × LossesTold h
+
+-- a run that didn't begin has no record and no port
+abbrev pub IsUnbegun : {P : Type 0} → Record → List (Numbered P) → Type 0
+IsUnbegun h ports = (h ≡ []) × (ports ≡ [])
+
+-- a run that began has the port of each component
+abbrev pub HasAll : {P : Type 0} → List (Numbered P) → Type 0
+HasAll ports = length ports ≡ length first_plan.components
+
+-- no port is missing
+abbrev pub NoneMissing : {P : Type 0} → Record → List (Numbered P) → Option Fault → Type 0
+NoneMissing h ports (Some Usage) = IsUnbegun h ports
+NoneMissing h ports (Some (ConfigRead path)) = IsUnbegun h ports
+NoneMissing h ports (Some (ConfigRefused fault)) = IsUnbegun h ports
+NoneMissing h ports (Some WantOfMemory) = IsUnbegun h ports ⊎ HasAll ports
+NoneMissing h ports other = HasAll ports

@@ -1,0 +1,19 @@
+use crate::fault::Fault;
+use vx_ends::World;
+use vx_hub::NumberedList;
+use vx_record::Record;
+
+/// How a run ended, and what it leaves behind.
+#[derive(Drop)]
+pub struct Ended<W: World> {
+    /// The exit status: 0 where there is no fault, else the fault's.
+    pub status: u8,
+    /// Why the run didn't end well.
+    pub fault: Option<Fault>,
+    /// What happened, entry by entry.
+    pub history: Record,
+    /// The port of each instance, in the order of their numbers. It is empty where the run didn't begin.
+    pub ports: NumberedList<W::Port>,
+    /// The world that the run was given.
+    pub world: W,
+}

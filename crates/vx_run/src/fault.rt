@@ -1,0 +1,45 @@
+ghost use Rattle.std.specs.Prelude.{◌≡◌};
+ghost use Rattle.vx_run.specs.Faults.{status_of};
+
+use vx_plan::PlanFault;
+use vx_value::Text;
+
+/// Why a run didn't end well.
+#[derive(Drop)]
+pub enum Fault {
+    /// The words are no command.
+    Usage,
+    /// The configuration at that path wasn't read.
+    ConfigRead { path: Text },
+    /// The configuration was read, and isn't accepted.
+    ConfigRefused(PlanFault),
+    /// The numbers of copies are used up: `next` is the next one, and `wanted` more were asked for.
+    Numbers { next: u64, wanted: u64 },
+    /// The sources of the run took as many bytes as one run may take.
+    TooLong,
+    /// The port of that source failed after it had taken `at` bytes.
+    SourceFailed { name: Text, at: u64 },
+    /// The last confirm that was due at that source failed.
+    ConfirmFailed { name: Text },
+    /// No memory was found.
+    WantOfMemory,
+}
+
+impl Fault {
+    /// The exit status of a run that ends with this fault, by the numbers of BSD's `sysexits`.
+    pub fn status(&self) -> u8
+        ensures { result ≡ status_of self.now }
+    {
+        match self {
+            Fault::Usage => 64,
+            Fault::SourceFailed { name: _, at: _ } => 69,
+            Fault::Numbers { next: _, wanted: _ } => 70,
+            Fault::WantOfMemory => 71,
+            Fault::ConfigRead { path: _ } => 74,
+            Fault::ConfirmFailed { name: _ } => 74,
+            Fault::TooLong => 74,
+            Fault::ConfigRefused(PlanFault::NotBuilt) => 78,
+            Fault::ConfigRefused(PlanFault::WantOfMemory) => 71,
+        }
+    }
+}

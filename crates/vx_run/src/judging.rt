@@ -1,0 +1,87 @@
+ghost use Rattle.std.specs.Prelude.{◌≡◌, ◌<◌, ℕ, [], length, Some, None, IfSome, IfNone};
+ghost use Rattle.vx_plan.specs.First.{first_plan};
+ghost use Rattle.vx_hub.specs.Stands.{Stands, IsSound, facts_at, lost_of, cause_of};
+ghost use Rattle.vx_run.specs.Answers.{IsJudged, GoesOn};
+ghost use Rattle.vx_run.specs.Judging.{IsSure, IsNamed};
+
+use crate::fault::Fault;
+use std::alloc::Global;
+use vx_ends::Port;
+use vx_hub::{Hub, MOST_BYTES};
+use vx_plan::Plan;
+use vx_record::AbandonCause;
+use vx_value::WantOfMemory;
+
+/// A source that was lost.
+#[derive(Clone, Copy)]
+struct Lost {
+    instance: u32,
+    at: u64,
+}
+
+/// Why a run that ended didn't end well. Of several faults it is the first in this order: want of memory, used up
+/// numbers, too many bytes, and a lost source, the least instance first.
+pub(crate) fn judge<P: Port>(alloc: Global, plan: &Plan, hub: &Hub<P>) -> Option<Fault>
+    requires plan { plan.now ≡ first_plan }
+    requires stands { Stands P.told hub.now [] hub.now.log.history }
+    requires size { length hub.now.rows.items ≡ length first_plan.components }
+    ensures sure { IsSure hub.now result }
+    ensures judged { IsJudged hub.now.log.history result }
+{
+    if hub.starved() || !hub.whole() {
+        return Some(Fault::WantOfMemory);
+    }
+    match hub.abandoned() {
+        Some(AbandonCause::WantOfMemory) => Some(Fault::WantOfMemory),
+        Some(AbandonCause::Numbers { next, wanted }) => Some(Fault::Numbers { next, wanted }),
+        _ => judge_whole(alloc, plan, hub),
+    }
+}
+
+/// The same, of a run that memory and numbers were enough for.
+fn judge_whole<P: Port>(alloc: Global, plan: &Plan, hub: &Hub<P>) -> Option<Fault>
+    requires plan { plan.now ≡ first_plan }
+    requires stands { Stands P.told hub.now [] hub.now.log.history }
+    requires size { length hub.now.rows.items ≡ length first_plan.components }
+    requires sound { IsSound hub.now }
+    requires goes_on { GoesOn (cause_of hub.now.log.history) }
+    ensures judged { IsJudged hub.now.log.history result }
+{
+    if hub.bytes() >= MOST_BYTES {
+        return Some(Fault::TooLong);
+    }
+    match first_lost(hub) {
+        None => None,
+        Some(lost) => Some(source_failed(alloc, plan, lost)),
+    }
+}
+
+/// The least instance that was lost.
+fn first_lost<P: Port>(hub: &Hub<P>) -> Option<Lost>
+    requires { Stands P.told hub.now [] hub.now.log.history }
+    ensures within { IfSome result (λ lost. lost.instance < length hub.now.facts.items) }
+    ensures lost { IfSome result (λ lost. lost_of (facts_at hub.now.facts.items lost.instance) ≡ Some lost.at) }
+    ensures least { IfSome result (λ lost. (i : ℕ) → i < lost.instance → lost_of (facts_at hub.now.facts.items i) ≡ None) }
+    ensures none { IfNone result ((i : ℕ) → i < length hub.now.facts.items → lost_of (facts_at hub.now.facts.items i) ≡ None) }
+{
+    for instance in 0..hub.instances() {
+        if let Some(at) = hub.lost(instance) {
+            return Some(Lost { instance, at });
+        }
+    }
+    None
+}
+
+/// The fault of a source that was lost, with its component's name, or want of memory where none is found for the name.
+fn source_failed(alloc: Global, plan: &Plan, lost: Lost) -> Fault
+    requires { lost.instance < length plan.now.components }
+    ensures { IsNamed plan.now lost.instance lost.at result }
+{
+    match plan.components.get(lost.instance as usize) {
+        Some(component) => match component.name.copy(alloc) {
+            Ok(name) => Fault::SourceFailed { name, at: lost.at },
+            Err(WantOfMemory) => Fault::WantOfMemory,
+        },
+        None => unreachable!(),
+    }
+}

@@ -1,0 +1,21 @@
+//! The run of a pipeline: the words that ask for it, the faults that it may end with, and the top call.
+#![tactic(auto)]
+
+mod driver;
+mod ended;
+mod fault;
+mod judging;
+mod preparing;
+mod running;
+mod telling;
+#[cfg(test)]
+mod tests;
+mod texts;
+mod top;
+mod words;
+
+pub use ended::Ended;
+pub use fault::Fault;
+pub use texts::fault_text;
+pub use top::vector;
+pub use words::read_words;

@@ -1,0 +1,115 @@
+ghost use Rattle.std.specs.Prelude.{◌≡◌, ◌≢◌, ◌↔◌, length, Err, Some, IfOk, IfErr, IfSome, IsSomeAnd};
+ghost use Rattle.vx_ends.specs.Texts.{IsTextAt};
+ghost use Rattle.vx_ends.specs.Told.{Rose};
+ghost use Rattle.vx_plan.specs.First.{first_plan, first_configuration};
+ghost use Rattle.vx_hub.specs.Making.{IsUntouched, AreUntouched};
+ghost use Rattle.vx_run.specs.Answers.{IsUnready, IsReady, IsUnread, IsRefused};
+
+use crate::fault::Fault;
+use crate::words::read_words;
+use std::alloc::Global;
+use vx_ends::{Port, PortSpec, Trouble, World};
+use vx_hub::{Named, NamedList, Parts};
+use vx_plan::{Component, Plan, PlanFault, read_plan};
+use vx_value::{Bytes, Text, TextList, VariableList, WantOfMemory};
+
+/// What a run is made of: the plan of the configuration that the words name, and a port for each component.
+pub(crate) fn prepare<W: World>(
+    alloc: Global,
+    words: &TextList,
+    environment: &VariableList,
+    world: &mut W,
+) -> Result<Parts<W::Port>, Fault>
+    ensures ready { IfOk result (λ parts. IsReady words.now (W.texts world.old)) }
+    ensures plan { IfOk result (λ parts. parts.plan ≡ first_plan) }
+    ensures ports { IfOk result (λ parts. length parts.ports ≡ length parts.plan.components) }
+    ensures untouched { IfOk result (λ parts. AreUntouched W.Port.told parts.ports) }
+    ensures unready { IfErr result (IsUnready words.now (W.texts world.old) (W.faults world.old) (W.faults world.new)) }
+    ensures texts { W.texts world.new ≡ W.texts world.old }
+{
+    let Some(file) = read_words(words) else {
+        return Err(Fault::Usage);
+    };
+    let bytes = config(alloc, file, world)?;
+    let plan = plan_of(alloc, &bytes, environment)?;
+    match ports(alloc, &plan, world) {
+        Ok(ports) => Ok(Parts {
+            plan,
+            once: false,
+            ports,
+        }),
+        Err(WantOfMemory) => Err(Fault::WantOfMemory),
+    }
+}
+
+/// The bytes of the configuration at a path.
+fn config<W: World>(alloc: Global, file: &Text, world: &mut W) -> Result<Bytes, Fault>
+    ensures text { IfOk result (IsTextAt (W.texts world.old) file.now) }
+    ensures unread { IfErr result (IsUnread file.now (W.faults world.old) (W.faults world.new)) }
+    ensures texts { W.texts world.new ≡ W.texts world.old }
+{
+    match world.config(file.as_str()) {
+        Ok(bytes) => Ok(bytes),
+        Err(Trouble::Failed) => match file.copy(alloc) {
+            Ok(path) => Err(Fault::ConfigRead { path }),
+            Err(WantOfMemory) => Err(Fault::WantOfMemory),
+        },
+        Err(Trouble::WantOfMemory) => Err(Fault::WantOfMemory),
+        Err(Trouble::Refused) => unreachable!(),
+    }
+}
+
+/// The plan of a configuration's bytes.
+fn plan_of(alloc: Global, bytes: &Bytes, environment: &VariableList) -> Result<Plan, Fault>
+    ensures plan { IfOk result (λ plan. plan ≡ first_plan) }
+    ensures accepted { IfOk result (λ plan. bytes.now ≡ first_configuration) }
+    ensures refused { IfErr result (IsRefused bytes.now) }
+{
+    match read_plan(alloc, bytes.as_slice(), environment) {
+        Ok(plan) => Ok(plan),
+        Err(PlanFault::WantOfMemory) => Err(Fault::WantOfMemory),
+        Err(PlanFault::NotBuilt) => Err(Fault::ConfigRefused(PlanFault::NotBuilt)),
+    }
+}
+
+/// A port for each component of a plan, in order.
+fn ports<W: World>(
+    alloc: Global,
+    plan: &Plan,
+    world: &mut W,
+) -> Result<NamedList<W::Port>, WantOfMemory>
+    ensures count { IfOk result (λ ports. length ports ≡ length plan.now.components) }
+    ensures untouched { IfOk result (λ ports. AreUntouched W.Port.told ports) }
+    ensures texts { W.texts world.new ≡ W.texts world.old }
+    ensures faults { W.faults world.new ≡ W.faults world.old }
+{
+    let mut ports = NamedList::new(alloc);
+    for component in plan.components.as_slice() {
+        let port = port(alloc, component, world)?;
+        match ports.push(port) {
+            Ok(()) => {}
+            Err(_) => return Err(WantOfMemory),
+        }
+    }
+    Ok(ports)
+}
+
+/// The port of a component, and the component's name.
+fn port<W: World>(
+    alloc: Global,
+    component: &Component,
+    world: &mut W,
+) -> Result<Named<W::Port>, WantOfMemory>
+    ensures untouched { IfOk result (λ named. IsUntouched (W.Port.told named.port)) }
+    ensures texts { W.texts world.new ≡ W.texts world.old }
+    ensures faults { W.faults world.new ≡ W.faults world.old }
+{
+    let name = component.name.copy(alloc)?;
+    match component.port(alloc)? {
+        Some(spec) => Ok(Named {
+            name,
+            port: world.port(&spec)?,
+        }),
+        None => unreachable!(),
+    }
+}

@@ -1,0 +1,115 @@
+ghost use Rattle.std.specs.Prelude.{◌≡◌, [], length, Some};
+ghost use Rattle.vx_plan.specs.First.{first_plan};
+ghost use Rattle.vx_hub.specs.Making.{AreUntouched};
+ghost use Rattle.vx_hub.specs.Stands.{Stands};
+ghost use Rattle.vx_hub.specs.Remains.{AreNumbered, AreClosed};
+ghost use Rattle.vx_run.specs.Answers.{IsAnswer, IsJudged};
+ghost use Rattle.vx_run.specs.Running.{IsTrueTo, NoneMissing};
+
+use crate::driver::drive;
+use crate::fault::Fault;
+use crate::judging::judge;
+use crate::preparing::prepare;
+use std::alloc::Global;
+use std::sync::Wait;
+use vx_ends::{Clock, Port, World};
+use vx_hub::{Hub, NumberedList, Parts, Remains};
+use vx_plan::Plan;
+use vx_record::Record;
+use vx_value::{TextList, VariableList};
+
+/// A run that ended, before its fault is told.
+#[derive(Drop)]
+pub(crate) struct Outcome<P> {
+    pub fault: Option<Fault>,
+    pub history: Record,
+    pub ports: NumberedList<P>,
+}
+
+/// Runs what the words ask for.
+pub(crate) fn run<R: Wait, W: World, C: Clock>(
+    rt: &R,
+    alloc: Global,
+    words: &TextList,
+    environment: &VariableList,
+    world: &mut W,
+    clock: &C,
+) -> Outcome<W::Port>
+    ensures answer { IsAnswer words.now (W.texts world.old) (W.faults world.old) (W.faults world.new) result.history result.fault }
+    ensures told { IsTrueTo W.Port.told result.history result.ports result.fault }
+    ensures closed { AreClosed W.Port.told result.ports }
+    ensures numbers { AreNumbered 0 result.ports }
+    ensures none_missing { NoneMissing result.history result.ports result.fault }
+    ensures texts { W.texts world.new ≡ W.texts world.old }
+{
+    match prepare(alloc, words, environment, world) {
+        Ok(parts) => begin(rt, alloc, parts, clock),
+        Err(fault) => unbegun(alloc, fault),
+    }
+}
+
+/// A run that didn't begin.
+fn unbegun<P>(alloc: Global, fault: Fault) -> Outcome<P>
+    ensures fault { result.fault ≡ Some fault }
+    ensures history { result.history ≡ [] }
+    ensures ports { result.ports ≡ [] }
+{
+    Outcome {
+        fault: Some(fault),
+        history: Record::new(alloc),
+        ports: NumberedList::new(alloc),
+    }
+}
+
+/// Runs a plan between its ports.
+fn begin<R: Wait, P: Port, C: Clock>(
+    rt: &R,
+    alloc: Global,
+    parts: Parts<P>,
+    clock: &C,
+) -> Outcome<P>
+    requires plan { parts.plan ≡ first_plan }
+    requires ports { length parts.ports ≡ length parts.plan.components }
+    requires untouched { AreUntouched P.told parts.ports }
+    ensures judged { IsJudged result.history result.fault }
+    ensures told { IsTrueTo P.told result.history result.ports result.fault }
+    ensures closed { AreClosed P.told result.ports }
+    ensures numbers { AreNumbered 0 result.ports }
+    ensures none_missing { NoneMissing result.history result.ports result.fault }
+{
+    let Ok(plan) = parts.plan.copy(alloc) else {
+        return unbegun(alloc, Fault::WantOfMemory);
+    };
+    match Hub::new(alloc, parts, clock.now()) {
+        Ok(hub) => finish(rt, alloc, &plan, hub, clock),
+        Err(_) => unbegun(alloc, Fault::WantOfMemory),
+    }
+}
+
+/// Runs a hub to its end.
+fn finish<R: Wait, P: Port, C: Clock>(
+    rt: &R,
+    alloc: Global,
+    plan: &Plan,
+    hub: Hub<P>,
+    clock: &C,
+) -> Outcome<P>
+    requires plan { plan.now ≡ first_plan }
+    requires stands { Stands P.told hub [] hub.log.history }
+    requires size { length hub.rows.items ≡ length first_plan.components }
+    ensures judged { IsJudged result.history result.fault }
+    ensures told { IsTrueTo P.told result.history result.ports result.fault }
+    ensures closed { AreClosed P.told result.ports }
+    ensures numbers { AreNumbered 0 result.ports }
+    ensures count { length result.ports ≡ length first_plan.components }
+{
+    let mut hub = hub;
+    drive(rt, alloc, &mut hub, clock);
+    let fault = judge(alloc, plan, &hub);
+    let Remains { ports, history } = hub.end();
+    Outcome {
+        fault,
+        history,
+        ports,
+    }
+}

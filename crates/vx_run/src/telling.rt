@@ -1,0 +1,45 @@
+ghost use Rattle.std.specs.Prelude.{◌≡◌};
+ghost use Rattle.vx_run.specs.Telling.{IsKept, IsSaid, IsPrinted};
+ghost use Rattle.vx_run.specs.Faults.{ended_status};
+
+use crate::fault::Fault;
+use crate::texts::fault_text;
+use std::alloc::Global;
+use vx_ends::Printer;
+use vx_value::{Bytes, WantOfMemory};
+
+/// Prints why a run didn't end well. Where no memory is found for the text, the fault is want of memory, of which
+/// nothing is printed.
+pub(crate) fn tell<L: Printer>(alloc: Global, fault: Option<Fault>, err: &mut L) -> Option<Fault>
+    ensures kept { IsKept fault result }
+    ensures said { IsSaid (err.new ≡ err.old) (L.printed err.old) (L.printed err.new) (L.faults err.old) (L.faults err.new) result }
+{
+    let fault = fault?;
+    let mut text = Bytes::new(alloc);
+    match fault_text(alloc, &fault, &mut text) {
+        Ok(()) => {
+            print(&text, err);
+            Some(fault)
+        }
+        Err(WantOfMemory) => Some(Fault::WantOfMemory),
+    }
+}
+
+/// Prints a text, if there is one.
+fn print<L: Printer>(text: &Bytes, err: &mut L)
+    ensures { IsPrinted (err.new ≡ err.old) (L.printed err.old) (L.printed err.new) (L.faults err.old) (L.faults err.new) text.now }
+{
+    if !text.is_empty() {
+        let _ = err.print(text.as_slice());
+    }
+}
+
+/// The status of a run that ends with that fault, or with none.
+pub(crate) fn status_of(fault: &Option<Fault>) -> u8
+    ensures { result ≡ ended_status fault.now }
+{
+    match fault {
+        None => 0,
+        Some(fault) => fault.status(),
+    }
+}

@@ -1,0 +1,199 @@
+use crate::{Ended, vector};
+use std::alloc::Global;
+use std::process::Abort;
+use std::sync::Wait;
+use std::test::Fail;
+use vx_ends::{
+    ActList, Config, ConfigList, MemoryClock, MemoryPrinter, MemoryWorld, Scripted, ScriptedList,
+    Step, StepList,
+};
+use vx_value::{Bytes, ItemList, Text, TextList, VariableList, WantOfMemory};
+
+/// The first configuration.
+const FIRST: &str = "[sources.in]
+type = \"stdin\"
+
+[sinks.out]
+type = \"console\"
+inputs = [\"in\"]
+encoding.codec = \"text\"
+";
+
+fn add<T: Drop>(list: &mut ItemList<T>, item: T) -> Result<(), WantOfMemory> {
+    list.push(item).map_err(|_| WantOfMemory)
+}
+
+fn words(alloc: Global, file: &str) -> Result<TextList, WantOfMemory> {
+    let mut words = TextList::new(alloc);
+    add(&mut words, Text::copy_of(alloc, "--config")?)?;
+    add(&mut words, Text::copy_of(alloc, file)?)?;
+    Ok(words)
+}
+
+fn piece(alloc: Global, bytes: &str) -> Result<Step, WantOfMemory> {
+    Ok(Step::Bytes {
+        stream: 0,
+        bytes: Bytes::copy_of(alloc, bytes.as_bytes())?,
+    })
+}
+
+/// A world with that text at `first.toml`, whose `in` plays these steps.
+fn world(alloc: Global, text: &str, steps: StepList) -> Result<MemoryWorld, WantOfMemory> {
+    let mut configs = ConfigList::new(alloc);
+    let config = Config {
+        path: Text::copy_of(alloc, "first.toml")?,
+        bytes: Bytes::copy_of(alloc, text.as_bytes())?,
+    };
+    add(&mut configs, config)?;
+    let mut scripts = ScriptedList::new(alloc);
+    let script = Scripted {
+        name: Text::copy_of(alloc, "in")?,
+        steps,
+        acts: ActList::new(alloc),
+    };
+    add(&mut scripts, script)?;
+    Ok(MemoryWorld::new(alloc, configs, scripts))
+}
+
+/// Runs those words in that world, and checks the status and what is printed on standard error.
+fn run<R: Wait + Abort>(
+    rt: &R,
+    alloc: Global,
+    words: &TextList,
+    world: MemoryWorld,
+    status: u8,
+    printed: &str,
+) -> Ended<MemoryWorld> {
+    let environment = VariableList::new(alloc);
+    let mut out = MemoryPrinter::new(alloc, None);
+    let mut err = MemoryPrinter::new(alloc, None);
+    let clock = MemoryClock::new();
+    let ended = vector(
+        rt,
+        alloc,
+        words,
+        &environment,
+        world,
+        &clock,
+        &mut out,
+        &mut err,
+    );
+    assert_eq!(rt; ended.status, status);
+    assert!(rt; err.printed() == printed.as_bytes());
+    assert!(rt; out.printed().is_empty());
+    ended
+}
+
+/// Runs the first configuration on these steps, and checks what `out` was given.
+fn copies<R: Wait + Abort>(
+    rt: &R,
+    alloc: Global,
+    steps: StepList,
+    status: u8,
+    printed: &str,
+    given: &str,
+) -> Result<(), Fail> {
+    let ended = run(
+        rt,
+        alloc,
+        &words(alloc, "first.toml")?,
+        world(alloc, FIRST, steps)?,
+        status,
+        printed,
+    );
+    assert_eq!(rt; ended.ports.len(), 2);
+    if let Some(sink) = ended.ports.get(1) {
+        assert!(rt; sink.port.given() == given.as_bytes());
+    }
+    Ok(())
+}
+
+fn one_piece(alloc: Global, bytes: &str) -> Result<StepList, WantOfMemory> {
+    let mut steps = StepList::new(alloc);
+    add(&mut steps, piece(alloc, bytes)?)?;
+    Ok(steps)
+}
+
+#[test]
+fn copies_two_lines(rt: HostRuntime) -> Result<(), Fail> {
+    let alloc = rt.alloc();
+    copies(&rt, alloc, one_piece(alloc, "a\nb\n")?, 0, "", "a\nb\n")
+}
+
+#[test]
+fn empty_input(rt: HostRuntime) -> Result<(), Fail> {
+    let alloc = rt.alloc();
+    copies(&rt, alloc, StepList::new(alloc), 0, "", "")
+}
+
+#[test]
+fn unfinished_last_line(rt: HostRuntime) -> Result<(), Fail> {
+    let alloc = rt.alloc();
+    copies(&rt, alloc, one_piece(alloc, "a")?, 0, "", "a\n")
+}
+
+#[test]
+fn fails_before_the_first_line(rt: HostRuntime) -> Result<(), Fail> {
+    let alloc = rt.alloc();
+    let mut steps = StepList::new(alloc);
+    add(&mut steps, Step::Fail)?;
+    let printed = "vector: source in failed after 0 bytes\n";
+    copies(&rt, alloc, steps, 69, printed, "")
+}
+
+#[test]
+fn fails_after_one_line(rt: HostRuntime) -> Result<(), Fail> {
+    let alloc = rt.alloc();
+    let mut steps = one_piece(alloc, "a\n")?;
+    add(&mut steps, Step::Fail)?;
+    add(&mut steps, piece(alloc, "b\n")?)?;
+    let printed = "vector: source in failed after 2 bytes\n";
+    copies(&rt, alloc, steps, 69, printed, "a\n")
+}
+
+#[test]
+fn fails_after_two_lines(rt: HostRuntime) -> Result<(), Fail> {
+    let alloc = rt.alloc();
+    let mut steps = one_piece(alloc, "a\nb\n")?;
+    add(&mut steps, Step::Fail)?;
+    let printed = "vector: source in failed after 4 bytes\n";
+    copies(&rt, alloc, steps, 69, printed, "a\nb\n")
+}
+
+#[test]
+fn refuses_another_configuration(rt: HostRuntime) -> Result<(), Fail> {
+    let alloc = rt.alloc();
+    let world = world(alloc, "[sources.in]\n", StepList::new(alloc))?;
+    let printed = "vector: configuration refused: this configuration is not built yet\n";
+    let ended = run(&rt, alloc, &words(alloc, "first.toml")?, world, 78, printed);
+    assert!(rt; ended.ports.is_empty());
+    Ok(())
+}
+
+#[test]
+fn finds_no_such_file(rt: HostRuntime) -> Result<(), Fail> {
+    let alloc = rt.alloc();
+    let world = world(alloc, FIRST, StepList::new(alloc))?;
+    let printed = "vector: cannot read second.toml\n";
+    let ended = run(
+        &rt,
+        alloc,
+        &words(alloc, "second.toml")?,
+        world,
+        74,
+        printed,
+    );
+    assert!(rt; ended.ports.is_empty());
+    Ok(())
+}
+
+#[test]
+fn says_how_it_is_called(rt: HostRuntime) -> Result<(), Fail> {
+    let alloc = rt.alloc();
+    let world = world(alloc, FIRST, StepList::new(alloc))?;
+    let printed =
+        "vector: usage: vector --config FILE [options]\nvector: usage: vector validate FILE\n";
+    let ended = run(&rt, alloc, &TextList::new(alloc), world, 64, printed);
+    assert!(rt; ended.ports.is_empty());
+    Ok(())
+}

@@ -1,0 +1,68 @@
+ghost use Rattle.std.specs.Prelude.{◌≡◌, ◌++◌, OnOk, OnErr, IfOk, string_bytes};
+ghost use Rattle.vx_run.specs.Texts.{text_of, reason_of, failed_after};
+
+use crate::fault::Fault;
+use std::alloc::{AllocError, Global};
+use vx_plan::PlanFault;
+use vx_value::{Bytes, WantOfMemory};
+
+/// How the program is called, as it is printed where the words are no command.
+const USAGE: &str = "vector: usage: vector --config FILE [options]
+vector: usage: vector validate FILE
+";
+
+/// Appends what is printed of a fault: lines that end with a line feed, or nothing for want of memory.
+///
+/// Where no memory is found `out` is as before.
+pub fn fault_text(alloc: Global, fault: &Fault, out: &mut Bytes) -> Result<(), WantOfMemory>
+    ensures ok { OnOk result (out.new ≡ out.old ++ text_of fault.now) }
+    ensures err { OnErr result (out.new ≡ out.old) }
+{
+    match fault {
+        Fault::Usage => out.push_slice(USAGE.as_bytes()),
+        Fault::WantOfMemory | Fault::ConfigRefused(PlanFault::WantOfMemory) => Ok(()),
+        _ => {
+            let reason = reason(alloc, fault)?;
+            let line = format!(in alloc; "vector: {reason}\n")?;
+            out.push_slice(line.as_str().as_bytes())
+        }
+    }
+}
+
+/// The reason of a fault, in words for people.
+fn reason(alloc: Global, fault: &Fault) -> Result<String, AllocError>
+    ensures { IfOk result (λ reason. string_bytes reason ≡ reason_of fault.now) }
+{
+    match fault {
+        Fault::ConfigRead { path } => {
+            let path = path.as_str();
+            format!(in alloc; "cannot read {path}")
+        }
+        Fault::ConfigRefused(PlanFault::NotBuilt) => {
+            format!(in alloc; "configuration refused: this configuration is not built yet")
+        }
+        Fault::Numbers { next, wanted } => {
+            format!(in alloc; "copy numbers are used up: next {next}, wanted {wanted}")
+        }
+        Fault::TooLong => format!(in alloc; "too many bytes in one run"),
+        Fault::SourceFailed { name, at } => {
+            let name = name.as_str();
+            let place = failed_after(alloc, *at)?;
+            format!(in alloc; "source {name}{place}")
+        }
+        Fault::ConfirmFailed { name } => {
+            let name = name.as_str();
+            format!(in alloc; "source {name} could not be confirmed")
+        }
+        Fault::Usage | Fault::WantOfMemory | Fault::ConfigRefused(PlanFault::WantOfMemory) => {
+            Ok(String::new(alloc))
+        }
+    }
+}
+
+/// Where a source failed.
+fn failed_after(alloc: Global, at: u64) -> Result<String, AllocError>
+    ensures { IfOk result (λ place. string_bytes place ≡ failed_after at) }
+{
+    format!(in alloc; " failed after {at} bytes")
+}

@@ -1,0 +1,54 @@
+ghost use Rattle.std.specs.Prelude.{◌≡◌};
+ghost use Rattle.vx_hub.specs.Remains.{AreNumbered, AreClosed};
+ghost use Rattle.vx_run.specs.Answers.{IsAnswer};
+ghost use Rattle.vx_run.specs.Faults.{ended_status};
+ghost use Rattle.vx_run.specs.Running.{IsTrueTo, NoneMissing};
+ghost use Rattle.vx_run.specs.Telling.{IsSaid};
+
+use crate::ended::Ended;
+use crate::running::{Outcome, run};
+use crate::telling::{status_of, tell};
+use std::alloc::Global;
+use std::sync::Wait;
+use vx_ends::{Clock, Printer, World};
+use vx_value::{TextList, VariableList};
+
+/// Runs the pipeline that the words ask for, and prints why it didn't end well.
+///
+/// `words` are the program's words without its own name. The run ends once its input has ended and all that was taken
+/// is delivered, dropped or given up; it may wait for as long as a port has nothing.
+pub fn vector<R: Wait, W: World, C: Clock, P: Printer, L: Printer>(
+    rt: &R,
+    alloc: Global,
+    words: &TextList,
+    environment: &VariableList,
+    world: W,
+    clock: &C,
+    _out: &mut P,
+    err: &mut L,
+) -> Ended<W>
+    ensures told { IsTrueTo W.Port.told result.history result.ports result.fault }
+    ensures closed { AreClosed W.Port.told result.ports }
+    ensures numbers { AreNumbered 0 result.ports }
+    ensures none_missing { NoneMissing result.history result.ports result.fault }
+    ensures answer { IsAnswer words.now (W.texts world) (W.faults world) (W.faults result.world) result.history result.fault }
+    ensures status { result.status ≡ ended_status result.fault }
+    ensures said { IsSaid (err.new ≡ err.old) (L.printed err.old) (L.printed err.new) (L.faults err.old) (L.faults err.new) result.fault }
+    ensures unprinted { _out.new ≡ _out.old }
+    ensures texts { W.texts result.world ≡ W.texts world }
+{
+    let mut world = world;
+    let Outcome {
+        fault,
+        history,
+        ports,
+    } = run(rt, alloc, words, environment, &mut world, clock);
+    let fault = tell(alloc, fault, err);
+    Ended {
+        status: status_of(&fault),
+        fault,
+        history,
+        ports,
+        world,
+    }
+}
