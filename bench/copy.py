@@ -1,0 +1,74 @@
+#!/usr/bin/env python3
+"""Measures how long the program takes to copy lines, beside `jq -cR .` and `mawk 1`, and how much memory it takes.
+
+Each program reads the same file of 200,000 lines of 100 bytes and writes to a pipe that is read to its end. They run in
+turn, five times each; the least wall time counts, and the greatest memory. A first argument is another number of lines.
+"""
+
+import os
+import subprocess
+import sys
+import tempfile
+import time
+from pathlib import Path
+
+TOP = Path(__file__).resolve().parent.parent
+ROUNDS = 5
+PROGRAMS = {
+    "vector": [str(TOP / "crates/vector/out/vector"), "--config", str(TOP / "examples/first.toml")],
+    "jq -cR .": ["jq", "-cR", "."],
+    "mawk 1": ["mawk", "1"],
+}
+
+
+def lines_file(count):
+    """The path of a file of so many lines, each of 100 bytes with its line feed."""
+    folder = TOP / "bench" / "out"
+    folder.mkdir(parents=True, exist_ok=True)
+    path = folder / f"{count}.txt"
+    if not path.exists() or path.stat().st_size != 100 * count:
+        with path.open("wb") as out:
+            out.writelines(b"%099d\n" % k for k in range(count))
+    return path
+
+
+def measure(words, path):
+    """The seconds that one run took, the KB of memory that it had at most, and the bytes that it wrote.
+
+    The memory is what `time` says: a child of this process would be given the memory of Python itself.
+    """
+    with path.open("rb") as given, tempfile.NamedTemporaryFile("r") as said:
+        begun = time.monotonic()
+        ran = subprocess.Popen(["/usr/bin/time", "-f", "%M", "-o", said.name, *words], stdin=given, stdout=subprocess.PIPE)
+        written = 0
+        while piece := os.read(ran.stdout.fileno(), 1 << 20):
+            written += len(piece)
+        status = ran.wait()
+        took = time.monotonic() - begun
+        most = said.read().split()
+    if status != 0:
+        sys.exit(f"{words[0]} ended with status {status}")
+    return took, int(most[-1]), written
+
+
+def main():
+    count = int(sys.argv[1]) if len(sys.argv) > 1 else 200_000
+    path = lines_file(count)
+    # (the script builds the program, which is then measured by itself)
+    subprocess.run([str(TOP / "vector"), *PROGRAMS["vector"][1:]], stdin=subprocess.DEVNULL, check=True)
+    seen = {name: [] for name in PROGRAMS}
+    for _ in range(ROUNDS):
+        for name, words in PROGRAMS.items():
+            seen[name].append(measure(words, path))
+    took = {name: min(it[0] for it in runs) for name, runs in seen.items()}
+    most = {name: max(it[1] for it in runs) for name, runs in seen.items()}
+    print(f"{count} lines of 100 bytes, the best of {ROUNDS} runs")
+    for name in PROGRAMS:
+        print(f"{name:10} {took[name]:8.3f} s {most[name]:9} KB {seen[name][0][2]:12} bytes written")
+    for name in list(PROGRAMS)[1:]:
+        print(f"vector takes {took['vector'] / took[name]:.2f} times the time of {name}")
+    print(f"memory of vector by line: {1024 * most['vector'] / count:.0f} bytes")
+
+
+if __name__ == "__main__":
+    main()

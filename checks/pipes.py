@@ -1,0 +1,169 @@
+#!/usr/bin/env python3
+"""Runs the built program on real pipes, and compares what it writes with what Python works out by itself.
+
+It prints a line for each check, and ends with 'N passed, M failed'. The status is 1 where one failed.
+"""
+
+import os
+import random
+import select
+import subprocess
+import sys
+import tempfile
+from pathlib import Path
+
+TOP = Path(__file__).resolve().parent.parent
+PROGRAM = str(TOP / "vector")
+FIRST = str(TOP / "examples" / "first.toml")
+USAGE = b"vector: usage: vector --config FILE [options]\nvector: usage: vector validate FILE\n"
+LONGEST = 102_400
+PATIENCE = 120
+
+results = []
+
+
+def check(name, held, seen):
+    """Notes and prints whether a check held."""
+    results.append(held)
+    print(f"ok      {name}" if held else f"FAILED  {name}: {seen}", flush=True)
+
+
+def run(given, words=("--config", FIRST), cwd=None):
+    """The status, the output and the errors of one run on that input."""
+    try:
+        ran = subprocess.run([PROGRAM, *words], input=given, capture_output=True, timeout=PATIENCE, cwd=cwd)
+    except subprocess.TimeoutExpired:
+        return "it did not end", b"", b""
+    return ran.returncode, ran.stdout, ran.stderr
+
+
+def lines_of(given):
+    """The lines that have to come out: each ill-formed part replaced, and lines that are too long left out."""
+    lines = given.split(b"\n")
+    if lines[-1] == b"":
+        lines.pop()
+    kept = [line for line in lines if len(line) <= LONGEST]
+    return b"".join(line.decode("utf-8", "replace").encode() + b"\n" for line in kept)
+
+
+def copies(name, given, wanted=None):
+    """Checks what one input comes out as."""
+    wanted = lines_of(given) if wanted is None else wanted
+    status, out, err = run(given)
+    held = (status, out, err) == (0, wanted, b"")
+    check(name, held, (status, len(out), len(wanted), err[:200]))
+
+
+def inputs():
+    """Whole inputs, to their end."""
+    copies("two lines", b"a\nb\n", b"a\nb\n")
+    copies("no input", b"", b"")
+    copies("no line feed at the end", b"a\nb", b"a\nb\n")
+    copies("only a line feed", b"\n", b"\n")
+    copies("empty lines", b"\n\na\n\n\nb\n\n", b"\n\na\n\n\nb\n\n")
+    copies("carriage returns stay", b"a\r\nb\r\n", b"a\r\nb\r\n")
+    longest = b"x" * LONGEST
+    copies("a line as long as it may be", b"a\n" + longest + b"\nb\n", b"a\n" + longest + b"\nb\n")
+    copies("a line that is too long", b"a\n" + longest + b"y\nb\n", b"a\nb\n")
+    copies("a last line that is too long", b"a\n" + longest + b"y", b"a\n")
+    copies("far too long a line", b"z" * 3_000_000 + b"\nb\n", b"b\n")
+
+
+def bytes_of_all_kinds():
+    """Ill-formed text: what has to be replaced, and what only looks so."""
+    copies("a lone continuation", b"a\x80b\n", "a\ufffdb\n".encode())
+    copies("a sequence cut short", b"\xe2\x82\n", "\ufffd\n".encode())
+    copies("a surrogate", b"\xed\xa0\x80\n", "\ufffd\ufffd\ufffd\n".encode())
+    copies("beyond the last character", b"\xf4\x90\x80\x80\n", "\ufffd\ufffd\ufffd\ufffd\n".encode())
+    copies("well-formed text", "ä€😀\u0000\n".encode(), "ä€😀\u0000\n".encode())
+    chance = random.Random(20_240_607)
+    copies("every byte", bytes(range(256)) * 8)
+    copies("random bytes", chance.randbytes(400_000))
+    begins = [b"\xc3", b"\xe2", b"\xe2\x82", b"\xf0\x9f", b"\xf0\x9f\x98", b"\xed", b"\xf4", b"\xc0", b"a", b"\x80", b"\n"]
+    copies("beginnings of sequences", b"".join(chance.choice(begins) for _ in range(100_000)))
+
+
+def many_lines():
+    """A million lines of 100 bytes, which come out exactly."""
+    line = b"0123456789" * 9 + b"%09d\n"
+    given = b"".join(line % k for k in range(1_000_000))
+    copies("a million lines of 100 bytes", given, given)
+
+
+def lines_as_they_come():
+    """Each line is printed before the next one is written."""
+    with subprocess.Popen([PROGRAM, "--config", FIRST], stdin=subprocess.PIPE, stdout=subprocess.PIPE) as ran:
+        came = []
+        for line in [b"one\n", b"two\n", b"three\n"]:
+            ran.stdin.write(line)
+            ran.stdin.flush()
+            ready, _, _ = select.select([ran.stdout], [], [], PATIENCE)
+            came.append(os.read(ran.stdout.fileno(), 4096) if ready else b"nothing")
+            if not ready:
+                break
+        ran.stdin.close()
+        rest = ran.stdout.read()
+        status = ran.wait(PATIENCE)
+    check("a line comes out before the next goes in", (came, rest, status) == ([b"one\n", b"two\n", b"three\n"], b"", 0), (came, rest, status))
+
+
+def a_reader_that_leaves():
+    """The run ends by itself, with a status and by no signal, where nobody reads its output any more."""
+    ran = subprocess.Popen([PROGRAM, "--config", FIRST], stdin=subprocess.PIPE, stdout=subprocess.PIPE, stderr=subprocess.PIPE)
+    head = subprocess.Popen(["head", "-n", "1"], stdin=ran.stdout, stdout=subprocess.PIPE)
+    ran.stdout.close()
+    try:
+        ran.stdin.write(b"0123456789\n" * 200_000)
+        ran.stdin.close()
+    except BrokenPipeError:
+        pass
+    first = head.communicate(timeout=PATIENCE)[0]
+    try:
+        status = ran.wait(PATIENCE)
+    except subprocess.TimeoutExpired:
+        ran.kill()
+        status = "it did not end"
+    err = ran.stderr.read()
+    check("a reader that leaves", (first, status, err) == (b"0123456789\n", 0, b""), (first, status, err[:200]))
+
+
+def refusals():
+    """Words, files and configurations that aren't accepted, with their texts and statuses."""
+    for words in [[], ["--config"], ["--config", FIRST, "more"], ["-x"], ["--konfig", FIRST], [b"--config", b"\xff"]]:
+        seen = run(b"a\n", words)
+        check(f"words {words!r:.40}", seen == (64, b"", USAGE), seen)
+    with tempfile.TemporaryDirectory() as folder:
+        seen = run(b"a\n", ["--config", "none.toml"], cwd=folder)
+        check("no such file", seen == (74, b"", b"vector: cannot read none.toml\n"), seen)
+        seen = run(b"a\n", ["--config", folder])
+        check("a folder as a file", seen == (74, b"", b"vector: cannot read %s\n" % folder.encode()), seen)
+        (Path(folder) / "other.toml").write_text(Path(FIRST).read_text() + "\n")
+        seen = run(b"a\n", ["--config", "other.toml"], cwd=folder)
+        wanted = b"vector: configuration refused: this configuration is not built yet\n"
+        check("another configuration", seen == (78, b"", wanted), seen)
+        (Path(folder) / "first.toml").write_bytes(Path(FIRST).read_bytes())
+        seen = run(b"a\nb\n", ["--config", "first.toml"], cwd=folder)
+        check("a file beside the caller", seen == (0, b"a\nb\n", b""), seen)
+
+
+def built():
+    """Has the program built where it has to be, however long that takes, and says whether it stands."""
+    ran = subprocess.run([PROGRAM], stdin=subprocess.DEVNULL, capture_output=True)
+    if ran.returncode != 64:
+        sys.stdout.buffer.write(ran.stderr)
+    return ran.returncode == 64
+
+
+def main():
+    if not built():
+        print("0 passed, 1 failed")
+        return 1
+    for part in [refusals, inputs, bytes_of_all_kinds, lines_as_they_come, a_reader_that_leaves, many_lines]:
+        part()
+    failed = results.count(False)
+    print(f"{results.count(True)} passed, {failed} failed")
+    return 1 if failed else 0
+
+
+if __name__ == "__main__":
+    sys.exit(main())
