@@ -1,4 +1,5 @@
 use super::*;
+use std::alloc::Global;
 use std::test::Fail;
 
 // Whether a value is that whole number.
@@ -9,41 +10,66 @@ fn is_whole(value: Option<&Value>, whole: i64) -> bool {
     }
 }
 
+// An event with one whole number.
+fn event_with(alloc: Global, path: &Path, whole: i64) -> Result<Event, PutFault> {
+    let mut event = Event::new(alloc);
+    event.put(path, Value::Whole(whole))?;
+    Ok(event)
+}
+
+// A list in a list, and so on, of so many levels.
+fn nested(alloc: Global, levels: u32) -> Result<Value, WantOfMemory> {
+    let mut value = Value::Items(ValueList::new(alloc));
+    for _ in 1..levels {
+        let mut list = ValueList::new(alloc);
+        list.push(value).map_err(|_| WantOfMemory)?;
+        value = Value::Items(list);
+    }
+    Ok(value)
+}
+
+// What a put of some levels below a path answers.
+fn put_levels(alloc: Global, text: &str, levels: u32) -> Result<Result<(), PutFault>, Fail> {
+    let path = Path::read(alloc, text)?;
+    let mut event = Event::new(alloc);
+    Ok(event.put(&path, nested(alloc, levels)?))
+}
+
 #[test]
 fn put_and_lossy(rt: HostRuntime) -> Result<(), Fail> {
     let alloc = rt.alloc();
     let a = Path::read(alloc, ".a")?;
     let below = Path::read(alloc, ".a.b")?;
-    let beside = Path::read(alloc, "\"B\"")?;
-
-    let mut event = Event::new(alloc);
-    assert_eq!(rt; event.put(&a, Value::Whole(1)), Ok(()));
+    let mut event = event_with(alloc, &a, 1)?;
     assert_eq!(rt;
         event.put(&below, Value::Null),
         Err(PutFault::Blocked { names: 1 })
     );
     assert!(rt; is_whole(event.get(&a), 1));
-    assert!(rt; event.get(&below).is_none());
+    Ok(())
+}
 
-    let mut deep = Event::new(alloc);
-    assert_eq!(rt; deep.put(&below, Value::Whole(2)), Ok(()));
-    assert_eq!(rt; deep.put(&beside, Value::Whole(3)), Ok(()));
-    assert!(rt; is_whole(deep.get(&below), 2));
-    assert!(rt; is_whole(deep.copy(alloc)?.get(&beside), 3));
-    assert_eq!(rt; deep.fields.len(), 2);
-    assert_eq!(rt; deep.fields.get(0).ok_or("a field")?.name.as_str(), "B");
+#[test]
+fn put_keeps_a_neighbour(rt: HostRuntime) -> Result<(), Fail> {
+    let alloc = rt.alloc();
+    let below = Path::read(alloc, ".a.b")?;
+    let beside = Path::read(alloc, "\"B\"")?;
+    let mut event = event_with(alloc, &below, 2)?;
+    assert_eq!(rt; event.put(&beside, Value::Whole(3)), Ok(()));
+    assert!(rt; is_whole(event.get(&below), 2));
+    assert!(rt; is_whole(event.get(&beside), 3));
+    Ok(())
+}
 
-    let mut value = Value::Items(ValueList::new(alloc));
-    for _ in 1..31 {
-        let mut list = ValueList::new(alloc);
-        list.push(value).map_err(|_| WantOfMemory)?;
-        value = Value::Items(list);
-    }
-    assert_eq!(rt;
-        deep.put(&below, value.copy(alloc)?),
-        Err(PutFault::TooDeep)
-    );
-    assert_eq!(rt; deep.put(&a, value), Ok(()));
+#[test]
+fn put_at_the_last_level(rt: HostRuntime) -> Result<(), Fail> {
+    assert_eq!(rt; put_levels(rt.alloc(), ".a", 31)?, Ok(()));
+    Ok(())
+}
+
+#[test]
+fn put_below_the_last_level(rt: HostRuntime) -> Result<(), Fail> {
+    assert_eq!(rt; put_levels(rt.alloc(), ".a.b", 31)?, Err(PutFault::TooDeep));
     Ok(())
 }
 
@@ -66,6 +92,12 @@ fn path_faults(rt: HostRuntime) -> Result<(), Fail> {
             Ok(_) => return Err(Fail::from(PathFault::Long)),
         }
     }
+    Ok(())
+}
+
+#[test]
+fn reads_quoted_names(rt: HostRuntime) -> Result<(), Fail> {
+    let alloc = rt.alloc();
     let path = Path::read(alloc, ".a_1.\"b.\\\"c\"")?.copy(alloc)?;
     assert_eq!(rt; path.names().len(), 2);
     for (name, text) in path.names().iter().zip(["a_1", "b.\"c"]) {
@@ -99,41 +131,62 @@ fn lossy_as_another_decoder(rt: HostRuntime) -> Result<(), Fail> {
 }
 
 #[test]
-fn lists_and_queues(rt: HostRuntime) -> Result<(), Fail> {
-    let alloc = rt.alloc();
-    let mut bytes = Bytes::copy_of(alloc, b"ab")?;
+fn bytes_grow_and_shrink(rt: HostRuntime) -> Result<(), Fail> {
+    let mut bytes = Bytes::copy_of(rt.alloc(), b"ab")?;
     bytes.push_slice(b"c")?;
     bytes.truncate(2);
     assert_eq!(rt; bytes.as_slice(), b"ab".as_slice());
     bytes.clear();
     assert!(rt; bytes.is_empty());
+    Ok(())
+}
 
+// Two numbers, of which one was appended.
+fn two_numbers(alloc: Global) -> Result<NumberList, WantOfMemory> {
     let mut numbers = NumberList::new(alloc);
     numbers.push(4).map_err(|_| WantOfMemory)?;
     let copy = numbers.copy()?;
     numbers.append(copy).map_err(|_| WantOfMemory)?;
+    Ok(numbers)
+}
+
+#[test]
+fn lists_grow_and_shrink(rt: HostRuntime) -> Result<(), Fail> {
+    let mut numbers = two_numbers(rt.alloc())?;
     assert_eq!(rt; numbers.len(), 2);
     numbers.truncate(1);
     assert_eq!(rt; numbers.pop(), Some(4));
-    numbers.end();
+    Ok(())
+}
 
+#[test]
+fn texts_are_copied(rt: HostRuntime) -> Result<(), Fail> {
+    let alloc = rt.alloc();
     let mut texts = TextList::new(alloc);
     texts
-        .push(Text::copy_of(alloc, "x")?.copy(alloc)?)
+        .push(Text::copy_of(alloc, "x")?)
         .map_err(|_| WantOfMemory)?;
     assert_eq!(rt; texts.copy(alloc)?.len(), 1);
+    Ok(())
+}
 
+#[test]
+fn events_are_copied(rt: HostRuntime) -> Result<(), Fail> {
+    let alloc = rt.alloc();
     let mut events = EventList::new(alloc);
     events.push(Event::new(alloc)).map_err(|_| WantOfMemory)?;
     assert_eq!(rt; events.copy(alloc)?.len(), 1);
+    Ok(())
+}
 
-    let mut queue = Queue::new(alloc, 1)?;
+#[test]
+fn queues_keep_their_room(rt: HostRuntime) -> Result<(), Fail> {
+    let mut queue = Queue::new(rt.alloc(), 1)?;
     if !queue.is_full() {
         queue.push(5u8);
     }
     assert_eq!(rt; queue.len(), 1);
     assert_eq!(rt; queue.pop(), Some(5));
-    assert!(rt; queue.is_empty());
     queue.end();
     Ok(())
 }
