@@ -1,14 +1,12 @@
 -- The depth of lists, value by value.
 use Rattle.std.proofs.Common.{◌≡◌, ℕ, zero, suc, max, ◌+◌, ◌<◌, ◌≤◌, Bool, true, false, cond, List, [], ◌∷◌, length, take, get_or, map, IsTrue, arith, refl, sym, ◌∙◌, ap, add-one}
-use Rattle.std.proofs.lemmas.Grind.{common_steps}
-use native.Mathlib.Numerals.{unary_clauses}
 use Rattle.vx_value.specs.declared.field.Field.{Field}
 use Rattle.vx_value.specs.declared.value.Value.{Value}
-use Rattle.vx_value.specs.Datum.{Datum, NamedDatum, depth, data_depth, data_of, named_depth, named_of}
+use Rattle.vx_value.specs.Datum.{NamedDatum, depth, data_depth, data_of, named_depth, named_of}
 use Rattle.vx_value.specs.Texts.{Word, same_text, text_lt}
 use Rattle.vx_value.specs.Values.{datum_of, named_datum}
-use Rattle.vx_value.specs.Events.{others_depth, with_field, names_rise}
-use Rattle.vx_value.proofs.Order.{less_not_same, less_not_same', text_lt-trans, less_or, same_text-true}
+use Rattle.vx_value.specs.Events.{others_depth, names_rise}
+use Rattle.vx_value.proofs.Order.{less_not_same', text_lt-trans}
 
 -- no value is deeper than its list
 pub data_depth-bound : (xs : List Value) (i : ℕ) (x : Value) → i < length xs → x ≡ get_or xs i x → depth (datum_of x) ≤ data_depth (data_of (map datum_of xs))

@@ -8,3 +8,9 @@ pub mod Steps
 pub mod Writes
 pub mod Puts
 pub mod PathReads
+pub mod Characters
+pub mod IllFormed
+pub mod Replacements
+pub mod Orders
+pub mod Compares
+pub mod Sames

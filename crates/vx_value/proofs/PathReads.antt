@@ -1,15 +1,14 @@
 -- A reader of a path, byte by byte.
-use Rattle.std.proofs.Common.{◌≡◌, ℕ, zero, suc, ◌+◌, ◌-◌, ◌<◌, ◌≤◌, ◌&&◌, ◌||◌, Bool, true, false, cond, Option, Some, None, IsTrue, List, [], ◌∷◌, ◌++◌, length, take, drop, get_or, eqb, leb, arith, refl, sym, ◌∙◌, ap, subst, append_assoc, append-nil, length-append, add-one, drop-cons, lit<}
+use Rattle.std.proofs.Common.{◌≡◌, ℕ, ◌+◌, ◌<◌, ◌≤◌, ◌||◌, Bool, true, false, cond, Option, Some, None, IsTrue, List, [], ◌∷◌, ◌++◌, length, take, drop, get_or, eqb, arith, refl, sym, ◌∙◌, ap, subst, append_assoc, append-nil, length-append, add-one, drop-cons, lit<}
 use Rattle.std.specs.Prelude.{is_some, option_map}
-use Rattle.std.specs.Str.{IsUtf8, IsCharBoundary}
-use Rattle.std.proofs.lemmas.Grind.{common_steps}
+use Rattle.std.specs.Str.{IsUtf8}
 use Rattle.std.proofs.lemmas.Bool.Decides.{nat_tests}
 use Rattle.std.proofs.lemmas.Str.{IsUtf8-take, IsUtf8-drop, IsUtf8-append, IsCharBoundary-before_ascii, IsCharBoundary-after_ascii}
-use Rattle.std.proofs.lemmas.List.{take-append-drop, take_all, length-take}
+use Rattle.std.proofs.lemmas.List.{take-append-drop, take_all}
 use Rattle.std.proofs.Math.Seq.{take-suc, drop-length}
 use Rattle.vx_value.specs.Texts.{Word, is_empty}
 use Rattle.vx_value.specs.Paths.{begins_name, goes_on, name_move, move_of, ends_path, carry, names_from, path_names, BeginsPath, IsLongestBeginning}
-use Rattle.vx_value.specs.Reads.{Moved, Takes, HasRead}
+use Rattle.vx_value.specs.Reads.{Moved, HasRead}
 use Rattle.vx_value.specs.declared.path_mode.PathMode.{PathMode}
 use Rattle.vx_value.specs.declared.path_mode.PathMode.TheVariants.{Start, Name, Bare, Quoted, Escaped, Closed}
 use Rattle.vx_value.specs.declared.path_mode.PathMove.{PathMove}

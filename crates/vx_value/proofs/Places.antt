@@ -1,15 +1,13 @@
 -- A search for a name among fields.
-use Rattle.std.proofs.Common.{◌≡◌, ℕ, ◌+◌, ◌<◌, ◌≤◌, suc, zero, Bool, true, false, List, [], ◌∷◌, ◌++◌, length, take, drop, get_or, set, Some, None, IsTrue, arith, refl, sym, ◌∙◌, ap, drop-cons, append_assoc, add-one}
+use Rattle.std.proofs.Common.{◌≡◌, ℕ, ◌+◌, ◌<◌, suc, zero, true, false, List, [], ◌∷◌, ◌++◌, length, take, drop, get_or, set, Some, None, IsTrue, arith, refl, sym, ◌∙◌, ap, drop-cons, append_assoc, add-one}
 use Rattle.std.proofs.Math.Seq.{take-suc, drop-length}
 use Rattle.std.proofs.lemmas.List.{take-append-drop, take-set, drop-set, get_or_default}
-use Rattle.std.specs.Prelude.{insert, map}
-use Rattle.std.specs.List.{HoldsAt}
 use Rattle.std.proofs.lemmas.Grind.{common_steps}
 use Rattle.vx_value.specs.Datum.{Datum, NamedDatum}
 use Rattle.vx_value.specs.Texts.{Word, text_lt, same_text}
 use Rattle.vx_value.specs.Events.{value_under, with_field, names_rise}
 use Rattle.vx_value.specs.Places.{IsPlace, IsGap, IsBefore}
-use Rattle.vx_value.proofs.Order.{same_text-true, less_not_same, less_not_same', less_not_more, text_lt-trans}
+use Rattle.vx_value.proofs.Order.{same_text-true, less_not_same, less_not_same', text_lt-trans}
 
 -- the search begins
 pub before_first : (fs : List NamedDatum) (name : Word) → IsBefore fs name 0

@@ -1,8 +1,8 @@
 -- What a value put at a path changes, and what blocks a path.
-use Rattle.std.proofs.Common.{◌≡◌, ℕ, zero, suc, ◌+◌, ◌<◌, ◌≤◌, Bool, true, false, not, cond, Option, Some, None, List, [], ◌∷◌, length, take, IsTrue, arith, refl, sym, ◌∙◌, ap, subst}
+use Rattle.std.proofs.Common.{◌≡◌, ℕ, zero, suc, ◌≤◌, Bool, true, false, not, cond, Option, Some, None, List, [], ◌∷◌, length, take, IsTrue, arith, refl, sym, ◌∙◌, ap, subst}
 use Rattle.std.specs.Prelude.{◌||◌}
-use Rattle.vx_value.specs.Datum.{Datum, NamedDatum, Null, Truth, Whole, Spelled, Words, Items, Fields, named_of, named_list}
-use Rattle.vx_value.specs.Texts.{Word, same_text, text_lt}
+use Rattle.vx_value.specs.Datum.{Datum, NamedDatum, Null, Truth, Whole, Spelled, Words, Items, Fields, named_of}
+use Rattle.vx_value.specs.Texts.{Word, same_text}
 use Rattle.vx_value.specs.Events.{value_under, value_at, fields_in, is_other, put_at, with_field, blocked_names, one_more, parts, IsBlocked, IsOpen}
 use Rattle.vx_value.proofs.Order.{same_text-true, same_text-refl, less_not_same}
 use Rattle.vx_value.proofs.Steps.{named_list-named_of, value_at-nil}

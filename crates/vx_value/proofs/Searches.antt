@@ -1,13 +1,11 @@
 -- A search for a name, over the fields as they are kept.
-use Rattle.std.proofs.Common.{◌≡◌, ℕ, ◌+◌, ◌<◌, ◌≤◌, Bool, true, false, List, length, get_or, map, Some, Option, IsTrue, refl, sym, ◌∙◌, ap, arith}
-use Rattle.std.proofs.lemmas.Grind.{common_steps}
+use Rattle.std.proofs.Common.{◌≡◌, ℕ, ◌+◌, ◌<◌, List, length, get_or, map, Some, IsTrue, sym, ◌∙◌, ap}
 use Rattle.std.proofs.lemmas.List.{length-map, get_or-map}
 use Rattle.std.specs.declared.cmp.Ordering.TheVariants.{Less, Equal, Greater}
 use Rattle.std.specs.Ordering.{nat_cmp}
 use Rattle.std.specs.Cmp.Lexicographic.{slice_cmp}
 use Rattle.vx_value.specs.declared.field.Field.{Field}
-use Rattle.vx_value.specs.Datum.{Datum, NamedDatum}
-use Rattle.vx_value.specs.Texts.{Word, text_lt, same_text}
+use Rattle.vx_value.specs.Texts.{Word}
 use Rattle.vx_value.specs.Values.{datum_of, named_datum}
 use Rattle.vx_value.specs.Events.{names_rise, value_under}
 use Rattle.vx_value.specs.Places.{IsPlace, IsGap, IsBefore}

@@ -1,11 +1,11 @@
 -- One step along a path.
 use Rattle.std.proofs.Common.{◌≡◌, ℕ, zero, suc, max, ◌-◌, ◌+◌, ◌<◌, ◌≤◌, Bool, true, false, cond, Option, Some, None, Result, Ok, Err, OnOk, List, [], ◌∷◌, length, take, drop, get_or, IsTrue, arith, refl, sym, ◌∙◌, ap}
 use Rattle.std.proofs.lemmas.List.{take_all}
-use Rattle.vx_value.specs.Datum.{Datum, NamedDatum, Fields, NamedData, no_named, named, named_of, named_list, depth, named_depth}
+use Rattle.vx_value.specs.Datum.{Datum, NamedDatum, Fields, named_of, named_list, depth, named_depth}
 use Rattle.vx_value.specs.declared.value.Value.{Value}
 use Rattle.vx_value.specs.declared.value.Value.TheVariants as variant
 use Rattle.vx_value.specs.Values.{datum_of}
-use Rattle.vx_value.specs.Texts.{Word, same_text, text_lt}
+use Rattle.vx_value.specs.Texts.{Word}
 use Rattle.vx_value.specs.Events.{value_under, value_at, fields_in, is_other, put_at, put_in, with_field, blocked_names, one_more, names_rise, others_depth}
 use Rattle.vx_value.proofs.With.{with_depth}
 

@@ -1,5 +1,5 @@
 -- Fields with one value more.
-use Rattle.std.proofs.Common.{◌≡◌, ℕ, zero, suc, max, ◌+◌, ◌<◌, ◌≤◌, Bool, true, false, cond, List, [], ◌∷◌, IsTrue, arith, refl, sym, ◌∙◌, ap}
+use Rattle.std.proofs.Common.{◌≡◌, max, Bool, true, false, List, [], ◌∷◌, IsTrue, arith, refl, sym, ap}
 use Rattle.vx_value.specs.Datum.{Datum, NamedDatum, depth, named_depth, named_of}
 use Rattle.vx_value.specs.Texts.{Word, same_text, text_lt}
 use Rattle.vx_value.specs.Events.{others_depth, with_field, names_rise}

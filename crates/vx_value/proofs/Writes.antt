@@ -1,16 +1,16 @@
 -- Fields with one field written or inserted, as they are kept.
-use Rattle.std.proofs.Common.{◌≡◌, ℕ, ◌+◌, ◌<◌, ◌≤◌, Bool, true, false, cond, List, [], ◌∷◌, ◌++◌, length, take, drop, get_or, set, map, Some, IsTrue, arith, refl, sym, ◌∙◌, ap, subst}
+use Rattle.std.proofs.Common.{◌≡◌, ℕ, Bool, true, false, cond, List, ◌∷◌, take, drop, get_or, set, map, IsTrue, refl, sym, ◌∙◌, ap}
 use Rattle.std.specs.Prelude.{insert}
 use Rattle.std.proofs.lemmas.List.{map-append, take-map, drop-map, map-set}
 use Rattle.vx_value.specs.declared.field.Field.{Field}
 use Rattle.vx_value.specs.declared.value.Value.{Value}
-use Rattle.vx_value.specs.Datum.{Datum, NamedDatum}
+use Rattle.vx_value.specs.Datum.{NamedDatum}
 use Rattle.vx_value.specs.Texts.{Word}
 use Rattle.vx_value.specs.Values.{datum_of, named_datum}
-use Rattle.vx_value.specs.Events.{names_rise, value_under, with_field}
+use Rattle.vx_value.specs.Events.{names_rise, with_field}
 use Rattle.vx_value.specs.Places.{IsPlace, IsGap}
 use Rattle.vx_value.proofs.With.{names_rise-with}
-use Rattle.vx_value.proofs.Searches.{held_at, named_at}
+use Rattle.vx_value.proofs.Searches.{named_at}
 
 -- a field written at the place of a name
 pub replaced : (items : List Field) (fs : List NamedDatum) (name : Word) (i : ℕ) (f : Field) (v : Value) → map named_datum items ≡ fs → f ≡ get_or items i f → IsPlace fs name i → map named_datum (set items i (record { name = f.name; value = v })) ≡ with_field fs name (datum_of v)

@@ -8,3 +8,5 @@ pub mod Places
 pub mod Paths
 pub mod Reads
 pub mod Filled
+pub mod Replacement
+pub mod Orders

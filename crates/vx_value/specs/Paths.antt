@@ -1,5 +1,5 @@
 -- The texts of paths.
-use Rattle.std.specs.Prelude.{◌≡◌, ℕ, ◌+◌, ◌<◌, ◌==◌, ◌&&◌, ◌||◌, ◌++◌, nat_le, Bool, true, false, Option, Some, None, IfSome, IsTrue, is_some, option_map, List, [], ◌∷◌, length, take, if◌then◌else◌, ⊤}
+use Rattle.std.specs.Prelude.{◌≡◌, ℕ, ◌+◌, ◌<◌, ◌==◌, ◌&&◌, ◌||◌, ◌++◌, nat_le, Bool, true, false, Option, Some, None, IsTrue, is_some, option_map, List, [], ◌∷◌, length, take, if◌then◌else◌, ⊤}
 use Rattle.vx_value.specs.Texts.{Word, is_empty}
 use Rattle.vx_value.specs.declared.path_mode.PathMode.{PathMode}
 use Rattle.vx_value.specs.declared.path_mode.PathMode.TheVariants.{Start, Name, Bare, Quoted, Escaped, Closed}

@@ -1,5 +1,5 @@
 -- What a byte makes of a reader in the midst of a path.
-use Rattle.std.specs.Prelude.{◌≡◌, ℕ, ◌++◌, Bool, true, false, List, [], ◌∷◌, Option, option_map, drop, take}
+use Rattle.std.specs.Prelude.{◌≡◌, ℕ, ◌++◌, Bool, true, false, List, [], ◌∷◌, option_map, drop, take}
 use Rattle.std.specs.Str.{IsUtf8}
 use Rattle.vx_value.specs.Texts.{Word, is_empty}
 use Rattle.vx_value.specs.Paths.{move_of, names_from, path_names}

@@ -1,4 +1,6 @@
 ghost use Rattle.std.specs.Prelude.{◌≡◌, ℕ, ◌<◌, ◌≤◌, ◌↔◌, [], List, Some, option_map, IsTrue, IfOk, OnOk, OnErr};
+ghost use Rattle.std.specs.Cmp.{IsTotalOrder};
+ghost use Rattle.std.specs.FinSet.{IsAntisymmetric};
 ghost use Rattle.std.specs.Option.{option_copied};
 
 use crate::field_list::FieldList;
@@ -8,6 +10,7 @@ use crate::put_fault::PutFault;
 use crate::value::Value;
 use crate::want_of_memory::WantOfMemory;
 use std::alloc::Global;
+use std::cmp::Ordering;
 
 /// An event: its fields.
 #[derive(Drop)]
@@ -20,6 +23,8 @@ pub type EventList = ItemList<Event>;
 
 impl Event {
     ghost use Rattle.vx_value.specs.Texts.{Word};
+    ghost use Rattle.vx_value.specs.Datum.{named_of};
+    ghost use Rattle.vx_value.specs.Orders.{named_cmp};
     ghost use Rattle.vx_value.specs.Values.{datum_of};
     ghost use Rattle.vx_value.specs.Events.{value_at, put_at, fields_depth, parts, IsBlocked, IsOpen};
 
@@ -71,6 +76,22 @@ impl Event {
         }
     }
 
+    /// Which of two events comes first, by their fields.
+    pub fn compare(&self, other: &Event) -> Ordering
+        ensures { result ≡ named_cmp (named_of self.now.fields) (named_of other.now.fields) }
+    {
+        self.fields.compare(&other.fields)
+    }
+
+    /// Whether two events are the same, which is where neither comes first. The order is total.
+    pub fn is_same(&self, other: &Event) -> bool
+        ensures same { IsTrue result ↔ (self.now ≡ other.now) }
+        ensures total { IsTotalOrder named_cmp }
+        ensures alone { IsAntisymmetric named_cmp }
+    {
+        self.compare(other).is_eq()
+    }
+
     /// The same event once more.
     pub fn copy(&self, alloc: Global) -> Result<Self, WantOfMemory>
         ensures { IfOk result (λ copy. copy ≡ self.now) }
@@ -85,7 +106,7 @@ impl ItemList<Event> {
     pub fn copy(&self, alloc: Global) -> Result<EventList, WantOfMemory>
         ensures { IfOk result (λ copy. copy ≡ self.now) }
     {
-        let mut events = ItemList::new(alloc);
+        let mut events = ItemList::with_room(alloc, self.len())?;
         for event in self.as_slice() {
             match events.push(event.copy(alloc)?) {
                 Ok(()) => {}

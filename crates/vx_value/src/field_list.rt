@@ -46,6 +46,7 @@ impl FieldList {
     ghost use Rattle.vx_value.specs.Values.{datum_of, named_datum};
     ghost use Rattle.vx_value.specs.Datum.{Fields, depth, named_of, named_depth};
     ghost use Rattle.vx_value.specs.Events.{names_rise, last_below, value_under, value_at, with_field, put_at, blocked_names, others_depth, fields_depth, fields_in, put_in};
+    ghost use Rattle.vx_value.specs.Orders.{named_cmp};
     ghost use Rattle.vx_value.specs.Places.{IsPlace, IsGap};
 
     /// No fields. It takes no memory.
@@ -302,12 +303,35 @@ impl FieldList {
         }
     }
 
+    /// Which of two lists of fields comes first: the first place at which they differ decides, there the name before
+    /// the value, and a list comes before one that goes on.
+    #[cycle(compare)]
+    pub fn compare(&self, other: &FieldList) -> Ordering
+        ensures { result ≡ named_cmp (named_of self.now) (named_of other.now) }
+    {
+        let mut i: usize = 0;
+        for field in self.fields.as_slice() {
+            let Some(that) = other.fields.get(i) else {
+                return Ordering::Greater;
+            };
+            match field.compare(that) {
+                Ordering::Equal => i += 1,
+                unequal => return unequal,
+            }
+        }
+        if i < other.fields.len() {
+            Ordering::Less
+        } else {
+            Ordering::Equal
+        }
+    }
+
     /// The same fields once more.
     #[cycle(copy)]
     pub fn copy(&self, alloc: Global) -> Result<Self, WantOfMemory>
         ensures { IfOk result (λ copy. copy ≡ self.now) }
     {
-        let mut fields = Vec::new(alloc);
+        let mut fields = Vec::with_capacity(alloc, self.fields.len())?;
         for field in self.fields.as_slice() {
             match fields.push(field.copy(alloc)?) {
                 Ok(()) => {}

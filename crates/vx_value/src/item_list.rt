@@ -34,6 +34,16 @@ impl<T> ItemList<T> {
         }
     }
 
+    // The empty list, with room for that many items and no more.
+    pub(crate) fn with_room(alloc: Global, room: usize) -> Result<Self, WantOfMemory>
+        ensures items { IfOk result (λ list. list ≡ []) }
+    {
+        match Vec::with_capacity(alloc, room) {
+            Ok(items) => Ok(ItemList { items }),
+            Err(_) => Err(WantOfMemory),
+        }
+    }
+
     /// The list of a vector's items. It takes no memory.
     pub fn from_vec(items: Vec<T>) -> Self
         ensures { result ≡ items.items }

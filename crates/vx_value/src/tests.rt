@@ -180,6 +180,37 @@ fn events_are_copied(rt: HostRuntime) -> Result<(), Fail> {
 }
 
 #[test]
+fn values_in_order(rt: HostRuntime) -> Result<(), Fail> {
+    let truth = Value::Truth(true);
+    let whole = Value::Whole(-1);
+    assert!(rt; truth.compare(&whole).is_lt());
+    assert!(rt; whole.compare(&truth).is_gt());
+    assert!(rt; whole.is_same(&Value::Whole(-1)));
+    Ok(())
+}
+
+#[test]
+fn lists_in_order(rt: HostRuntime) -> Result<(), Fail> {
+    let alloc = rt.alloc();
+    let empty = nested(alloc, 1)?;
+    let longer = nested(alloc, 2)?;
+    assert!(rt; empty.compare(&longer).is_lt());
+    assert!(rt; longer.is_same(&longer.copy(alloc)?));
+    Ok(())
+}
+
+#[test]
+fn events_in_order(rt: HostRuntime) -> Result<(), Fail> {
+    let alloc = rt.alloc();
+    let path = Path::read(alloc, ".a")?;
+    let one = event_with(alloc, &path, 1)?;
+    let two = event_with(alloc, &path, 2)?;
+    assert!(rt; two.compare(&one).is_gt());
+    assert!(rt; one.is_same(&one.copy(alloc)?));
+    Ok(())
+}
+
+#[test]
 fn queues_keep_their_room(rt: HostRuntime) -> Result<(), Fail> {
     let mut queue = Queue::new(rt.alloc(), 1)?;
     if !queue.is_full() {

@@ -1,6 +1,7 @@
 ghost use Rattle.std.specs.Prelude.{◌≡◌, ℕ, ◌↔◌, List, IfOk, IsTrue, string_bytes};
 ghost use Rattle.std.specs.Str.{IsUtf8};
 ghost use Rattle.std.specs.Str.Lossy.{utf8_lossy};
+ghost use Rattle.vx_value.specs.Replacement.{StandsFor};
 
 use crate::item_list::ItemList;
 use crate::want_of_memory::WantOfMemory;
@@ -37,7 +38,9 @@ impl Text {
 
     /// The text of some bytes, in which U+FFFD stands for each longest part that is no UTF-8.
     pub fn lossy(alloc: Global, bytes: &[u8]) -> Result<Self, WantOfMemory>
-        ensures { IfOk result (λ text. text ≡ utf8_lossy bytes.now) }
+        ensures lossy { IfOk result (λ text. text ≡ utf8_lossy bytes.now) }
+        ensures stands { IfOk result (λ text. StandsFor bytes.now text) }
+        ensures only { (text : List ℕ) → StandsFor bytes.now text → IfOk result (λ made. made ≡ text) }
     {
         match String::from_utf8_lossy(alloc, bytes) {
             Ok(text) => Ok(Text { text }),
@@ -76,7 +79,7 @@ impl ItemList<Text> {
     pub fn copy(&self, alloc: Global) -> Result<TextList, WantOfMemory>
         ensures { IfOk result (λ copy. copy ≡ self.now) }
     {
-        let mut texts = ItemList::new(alloc);
+        let mut texts = ItemList::with_room(alloc, self.len())?;
         for text in self.as_slice() {
             match texts.push(text.copy(alloc)?) {
                 Ok(()) => {}

@@ -4,6 +4,7 @@ ghost use Rattle.std.specs.Option.{option_copied};
 use crate::value::Value;
 use crate::want_of_memory::WantOfMemory;
 use std::alloc::Global;
+use std::cmp::Ordering;
 use std::marker::Model;
 
 /// Values in order. Contracts see the list of what they stand for.
@@ -38,6 +39,7 @@ impl Model for ValueList {
 
 impl ValueList {
     ghost use Rattle.vx_value.specs.Datum.{data_of, data_depth};
+    ghost use Rattle.vx_value.specs.Orders.{data_cmp};
     ghost use Rattle.vx_value.specs.Values.{datum_of};
 
     /// The empty list. It takes no memory.
@@ -111,12 +113,35 @@ impl ValueList {
         true
     }
 
+    /// Which of two lists comes first: the first place at which they differ decides, and a list comes before one that
+    /// goes on.
+    #[cycle(compare)]
+    pub fn compare(&self, other: &ValueList) -> Ordering
+        ensures { result ≡ data_cmp (data_of self.now) (data_of other.now) }
+    {
+        let mut i: usize = 0;
+        for item in self.items.as_slice() {
+            let Some(that) = other.items.get(i) else {
+                return Ordering::Greater;
+            };
+            match item.compare(that) {
+                Ordering::Equal => i += 1,
+                unequal => return unequal,
+            }
+        }
+        if i < other.items.len() {
+            Ordering::Less
+        } else {
+            Ordering::Equal
+        }
+    }
+
     /// The same values once more.
     #[cycle(copy)]
     pub fn copy(&self, alloc: Global) -> Result<Self, WantOfMemory>
         ensures { IfOk result (λ copy. copy ≡ self.now) }
     {
-        let mut items = Vec::new(alloc);
+        let mut items = Vec::with_capacity(alloc, self.items.len())?;
         for item in self.items.as_slice() {
             match items.push(item.copy(alloc)?) {
                 Ok(()) => {}

@@ -1,7 +1,7 @@
-use Rattle.std.proofs.Common.{◌≡◌, ℕ, suc, ◌≤◌, ◌<◌, sym, ◌∙◌, ap, refl, subst, arith, rules, Err}
+use Rattle.std.proofs.Common.{◌≡◌, ◌∙◌, ap, refl, subst, arith, Err}
 use Rattle.vx_value.specs.declared.put_fault.PutFault.TheVariants.{Blocked}
 use Rattle.vx_value.specs.Values.{datum_of}
-use Rattle.vx_value.specs.Events.{value_at, blocked_names, IsBlocked, IsOpen}
+use Rattle.vx_value.specs.Events.{value_at, blocked_names, IsBlocked}
 use Rattle.vx_value.proofs.Puts.{at-put, at-put-kept, blocked-tells, told-blocked, told-open}
 use Rattle.vx_value.proofs.event.Event.put.Goals as goal
 

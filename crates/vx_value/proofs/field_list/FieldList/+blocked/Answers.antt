@@ -1,7 +1,7 @@
 use Rattle.std.proofs.Common.{◌≡◌, Some, sym, ◌∙◌, ap, arith}
 use Rattle.std.proofs.lemmas.Bool.Decides.{nat_tests}
 use Rattle.vx_value.specs.Datum.{Fields, named_of}
-use Rattle.vx_value.specs.Events.{value_under, blocked_names, one_more}
+use Rattle.vx_value.specs.Events.{value_under, one_more}
 use Rattle.vx_value.proofs.Steps.{blocked-none, blocked-inside, one_more-above}
 use Rattle.vx_value.proofs.field_list.FieldList.+blocked.Goals as goal
 

@@ -1,8 +1,8 @@
-use Rattle.std.proofs.Common.{◌≡◌, ◌≤◌, IsTrue, sym, ◌∙◌, ap, arith, rules}
+use Rattle.std.proofs.Common.{◌≡◌, IsTrue, sym, ◌∙◌, arith}
 use Rattle.std.proofs.lemmas.Bool.Decides.{nat_tests}
 use Rattle.vx_value.specs.Values.{datum_of}
 use Rattle.vx_value.specs.Events.{value_under, names_rise}
-use Rattle.vx_value.proofs.Steps.{put_at-deep, put_in-deep, fields_in-Fields, rest_of}
+use Rattle.vx_value.proofs.Steps.{put_at-deep, put_in-deep, fields_in-Fields}
 use Rattle.vx_value.proofs.field_list.FieldList.+fits_with.Goals as goal
 
 pub fits_with-returns-then-not-others_fit : goal.fits_with-returns-then-not-others_fit

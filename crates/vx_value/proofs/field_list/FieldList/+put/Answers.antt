@@ -1,11 +1,11 @@
-use Rattle.std.proofs.Common.{◌≡◌, ◌<◌, length, Some, OnOk, sym, ◌∙◌, ap, arith, rules}
+use Rattle.std.proofs.Common.{◌≡◌, ◌<◌, length, Some, sym, ◌∙◌, arith}
 use Rattle.std.proofs.lemmas.Grind.{common_steps}
 use Rattle.std.proofs.lemmas.Bool.Decides.{nat_tests}
 use Rattle.vx_value.specs.Datum.{Fields, named_of}
 use Rattle.vx_value.specs.Values.{datum_of}
-use Rattle.vx_value.specs.Events.{value_under, put_at, with_field, blocked_names}
+use Rattle.vx_value.specs.Events.{value_under, blocked_names}
 use Rattle.vx_value.proofs.Searches.{held_at}
-use Rattle.vx_value.proofs.Steps.{open-inside, only-fields-open, put_at-apart, put_in-cons, blocked_names-nil, fields_in-Fields, rest_of, put-inside, on_ok}
+use Rattle.vx_value.proofs.Steps.{open-inside, only-fields-open, blocked_names-nil, rest_of, put-inside, on_ok}
 use Rattle.vx_value.specs.declared.value.Value.TheVariants as variant
 use Rattle.vx_value.proofs.Writes.{replaced, replaced-rise}
 use Rattle.vx_value.proofs.field_list.FieldList.+put.Goals as goal

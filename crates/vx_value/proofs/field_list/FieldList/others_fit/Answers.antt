@@ -1,7 +1,5 @@
-use Rattle.std.proofs.Common.{◌≡◌, ◌≤◌, Bool, true, false, not, arith, ap, sym, ◌∙◌}
+use Rattle.std.proofs.Common.{◌≡◌, false, not, arith}
 use Rattle.vx_value.specs.Texts.{same_text}
-use Rattle.vx_value.specs.Datum.{depth}
-use Rattle.vx_value.specs.Values.{datum_of}
 use Rattle.vx_value.proofs.Order.{told_equal}
 use Rattle.vx_value.proofs.Depths.{others_depth-bound, others_depth-more}
 use Rattle.vx_value.proofs.field_list.FieldList.others_fit.Goals as goal

@@ -1,6 +1,4 @@
-use Rattle.std.proofs.Common.{◌≡◌, ◌++◌, List, cond, is_ok, sym, ◌∙◌, ap}
-use Rattle.std.proofs.lemmas.Grind.{common_steps}
-use Rattle.std.proofs.Common.{arith}
+use Rattle.std.proofs.Common.{◌∙◌, ap}
 use Rattle.vx_value.specs.Events.{with_field}
 use Rattle.vx_value.specs.Values.{datum_of}
 use Rattle.vx_value.proofs.Writes.{replaced, replaced-rise}
