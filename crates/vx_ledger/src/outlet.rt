@@ -94,7 +94,7 @@ impl Outlet {
                 parcel,
             });
         }
-        let Ok((others, target)) = self.others(ports, &parcel, next) else {
+        let Ok((others, target)) = self.others(ports, count, &parcel, next) else {
             return Err(RouteRefused {
                 cause: Short::WantOfMemory,
                 parcel,
@@ -109,10 +109,11 @@ impl Outlet {
         Ok(Routed::Children(route::with_last(others, last)))
     }
 
-    // The children for all targets but the last, and the last target.
+    // The children for all targets but the last, and the last target. It is told how many targets there are.
     fn others(
         &self,
         ports: u128,
+        count: u64,
         parcel: &Parcel,
         first: u64,
     ) -> Result<(Vec<Child>, u32), WantOfMemory>
@@ -122,7 +123,7 @@ impl Outlet {
         ensures room { IfOk result (λ r. length r.0.items < vec_capacity r.0) }
         ensures few { OnOk result (length (targets_of ports self.now) < 2 ^ 63) }
     {
-        let mut targets = self.targets(ports)?;
+        let mut targets = self.targets(ports, count)?;
         let Some(last) = targets.pop() else {
             unreachable!();
         };
@@ -143,12 +144,12 @@ impl Outlet {
         count
     }
 
-    // The targets of the ports, in port order.
-    fn targets(&self, ports: u128) -> Result<Vec<u64>, WantOfMemory>
+    // The targets of the ports, in port order, in room for so many.
+    fn targets(&self, ports: u128, count: u64) -> Result<Vec<u64>, WantOfMemory>
         ensures targets { IfOk result (λ targets. targets.items ≡ targets_of ports self.now) }
         ensures instances { IfOk result (λ targets. All (λ t. t < 2 ^ 32) targets.items) }
     {
-        let mut targets = Vec::new(*self.ports.allocator());
+        let mut targets = Vec::with_capacity(*self.ports.allocator(), count as usize)?;
         for port in 0..self.ports.len() {
             if is_named(ports, port) {
                 targets.extend_from_slice(self.ports[port].as_slice())?;

@@ -63,6 +63,20 @@ fn routed<R: Abort>(rt: &R, alloc: Global, outlet: &Outlet, ports: u128) -> Vec<
 }
 
 #[test]
+fn takes_the_last_copy(rt: HostRuntime) -> Result<(), Fail> {
+    let mut batches = Batches::new(rt.alloc())?;
+    let (_, mut copies) = batches.born(0, 2)?;
+    let Ok(Some(last)) = copies.take_last(rt.alloc()) else {
+        panic!(rt; "two copies");
+    };
+    let mut told = Vec::new(rt.alloc());
+    spend_all(&rt, &mut told, &mut batches, last);
+    spend_all(&rt, &mut told, &mut batches, copies);
+    assert_eq!(rt; told.as_slice(), [1, 0].as_slice());
+    Ok(())
+}
+
+#[test]
 fn routes(rt: HostRuntime) -> Result<(), Fail> {
     let mut outlet = Outlet::new(rt.alloc(), 2)?;
     assert_eq!(rt;
