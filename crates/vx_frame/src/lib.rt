@@ -1,0 +1,13 @@
+//! Lines out of the pieces of any number of streams.
+#![tactic(auto)]
+
+mod advance;
+mod framer;
+mod line;
+mod unfinished;
+
+pub use framer::Framer;
+pub use line::{Line, LineList};
+
+#[cfg(test)]
+mod tests;
