@@ -1,0 +1,5 @@
+pub mod Environment
+pub mod Faults
+pub mod Pieces
+pub mod Replaced
+pub mod Views
