@@ -1,0 +1,9 @@
+pub mod Classes
+pub mod Cycles
+pub mod Faults
+pub mod Order
+pub mod Outputs
+pub mod Patterns
+pub mod Rounds
+pub mod Targets
+pub mod Turns
