@@ -1,0 +1,10 @@
+//! The document in which a file source keeps how far it has come.
+#![tactic(auto)]
+
+mod checkpoint;
+mod document;
+#[cfg(test)]
+mod tests;
+
+pub use checkpoint::{Checkpoint, CheckpointFault};
+pub use document::{read, write};
