@@ -68,6 +68,16 @@ position_of birth = record { stream = birth.stream; end = birth.end }
 abbrev pub due : Record → ℕ → List Position
 due h i = last_of_each [] (map position_of (confirm_prefix h i))
 
+-- each stream's last position in all of the instance's births; where no batch waits, these are due
+abbrev pub born_positions : Record → ℕ → List Position
+born_positions h i = last_of_each [] (map position_of (births h i))
+
+-- whether the instance's last Confirm failed
+abbrev pub is_unconfirmed : Record → ℕ → Bool
+is_unconfirmed [] i = false
+is_unconfirmed (Confirm j positions made ∷ h) i = if j == i then not made else is_unconfirmed h i
+is_unconfirmed (e ∷ h) i = is_unconfirmed h i
+
 -- the positions of the instance's last Confirm, made or failed; none before the first
 abbrev pub last_confirm : Record → ℕ → List Position
 last_confirm [] i = []

@@ -16,6 +16,7 @@ pub mod Routing
 pub mod Stages
 pub mod Encoding
 pub mod SinkBatches
+pub mod PortCounts
 pub mod Owing
 pub mod Ready
 pub mod Abandoning
