@@ -15,7 +15,7 @@ use Rattle.vx_hub.specs.declared.task.Role.TheVariants.{Source, Sink}
 use Rattle.vx_ends.specs.Told.{Told}
 use Rattle.vx_record.specs.Records.{Record}
 use Rattle.vx_ledger.specs.Ledger.{live_count}
-use Rattle.vx_hub.proofs.StandsLaws.{some_mapped, told_quiet, known_quiet, bytes_quiet, losses_quiet, cause_quiet}
+use Rattle.vx_hub.proofs.StandsLaws.{some_mapped, told_quiet, known_quiet, bytes_quiet, losses_quiet, confirms_quiet, cause_quiet}
 
 pub unused_more : (seats : List Seat) (seat : Seat) → AreUnused seats → IsUnused seat → AreUnused (seats ++ seat ∷ [])
 unused_more [] seat a u = (u, tt)
@@ -63,7 +63,7 @@ front_of [] x l at = absurd (omega arith)
 front_of (y ∷ ys) x l at = ap (λ z. z ∷ ys) (sym at)
 
 untouched_told : (told : Told) (i : ℕ) → IsUntouched told → IsTold told [] i
-untouched_told told i u = record { taken = u.taken; given = u.given; faults = λ lost. cc }
+untouched_told told i u = record { taken = u.taken; given = u.given; confirmed = u.confirmed; ended = u.ended; over = λ over. cc; faults = omega arith; refusals = omega arith; idles = omega arith }
 
 -- a hub whose instances were all seated stands for the record of their install
 pub begun_stands : {P : Type 0} (told_by : P → Told) (hub : Hub P) → Begins told_by hub → HasFirst hub.log.history → hub.ports.items ≡ [] → length hub.rows.items ≤ hub.ports.room → length hub.rows.items < 2 ^ 32 →
@@ -73,9 +73,10 @@ begun_stands told_by hub b first none room few = record {
   balanced = λ batch place. let live : live_count batch place hub.batches.open_rows ≡ 0 = ap (live_count batch place) b.batches in omega (arith, b.copies batch place);
   recorded = λ sound. subst (λ (h : Record). IsRecorded told_by hub h) (sym first.alone) (record {
     ports = λ i. some_mapped _ _ (port_at hub.rows.items i) (λ port u. told_quiet (told_by port) [] i first.entry first.quiet (untouched_told (told_by port) i u)) (b.ports i);
-    facts = λ i. some_mapped _ _ (facts_at hub.facts.items i) (λ f n. known_quiet f [] i first.entry first.quiet (record { taken = n.taken; lost = n.lost })) (b.facts i);
+    facts = λ i. some_mapped _ _ (facts_at hub.facts.items i) (λ f n. known_quiet f [] i first.entry first.quiet (record { taken = n.taken; lost = n.lost; failed_starts = n.failed_starts; ends = n.ends; to_confirm = subst (λ (o : _). IfSome o (λ positions. positions ≡ [])) (sym n.to_confirm) tt; confirm_failed = n.confirm_failed })) (b.facts i);
     bytes = b.bytes ∙ ap capped (sym (bytes_quiet [] first.entry first.quiet));
     losses = losses_quiet [] first.entry first.quiet tt;
+    confirms = confirms_quiet [] first.entry first.quiet tt;
     cause = b.abandoned ∙ sym (cause_quiet [] first.entry first.quiet);
   });
   shut = λ i. some_mapped _ _ (facts_at hub.facts.items i) (λ f n closed. let no : f.closed ≡ false = n.closed in cc) (b.facts i);

@@ -1,8 +1,11 @@
 pub mod Tellings
 pub mod RowLaws
 pub mod Parcels
+pub mod Silence
+pub mod Saying
 pub mod StandsLaws
 pub mod Touching
 pub mod Beginning
 pub mod Remaining
 pub mod Returning
+pub mod Dues

@@ -1,6 +1,6 @@
 -- The steps by which the hub goes on standing for the record.
-use Rattle.std.proofs.Common.{◌≡◌, inr, ℕ, Bool, true, false, IsTrue, List, [], ◌∷◌, ◌++◌, length, Option, Some, None, IfSome, refl, sym, ap, subst, ◌∙◌, arith}
-use Rattle.std.specs.Prelude.{IsSomeAnd, ◌==◌, ◌≢◌}
+use Rattle.std.proofs.Common.{◌≡◌, inr, ℕ, ◌+◌, Bool, true, false, IsTrue, List, [], ◌∷◌, ◌++◌, length, Option, Some, None, IfSome, refl, sym, ap, subst, ◌∙◌, arith}
+use Rattle.std.specs.Prelude.{IsSomeAnd, ◌==◌, ◌≢◌, map}
 use Rattle.std.proofs.lemmas.Bool.Decides.{nat_tests}
 use Rattle.vx_ends.specs.Told.{Told}
 use Rattle.vx_ledger.specs.Copies.{Copy, copies_of}
@@ -10,55 +10,87 @@ use Rattle.vx_record.specs.Records.{Record}
 use Rattle.vx_record.specs.Noted.{Noted}
 use Rattle.vx_record.specs.declared.log.Log.{Log}
 use Rattle.vx_record.specs.declared.entry.Entry.{Entry}
-use Rattle.vx_record.specs.declared.entry.Entry.TheVariants.{Read, SourceLost, Attempt, Abandon}
+use Rattle.vx_record.specs.declared.entry.Entry.TheVariants.{Read, Idle, SourceLost, Born, Attempt, Confirm, Abandon}
 use Rattle.vx_record.specs.declared.abandon_cause.AbandonCause.{AbandonCause}
 use Rattle.vx_hub.specs.declared.facts.Facts.{Facts}
 use Rattle.vx_hub.specs.declared.row.Row.{Row}
 use Rattle.vx_hub.specs.declared.hub.Hub.{Hub}
-use Rattle.vx_hub.specs.Rows.{port_at, IsBareAt, SamePorts, KeepsBare, KeepsOthersBare, Loses, Gains}
-use Rattle.vx_hub.specs.Stands.{Stands, IsTold, IsKnown, IsRecorded, IsShut, IsGone, IsBalanced, LossesTold, IsQuiet, facts_at, capped, HasBerths, spare_of, cause_of}
+use Rattle.vx_hub.specs.Rows.{port_at, copies_in, IsBareAt, SamePorts, KeepsBare, KeepsOthersBare, Loses, Gains}
+use Rattle.vx_hub.specs.Stands.{Stands, IsTold, IsKnown, IsRecorded, IsShut, IsGone, IsBalanced, LossesTold, ConfirmsTold, IsQuiet, IsMute, facts_at, capped, HasBerths, spare_of, cause_of}
 use Rattle.vx_hub.specs.declared.parts.Numbered.{Numbered}
 use Rattle.vx_value.specs.Filled.{Filled}
 use Rattle.std.proofs.lemmas.List.{append-nil}
 use Rattle.vx_record.specs.Reads.{bytes_of_all}
-use Rattle.vx_record.specs.Encoding.{given}
+use Rattle.vx_ends.specs.declared.position.Position.{Position}
+use Rattle.vx_record.specs.Confirms.{Birth, births, births_in, born_positions, last_of_each, position_of}
+use Rattle.vx_hub.proofs.Silence.{told_silent, silent_mute}
 
--- a quiet entry gives no byte
-given_quiet : (h : Record) (i : ℕ) (e : Entry) → IsQuiet e → given h i ≡ given (e ∷ h) i
-given_quiet h i (Read j stream took) q = absurd q
-given_quiet h i (SourceLost j at failed) q = absurd q
-given_quiet h i (Attempt j copies bytes reply) q = absurd q
-given_quiet h i e q = sym (append-nil (given h i))
+-- a quiet entry is mute
+pub mute_of_quiet : (e : Entry) → IsQuiet e → IsMute e
+mute_of_quiet (Read j stream took) q = absurd q
+mute_of_quiet (Idle j failed) q = absurd q
+mute_of_quiet (SourceLost j at failed) q = absurd q
+mute_of_quiet (Attempt j copies bytes reply) q = absurd q
+mute_of_quiet (Confirm j positions made) q = absurd q
+mute_of_quiet e q = tt
 
--- a quiet entry changes nothing of what a port tells
+-- a mute entry changes nothing of what a port tells
+pub told_mute : (told : Told) (h : Record) (i : ℕ) (e : Entry) → IsMute e → IsTold told h i → IsTold told (e ∷ h) i
+told_mute told h i e m t = told_silent told h i e (silent_mute h i e m) t
+
 pub told_quiet : (told : Told) (h : Record) (i : ℕ) (e : Entry) → IsQuiet e → IsTold told h i → IsTold told (e ∷ h) i
-told_quiet told h i (Read j stream took) q t = absurd q
-told_quiet told h i (SourceLost j at failed) q t = absurd q
-told_quiet told h i (Attempt j copies bytes reply) q t = absurd q
-told_quiet told h i e q t = record {
-  taken = t.taken;
-  given = subst (λ (g : List ℕ). IfSome told.given (λ bytes. bytes ≡ g)) (given_quiet h i e q) t.given;
-  faults = t.faults;
-}
+told_quiet told h i e q t = told_mute told h i e (mute_of_quiet e q) t
 
--- and nothing of what is known
+-- where no batch is born, the same positions are the last
+pub born_same : (h : Record) (i : ℕ) (e : Entry) → births_in i e ≡ [] → born_positions h i ≡ born_positions (e ∷ h) i
+born_same h i e none = ap (λ (bs : List Birth). last_of_each [] (map position_of bs)) (sym (ap (λ (more : List Birth). births h i ++ more) none ∙ append-nil (births h i)))
+
+-- what is known, behind an entry that bears nothing
+pub ends_on : (f : Facts) (h : Record) (i : ℕ) (e : Entry) → births_in i e ≡ [] → f.ends ≡ born_positions h i → f.ends ≡ born_positions (e ∷ h) i
+ends_on f h i e none k = k ∙ born_same h i e none
+
+pub to_confirm_on : (f : Facts) (h : Record) (i : ℕ) (e : Entry) → births_in i e ≡ [] → IfSome f.to_confirm (λ positions. positions ≡ born_positions h i) →
+    IfSome f.to_confirm (λ positions. positions ≡ born_positions (e ∷ h) i)
+to_confirm_on f h i e none k = subst (λ (ps : List Position). IfSome f.to_confirm (λ positions. positions ≡ ps)) (born_same h i e none) k
+
+-- a quiet entry changes nothing of what is known
 pub known_quiet : (f : Facts) (h : Record) (i : ℕ) (e : Entry) → IsQuiet e → IsKnown f h i → IsKnown f (e ∷ h) i
 known_quiet f h i (Read j stream took) q k = absurd q
+known_quiet f h i (Idle j failed) q k = absurd q
 known_quiet f h i (SourceLost j at failed) q k = absurd q
+known_quiet f h i (Born j b place copies events waits stream end) q k = absurd q
 known_quiet f h i (Attempt j copies bytes reply) q k = absurd q
-known_quiet f h i e q k = record { taken = k.taken; lost = k.lost }
+known_quiet f h i (Confirm j positions made) q k = absurd q
+known_quiet f h i e q k = record {
+  taken = k.taken;
+  lost = k.lost;
+  failed_starts = k.failed_starts;
+  ends = ends_on f h i e refl k.ends;
+  to_confirm = to_confirm_on f h i e refl k.to_confirm;
+  confirm_failed = k.confirm_failed;
+}
+
+pub bytes_mute : (h : Record) (e : Entry) → IsMute e → bytes_of_all (e ∷ h) ≡ bytes_of_all h
+bytes_mute h (Read j stream took) m = absurd m
+bytes_mute h e m = refl
+
+pub losses_mute : (h : Record) (e : Entry) → IsMute e → LossesTold h → LossesTold (e ∷ h)
+losses_mute h (Idle j failed) m l = absurd m
+losses_mute h (SourceLost j at failed) m l = absurd m
+losses_mute h e m l = l
+
+pub confirms_mute : (h : Record) (e : Entry) → IsMute e → ConfirmsTold h → ConfirmsTold (e ∷ h)
+confirms_mute h (Confirm j positions made) m c = absurd m
+confirms_mute h e m c = c
 
 pub bytes_quiet : (h : Record) (e : Entry) → IsQuiet e → bytes_of_all (e ∷ h) ≡ bytes_of_all h
-bytes_quiet h (Read j stream took) q = absurd q
-bytes_quiet h (SourceLost j at failed) q = absurd q
-bytes_quiet h (Attempt j copies bytes reply) q = absurd q
-bytes_quiet h e q = refl
+bytes_quiet h e q = bytes_mute h e (mute_of_quiet e q)
 
 pub losses_quiet : (h : Record) (e : Entry) → IsQuiet e → LossesTold h → LossesTold (e ∷ h)
-losses_quiet h (Read j stream took) q l = absurd q
-losses_quiet h (SourceLost j at failed) q l = absurd q
-losses_quiet h (Attempt j copies bytes reply) q l = absurd q
-losses_quiet h e q l = l
+losses_quiet h e q l = losses_mute h e (mute_of_quiet e q) l
+
+pub confirms_quiet : (h : Record) (e : Entry) → IsQuiet e → ConfirmsTold h → ConfirmsTold (e ∷ h)
+confirms_quiet h e q c = confirms_mute h e (mute_of_quiet e q) c
 
 pub cause_quiet : (h : Record) (e : Entry) → IsQuiet e → cause_of (e ∷ h) ≡ cause_of h
 cause_quiet h (Abandon cause) q = absurd q
@@ -96,6 +128,7 @@ stands_quiet {P} told_by d e hand after entry s balanced facts ports bare size n
             (some_mapped _ _ (facts_at d.facts.items i) (λ f k. known_quiet f d.log.history i entry quiet k) (r.facts i));
         bytes = bytes ∙ r.bytes ∙ ap capped (sym (bytes_quiet d.log.history entry quiet));
         losses = losses_quiet d.log.history entry quiet r.losses;
+        confirms = confirms_quiet d.log.history entry quiet r.confirms;
         cause = ap (λ (t : _). t.1) berths ∙ r.cause ∙ sym (cause_quiet d.log.history entry quiet);
       });
   shut = λ i. subst (λ (fs : List Facts). IfSome (facts_at fs i) (IsShut told_by e.rows.items i)) (sym (ap (λ (v : _). v.items) facts))
@@ -148,6 +181,7 @@ stands_moved {P} told_by d e hand after s balanced facts ports bare size log sta
         facts = λ i. subst (λ (fs : List Facts). IfSome (facts_at fs i) (λ f. IsKnown f d.log.history i)) (sym (ap (λ (v : _). v.items) facts)) (r.facts i);
         bytes = bytes ∙ r.bytes;
         losses = r.losses;
+        confirms = r.confirms;
         cause = ap (λ (t : _). t.1) berths ∙ r.cause;
       });
   shut = λ i. subst (λ (fs : List Facts). IfSome (facts_at fs i) (IsShut told_by e.rows.items i)) (sym (ap (λ (v : _). v.items) facts))
@@ -195,12 +229,15 @@ hand_balanced ledger before after copies b l batch place = omega (arith, b batch
 pub put_balanced : {P : Type 0} (ledger : Ledger) (before after : List (Row P)) (copies : List Copy) → IsBalanced ledger before copies → Gains before copies after → IsBalanced ledger after []
 put_balanced ledger before after copies b g batch place = omega (arith, b batch place, g batch place)
 
--- what a port tells, when a run is abandoned
-told_abandoned : (told : Told) (h : Record) (i : ℕ) (cause : AbandonCause) → IsTold told h i → IsTold told (Abandon cause ∷ h) i
-told_abandoned told h i cause t = record {
-  taken = t.taken;
-  given = subst (λ (bs : List ℕ). IfSome told.given (λ bytes. bytes ≡ bs)) (sym (append-nil (given h i))) t.given;
-  faults = t.faults;
+-- an abandonment bears no batch
+known_abandoned : (f : Facts) (h : Record) (i : ℕ) (cause : AbandonCause) → IsKnown f h i → IsKnown f (Abandon cause ∷ h) i
+known_abandoned f h i cause k = record {
+  taken = k.taken;
+  lost = k.lost;
+  failed_starts = k.failed_starts;
+  ends = ends_on f h i (Abandon cause) refl k.ends;
+  to_confirm = to_confirm_on f h i (Abandon cause) refl k.to_confirm;
+  confirm_failed = k.confirm_failed;
 }
 
 -- a run is abandoned
@@ -213,10 +250,11 @@ stands_abandoned {P} told_by d log cause s noted = record {
       let w = noted.whole sound.whole in
       let r : IsRecorded told_by d d.log.history = s.recorded (record { whole = w.0; fed = sound.fed }) in
       subst (λ (h : Record). IsRecorded told_by (record d { abandoned = Some cause; log = log }) h) (sym w.1) (record {
-        ports = λ i. some_mapped _ _ (port_at d.rows.items i) (λ port t. told_abandoned (told_by port) d.log.history i cause t) (r.ports i);
-        facts = λ i. some_mapped _ _ (facts_at d.facts.items i) (λ f k. record { taken = k.taken; lost = k.lost }) (r.facts i);
+        ports = λ i. some_mapped _ _ (port_at d.rows.items i) (λ port t. told_mute (told_by port) d.log.history i (Abandon cause) tt t) (r.ports i);
+        facts = λ i. some_mapped _ _ (facts_at d.facts.items i) (λ f k. known_abandoned f d.log.history i cause k) (r.facts i);
         bytes = r.bytes;
         losses = r.losses;
+        confirms = r.confirms;
         cause = refl;
       });
   shut = s.shut;
@@ -224,3 +262,35 @@ stands_abandoned {P} told_by d log cause s noted = record {
   size = s.size;
   berths = s.berths;
 }
+
+-- what is counted beside the record says nothing of it
+pub stands_counted : {P : Type 0} (told_by : P → Told) (d e : Hub P) (hand : List Copy) → e ≡ record d { progress = e.progress } → Stands told_by d hand d.log.history → Stands told_by e hand e.log.history
+stands_counted {P} told_by d e hand same s = subst (λ (x : Hub P). Stands told_by x hand x.log.history) (sym same) (record {
+  history = refl;
+  balanced = s.balanced;
+  recorded = λ sound.
+      let r : IsRecorded told_by d d.log.history = s.recorded (record { whole = sound.whole; fed = sound.fed }) in
+      record { ports = r.ports; facts = r.facts; bytes = r.bytes; losses = r.losses; confirms = r.confirms; cause = r.cause };
+  shut = s.shut;
+  gone = s.gone;
+  size = s.size;
+  berths = s.berths;
+})
+
+-- copies are born into the hand
+pub stands_born : {P : Type 0} (told_by : P → Told) (d : Hub P) (batches : Ledger) (copies : List Copy) → Stands told_by d [] d.log.history → Exchanges d.batches [] batches copies →
+    ((e : Hub P) → e.batches ≡ batches → e.rows ≡ d.rows → e.facts ≡ d.facts → e.log ≡ d.log → e.starved ≡ d.starved → e.bytes ≡ d.bytes → spare_of e ≡ spare_of d → Stands told_by e copies e.log.history)
+stands_born {P} told_by d batches copies s born e made rows facts log starved bytes spare =
+    stands_moved told_by d e [] copies s
+    (λ batch place. subst (λ (b : Ledger). live_count batch place b.open_rows ≡ copies_in batch place e.rows.items + copies_of batch place copies) (sym made)
+    (subst (λ (r : _). live_count batch place batches.open_rows ≡ copies_in batch place r.items + copies_of batch place copies) (sym rows)
+    (let b : live_count batch place d.batches.open_rows ≡ copies_in batch place d.rows.items + 0 = s.balanced batch place in omega (arith, b, born batch place))))
+    facts (λ i. ap (λ (r : _). port_at r.items i) rows)
+    (λ i. subst (λ (r : _). IfSome (facts_at d.facts.items i) (λ f. IsTrue f.retired → IsBareAt d.rows.items i → IsBareAt r.items i)) (sym rows) (bare_stays d.facts.items d.rows.items i))
+    (ap (λ (r : _). length r.items) rows) log starved bytes spare
+
+-- an entry that says nothing is noted, and then whether the hub goes on
+pub stands_settled : {P : Type 0} (told_by : P → Told) (d e : Hub P) (log : Log) (entry : Entry) → Stands told_by d [] d.log.history → Noted d.log entry log → IsQuiet entry →
+    e ≡ record d { log = log; fatal = e.fatal } → Stands told_by e [] e.log.history
+stands_settled {P} told_by d e log entry s noted quiet same = subst (λ (x : Hub P). Stands told_by x [] x.log.history) (sym same)
+    (stands_quiet told_by d (record d { log = log; fatal = e.fatal }) [] [] entry s s.balanced refl (λ i. refl) (bare_stays d.facts.items d.rows.items) refl noted quiet refl refl refl)

@@ -1,86 +1,104 @@
 -- Entries that tell of the bytes or the loss of one instance, which is out.
 use Rattle.std.proofs.Common.{◌≡◌, ℕ, zero, suc, ◌+◌, ◌<◌, Bool, true, false, IsTrue, List, [], ◌∷◌, ◌++◌, length, get_or, Option, Some, None, IfSome, refl, sym, ap, subst, ◌∙◌, arith}
-use Rattle.std.specs.Prelude.{IsSomeAnd, slice_set, ◌==◌, ◌≢◌, ◌&&◌, if◌then◌else◌, Result, Ok, Err, OnOk, IsSome, is_some, min, ◌^◌, ◌-◌}
+use Rattle.std.specs.Prelude.{IsSomeAnd, slice_set, ◌==◌, ◌≢◌, if◌then◌else◌, Result, Ok, Err, OnOk, IsSome, is_some, min, ◌^◌, ◌-◌, not, ◌≤◌}
 use Rattle.std.proofs.lemmas.Bool.Decides.{nat_tests}
-use Rattle.std.proofs.lemmas.List.{append-nil, length-set}
+use Rattle.std.proofs.lemmas.List.{length-set}
 use Rattle.vx_ends.specs.Told.{Told}
 use Rattle.vx_ledger.specs.Copies.{Copy, copies_of, numbered}
 use Rattle.vx_ledger.specs.Ledger.{Ledger, live_count}
 use Rattle.vx_ledger.proofs.CopyLaws.{copies_of-append}
 use Rattle.vx_record.specs.Records.{Record}
-use Rattle.vx_record.specs.Reads.{taken, bytes_of_all, bytes_of}
+use Rattle.vx_ends.specs.declared.trouble.Reply.{Reply}
+use Rattle.vx_record.specs.Reads.{taken, bytes_of_all}
 use Rattle.vx_record.specs.Encoding.{given}
+use Rattle.vx_record.specs.Confirms.{confirmed, is_unconfirmed}
+use Rattle.vx_record.specs.Sourcing.{failed_starts}
+use Rattle.vx_record.specs.PortCounts.{fault_count, refusal_count, idle_count}
 use Rattle.vx_record.specs.Noted.{Noted}
 use Rattle.vx_record.specs.declared.log.Log.{Log}
 use Rattle.vx_record.specs.declared.entry.Entry.{Entry}
-use Rattle.vx_record.specs.declared.entry.Entry.TheVariants.{Read, SourceLost, Attempt, Abandon}
+use Rattle.vx_record.specs.declared.entry.Entry.TheVariants.{Read, Idle, SourceLost, Born, Attempt, Confirm, Abandon}
 use Rattle.vx_hub.specs.declared.facts.Facts.{Facts}
 use Rattle.vx_hub.specs.declared.row.Row.{Row}
 use Rattle.vx_hub.specs.declared.hub.Hub.{Hub}
 use Rattle.vx_hub.specs.Rows.{port_at, port_of, task_port, row_at, copies_in, IsBareAt, IsOutAt, SameOtherPorts, KeepsOthersBare, KeepsBare, Gains, Loses}
 use Rattle.vx_hub.specs.Works.{IsClosedBy}
 use Rattle.vx_hub.specs.declared.task.Task.{Task}
-use Rattle.vx_hub.specs.Stands.{Stands, IsTold, IsKnown, IsRecorded, IsSound, IsShut, IsGone, LossesTold, facts_at, capped, touched, IsBalanced, IsQuiet, spare_of, cause_of}
-use Rattle.vx_hub.proofs.StandsLaws.{some_mapped, some_all, berths_kept, told_quiet, known_quiet, bytes_quiet, losses_quiet, cause_quiet}
+use Rattle.vx_hub.specs.Stands.{Stands, IsTold, IsKnown, IsRecorded, IsSound, IsShut, IsGone, LossesTold, ConfirmsTold, facts_at, lost_at, capped, touched, IsBalanced, IsMute, spare_of, cause_of}
+use Rattle.vx_hub.proofs.StandsLaws.{some_mapped, some_all, berths_kept, ends_on, to_confirm_on, told_mute, bytes_mute, losses_mute, confirms_mute}
+use Rattle.vx_hub.proofs.Silence.{told_silent, silent_other, other_test, same_test}
 
--- a list that gets nothing more
-nothing_more : (b : Bool) (xs ys : List ℕ) → b ≡ false → xs ≡ xs ++ (if b then ys else [])
-nothing_more true xs ys e = cc
-nothing_more false xs ys e = sym (append-nil xs)
-
-nothing_of : (a b : Bool) (xs ys : List ℕ) → a ≡ false → xs ≡ xs ++ (if a && b then ys else [])
-nothing_of true b xs ys e = cc
-nothing_of false b xs ys e = sym (append-nil xs)
-
-other_test : (i j : ℕ) → j ≢ i → (i == j) ≡ false
-other_test i j other = go (i == j) refl
-  where
-    go : (b : Bool) → (i == j) ≡ b → (i == j) ≡ false
-    go false e = e
-    go true e = absurd (other (grind (arith, nat_tests)))
-
-pub same_test : (i : ℕ) → (i == i) ≡ true
-same_test i = grind (arith, nat_tests)
-
--- what another instance's port tells
-pub told_other : (told : Told) (h : Record) (i j : ℕ) (e : Entry) → touched e ≡ Some i → j ≢ i → IsTold told h j → IsTold told (e ∷ h) j
-told_other told h i j (Read k stream took) t other s =
-    let k_is : k ≡ i = cc in
-    let test : (k == j) ≡ false = other_test k j (λ e. other (e ∙ k_is)) in
-    record {
-      taken = λ from. subst (λ (g : List ℕ). IfSome (told.taken from) (λ bytes. bytes ≡ g)) (nothing_of (k == j) (stream == from) (taken h j from) (bytes_of took) test) (s.taken from);
-      given = subst (λ (g : List ℕ). IfSome told.given (λ bytes. bytes ≡ g)) (sym (append-nil (given h j))) s.given;
-      faults = s.faults;
-    }
-told_other told h i j (SourceLost k at failed) t other s =
-    let k_is : k ≡ i = cc in
-    let test : (k == j) ≡ false = other_test k j (λ e. other (e ∙ k_is)) in
-    record {
-      taken = s.taken;
-      given = subst (λ (g : List ℕ). IfSome told.given (λ bytes. bytes ≡ g)) (sym (append-nil (given h j))) s.given;
-      faults = λ lost. s.faults (grind (arith, nat_tests, test, lost));
-    }
-told_other told h i j (Attempt k copies bytes reply) t other s =
-    let k_is : k ≡ i = cc in
-    let test : (k == j) ≡ false = other_test k j (λ e. other (e ∙ k_is)) in
-    record {
-      taken = s.taken;
-      given = subst (λ (g : List ℕ). IfSome told.given (λ all. all ≡ g)) (nothing_more (k == j) (given h j) bytes test) s.given;
-      faults = s.faults;
-    }
-told_other told h i j e t other s = cc
+-- a test that fails chooses the other side
+known_chosen : {X : Type 0} (a : Bool) (x y z : X) → a ≡ false → z ≡ y → z ≡ (if a then x else y)
+known_chosen true x y z e k = cc
+known_chosen false x y z e k = k
 
 -- what is known of another instance
 pub known_other : (f : Facts) (h : Record) (i j : ℕ) (e : Entry) → touched e ≡ Some i → j ≢ i → IsKnown f h j → IsKnown f (e ∷ h) j
 known_other f h i j (Read k stream took) t other s =
     let k_is : k ≡ i = cc in
     let test : (k == j) ≡ false = other_test k j (λ e. other (e ∙ k_is)) in
-    record { taken = grind (arith, nat_tests, test, s.taken); lost = s.lost }
+    record {
+      taken = grind (arith, nat_tests, test, s.taken);
+      lost = s.lost;
+      failed_starts = known_chosen (k == j) 0 (failed_starts h j) f.failed_starts test s.failed_starts;
+      ends = ends_on f h j (Read k stream took) (refl) s.ends;
+      to_confirm = to_confirm_on f h j (Read k stream took) (refl) s.to_confirm;
+      confirm_failed = s.confirm_failed;
+    }
+known_other f h i j (Idle k failed) t other s =
+    let k_is : k ≡ i = cc in
+    let test : (k == j) ≡ false = other_test k j (λ e. other (e ∙ k_is)) in
+    record {
+      taken = s.taken;
+      lost = s.lost;
+      failed_starts = known_chosen (k == j) (if failed then failed_starts h j + 1 else 0) (failed_starts h j) f.failed_starts test s.failed_starts;
+      ends = ends_on f h j (Idle k failed) (refl) s.ends;
+      to_confirm = to_confirm_on f h j (Idle k failed) (refl) s.to_confirm;
+      confirm_failed = s.confirm_failed;
+    }
 known_other f h i j (SourceLost k at failed) t other s =
     let k_is : k ≡ i = cc in
     let test : (k == j) ≡ false = other_test k j (λ e. other (e ∙ k_is)) in
-    record { taken = s.taken; lost = grind (arith, nat_tests, test, s.lost) }
-known_other f h i j (Attempt k copies bytes reply) t other s = record { taken = s.taken; lost = s.lost }
+    record {
+      taken = s.taken;
+      lost = known_chosen (k == j) (Some at) (lost_at h j) f.lost test s.lost;
+      failed_starts = s.failed_starts;
+      ends = ends_on f h j (SourceLost k at failed) (refl) s.ends;
+      to_confirm = to_confirm_on f h j (SourceLost k at failed) (refl) s.to_confirm;
+      confirm_failed = s.confirm_failed;
+    }
+known_other f h i j (Attempt k copies bytes reply) t other s =
+    record {
+      taken = s.taken;
+      lost = s.lost;
+      failed_starts = s.failed_starts;
+      ends = ends_on f h j (Attempt k copies bytes reply) (refl) s.ends;
+      to_confirm = to_confirm_on f h j (Attempt k copies bytes reply) (refl) s.to_confirm;
+      confirm_failed = s.confirm_failed;
+    }
+known_other f h i j (Confirm k positions made) t other s =
+    let k_is : k ≡ i = cc in
+    let test : (k == j) ≡ false = other_test k j (λ e. other (e ∙ k_is)) in
+    record {
+      taken = s.taken;
+      lost = s.lost;
+      failed_starts = s.failed_starts;
+      ends = ends_on f h j (Confirm k positions made) (refl) s.ends;
+      to_confirm = to_confirm_on f h j (Confirm k positions made) (refl) s.to_confirm;
+      confirm_failed = known_chosen (k == j) (not made) (is_unconfirmed h j) f.confirm_failed test s.confirm_failed;
+    }
+known_other f h i j (Born k b place copies events waits stream end) t other s =
+    let k_is : k ≡ i = cc in
+    let test : (k == j) ≡ false = other_test k j (λ e. other (e ∙ k_is)) in
+    record {
+      taken = s.taken;
+      lost = s.lost;
+      failed_starts = s.failed_starts;
+      ends = ends_on f h j (Born k b place copies events waits stream end) (sym (known_chosen (k == j) (record { batch = b; waits = waits; stream = stream; end = end } ∷ []) [] [] test refl)) s.ends;
+      to_confirm = to_confirm_on f h j (Born k b place copies events waits stream end) (sym (known_chosen (k == j) (record { batch = b; waits = waits; stream = stream; end = end } ∷ []) [] [] test refl)) s.to_confirm;
+      confirm_failed = s.confirm_failed;
+    }
 known_other f h i j e t other s = cc
 
 -- the facts of the instance that were written
@@ -153,8 +171,9 @@ pub stands_touched : {P : Type 0} (told_by : P → Told) (d e : Hub P) (hand : L
     (IsKnown f d.log.history i → IsKnown g (entry ∷ d.log.history) i) →
     (d.bytes ≡ capped (bytes_of_all d.log.history) → e.bytes ≡ capped (bytes_of_all (entry ∷ d.log.history))) →
     (IsKnown f d.log.history i → LossesTold d.log.history → LossesTold (entry ∷ d.log.history)) →
+    (IsSound d → ConfirmsTold d.log.history → ConfirmsTold (entry ∷ d.log.history)) →
     Stands told_by e hand e.log.history
-stands_touched {P} told_by d e hand entry i f g s out within at written closed retired rows berths batches starved noted touch known bytes losses =
+stands_touched {P} told_by d e hand entry i f g s out within at written closed retired rows berths batches starved noted touch known bytes losses confirms =
     let was : facts_at d.facts.items i ≡ Some f = facts_read d.facts.items i f within at in
     let none : port_at d.rows.items i ≡ None = out_port (row_at d.rows.items i) out in
     let port_gone : (Q : Option P → Type 0) → Q None → Q (port_at d.rows.items i) = λ Q q. subst (λ (p : Option P). Q p) (sym none) q in
@@ -169,12 +188,13 @@ stands_touched {P} told_by d e hand entry i f g s out within at written closed r
           subst (λ (h : Record). IsRecorded told_by e h) (sym w.1) (record {
             ports = λ j. subst (λ (v : _). IfSome (port_at v.items j) (λ port. IsTold (told_by port) (entry ∷ d.log.history) j)) (sym rows)
                 (other_port (λ k p. IfSome p (λ port. IsTold (told_by port) (entry ∷ d.log.history) k)) i d.rows.items (port_gone (λ p. IfSome p (λ port. IsTold (told_by port) (entry ∷ d.log.history) i)) tt)
-                (λ k other. some_mapped _ _ (port_at d.rows.items k) (λ port t. told_other (told_by port) d.log.history i k entry touch other t) (r.ports k)) j);
+                (λ k other. some_mapped _ _ (port_at d.rows.items k) (λ port t. told_silent (told_by port) d.log.history k entry (silent_other d.log.history i k entry touch other) t) (r.ports k)) j);
             facts = λ j. subst (λ (fs : List Facts). IfSome (facts_at fs j) (λ x. IsKnown x (entry ∷ d.log.history) j)) (sym written)
                 (facts_keep (λ k o. IfSome o (λ x. IsKnown x (entry ∷ d.log.history) k)) d.facts.items i g within (known mine)
                 (λ k other. some_mapped _ _ (facts_at d.facts.items k) (λ x t. known_other x d.log.history i k entry touch other t) (r.facts k)) j);
             bytes = bytes r.bytes;
             losses = losses mine r.losses;
+            confirms = confirms (record { whole = w.0; fed = sym starved ∙ sound.fed }) r.confirms;
             cause = ap (λ (t : _). t.1) berths ∙ r.cause ∙ sym (cause_touched d.log.history entry i touch);
           });
       shut = λ j. subst (λ (v : _). IfSome (facts_at e.facts.items j) (IsShut told_by v.items j)) (sym rows)
@@ -189,14 +209,17 @@ stands_touched {P} told_by d e hand entry i f g s out within at written closed r
       berths = berths_kept d.ports e.ports d.rows.items e.rows.items (ap (λ (t : _). t.0) berths) (ap (λ (v : _). length v.items) rows) s.berths;
     }
 
--- an instance is marked, and a quiet entry tells it
+-- an instance is marked, and an entry tells it that says nothing of a port
 pub stands_marked : {P : Type 0} (told_by : P → Told) (d e : Hub P) (hand : List Copy) (entry : Entry) (i : ℕ) (f g : Facts) →
     Stands told_by d hand d.log.history → i < length d.facts.items → f ≡ get_or d.facts.items i f →
-    e.facts.items ≡ slice_set d.facts.items i g → g.taken ≡ f.taken → g.lost ≡ f.lost →
-    e.rows ≡ d.rows → spare_of e ≡ spare_of d → e.batches ≡ d.batches → e.starved ≡ d.starved → e.bytes ≡ d.bytes → Noted d.log entry e.log → IsQuiet entry →
+    e.facts.items ≡ slice_set d.facts.items i g →
+    e.rows ≡ d.rows → spare_of e ≡ spare_of d → e.batches ≡ d.batches → e.starved ≡ d.starved → e.bytes ≡ d.bytes → Noted d.log entry e.log → IsMute entry →
+    cause_of (entry ∷ d.log.history) ≡ cause_of d.log.history →
+    (IsKnown f d.log.history i → IsKnown g (entry ∷ d.log.history) i) →
+    ((x : Facts) (k : ℕ) → k ≢ i → IsKnown x d.log.history k → IsKnown x (entry ∷ d.log.history) k) →
     IsShut told_by d.rows.items i g → IsGone d.rows.items i g →
     Stands told_by e hand e.log.history
-stands_marked {P} told_by d e hand entry i f g s within at written taken_same lost_same rows berths batches starved bytes noted quiet shut gone =
+stands_marked {P} told_by d e hand entry i f g s within at written rows berths batches starved bytes noted mute cause known others shut gone =
     let was : facts_at d.facts.items i ≡ Some f = facts_read d.facts.items i f within at in
     record {
       history = refl;
@@ -208,14 +231,15 @@ stands_marked {P} told_by d e hand entry i f g s within at written taken_same lo
           let mine : IsKnown f d.log.history i = subst (λ (o : Option Facts). IfSome o (λ x. IsKnown x d.log.history i)) was (r.facts i) in
           subst (λ (h : Record). IsRecorded told_by e h) (sym w.1) (record {
             ports = λ j. subst (λ (v : _). IfSome (port_at v.items j) (λ port. IsTold (told_by port) (entry ∷ d.log.history) j)) (sym rows)
-                (some_mapped _ _ (port_at d.rows.items j) (λ port t. told_quiet (told_by port) d.log.history j entry quiet t) (r.ports j));
+                (some_mapped _ _ (port_at d.rows.items j) (λ port t. told_mute (told_by port) d.log.history j entry mute t) (r.ports j));
             facts = λ j. subst (λ (fs : List Facts). IfSome (facts_at fs j) (λ x. IsKnown x (entry ∷ d.log.history) j)) (sym written)
                 (facts_keep (λ k o. IfSome o (λ x. IsKnown x (entry ∷ d.log.history) k)) d.facts.items i g within
-                (known_quiet g d.log.history i entry quiet (record { taken = taken_same ∙ mine.taken; lost = lost_same ∙ mine.lost }))
-                (λ k other. some_mapped _ _ (facts_at d.facts.items k) (λ x t. known_quiet x d.log.history k entry quiet t) (r.facts k)) j);
-            bytes = bytes ∙ r.bytes ∙ ap capped (sym (bytes_quiet d.log.history entry quiet));
-            losses = losses_quiet d.log.history entry quiet r.losses;
-            cause = ap (λ (t : _). t.1) berths ∙ r.cause ∙ sym (cause_quiet d.log.history entry quiet);
+                (known mine)
+                (λ k other. some_mapped _ _ (facts_at d.facts.items k) (λ x t. others x k other t) (r.facts k)) j);
+            bytes = bytes ∙ r.bytes ∙ ap capped (sym (bytes_mute d.log.history entry mute));
+            losses = losses_mute d.log.history entry mute r.losses;
+            confirms = confirms_mute d.log.history entry mute r.confirms;
+            cause = ap (λ (t : _). t.1) berths ∙ r.cause ∙ sym cause;
           });
       shut = λ j. subst (λ (v : _). IfSome (facts_at e.facts.items j) (IsShut told_by v.items j)) (sym rows)
           (subst (λ (fs : List Facts). IfSome (facts_at fs j) (IsShut told_by d.rows.items j)) (sym written)
@@ -248,6 +272,7 @@ stands_brought {P} told_by d e copies port i s unclosed told balanced here ports
             facts = λ k. subst (λ (v : _). IfSome (facts_at v.items k) (λ f. IsKnown f d.log.history k)) (sym facts) (r.facts k);
             bytes = bytes ∙ r.bytes;
             losses = r.losses;
+            confirms = r.confirms;
             cause = ap (λ (t : _). t.1) berths ∙ r.cause;
           });
       shut = λ k. subst (λ (v : _). IfSome (facts_at v.items k) (IsShut told_by e.rows.items k)) (sym facts)
@@ -316,7 +341,12 @@ pub told_closed : (told after : Told) (h : Record) (i : ℕ) → IsClosedBy told
 told_closed told after h i c t = record {
   taken = λ stream. subst (λ (f : _). IfSome (f stream) (λ bytes. bytes ≡ taken h i stream)) (sym c.bytes.taken) (t.taken stream);
   given = subst (λ (o : _). IfSome o (λ bytes. bytes ≡ given h i)) (sym c.bytes.given) t.given;
-  faults = λ lost. let before : 0 < told.faults = t.faults lost in omega (arith, c.faults);
+  confirmed = subst (λ (o : _). IfSome o (λ positions. positions ≡ confirmed h i)) (sym c.bytes.confirmed) t.confirmed;
+  ended = c.bytes.ended ∙ t.ended;
+  over = λ over stream. subst (λ (f : _). IfSome (f stream) (λ rest. rest ≡ [])) (sym c.bytes.left) (t.over over stream);
+  faults = let b : capped (fault_count h i) ≤ told.faults = t.faults in omega (arith, c.faults);
+  refusals = let b : capped (refusal_count h i) ≤ told.refusals = t.refusals in omega (arith, c.refusals);
+  idles = let b : capped (idle_count h i) ≤ told.idles = t.idles in omega (arith, c.idles);
 }
 
 -- what holds of the port that there is, and of the one that it becomes
@@ -354,6 +384,7 @@ stands_shut {P} told_by d e i s home becomes loses ports bare size batches facts
             facts = λ k. subst (λ (v : _). IfSome (facts_at v.items k) (λ f. IsKnown f d.log.history k)) (sym facts) (r.facts k);
             bytes = bytes ∙ r.bytes;
             losses = r.losses;
+            confirms = r.confirms;
             cause = ap (λ (t : _). t.1) berths ∙ r.cause;
           });
       shut = λ k. subst (λ (v : _). IfSome (facts_at v.items k) (IsShut told_by e.rows.items k)) (sym facts)
@@ -364,4 +395,48 @@ stands_shut {P} told_by d e i s home becomes loses ports bare size batches facts
           (some_mapped _ _ (facts_at d.facts.items k) (λ f gone c. ((gone c).0, bare k (gone c).1)) (s.gone k));
       size = ap (λ (v : _). length v.items) facts ∙ s.size ∙ sym size;
       berths = berths_kept d.ports e.ports d.rows.items e.rows.items (ap (λ (t : _). t.0) berths) size s.berths;
+    }
+
+-- no bytes are no more bytes
+pub no_bytes : (t : Bool) (b : ℕ) (bs : List ℕ) → bs ≡ [] → capped b ≡ capped (b + (if t then length bs else 0))
+no_bytes true b bs none = ap capped (let e : length bs ≡ 0 = ap length none in omega arith)
+no_bytes false b bs none = ap capped (omega arith)
+
+known_attempt : (f : Facts) (h : Record) (i j : ℕ) (copies bytes : List ℕ) (reply : Reply) → IsKnown f h j → IsKnown f (Attempt i copies bytes reply ∷ h) j
+known_attempt f h i j copies bytes reply k = record {
+  taken = k.taken;
+  lost = k.lost;
+  failed_starts = k.failed_starts;
+  ends = ends_on f h j (Attempt i copies bytes reply) refl k.ends;
+  to_confirm = to_confirm_on f h j (Attempt i copies bytes reply) refl k.to_confirm;
+  confirm_failed = k.confirm_failed;
+}
+
+-- an attempt of an instance that is out is told
+pub stands_attempted : {P : Type 0} (told_by : P → Told) (d : Hub P) (log : Log) (hand : List Copy) (i : ℕ) (copies bytes : List ℕ) (reply : Reply) →
+    Stands told_by d hand d.log.history → IsOutAt d.rows.items i → Noted d.log (Attempt i copies bytes reply) log →
+    Stands told_by (record d { log = log }) hand log.history
+stands_attempted {P} told_by d log hand i copies bytes reply s out noted =
+    let e : Entry = Attempt i copies bytes reply in
+    let none : port_at d.rows.items i ≡ None = out_port (row_at d.rows.items i) out in
+    record {
+      history = refl;
+      balanced = s.balanced;
+      recorded = λ sound.
+          let w = noted.whole sound.whole in
+          let r : IsRecorded told_by d d.log.history = s.recorded (record { whole = w.0; fed = sound.fed }) in
+          subst (λ (h : Record). IsRecorded told_by (record d { log = log }) h) (sym w.1) (record {
+            ports = other_port (λ k p. IfSome p (λ port. IsTold (told_by port) (e ∷ d.log.history) k)) i d.rows.items
+                (subst (λ (p : Option P). IfSome p (λ port. IsTold (told_by port) (e ∷ d.log.history) i)) (sym none) tt)
+                (λ k other. some_mapped _ _ (port_at d.rows.items k) (λ port t. told_silent (told_by port) d.log.history k e (silent_other d.log.history i k e refl other) t) (r.ports k));
+            facts = λ j. some_mapped _ _ (facts_at d.facts.items j) (λ f k. known_attempt f d.log.history i j copies bytes reply k) (r.facts j);
+            bytes = r.bytes;
+            losses = r.losses;
+            confirms = r.confirms;
+            cause = r.cause;
+          });
+      shut = s.shut;
+      gone = s.gone;
+      size = s.size;
+      berths = s.berths;
     }

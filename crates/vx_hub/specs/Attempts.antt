@@ -8,11 +8,13 @@ use Rattle.vx_hub.specs.declared.sending.Attempted.{Attempted}
 -- an attempt takes and confirms nothing, and no count falls
 pub record OnlyGives (old new : Told) : Type 0 where
   pub taken : new.taken ≡ old.taken
+  pub left : new.left ≡ old.left
   pub confirmed : new.confirmed ≡ old.confirmed
   pub spec : new.spec ≡ old.spec
   pub ended : new.ended ≡ old.ended
   pub faults : old.faults ≤ new.faults
   pub refusals : old.refusals ≤ new.refusals
+  pub idles : old.idles ≤ new.idles
 
 -- what a reply says of the port's counts, and that a failure closes the port
 abbrev pub RepliesBy : Told → Told → Reply → Type 0

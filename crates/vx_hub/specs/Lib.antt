@@ -7,3 +7,5 @@ pub mod Leases
 pub mod Making
 pub mod Beginning
 pub mod Remains
+pub mod Failures
+pub mod Ending

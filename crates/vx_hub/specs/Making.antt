@@ -10,6 +10,10 @@ use Rattle.vx_hub.specs.Rows.{role_parcels}
 pub record AreNew (f : Facts) : Type 0 where
   pub taken : f.taken ≡ 0
   pub lost : f.lost ≡ None
+  pub failed_starts : f.failed_starts ≡ 0
+  pub ends : f.ends ≡ []
+  pub to_confirm : f.to_confirm ≡ None
+  pub confirm_failed : f.confirm_failed ≡ false
   pub closed : f.closed ≡ false
   pub retired : f.retired ≡ false
 
@@ -28,6 +32,8 @@ AreUnused (seat ∷ seats) = IsUnused seat × AreUnused seats
 pub record IsUntouched (told : Told) : Type 0 where
   pub taken : (stream : ℕ) → IfSome (told.taken stream) (λ bytes. bytes ≡ [])
   pub given : IfSome told.given (λ bytes. bytes ≡ [])
+  pub confirmed : IfSome told.confirmed (λ positions. positions ≡ [])
+  pub ended : told.ended ≡ []
 
 -- nothing went through the ports
 abbrev pub AreUntouched : {P : Type 0} → (P → Told) → List (Named P) → Type 0

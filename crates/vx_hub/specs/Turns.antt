@@ -1,5 +1,5 @@
 -- What one turn of a source says of its port.
-use Rattle.std.specs.Prelude.{◌≡◌, ℕ, ◌≤◌, ◌==◌, if◌then◌else◌, List, [], length}
+use Rattle.std.specs.Prelude.{◌≡◌, ℕ, ◌≤◌, ◌==◌, if◌then◌else◌, Bool, true, false, List, [], ◌∷◌, length, IfSome}
 use Rattle.vx_ends.specs.Told.{Told, Rose}
 use Rattle.vx_hub.specs.declared.source.Turned.{Turned}
 use Rattle.vx_hub.specs.declared.source.Turned.TheVariants.{Lines, StreamEnded, AllEnded, Idle, Failed}
@@ -20,14 +20,42 @@ event_count (AllEnded from events end) = length events
 event_count Idle = 0
 event_count (Failed at_start) = 0
 
--- a turn tells a failure only where the count of faults rose
+-- the streams whose end a turn told
+abbrev pub ended_in : Turned → List ℕ
+ended_in (Lines from bytes events end) = []
+ended_in (StreamEnded from events end) = from ∷ []
+ended_in (AllEnded from events end) = []
+ended_in Idle = []
+ended_in (Failed at_start) = []
+
+-- whether a turn told the end of all
+abbrev pub ends_all : Turned → Bool
+ends_all (Lines from bytes events end) = false
+ends_all (StreamEnded from events end) = false
+ends_all (AllEnded from events end) = true
+ends_all Idle = false
+ends_all (Failed at_start) = false
+
+-- nothing is left of any stream, where that is told
+abbrev pub NothingLeft : Told → Type 0
+NothingLeft told = (stream : ℕ) → IfSome (told.left stream) (λ rest. rest ≡ [])
+
+-- a turn tells a failure only where the count of faults rose, and that there is nothing only where that of idles did
 abbrev pub FailsBy : Told → Told → Turned → Type 0
 FailsBy old new (Failed at_start) = Rose old.faults new.faults
+FailsBy old new Idle = Rose old.idles new.idles
 FailsBy old new other = Unit {0}
 
--- a turn gives and confirms nothing, and no count of faults falls
+-- a turn tells the end of all only where nothing is left
+abbrev pub LeavesNothing : Told → Turned → Type 0
+LeavesNothing new turned = ends_all turned ≡ true → NothingLeft new
+
+-- a turn gives and confirms nothing, brings back nothing, and no count falls
 pub record OnlyTakes (old new : Told) : Type 0 where
   pub given : new.given ≡ old.given
   pub confirmed : new.confirmed ≡ old.confirmed
   pub spec : new.spec ≡ old.spec
+  pub left : NothingLeft old → NothingLeft new
   pub faults : old.faults ≤ new.faults
+  pub refusals : old.refusals ≤ new.refusals
+  pub idles : old.idles ≤ new.idles

@@ -1,8 +1,14 @@
 -- What a worker's call did to the port of an instance.
-use Rattle.std.specs.Prelude.{◌≡◌, ◌≤◌, ℕ, Bool, true, false, List, [], IsTrue}
-use Rattle.vx_ends.specs.Told.{Told, Grows, Rose, SameBytes}
-use Rattle.vx_hub.specs.Turns.{taken_in, event_count}
-use Rattle.vx_hub.specs.declared.source.Turned.TheVariants.{Failed}
+use Rattle.std.specs.Prelude.{◌≡◌, ◌≤◌, ℕ, ◌+◌, Bool, true, false, not, List, [], ◌++◌, IsTrue, Option, Some, None, IfSome, IsSomeAnd, if◌then◌else◌}
+use Rattle.vx_ends.specs.Told.{Told, Grows, SameBytes}
+use Rattle.vx_ends.specs.declared.position.Position.{Position}
+use Rattle.vx_record.specs.Records.{capped}
+use Rattle.vx_record.specs.SinkBatches.{is_failed}
+use Rattle.vx_record.specs.PortCounts.{is_refused}
+use Rattle.vx_hub.specs.Turns.{taken_in, event_count, ended_in, ends_all, NothingLeft}
+use Rattle.vx_hub.specs.declared.source.Turned.{Turned}
+use Rattle.vx_hub.specs.declared.source.Turned.TheVariants.{Failed, Idle}
+use Rattle.vx_hub.specs.declared.confirming.Confirmed.{Confirmed}
 use Rattle.vx_hub.specs.declared.work.Done.{Done}
 use Rattle.vx_hub.specs.declared.work.Done.TheVariants.{Read, Attempted, Closed, Starved}
 
@@ -16,31 +22,85 @@ abbrev pub given_by : Done → List ℕ
 given_by (Attempted bytes reply) = bytes
 given_by other = []
 
+-- the streams whose end it told
+abbrev pub ended_by : Done → List ℕ
+ended_by (Read turned) = ended_in turned
+ended_by other = []
+
+-- whether it told the end of all
+abbrev pub ends_all_by : Done → Bool
+ends_all_by (Read turned) = ends_all turned
+ends_all_by other = false
+
 -- the number of events that it made
 abbrev pub event_count_of : Done → ℕ
 event_count_of (Read turned) = event_count turned
 event_count_of other = 0
 
--- whether it lost the source
-abbrev pub loses_source : Done → Bool
-loses_source (Read (Failed at_start)) = true
-loses_source other = false
+-- the positions that were confirmed before it
+abbrev pub confirmed_by : Option Confirmed → List Position
+confirmed_by None = []
+confirmed_by (Some c) = if c.made then c.positions else []
 
--- what the port told before, what was done, and what the port tells now
-pub record Did (old : Told) (done : Done) (new : Told) : Type 0 where
+-- 1 where that confirm failed
+abbrev pub confirm_faults : Option Confirmed → ℕ
+confirm_faults None = 0
+confirm_faults (Some c) = if not c.made then 1 else 0
+
+-- 1 where a turn failed
+abbrev pub turn_faults : Turned → ℕ
+turn_faults (Failed at_start) = 1
+turn_faults other = 0
+
+-- 1 where a turn found nothing
+abbrev pub turn_idles : Turned → ℕ
+turn_idles Idle = 1
+turn_idles other = 0
+
+-- 1 where the device failed, refused, or had nothing
+abbrev pub faults_by : Done → ℕ
+faults_by (Read turned) = turn_faults turned
+faults_by (Attempted bytes reply) = if is_failed reply then 1 else 0
+faults_by other = 0
+
+abbrev pub refusals_by : Done → ℕ
+refusals_by (Attempted bytes reply) = if is_refused reply then 1 else 0
+refusals_by other = 0
+
+abbrev pub idles_by : Done → ℕ
+idles_by (Read turned) = turn_idles turned
+idles_by other = 0
+
+-- a count rose by at least so much, or stands at its type's end
+abbrev pub Counts : ℕ → ℕ → ℕ → Type 0
+Counts before now more = capped (before + more) ≤ now
+
+-- what the port told before, what was confirmed and then done, and what the port tells now
+pub record Did (old : Told) (confirmed : Option Confirmed) (done : Done) (new : Told) : Type 0 where
   pub taken : (stream : ℕ) → Grows (old.taken stream) (new.taken stream) (taken_by done stream)
   pub given : Grows old.given new.given (given_by done)
-  pub faults : old.faults ≤ new.faults
-  pub lost : loses_source done ≡ true → Rose old.faults new.faults
+  pub confirms : Grows old.confirmed new.confirmed (confirmed_by confirmed)
+  pub ended : new.ended ≡ old.ended ++ ended_by done
+  pub left : NothingLeft old → NothingLeft new
+  pub over : ends_all_by done ≡ true → NothingLeft new
+  pub faults : Counts old.faults new.faults (confirm_faults confirmed + faults_by done)
+  pub refusals : Counts old.refusals new.refusals (refusals_by done)
+  pub idles : Counts old.idles new.idles (idles_by done)
   pub closed : done ≡ Closed → IsTrue new.started → ⊥
 
 -- the same, but for a call that found no memory
-abbrev pub Reports : Told → Done → Told → Type 0
-Reports old Starved new = Unit {0}
-Reports old done new = Did old done new
+abbrev pub Reports : Told → Option Confirmed → Done → Told → Type 0
+Reports old confirmed Starved new = Unit {0}
+Reports old confirmed done new = Did old confirmed done new
+
+-- a confirm names the positions that it was given
+abbrev pub Names : Option (List Position) → Option Confirmed → Type 0
+Names positions confirmed = IfSome confirmed (λ c. IsSomeAnd positions (λ given. c.positions ≡ given))
 
 -- a port was closed, and nothing else
 pub record IsClosedBy (old new : Told) : Type 0 where
   pub bytes : SameBytes old new
   pub faults : old.faults ≤ new.faults
+  pub refusals : old.refusals ≤ new.refusals
+  pub idles : old.idles ≤ new.idles
   pub closed : new.started ≡ false

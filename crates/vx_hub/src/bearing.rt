@@ -1,16 +1,25 @@
-ghost use Rattle.std.specs.Prelude.{◌≡◌, ◌<◌, ◌≤◌, ◌+◌, ◌++◌, ℕ, [], length, List};
+ghost use Rattle.std.specs.Prelude.{◌≡◌, ◌<◌, ◌≤◌, ◌+◌, ◌++◌, ℕ, [], length, List, IfOk, IsSomeAnd};
 ghost use Rattle.vx_ledger.specs.Copies.{Copy};
-ghost use Rattle.vx_hub.specs.Stands.{Stands};
+ghost use Rattle.vx_hub.specs.Stands.{Stands, facts_at};
+ghost use Rattle.vx_hub.specs.Ending.{AreMovedTo};
 ghost use Rattle.vx_hub.specs.Leases.{IsOpenAt};
 ghost use Rattle.vx_hub.specs.Rows.{HasOutputRoom};
 
+use crate::due::moved;
 use crate::fatal::Fatal;
 use crate::hub::Hub;
 use crate::notes::note_born;
 use crate::rows::{push_output, reserve_outputs};
-use vx_ends::{Port, Position};
+use vx_ends::{Port, Position, PositionList};
 use vx_ledger::{Finalizers, Parcel};
 use vx_value::{Event, EventList, WantOfMemory};
+
+/// Where an instance's batches end, twice: to be kept, and to be confirmed.
+#[derive(Drop)]
+pub struct Ends {
+    pub ends: PositionList,
+    pub to_confirm: PositionList,
+}
 
 impl<P: Port> Hub<P> {
     /// Opens a batch of some events, if there is any, and puts each of them out.
@@ -33,21 +42,80 @@ impl<P: Port> Hub<P> {
         if reserve_outputs(&mut self.rows, instance as usize, n).is_err() {
             return Err(Fatal::WantOfMemory);
         }
+        let Ok(ends) = self.ends_with(instance, position) else {
+            return Err(Fatal::WantOfMemory);
+        };
+        self.bear(instance, events, position, ends)
+    }
+
+    /// Opens a batch of some events, whose ends are known, and puts each of them out.
+    fn bear(
+        &mut self,
+        instance: u32,
+        events: EventList,
+        position: Position,
+        ends: Ends,
+    ) -> Result<(), Fatal>
+        requires stands { Stands P.told self.old [] self.old.log.history }
+        requires open { IsOpenAt self.old instance }
+        requires some { 0 < length events }
+        requires few { length events ≤ 65536 }
+        requires room { HasOutputRoom self.old.rows.items instance (length events) }
+        requires moved { IsSomeAnd (facts_at self.old.facts.items instance) (AreMovedTo position ends) }
+        ensures stands { Stands P.told self.new [] self.new.log.history }
+        ensures size { length self.new.rows.items ≡ length self.old.rows.items }
+    {
+        let n = events.len();
         let (batch, finalizers) = match self.batches.born(instance, n as u32) {
             Ok(born) => born,
             Err(short) => return Err(Fatal::from(short)),
         };
+        self.note_birth(instance, batch, &finalizers, &events, position, ends);
+        self.count_batch(instance);
+        self.put_out(instance, events, finalizers)
+    }
+
+    /// Where an instance's batches end with one that ends at a position.
+    fn ends_with(&self, instance: u32, position: Position) -> Result<Ends, WantOfMemory>
+        requires { instance < length self.now.facts.items }
+        ensures { IfOk result (λ ends. IsSomeAnd (facts_at self.now.facts.items instance) (AreMovedTo position ends)) }
+    {
+        let before = self.facts[instance as usize].ends.as_slice();
+        Ok(Ends {
+            ends: moved(self.alloc, before, position)?,
+            to_confirm: moved(self.alloc, before, position)?,
+        })
+    }
+
+    /// Notes the birth of a batch, and that its end is to be confirmed.
+    fn note_birth(
+        &mut self,
+        instance: u32,
+        batch: u64,
+        finalizers: &Finalizers,
+        events: &EventList,
+        position: Position,
+        ends: Ends,
+    )
+        requires within { instance < length self.old.facts.items }
+        requires moved { IsSomeAnd (facts_at self.old.facts.items instance) (AreMovedTo position ends) }
+        ensures stands { (hand : List Copy) → Stands P.told self.old hand self.old.log.history → Stands P.told self.new hand self.new.log.history }
+        ensures rows { self.new.rows ≡ self.old.rows }
+        ensures batches { self.new.batches ≡ self.old.batches }
+        ensures open { IsOpenAt self.old instance → IsOpenAt self.new instance }
+    {
         note_born(
             self.alloc,
             &mut self.log,
             instance,
             batch,
-            &finalizers,
-            &events,
+            finalizers,
+            events,
             position,
         );
-        self.count_batch(instance);
-        self.put_out(instance, events, finalizers)
+        let facts = &mut self.facts[instance as usize];
+        facts.ends = ends.ends;
+        facts.to_confirm = Some(ends.to_confirm);
     }
 
     /// Counts a batch that has no notice yet.

@@ -1,3 +1,4 @@
+use vx_ends::PositionList;
 use vx_plan::Class;
 use vx_value::{ItemList, Text};
 
@@ -13,6 +14,14 @@ pub struct Facts {
     pub taken: u64,
     /// After how many bytes it was lost.
     pub lost: Option<u64>,
+    /// How often in a row its port failed to start, at most 4.
+    pub failed_starts: u32,
+    /// Where its batches end: for each stream the end of the last one, by rising streams.
+    pub ends: PositionList,
+    /// The same, where it is still to be confirmed to its port.
+    pub to_confirm: Option<PositionList>,
+    /// Whether its last confirm failed.
+    pub confirm_failed: bool,
     /// Whether its port is closed for good.
     pub closed: bool,
     /// Whether it ended.

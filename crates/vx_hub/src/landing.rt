@@ -1,9 +1,13 @@
-ghost use Rattle.std.specs.Prelude.{◌≡◌, ◌<◌, ◌≤◌, ◌++◌, [], length, IfSome, IsSomeAnd, Some, false, IsTrue};
+ghost use Rattle.std.specs.Prelude.{◌≡◌, ◌<◌, ◌≤◌, ◌++◌, List, [], length, IfSome, IsSomeAnd, Some, None, false, IsTrue};
+ghost use Rattle.vx_ledger.specs.Copies.{Copy};
+ghost use Rattle.vx_record.specs.Confirms.{born_positions};
+ghost use Rattle.vx_record.specs.Noted.{Noted};
 ghost use Rattle.vx_hub.specs.Stands.{Stands, IsTold, IsSound};
 ghost use Rattle.vx_hub.specs.Leases.{IsBack, IsOpenAt, Adds};
 ghost use Rattle.vx_hub.specs.Turns.{event_count};
 ghost use Rattle.vx_hub.specs.Rows.{role_copies, port_at, IsOutAt};
 
+use crate::confirming::Confirmed;
 use crate::fatal::Fatal;
 use crate::hub::Hub;
 use crate::notes::note_attempt;
@@ -25,12 +29,27 @@ impl<P: Port> Hub<P> {
         ensures stands { Stands P.told self.new [] self.new.log.history }
         ensures size { length self.new.rows.items ≡ length self.old.rows.items }
     {
+        let instance = landing.instance;
+        let landing = self.land_confirm(landing);
+        let landed = self.land_done(landing);
+        self.log.note(Ok(Entry::Home { instance }));
+        self.settled(landed)
+    }
+
+    /// Brings a task home, and notes what was done.
+    fn land_done(&mut self, landing: Landing<P>) -> Result<(), Fatal>
+        requires back { IsBack P.told self.old landing }
+        requires noted { landing.confirmed ≡ None }
+        ensures stands { Stands P.told self.new [] self.new.log.history }
+        ensures size { length self.new.rows.items ≡ length self.old.rows.items }
+    {
         let Landing {
             instance,
             task,
+            confirmed: _,
             done,
         } = landing;
-        let landed = match done {
+        match done {
             Done::Nothing => {
                 self.bring(instance, task);
                 Ok(())
@@ -50,9 +69,60 @@ impl<P: Port> Hub<P> {
                 Ok(())
             }
             Done::Read(turned) => self.bring_read(instance, task, turned),
-        };
-        self.log.note(Ok(Entry::Home { instance }));
-        self.settled(landed)
+        }
+    }
+
+    /// Notes the confirm that a landing carries, if there is one.
+    fn land_confirm(&mut self, landing: Landing<P>) -> Landing<P>
+        requires { IsBack P.told self.old landing }
+        ensures back { IsBack P.told self.new result }
+        ensures none { result.confirmed ≡ None }
+        ensures size { length self.new.rows.items ≡ length self.old.rows.items }
+    {
+        let Landing {
+            instance,
+            task,
+            confirmed,
+            done,
+        } = landing;
+        match confirmed {
+            Some(confirmed) => {
+                self.note_confirm(instance, confirmed);
+                Landing {
+                    instance,
+                    task,
+                    confirmed: None,
+                    done,
+                }
+            }
+            None => Landing {
+                instance,
+                task,
+                confirmed: None,
+                done,
+            },
+        }
+    }
+
+    /// Notes a confirm to the port of an instance that is out.
+    fn note_confirm(&mut self, instance: u32, confirmed: Confirmed)
+        requires out { IsOutAt self.old.rows.items instance }
+        requires within { instance < length self.old.facts.items }
+        requires due { IsSound self.old → confirmed.positions ≡ born_positions self.old.log.history instance }
+        ensures stands { (hand : List Copy) → Stands P.told self.old hand self.old.log.history → Stands P.told self.new hand self.new.log.history }
+        ensures noted { Noted self.old.log (Entry.Confirm instance confirmed.positions confirmed.made) self.new.log }
+        ensures rows { self.new.rows ≡ self.old.rows }
+        ensures starved { self.new.starved ≡ self.old.starved }
+        ensures open { IsOpenAt self.old instance → IsOpenAt self.new instance }
+    {
+        let Confirmed { positions, made } = confirmed;
+        let facts = &mut self.facts[instance as usize];
+        facts.confirm_failed = !made;
+        self.log.note(Ok(Entry::Confirm {
+            instance,
+            positions,
+            made,
+        }));
     }
 
     /// The answer of a landing. An entry that couldn't be noted is want of memory.
@@ -112,7 +182,7 @@ impl<P: Port> Hub<P> {
         requires stands { Stands P.told self.old (role_copies task.role) self.old.log.history }
         requires open { IsOpenAt self.old instance }
         requires out { IsOutAt self.old.rows.items instance }
-        requires brings { IsSound self.old → Adds (P.told task.port) self.old.log.history instance (Done.Attempted bytes reply) }
+        requires brings { IsSound self.old → Adds (P.told task.port) self.old.log.history instance None (Done.Attempted bytes reply) }
         ensures stands { Stands P.told self.new [] self.new.log.history }
         ensures facts { self.new.facts ≡ self.old.facts }
         ensures size { length self.new.rows.items ≡ length self.old.rows.items }

@@ -1,5 +1,6 @@
 ghost use Rattle.std.specs.Prelude.{◌≡◌, ◌<◌, [], length, IfSome, IfNone, IsTrue};
-ghost use Rattle.vx_hub.specs.Stands.{Stands};
+ghost use Rattle.vx_record.specs.Confirms.{born_positions};
+ghost use Rattle.vx_hub.specs.Stands.{Stands, IsSound};
 ghost use Rattle.vx_hub.specs.Leases.{IsLeased, IsOpenAt};
 ghost use Rattle.vx_hub.specs.Rows.{CanHold};
 
@@ -8,7 +9,7 @@ use crate::notes::note_take;
 use crate::rows::{hold, pop_buffer, take_task};
 use crate::task::{Role, SinkCore};
 use crate::work::{Job, Work};
-use vx_ends::Port;
+use vx_ends::{Port, PositionList};
 use vx_plan::Class;
 use vx_record::Entry;
 
@@ -38,18 +39,54 @@ impl<P: Port> Hub<P> {
             return None;
         }
         let Ready { instance, job } = self.ready(now)?;
+        match self.note_lease(instance, worker, now) {
+            Some(positions) => self.hand_out(instance, job, Some(positions)),
+            None => {
+                self.collect(instance, now);
+                let job = self.decided(instance as usize, job, now);
+                self.hand_out(instance, job, None)
+            }
+        }
+    }
+
+    /// Notes a lease, and takes the positions that are to be confirmed in it.
+    fn note_lease(&mut self, instance: u32, worker: u32, now: u64) -> Option<PositionList>
+        requires stands { Stands P.told self.old [] self.old.log.history }
+        requires open { IsOpenAt self.old instance }
+        ensures stands { Stands P.told self.new [] self.new.log.history }
+        ensures open { IsOpenAt self.new instance }
+        ensures due { IsSound self.new → IfSome result (λ positions. positions ≡ born_positions self.new.log.history instance) }
+        ensures rows { self.new.rows ≡ self.old.rows }
+    {
         self.log.note(Ok(Entry::Lease {
             instance,
             worker,
             now,
             polls: 0,
         }));
-        self.collect(instance, now);
-        let job = self.decided(instance as usize, job, now);
+        let facts = &mut self.facts[instance as usize];
+        facts.to_confirm.take()
+    }
+
+    /// Hands out the task of an instance at home.
+    fn hand_out(
+        &mut self,
+        instance: u32,
+        job: Job,
+        positions: Option<PositionList>,
+    ) -> Option<Work<P>>
+        requires stands { Stands P.told self.old [] self.old.log.history }
+        requires open { IsOpenAt self.old instance }
+        requires due { IsSound self.old → IfSome positions (λ positions. positions ≡ born_positions self.old.log.history instance) }
+        ensures leased { IfSome result (IsLeased P.told self.new) }
+        ensures none { IfNone result (Stands P.told self.new [] self.new.log.history) }
+        ensures size { length self.new.rows.items ≡ length self.old.rows.items }
+    {
         let task = take_task(&mut self.rows, instance as usize)?;
         Some(Work {
             instance,
             job,
+            positions,
             task,
         })
     }
@@ -84,15 +121,18 @@ impl<P: Port> Hub<P> {
         }
     }
 
-    /// A source is read until it is dry, and closed once all its batches have their notices.
+    /// A source is read until it is dry, and closed once all its batches have their notices and the last confirm was
+    /// made or has failed. What is to be confirmed is confirmed first.
     fn source_job(&self, i: usize) -> Option<Job>
-        requires { i < length self.now.rows.items }
+        requires rows { i < length self.now.rows.items }
+        requires facts { i < length self.now.facts.items }
     {
-        if !self.has_sent(i) {
-            None
-        } else if !self.is_dry(i) {
+        let reads = self.has_sent(i) && !self.is_dry(i);
+        if reads {
             Some(Job::Read)
-        } else if self.unnoticed(i) == 0 {
+        } else if self.facts[i].to_confirm.is_some() {
+            Some(Job::Confirm)
+        } else if self.has_sent(i) && self.unnoticed(i) == 0 {
             Some(Job::Close)
         } else {
             None

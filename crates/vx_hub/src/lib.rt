@@ -3,6 +3,8 @@
 
 mod bearing;
 mod child;
+mod confirming;
+mod due;
 mod ending;
 mod facts;
 mod fatal;
@@ -30,6 +32,7 @@ mod telling;
 mod work;
 
 pub use child::Child;
+pub use confirming::Confirmed;
 pub use facts::{Facts, Progress};
 pub use fatal::Fatal;
 pub use hub::Hub;

@@ -7,6 +7,7 @@ use crate::source::SourceCore;
 use crate::stack::Stack;
 use crate::task::{Role, SinkCore};
 use std::alloc::Global;
+use vx_ends::PositionList;
 use vx_ledger::Parcel;
 use vx_plan::{Component, Plan, Settings};
 use vx_value::{ItemList, Queue, Text, WantOfMemory};
@@ -47,6 +48,10 @@ fn make_seat(alloc: Global, plan: &Plan, component: &Component) -> Result<Seat, 
         targets: targets(alloc, plan, component)?,
         taken: 0,
         lost: None,
+        failed_starts: 0,
+        ends: PositionList::new(alloc),
+        to_confirm: None,
+        confirm_failed: false,
         closed: false,
         retired: false,
     };

@@ -1,6 +1,6 @@
 ghost use Rattle.std.specs.Prelude.{◌≡◌, ◌<◌, ◌^◌, ◌-◌, min, length};
 ghost use Rattle.std.specs.Option.{option_copied};
-ghost use Rattle.vx_hub.specs.Stands.{facts_at, lost_of};
+ghost use Rattle.vx_hub.specs.Stands.{facts_at, lost_of, unconfirmed_of};
 
 use crate::hub::Hub;
 use vx_ends::Port;
@@ -36,6 +36,14 @@ impl<P: Port> Hub<P> {
         ensures { result ≡ lost_of (facts_at self.now.facts.items instance) }
     {
         self.facts[instance as usize].lost
+    }
+
+    /// Whether the last confirm that was due at a source failed.
+    pub fn unconfirmed(&self, instance: u32) -> bool
+        requires { instance < length self.now.facts.items }
+        ensures { result ≡ unconfirmed_of (facts_at self.now.facts.items instance) }
+    {
+        self.facts[instance as usize].confirm_failed
     }
 
     /// Whether a copy is live and the run wasn't abandoned.

@@ -1,15 +1,17 @@
-ghost use Rattle.std.specs.Prelude.{◌≡◌, ◌≤◌};
+ghost use Rattle.std.specs.Prelude.{◌≡◌, ◌≤◌, None};
 ghost use Rattle.vx_hub.specs.Rows.{role_copies};
-ghost use Rattle.vx_hub.specs.Works.{Reports, event_count_of};
+ghost use Rattle.vx_hub.specs.Works.{Reports, Names, event_count_of};
 ghost use Rattle.vx_hub.specs.Leases.{IsLeased, IsBack};
 ghost use Rattle.vx_hub.specs.declared.hub.Hub.{Hub};
+ghost use Rattle.vx_hub.specs.declared.work.Done.{Done};
 
+use crate::confirming::{Confirmed, confirm};
 use crate::line::write_text;
 use crate::sending::attempt;
-use crate::source::Turned;
+use crate::source::{SourceCore, Turned};
 use crate::task::{Role, SinkCore, Task};
 use std::alloc::Global;
-use vx_ends::{Clock, Port, Reply};
+use vx_ends::{Clock, Port, PositionList, Reply};
 use vx_value::{Bytes, WantOfMemory};
 
 /// What a leased instance has to do.
@@ -17,6 +19,8 @@ use vx_value::{Bytes, WantOfMemory};
 pub enum Job {
     /// Read its port.
     Read,
+    /// Confirm what is due, and nothing else.
+    Confirm,
     /// Wait for more parcels.
     Collect,
     /// Write its sink batch.
@@ -44,6 +48,8 @@ pub enum Done {
 pub struct Work<P> {
     pub instance: u32,
     pub job: Job,
+    /// What is confirmed before that.
+    pub positions: Option<PositionList>,
     pub task: Task<P>,
 }
 
@@ -51,56 +57,115 @@ pub struct Work<P> {
 pub struct Landing<P> {
     pub instance: u32,
     pub task: Task<P>,
+    /// The confirm that was made before, or failed.
+    pub confirmed: Option<Confirmed>,
     pub done: Done,
 }
 
 impl<P: Port> Work<P> {
-    /// Does the work, without the hub: reads, writes or closes the port.
+    /// Does the work, without the hub: confirms what is due, and reads, writes or closes the port.
     pub fn work<C: Clock>(self, alloc: Global, _clock: &C) -> Landing<P>
         ensures instance { result.instance ≡ self.instance }
         ensures copies { role_copies result.task.role ≡ role_copies self.task.role }
-        ensures reports { Reports (P.told self.task.port) result.done (P.told result.task.port) }
+        ensures reports { Reports (P.told self.task.port) result.confirmed result.done (P.told result.task.port) }
+        ensures names { Names self.positions result.confirmed }
         ensures events { event_count_of result.done ≤ 65536 }
         ensures back { (hub : Hub P) → IsLeased P.told hub self → IsBack P.told hub result }
     {
         let Work {
             instance,
             job,
+            positions,
             task,
         } = self;
         let Task { mut port, mut role } = task;
-        let done = act(alloc, job, &mut port, &mut role);
+        let deeds = confirm_and_act(alloc, job, positions, &mut port, &mut role);
         Landing {
             instance,
             task: Task { port, role },
-            done,
+            confirmed: deeds.confirmed,
+            done: deeds.done,
         }
+    }
+}
+
+/// What a port was made to do in a call of `work`.
+#[derive(Drop)]
+struct Deeds {
+    confirmed: Option<Confirmed>,
+    done: Done,
+}
+
+/// Confirms positions to a port, if there are any, and then does a job with it.
+fn confirm_and_act<P: Port>(
+    alloc: Global,
+    job: Job,
+    positions: Option<PositionList>,
+    port: &mut P,
+    role: &mut Role,
+) -> Deeds
+    ensures copies { role_copies role.new ≡ role_copies role.old }
+    ensures reports { Reports (P.told port.old) result.confirmed result.done (P.told port.new) }
+    ensures names { Names positions result.confirmed }
+    ensures events { event_count_of result.done ≤ 65536 }
+{
+    match confirm(port, positions) {
+        Ok(confirmed) => {
+            let done = act(alloc, job, port, role);
+            Deeds { confirmed, done }
+        }
+        Err(WantOfMemory) => Deeds {
+            confirmed: None,
+            done: Done::Starved,
+        },
     }
 }
 
 /// Does a job with a port.
 fn act<P: Port>(alloc: Global, job: Job, port: &mut P, role: &mut Role) -> Done
     ensures copies { role_copies role.new ≡ role_copies role.old }
-    ensures reports { Reports (P.told port.old) result (P.told port.new) }
+    ensures reports { Reports (P.told port.old) None result (P.told port.new) }
     ensures events { event_count_of result ≤ 65536 }
 {
     match (job, role) {
-        (Job::Read, Role::Source(core)) => match core.turn(port) {
-            Ok(turned) => Done::Read(turned),
-            Err(WantOfMemory) => Done::Starved,
-        },
+        (Job::Read, Role::Source(core)) => read(port, core),
         (Job::Attempt, Role::Sink(core)) => send(alloc, port, core),
-        (Job::Close, _) => {
-            port.close();
-            Done::Closed
-        }
-        _ => Done::Nothing,
+        (Job::Close, _) => close(port),
+        _ => nothing(port),
+    }
+}
+
+/// Leaves a port as it is.
+fn nothing<P: Port>(_port: &P) -> Done
+    ensures reports { Reports (P.told _port.now) None result (P.told _port.now) }
+    ensures none { result ≡ Done.Nothing }
+{
+    Done::Nothing
+}
+
+/// Closes a port.
+fn close<P: Port>(port: &mut P) -> Done
+    ensures reports { Reports (P.told port.old) None result (P.told port.new) }
+    ensures closed { result ≡ Done.Closed }
+{
+    port.close();
+    Done::Closed
+}
+
+/// Takes from a source's port.
+fn read<P: Port>(port: &mut P, core: &mut SourceCore) -> Done
+    ensures reports { Reports (P.told port.old) None result (P.told port.new) }
+    ensures events { event_count_of result ≤ 65536 }
+{
+    match core.turn(port) {
+        Ok(turned) => Done::Read(turned),
+        Err(WantOfMemory) => Done::Starved,
     }
 }
 
 /// Writes a sink batch.
 fn send<P: Port>(alloc: Global, port: &mut P, core: &SinkCore) -> Done
-    ensures reports { Reports (P.told port.old) result (P.told port.new) }
+    ensures reports { Reports (P.told port.old) None result (P.told port.new) }
     ensures events { event_count_of result ≤ 65536 }
 {
     let Ok(mut bytes) = encode(alloc, core) else {

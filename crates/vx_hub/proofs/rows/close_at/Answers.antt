@@ -23,7 +23,7 @@ returns-clause-port g c =
     let after = ap port_of (row_written c.args.rows.now.items c.args.i (record c.index_mut.result.now { task = Some (record { port = c.close.new.self; role = c.in-Some.task.role }) }) c.requires.within) in
     subst (λ (p : Option _). IfSome p (λ old. IsSomeAnd (port_at (slice_set c.args.rows.now.items c.args.i (record c.index_mut.result.now { task = Some (record { port = c.close.new.self; role = c.in-Some.task.role }) })) c.args.i) (λ new. IsClosedBy (g.P.Port.told old) (g.P.Port.told new)))) (sym before)
     (subst (λ (p : Option _). IsSomeAnd p (λ new. IsClosedBy (g.P.Port.told c.in-Some.task.port) (g.P.Port.told new))) (sym after)
-    (record { bytes = c.close.ensures.bytes; faults = c.close.ensures.faults; closed = c.close.ensures.closed }))
+    (record { bytes = c.close.ensures.bytes; faults = c.close.ensures.faults; refusals = c.close.ensures.refusals; idles = c.close.ensures.idles; closed = c.close.ensures.closed }))
 
 pub returns-clause-ports : goal.returns-clause-ports
 returns-clause-ports g c = other_ports c.args.rows.now.items c.args.i _

@@ -4,5 +4,14 @@ use Rattle.vx_hub.proofs.hub.Hub.bring_read.Goals as goal
 pub bring-requires-clause-stands : goal.bring-requires-clause-stands
 bring-requires-clause-stands g c = c.note_taken.ensures.stands (role_copies c.args.task.role) c.requires.stands
 
+pub bring-requires-in-StreamEnded-clause-stands : goal.bring-requires-in-StreamEnded-clause-stands
+bring-requires-in-StreamEnded-clause-stands g c = c.note_end.ensures.stands (role_copies c.args.task.role) c.requires.stands
+
+pub bring-requires-in-AllEnded-clause-stands : goal.bring-requires-in-AllEnded-clause-stands
+bring-requires-in-AllEnded-clause-stands g c = c.note_end-in-AllEnded.ensures.stands (role_copies c.args.task.role) c.requires.stands
+
+pub bring-requires-in-Idle-clause-stands : goal.bring-requires-in-Idle-clause-stands
+bring-requires-in-Idle-clause-stands g c = c.note_idle.ensures.stands (role_copies c.args.task.role) c.requires.stands
+
 pub bring-requires-in-Failed-clause-stands : goal.bring-requires-in-Failed-clause-stands
-bring-requires-in-Failed-clause-stands g c = c.note_lost.ensures.stands (role_copies c.args.task.role) c.requires.stands
+bring-requires-in-Failed-clause-stands g c = c.note_failed.ensures.stands (role_copies c.args.task.role) c.requires.stands

@@ -1,16 +1,27 @@
-use Rattle.std.proofs.Common.{refl, false, ◌≡◌, ap, sym, Some}
+use Rattle.std.proofs.Common.{refl, false, ◌≡◌, ◌≤◌, ap, sym, subst, Some}
 use Rattle.std.specs.Prelude.{if◌then◌else◌}
 use Rattle.vx_hub.specs.Stands.{lost_at}
-use Rattle.vx_hub.proofs.Touching.{stands_touched, facts_surely, facts_get, same_test}
+use Rattle.vx_record.specs.declared.entry.Entry.TheVariants as entry
+use Rattle.vx_hub.proofs.StandsLaws.{ends_on, to_confirm_on}
+use Rattle.vx_hub.proofs.Silence.{same_test}
+use Rattle.vx_hub.proofs.Touching.{stands_touched, facts_surely, facts_get}
 use Rattle.vx_hub.proofs.hub.Hub.note_lost.Goals as goal
 
 pub returns-clause-stands : goal.returns-clause-stands
 returns-clause-stands g c hand s =
     stands_touched g.P.Port.told c.args.self.now _ hand _ c.args.instance c.index_mut-facts.result.now _ s c.requires.out c.requires.within c.index_mut-facts.ensures.value
     refl refl refl refl refl refl refl c.note.ensures.noted refl
-    (λ known. record { taken = known.taken; lost = ap (λ t. if t then Some c.index_mut-facts.result.now.taken else lost_at c.args.self.now.log.history c.args.instance) (sym (same_test c.args.instance)) })
+    (λ known. record {
+      taken = known.taken;
+      lost = ap (λ t. if t then Some c.index_mut-facts.result.now.taken else lost_at c.args.self.now.log.history c.args.instance) (sym (same_test c.args.instance));
+      failed_starts = known.failed_starts;
+      ends = ends_on c.index_mut-facts.result.now c.args.self.now.log.history c.args.instance (entry.SourceLost c.args.instance c.index_mut-facts.result.now.taken c.args.start_failed) refl known.ends;
+      to_confirm = to_confirm_on c.index_mut-facts.result.now c.args.self.now.log.history c.args.instance (entry.SourceLost c.args.instance c.index_mut-facts.result.now.taken c.args.start_failed) refl known.to_confirm;
+      confirm_failed = known.confirm_failed;
+    })
     (λ bytes. bytes)
-    (λ known losses. (known.taken, losses))
+    (λ known losses. (record { after = known.taken; many = λ failed. subst (λ n. 4 ≤ n) known.failed_starts (facts_surely (λ f. 4 ≤ f.failed_starts) c.args.self.now.facts.items c.args.instance c.index_mut-facts.result.now c.requires.within c.index_mut-facts.ensures.value (c.requires.many failed)) }, losses))
+    (λ sound confirms. confirms)
 
 pub returns-clause-open : goal.returns-clause-open
 returns-clause-open g c open_at = record {

@@ -1,5 +1,10 @@
-use Rattle.std.proofs.Common.{refl, false, ◌≡◌, ◌+◌, ◌∙◌, ap, length}
-use Rattle.std.specs.Prelude.{min, ◌^◌, ◌-◌}
+use Rattle.std.proofs.Common.{refl, false, ◌≡◌, ◌+◌, ◌∙◌, ap, sym, length}
+use Rattle.std.specs.Prelude.{if◌then◌else◌, min, ◌^◌, ◌-◌}
+use Rattle.vx_record.specs.Sourcing.{failed_starts}
+use Rattle.vx_record.specs.declared.entry.Entry.TheVariants as entry
+use Rattle.vx_record.specs.declared.taken.Taken.TheVariants as taken
+use Rattle.vx_hub.proofs.StandsLaws.{ends_on, to_confirm_on}
+use Rattle.vx_hub.proofs.Silence.{same_test}
 use Rattle.vx_hub.proofs.Touching.{stands_touched, facts_surely, facts_get, capped_on, capped_mine}
 use Rattle.vx_hub.proofs.hub.Hub.note_taken.Goals as goal
 
@@ -7,9 +12,17 @@ pub returns-clause-stands : goal.returns-clause-stands
 returns-clause-stands g c hand s =
     stands_touched g.P.Port.told c.args.self.now _ hand _ c.args.instance c.index_mut-facts.result.now _ s c.requires.out c.requires.within c.index_mut-facts.ensures.value
     refl refl refl refl refl refl refl c.note.ensures.noted refl
-    (λ known. record { taken = c.saturating_add-facts.ensures ∙ ap (λ n. min (c.index_mut-facts.result.now.taken + n) (2 ^ 64 - 1)) c.len-n.ensures ∙ capped_mine c.args.instance c.index_mut-facts.result.now.taken _ (length c.args.bytes) known.taken; lost = known.lost })
+    (λ known. record {
+      taken = c.saturating_add-facts.ensures ∙ ap (λ n. min (c.index_mut-facts.result.now.taken + n) (2 ^ 64 - 1)) c.len-n.ensures ∙ capped_mine c.args.instance c.index_mut-facts.result.now.taken _ (length c.args.bytes) known.taken;
+      lost = known.lost;
+      failed_starts = sym (ap (λ t. if t then 0 else failed_starts c.args.self.now.log.history c.args.instance) (same_test c.args.instance));
+      ends = ends_on c.index_mut-facts.result.now c.args.self.now.log.history c.args.instance (entry.Read c.args.instance c.args.stream (taken.Bytes c.args.bytes)) refl known.ends;
+      to_confirm = to_confirm_on c.index_mut-facts.result.now c.args.self.now.log.history c.args.instance (entry.Read c.args.instance c.args.stream (taken.Bytes c.args.bytes)) refl known.to_confirm;
+      confirm_failed = known.confirm_failed;
+    })
     (λ bytes. c.saturating_add-self.ensures ∙ ap (λ n. min (c.args.self.now.bytes + n) (2 ^ 64 - 1)) c.len-n.ensures ∙ capped_on c.args.self.now.bytes _ (length c.args.bytes) _ bytes)
     (λ known losses. losses)
+    (λ sound confirms. confirms)
 
 pub returns-clause-open : goal.returns-clause-open
 returns-clause-open g c open_at = record {

@@ -1,0 +1,26 @@
+use Rattle.std.proofs.Common.{◌∙◌, sym, subst, Option, None}
+use Rattle.vx_record.specs.Records.{Record}
+use Rattle.vx_hub.specs.declared.confirming.Confirmed.{Confirmed}
+use Rattle.vx_hub.specs.Rows.{role_copies, IsOutAt}
+use Rattle.vx_hub.specs.Leases.{Brings}
+use Rattle.vx_hub.proofs.Saying.{brings_confirm}
+use Rattle.vx_hub.proofs.hub.Hub.land_confirm.Goals as goal
+
+pub returns-in-Some-clause-back : goal.returns-in-Some-clause-back
+returns-in-Some-clause-back g c =
+    let told = g.P.Port.told c.args.landing.task.port in
+    let h = c.args.self.now.log.history in
+    let i = c.args.landing.instance in
+    record {
+      stands = c.note_confirm.ensures.stands (role_copies c.args.landing.task.role) c.requires.stands;
+      open_at = c.note_confirm.ensures.open c.requires.open_at;
+      out = subst (λ (r : _). IsOutAt r.items i) (sym c.note_confirm.ensures.rows) c.requires.out;
+      brings = λ sound.
+          let w = c.note_confirm.ensures.noted.whole sound.whole in
+          let before = c.requires.brings (record { whole = w.0; fed = sym c.note_confirm.ensures.starved ∙ sound.fed }) in
+          subst (λ (k : Record). Brings told k i None c.args.landing.done) (sym w.1)
+          (brings_confirm told h i c.in-Some.confirmed c.args.landing.done (subst (λ (o : Option Confirmed). Brings told h i o c.args.landing.done) c.in-Some.is before));
+      due = λ sound. tt;
+      events = c.requires.events;
+      closed = c.requires.closed;
+    }

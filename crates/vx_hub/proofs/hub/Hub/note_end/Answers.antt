@@ -1,0 +1,32 @@
+use Rattle.std.proofs.Common.{refl, false, true, ◌≡◌, ◌∙◌, ap, sym}
+use Rattle.std.specs.Prelude.{if◌then◌else◌, ◌==◌}
+use Rattle.vx_record.specs.Sourcing.{failed_starts}
+use Rattle.vx_record.specs.Reads.{bytes_of, bytes_taken, bytes_of_all}
+use Rattle.vx_record.specs.declared.entry.Entry.TheVariants as entry
+use Rattle.vx_hub.proofs.StandsLaws.{ends_on, to_confirm_on}
+use Rattle.vx_hub.proofs.Silence.{same_test}
+use Rattle.vx_hub.proofs.Touching.{stands_touched, facts_surely, facts_get, no_bytes}
+use Rattle.vx_hub.proofs.hub.Hub.note_end.Goals as goal
+
+pub returns-clause-stands : goal.returns-clause-stands
+returns-clause-stands g c hand s =
+    stands_touched g.P.Port.told c.args.self.now _ hand _ c.args.instance c.index_mut-facts.result.now _ s c.requires.out c.requires.within c.index_mut-facts.ensures.value
+    refl refl refl refl refl refl refl c.note.ensures.noted refl
+    (λ known. record {
+      taken = known.taken ∙ no_bytes (c.args.instance == c.args.instance) (bytes_taken c.args.self.now.log.history c.args.instance) (bytes_of c.args.taken) c.requires.end;
+      lost = known.lost;
+      failed_starts = sym (ap (λ t. if t then 0 else failed_starts c.args.self.now.log.history c.args.instance) (same_test c.args.instance));
+      ends = ends_on c.index_mut-facts.result.now c.args.self.now.log.history c.args.instance (entry.Read c.args.instance c.args.stream c.args.taken) refl known.ends;
+      to_confirm = to_confirm_on c.index_mut-facts.result.now c.args.self.now.log.history c.args.instance (entry.Read c.args.instance c.args.stream c.args.taken) refl known.to_confirm;
+      confirm_failed = known.confirm_failed;
+    })
+    (λ bytes. bytes ∙ no_bytes true (bytes_of_all c.args.self.now.log.history) (bytes_of c.args.taken) c.requires.end)
+    (λ known losses. losses)
+    (λ sound confirms. confirms)
+
+pub returns-clause-open : goal.returns-clause-open
+returns-clause-open g c open_at = record {
+  within = open_at.within;
+  unclosed = facts_get (λ f. f.closed ≡ false) c.args.self.now.facts.items c.args.instance _ c.requires.within
+      (facts_surely (λ f. f.closed ≡ false) c.args.self.now.facts.items c.args.instance c.index_mut-facts.result.now c.requires.within c.index_mut-facts.ensures.value open_at.unclosed);
+}

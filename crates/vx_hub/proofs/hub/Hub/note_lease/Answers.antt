@@ -1,0 +1,39 @@
+use Rattle.std.proofs.Common.{[], refl, false, ◌≡◌, ◌<◌, sym, subst, length, Option, IfSome, arith}
+use Rattle.vx_record.specs.Confirms.{born_positions}
+use Rattle.vx_hub.specs.Stands.{IsShut, IsGone, IsKnown}
+use Rattle.vx_record.specs.Records.{Record}
+use Rattle.vx_record.specs.declared.entry.Entry.TheVariants.{Lease}
+use Rattle.vx_hub.proofs.StandsLaws.{known_quiet, to_confirm_on}
+use Rattle.vx_hub.proofs.Touching.{stands_marked, facts_surely, facts_get, facts_has}
+use Rattle.vx_hub.proofs.hub.Hub.note_lease.Goals as goal
+
+pub returns-clause-stands : goal.returns-clause-stands
+returns-clause-stands g c =
+    let within : c.args.instance < length c.args.self.now.facts.items = omega (arith, c.requires.stands.size, c.requires.open.within) in
+    stands_marked g.P.Port.told c.args.self.now _ [] _ c.args.instance c.index_mut-facts.result.now _ c.requires.stands within c.index_mut-facts.ensures.value
+    refl refl refl refl refl refl c.note.ensures.noted tt refl
+    (λ known. known_quiet _ c.args.self.now.log.history c.args.instance _ tt (record { taken = known.taken; lost = known.lost; failed_starts = known.failed_starts; ends = known.ends; to_confirm = subst (λ (o : Option _). IfSome o (λ positions. positions ≡ born_positions c.args.self.now.log.history c.args.instance)) (sym c.take.ensures.after) tt; confirm_failed = known.confirm_failed }))
+    (λ x k other known. known_quiet x c.args.self.now.log.history k _ tt known)
+    (facts_has (IsShut g.P.Port.told c.args.self.now.rows.items c.args.instance) c.args.self.now.facts.items c.args.instance c.index_mut-facts.result.now within c.index_mut-facts.ensures.value (c.requires.stands.shut c.args.instance))
+    (facts_has (IsGone c.args.self.now.rows.items c.args.instance) c.args.self.now.facts.items c.args.instance c.index_mut-facts.result.now within c.index_mut-facts.ensures.value (c.requires.stands.gone c.args.instance))
+
+pub returns-clause-open : goal.returns-clause-open
+returns-clause-open g c =
+    let within : c.args.instance < length c.args.self.now.facts.items = omega (arith, c.requires.stands.size, c.requires.open.within) in
+    record {
+      within = c.requires.open.within;
+      unclosed = facts_get (λ f. f.closed ≡ false) c.args.self.now.facts.items c.args.instance _ within
+          (facts_surely (λ f. f.closed ≡ false) c.args.self.now.facts.items c.args.instance c.index_mut-facts.result.now within c.index_mut-facts.ensures.value c.requires.open.unclosed);
+    }
+
+pub returns-clause-due : goal.returns-clause-due
+returns-clause-due g c sound =
+    let within : c.args.instance < length c.args.self.now.facts.items = omega (arith, c.requires.stands.size, c.requires.open.within) in
+    let h = c.args.self.now.log.history in
+    let w = c.note.ensures.noted.whole sound.whole in
+    let r = c.requires.stands.recorded (record { whole = w.0; fed = sound.fed }) in
+    let mine : IsKnown c.index_mut-facts.result.now h c.args.instance =
+    facts_has (λ f. IsKnown f h c.args.instance) c.args.self.now.facts.items c.args.instance c.index_mut-facts.result.now within c.index_mut-facts.ensures.value (r.facts c.args.instance) in
+    subst (λ (o : Option _). IfSome o (λ positions. positions ≡ born_positions c.note.new.self.history c.args.instance)) (sym c.take.ensures.value)
+    (subst (λ (k : Record). IfSome c.index_mut-facts.result.now.to_confirm (λ positions. positions ≡ born_positions k c.args.instance)) (sym w.1)
+    (to_confirm_on c.index_mut-facts.result.now h c.args.instance (Lease c.args.instance c.args.worker c.args.now 0) refl mine.to_confirm))
