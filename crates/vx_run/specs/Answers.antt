@@ -1,5 +1,5 @@
 -- What each answer of a run says.
-use Rattle.std.specs.Prelude.{◌≡◌, ◌≢◌, ℕ, ◌<◌, ◌≤◌, ◌^◌, List, length, slice_get, Option, Some, None, IfSome, IsSomeAnd}
+use Rattle.std.specs.Prelude.{◌≡◌, ◌≢◌, ℕ, ◌<◌, ◌≤◌, ◌^◌, true, false, List, length, slice_get, Option, Some, None, IfSome, IsSomeAnd}
 use Rattle.vx_value.specs.Texts.{Word}
 use Rattle.vx_ends.specs.Told.{Rose}
 use Rattle.vx_ends.specs.Texts.{text_at, IsTextAt}
@@ -8,11 +8,12 @@ use Rattle.vx_plan.specs.First.{first_plan, first_configuration}
 use Rattle.vx_plan.specs.declared.plan_fault.PlanFault.TheVariants as plan
 use Rattle.vx_record.specs.Records.{Record}
 use Rattle.vx_record.specs.Reads.{bytes_of_all}
+use Rattle.vx_record.specs.Confirms.{is_unconfirmed}
 use Rattle.vx_record.specs.declared.abandon_cause.AbandonCause.{AbandonCause}
 use Rattle.vx_record.specs.declared.abandon_cause.AbandonCause.TheVariants as cause
 use Rattle.vx_hub.specs.Stands.{lost_at, cause_of}
 use Rattle.vx_run.specs.declared.fault.Fault.{Fault}
-use Rattle.vx_run.specs.declared.fault.Fault.TheVariants.{Usage, ConfigRead, ConfigRefused, Numbers, TooLong, SourceFailed, WantOfMemory}
+use Rattle.vx_run.specs.declared.fault.Fault.TheVariants.{Usage, ConfigRead, ConfigRefused, Numbers, TooLong, SourceFailed, ConfirmFailed, WantOfMemory}
 use Rattle.vx_run.specs.Words.{IsRun, AsksRun}
 
 -- the words ask for a run of a file, and that file has the first configuration, where the world tells its texts
@@ -53,6 +54,16 @@ pub record IsLost (h : Record) (name : Word) (at i : ℕ) : Type 0 where
 abbrev pub NoneLost : Record → Type 0
 NoneLost h = (i : ℕ) → i < length first_plan.components → lost_at h i ≡ None
 
+-- the least instance of the first plan whose last confirm failed, with its component's name
+pub record IsUnconfirmed (h : Record) (name : Word) (i : ℕ) : Type 0 where
+  pub failed : is_unconfirmed h i ≡ true
+  pub least : (j : ℕ) → j < i → is_unconfirmed h j ≡ false
+  pub named : IsSomeAnd (slice_get first_plan.components i) (λ component. name ≡ component.name)
+
+-- no instance of the first plan has a last confirm that failed
+abbrev pub AllConfirmed : Record → Type 0
+AllConfirmed h = (i : ℕ) → i < length first_plan.components → is_unconfirmed h i ≡ false
+
 -- a run that wasn't given up for want of numbers or memory
 abbrev pub GoesOn : Option AbandonCause → Type 0
 GoesOn (Some (cause.Numbers next wanted)) = ⊥
@@ -61,9 +72,10 @@ GoesOn other = Unit {0}
 
 -- what it says of a run that began
 abbrev pub IsJudged : Record → Option Fault → Type 0
-IsJudged h None = GoesOn (cause_of h) × ((bytes_of_all h < 2 ^ 48) × NoneLost h)
+IsJudged h None = GoesOn (cause_of h) × ((bytes_of_all h < 2 ^ 48) × (NoneLost h × AllConfirmed h))
 IsJudged h (Some TooLong) = GoesOn (cause_of h) × (2 ^ 48 ≤ bytes_of_all h)
 IsJudged h (Some (SourceFailed name at)) = GoesOn (cause_of h) × ((bytes_of_all h < 2 ^ 48) × ((i : ℕ) × IsLost h name at i))
+IsJudged h (Some (ConfirmFailed name)) = GoesOn (cause_of h) × ((bytes_of_all h < 2 ^ 48) × (NoneLost h × ((i : ℕ) × IsUnconfirmed h name i)))
 IsJudged h (Some (Numbers next wanted)) = cause_of h ≡ Some (cause.Numbers next wanted)
 IsJudged h (Some WantOfMemory) = Unit {0}
 IsJudged h (Some other) = ⊥

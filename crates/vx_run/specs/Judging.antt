@@ -4,12 +4,18 @@ use Rattle.vx_plan.specs.declared.plan.Plan.{Plan}
 use Rattle.vx_hub.specs.declared.hub.Hub.{Hub}
 use Rattle.vx_hub.specs.Stands.{IsSound}
 use Rattle.vx_run.specs.declared.fault.Fault.{Fault}
-use Rattle.vx_run.specs.declared.fault.Fault.TheVariants.{SourceFailed, WantOfMemory}
+use Rattle.vx_run.specs.declared.fault.Fault.TheVariants.{SourceFailed, ConfirmFailed, WantOfMemory}
 
 -- but for want of memory the record has all that happened
 abbrev pub IsSure : {P : Type 0} → Hub P → Option Fault → Type 0
 IsSure hub (Some WantOfMemory) = Unit {0}
 IsSure hub other = IsSound hub
+
+-- the fault of a source whose last confirm failed, with the name of its component, but for want of memory
+abbrev pub IsUnconfirmedAt : Plan → ℕ → Fault → Type 0
+IsUnconfirmedAt plan i (ConfirmFailed name) = IsSomeAnd (slice_get plan.components i) (λ component. name ≡ component.name)
+IsUnconfirmedAt plan i WantOfMemory = Unit {0}
+IsUnconfirmedAt plan i other = ⊥
 
 -- the fault of a lost source, with the name of its component, but for want of memory
 abbrev pub IsNamed : Plan → ℕ → ℕ → Fault → Type 0

@@ -4,15 +4,16 @@ use Rattle.vx_ends.specs.Told.{Told}
 use Rattle.vx_plan.specs.First.{first_plan}
 use Rattle.vx_record.specs.Records.{Record}
 use Rattle.vx_hub.specs.declared.parts.Numbered.{Numbered}
-use Rattle.vx_hub.specs.Stands.{LossesTold}
+use Rattle.vx_hub.specs.Stands.{LossesTold, ConfirmsTold}
 use Rattle.vx_hub.specs.Remains.{AreTold}
 use Rattle.vx_run.specs.declared.fault.Fault.{Fault}
 use Rattle.vx_run.specs.declared.fault.Fault.TheVariants.{Usage, ConfigRead, ConfigRefused, WantOfMemory}
 
--- but for want of memory, the ports tell what the record has, and each loss tells how many bytes were taken
+-- but for want of memory, the ports tell what the record has, each loss has its cause and tells how many bytes were
+-- taken, and each confirm names the ends of the batches that were born
 abbrev pub IsTrueTo : {P : Type 0} → (P → Told) → Record → List (Numbered P) → Option Fault → Type 0
 IsTrueTo told_by h ports (Some WantOfMemory) = Unit {0}
-IsTrueTo told_by h ports fault = AreTold told_by h ports × LossesTold h
+IsTrueTo told_by h ports fault = AreTold told_by h ports × (LossesTold h × ConfirmsTold h)
 
 -- a run that didn't begin has no record and no port
 abbrev pub IsUnbegun : {P : Type 0} → Record → List (Numbered P) → Type 0

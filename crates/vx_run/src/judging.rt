@@ -1,8 +1,9 @@
-ghost use Rattle.std.specs.Prelude.{◌≡◌, ◌<◌, ℕ, [], length, Some, None, IfSome, IfNone};
+ghost use Rattle.std.specs.Prelude.{◌≡◌, ◌<◌, ◌^◌, ℕ, [], length, Some, None, IfSome, IfNone, true, false};
 ghost use Rattle.vx_plan.specs.First.{first_plan};
-ghost use Rattle.vx_hub.specs.Stands.{Stands, IsSound, facts_at, lost_of, cause_of};
-ghost use Rattle.vx_run.specs.Answers.{IsJudged, GoesOn};
-ghost use Rattle.vx_run.specs.Judging.{IsSure, IsNamed};
+ghost use Rattle.vx_hub.specs.Stands.{Stands, IsSound, facts_at, lost_of, unconfirmed_of, cause_of};
+ghost use Rattle.vx_record.specs.Reads.{bytes_of_all};
+ghost use Rattle.vx_run.specs.Answers.{IsJudged, GoesOn, NoneLost};
+ghost use Rattle.vx_run.specs.Judging.{IsSure, IsNamed, IsUnconfirmedAt};
 
 use crate::fault::Fault;
 use std::alloc::Global;
@@ -20,7 +21,7 @@ struct Lost {
 }
 
 /// Why a run that ended didn't end well. Of several faults it is the first in this order: want of memory, used up
-/// numbers, too many bytes, and a lost source, the least instance first.
+/// numbers, too many bytes, a lost source, and a source whose last confirm failed, the least instance first.
 pub(crate) fn judge<P: Port>(alloc: Global, plan: &Plan, hub: &Hub<P>) -> Option<Fault>
     requires plan { plan.now ≡ first_plan }
     requires stands { Stands P.told hub.now [] hub.now.log.history }
@@ -51,8 +52,56 @@ fn judge_whole<P: Port>(alloc: Global, plan: &Plan, hub: &Hub<P>) -> Option<Faul
         return Some(Fault::TooLong);
     }
     match first_lost(hub) {
-        None => None,
+        None => judge_confirms(alloc, plan, hub),
         Some(lost) => Some(source_failed(alloc, plan, lost)),
+    }
+}
+
+/// The same, of a run that took few bytes and lost no source.
+fn judge_confirms<P: Port>(alloc: Global, plan: &Plan, hub: &Hub<P>) -> Option<Fault>
+    requires plan { plan.now ≡ first_plan }
+    requires stands { Stands P.told hub.now [] hub.now.log.history }
+    requires size { length hub.now.rows.items ≡ length first_plan.components }
+    requires sound { IsSound hub.now }
+    requires goes_on { GoesOn (cause_of hub.now.log.history) }
+    requires few { bytes_of_all hub.now.log.history < 2 ^ 48 }
+    requires kept { NoneLost hub.now.log.history }
+    ensures judged { IsJudged hub.now.log.history result }
+{
+    match first_unconfirmed(hub) {
+        None => None,
+        Some(instance) => Some(confirm_failed(alloc, plan, instance)),
+    }
+}
+
+/// The least instance whose last confirm failed.
+fn first_unconfirmed<P: Port>(hub: &Hub<P>) -> Option<u32>
+    requires { Stands P.told hub.now [] hub.now.log.history }
+    ensures within { IfSome result (λ i. i < length hub.now.facts.items) }
+    ensures failed { IfSome result (λ i. unconfirmed_of (facts_at hub.now.facts.items i) ≡ true) }
+    ensures least { IfSome result (λ i. (j : ℕ) → j < i → unconfirmed_of (facts_at hub.now.facts.items j) ≡ false) }
+    ensures none { IfNone result ((j : ℕ) → j < length hub.now.facts.items → unconfirmed_of (facts_at hub.now.facts.items j) ≡ false) }
+{
+    for instance in 0..hub.instances() {
+        if hub.unconfirmed(instance) {
+            return Some(instance);
+        }
+    }
+    None
+}
+
+/// The fault of a source whose last confirm failed, with its component's name, or want of memory where none is found
+/// for the name.
+fn confirm_failed(alloc: Global, plan: &Plan, instance: u32) -> Fault
+    requires { instance < length plan.now.components }
+    ensures { IsUnconfirmedAt plan.now instance result }
+{
+    match plan.components.get(instance as usize) {
+        Some(component) => match component.name.copy(alloc) {
+            Ok(name) => Fault::ConfirmFailed { name },
+            Err(WantOfMemory) => Fault::WantOfMemory,
+        },
+        None => unreachable!(),
     }
 }
 

@@ -1,2 +1,3 @@
+mod ends;
 mod faults;
 mod runs;

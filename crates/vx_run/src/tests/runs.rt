@@ -10,7 +10,7 @@ use vx_ends::{
 use vx_value::{Bytes, ItemList, Text, TextList, VariableList, WantOfMemory};
 
 /// The first configuration.
-const FIRST: &str = "[sources.in]
+pub(crate) const FIRST: &str = "[sources.in]
 type = \"stdin\"
 
 [sinks.out]
@@ -19,11 +19,11 @@ inputs = [\"in\"]
 encoding.codec = \"text\"
 ";
 
-fn add<T: Drop>(list: &mut ItemList<T>, item: T) -> Result<(), WantOfMemory> {
+pub(crate) fn add<T: Drop>(list: &mut ItemList<T>, item: T) -> Result<(), WantOfMemory> {
     list.push(item).map_err(|_| WantOfMemory)
 }
 
-fn words(alloc: Global, file: &str) -> Result<TextList, WantOfMemory> {
+pub(crate) fn words(alloc: Global, file: &str) -> Result<TextList, WantOfMemory> {
     let mut words = TextList::new(alloc);
     add(&mut words, Text::copy_of(alloc, "--config")?)?;
     add(&mut words, Text::copy_of(alloc, file)?)?;
@@ -39,6 +39,17 @@ fn piece(alloc: Global, bytes: &str) -> Result<Step, WantOfMemory> {
 
 /// A world with that text at `first.toml`, whose `in` plays these steps.
 fn world(alloc: Global, text: &str, steps: StepList) -> Result<MemoryWorld, WantOfMemory> {
+    staged(alloc, text, steps, ActList::new(alloc), ActList::new(alloc))
+}
+
+/// The same, whose `in` and `out` meet the other calls with these acts.
+pub(crate) fn staged(
+    alloc: Global,
+    text: &str,
+    steps: StepList,
+    source: ActList,
+    sink: ActList,
+) -> Result<MemoryWorld, WantOfMemory> {
     let mut configs = ConfigList::new(alloc);
     let config = Config {
         path: Text::copy_of(alloc, "first.toml")?,
@@ -46,17 +57,29 @@ fn world(alloc: Global, text: &str, steps: StepList) -> Result<MemoryWorld, Want
     };
     add(&mut configs, config)?;
     let mut scripts = ScriptedList::new(alloc);
-    let script = Scripted {
-        name: Text::copy_of(alloc, "in")?,
-        steps,
-        acts: ActList::new(alloc),
-    };
-    add(&mut scripts, script)?;
+    add(&mut scripts, script(alloc, "in", steps, source)?)?;
+    add(
+        &mut scripts,
+        script(alloc, "out", StepList::new(alloc), sink)?,
+    )?;
     Ok(MemoryWorld::new(alloc, configs, scripts))
 }
 
+fn script(
+    alloc: Global,
+    name: &str,
+    steps: StepList,
+    acts: ActList,
+) -> Result<Scripted, WantOfMemory> {
+    Ok(Scripted {
+        name: Text::copy_of(alloc, name)?,
+        steps,
+        acts,
+    })
+}
+
 /// Runs those words in that world, and checks the status and what is printed on standard error.
-fn run<R: Wait + Abort>(
+pub(crate) fn run<R: Wait + Abort>(
     rt: &R,
     alloc: Global,
     words: &TextList,
@@ -108,7 +131,7 @@ fn copies<R: Wait + Abort>(
     Ok(())
 }
 
-fn one_piece(alloc: Global, bytes: &str) -> Result<StepList, WantOfMemory> {
+pub(crate) fn one_piece(alloc: Global, bytes: &str) -> Result<StepList, WantOfMemory> {
     let mut steps = StepList::new(alloc);
     add(&mut steps, piece(alloc, bytes)?)?;
     Ok(steps)

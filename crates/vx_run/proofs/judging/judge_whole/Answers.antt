@@ -6,18 +6,13 @@ use Rattle.vx_run.specs.Judging.{IsNamed}
 use Rattle.vx_run.proofs.Judged.{none_lost, few_bytes, lost_known, judged_lost}
 use Rattle.vx_run.proofs.judging.judge_whole.Goals as goal
 
-pub returns-in-None : goal.returns-in-None
-returns-in-None g c =
+pub judge_confirms-requires-clause-few : goal.judge_confirms-requires-clause-few
+judge_confirms-requires-clause-few g c =
     let few : c.args.hub.now.bytes < 2 ^ 48 = omega (arith, c.if-bytes-ge-MOST_BYTES.false, c.bytes.ensures) in
-    record {
-      judged = (
-        c.requires.goes_on,
-        (
-          few_bytes (bytes_of_all c.args.hub.now.log.history) c.args.hub.now.bytes (c.requires.stands.recorded c.requires.sound).bytes few,
-          none_lost g.P.Port.told c.args.hub.now c.requires.stands c.requires.sound c.requires.size c.in-None.ensures.none,
-        ),
-      );
-    }
+    few_bytes (bytes_of_all c.args.hub.now.log.history) c.args.hub.now.bytes (c.requires.stands.recorded c.requires.sound).bytes few
+
+pub judge_confirms-requires-clause-kept : goal.judge_confirms-requires-clause-kept
+judge_confirms-requires-clause-kept g c = none_lost g.P.Port.told c.args.hub.now c.requires.stands c.requires.sound c.requires.size c.in-None.ensures.none
 
 pub returns-in-Some : goal.returns-in-Some
 returns-in-Some g c =
