@@ -127,6 +127,30 @@ def a_reader_that_leaves():
     check("a reader that leaves", (first, status, err) == (b"0123456789\n", 0, b""), (first, status, err[:200]))
 
 
+def ends_that_fail():
+    """A device without room, an input that can't be read, and a run that was killed."""
+    with open("/dev/full", "wb") as full:
+        ran = subprocess.run([PROGRAM, "--config", FIRST], input=b"a\n" * 1000, stdout=full, stderr=subprocess.PIPE, timeout=PATIENCE)
+    check("a full device", (ran.returncode, ran.stderr) == (0, b""), (ran.returncode, ran.stderr[:200]))
+    folder = os.open("/", os.O_RDONLY)
+    ran = subprocess.run([PROGRAM, "--config", FIRST], stdin=folder, capture_output=True, timeout=PATIENCE)
+    os.close(folder)
+    seen = (ran.returncode, ran.stdout, ran.stderr)
+    check("an input that can't be read", seen == (69, b"", b"vector: source in failed after 0 bytes\n"), seen)
+    with tempfile.TemporaryDirectory() as folder:
+        ran = subprocess.Popen([PROGRAM, "--config", FIRST], stdin=subprocess.PIPE, stdout=subprocess.PIPE, cwd=folder)
+        ran.stdin.write(b"a\n")
+        ran.stdin.flush()
+        first = os.read(ran.stdout.fileno(), 4096)
+        ran.kill()
+        ran.wait(PATIENCE)
+        ran.stdin.close()
+        ran.stdout.close()
+        left = os.listdir(folder)
+        seen = (first, left, run(b"b\n", cwd=folder))
+        check("a run after one that was killed", seen == (b"a\n", [], (0, b"b\n", b"")), seen)
+
+
 def refusals():
     """Words, files and configurations that aren't accepted, with their texts and statuses."""
     for words in [[], ["--config"], ["--config", FIRST, "more"], ["-x"], ["--konfig", FIRST], [b"--config", b"\xff"]]:
@@ -158,7 +182,7 @@ def main():
     if not built():
         print("0 passed, 1 failed")
         return 1
-    for part in [refusals, inputs, bytes_of_all_kinds, lines_as_they_come, a_reader_that_leaves, many_lines]:
+    for part in [refusals, inputs, bytes_of_all_kinds, lines_as_they_come, a_reader_that_leaves, ends_that_fail, many_lines]:
         part()
     failed = results.count(False)
     print(f"{results.count(True)} passed, {failed} failed")
