@@ -1,0 +1,14 @@
+pub mod Legal
+pub mod Refusals
+pub mod FanOutLegal
+pub mod LostLegal
+pub mod NeverStartedLegal
+pub mod DroppedLegal
+pub mod GivenUpLegal
+pub mod BatchedLegal
+pub mod WaitingLegal
+pub mod MoreRefusals
+mod EmptyInputLegal
+mod UnfinishedLineLegal
+mod FailedTakeLegal
+mod FurtherRefusals

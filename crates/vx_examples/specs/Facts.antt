@@ -1,0 +1,131 @@
+-- What the definitions say of closed things.
+use Rattle.std.specs.Prelude.{◌≡◌, ◌+◌, ◌-◌, ◌^◌, Some, true, false, [], ◌∷◌, codes, map}
+use Rattle.std.specs.Str.Lossy.{utf8_lossy}
+use Rattle.vx_plan.specs.declared.component.Component.{Component}
+use Rattle.vx_plan.specs.declared.class.Class.TheVariants.{Sink}
+use Rattle.vx_plan.specs.declared.settings.Settings.TheVariants.{Console}
+use Rattle.vx_plan.specs.declared.codec.Codec.TheVariants as codec
+use Rattle.vx_plan.specs.declared.console_target.ConsoleTarget.TheVariants.{Stdout}
+use Rattle.vx_plan.specs.declared.plan.Plan.{Plan}
+use Rattle.vx_plan.specs.Components.{retry_wait}
+use Rattle.vx_plan.specs.Targets.{is_like, targets, acknowledged}
+use Rattle.vx_record.specs.Frames.{frames}
+use Rattle.vx_ends.specs.declared.trouble.Reply.TheVariants.{Failed}
+use Rattle.vx_record.specs.declared.taken.Taken.TheVariants.{Bytes}
+use Rattle.vx_record.specs.declared.entry.Entry.TheVariants.{Lease, Read, Take, Attempt}
+use Rattle.vx_record.specs.Records.{Record}
+use Rattle.vx_record.specs.SinkBatches.{is_timed_out, retry_from}
+use Rattle.vx_record.specs.Reads.{taken, last_stream}
+use Rattle.vx_record.specs.Encoding.{given}
+use Rattle.vx_record.specs.Confirms.{confirmed}
+use Rattle.vx_record.specs.Tallies.{tally}
+use Rattle.vx_record.specs.Tally.{nothing_counted}
+use Rattle.vx_examples.specs.FirstRun.{first_run}
+use Rattle.vx_examples.specs.Parts.{source, sink, block, options, plan_with}
+use Rattle.vx_examples.specs.Dropped as dropped
+use Rattle.vx_examples.specs.Lost as lost
+use Rattle.vx_examples.specs.FanOut as fan_out
+use Rattle.vx_examples.specs.FailedTake as failed_take
+
+-- the counts of the first run
+abbrev pub SourceCounts : Type 0
+SourceCounts =
+    tally first_run 0 ≡ record nothing_counted { read = 4; lines = 2; events = 2; batches = 1; delivered = 1; confirmed = 4 }
+
+abbrev pub SinkCounts : Type 0
+SinkCounts = tally first_run 1 ≡ record nothing_counted { taken = 2; attempts = 2; delivered = 2; bytes = 4 }
+
+-- and what its ports took, gave and confirmed
+abbrev pub SourceBytes : Type 0
+SourceBytes = taken first_run 0 0 ≡ 97 ∷ 10 ∷ 98 ∷ 10 ∷ []
+
+abbrev pub SinkBytes : Type 0
+SinkBytes = given first_run 1 ≡ 97 ∷ 10 ∷ 98 ∷ 10 ∷ []
+
+abbrev pub Positions : Type 0
+Positions = confirmed first_run 0 ≡ record { stream = 0; end = 4 } ∷ []
+
+-- the counts of what was dropped, not read, failed and refused
+abbrev pub NewestCounts : Type 0
+NewestCounts = tally dropped.run 2 ≡ record nothing_counted { taken = 1; newest = 1; attempts = 1; delivered = 1; bytes = 2 }
+
+abbrev pub UnreadCounts : Type 0
+UnreadCounts =
+    tally dropped.run 1 ≡ record nothing_counted { read = 2; lines = 1; events = 1; unread = 1; batches = 1; delivered = 1; confirmed = 2 }
+
+abbrev pub FailedCounts : Type 0
+FailedCounts = tally lost.run 1 ≡ record nothing_counted { taken = 1; attempts = 1; errored = 1; bytes = 1 }
+
+abbrev pub UnconfirmedCounts : Type 0
+UnconfirmedCounts = tally lost.run 0 ≡ record nothing_counted { read = 2; lines = 1; events = 1; batches = 1; errored = 1 }
+
+abbrev pub RefusedCounts : Type 0
+RefusedCounts =
+    tally fan_out.run 0 ≡ record nothing_counted { read = 1; lines = 1; events = 1; batches = 1; rejected = 1; confirmed = 1 }
+
+-- lines and their ends; the last one counts where the stream ended; overlong ones are left out
+abbrev pub Cut : Type 0
+Cut =
+    frames (codes "a\nbc\nd") 10 true
+    ≡ record { text = codes "a"; end = 2 } ∷ record { text = codes "bc"; end = 5 } ∷ record { text = codes "d"; end = 6 } ∷ []
+
+abbrev pub CutOpen : Type 0
+CutOpen = frames (codes "a\nbc\nd") 10 false ≡ record { text = codes "a"; end = 2 } ∷ record { text = codes "bc"; end = 5 } ∷ []
+
+abbrev pub CutShort : Type 0
+CutShort = frames (codes "abc\nabcd\nd\n") 3 true ≡ record { text = codes "abc"; end = 4 } ∷ record { text = codes "d"; end = 11 } ∷ []
+
+-- patterns, and targets in byte order
+abbrev pub Likeness : Type 0
+Likeness =
+    map (is_like (codes "e*r*")) (codes "errors" ∷ codes "er" ∷ codes "e" ∷ codes "serr" ∷ [])
+    ≡ true ∷ true ∷ false ∷ false ∷ []
+
+abbrev pub wide : Plan
+wide = plan_with
+    (source (codes "in") ∷ source (codes "other") ∷ sink (codes "z") (codes "i*") block ∷ sink (codes "b") (codes "in") block
+    ∷ sink (codes "in2") (codes "o*") block ∷ [])
+
+abbrev pub Readers : Type 0
+Readers = targets wide (codes "in") 0 ≡ codes "b" ∷ codes "z" ∷ []
+
+abbrev pub NoReaders : Type 0
+NoReaders = targets wide (codes "z") 0 ≡ []
+
+-- batches wait only where an acknowledging sink is reached
+abbrev pub acknowledging : Component
+acknowledging = record {
+  name = codes "k";
+  class = Sink;
+  inputs = codes "in" ∷ [];
+  settings = Console Stdout codec.Text (options true (block ∷ []) 1 4 2);
+}
+
+abbrev pub Waits : Type 0
+Waits = acknowledged (plan_with (source (codes "in") ∷ source (codes "out") ∷ acknowledging ∷ [])) (codes "in") ≡ true
+
+abbrev pub NoWait : Type 0
+NoWait = acknowledged (plan_with (source (codes "in") ∷ source (codes "out") ∷ acknowledging ∷ [])) (codes "out") ≡ false
+
+-- the waits of a sink with initial 1 and greatest 2
+abbrev pub RetryWaits : Type 0
+RetryWaits = map (retry_wait acknowledging.settings) (1 ∷ 2 ∷ 3 ∷ 4 ∷ []) ≡ 1000 ∷ 1000 ∷ 2000 ∷ 2000 ∷ []
+
+-- ill-formed bytes
+abbrev pub Replaced : Type 0
+Replaced = utf8_lossy (0x61 ∷ 0xE2 ∷ 0x82 ∷ 0x62 ∷ []) ≡ 0x61 ∷ 0xEF ∷ 0xBF ∷ 0xBD ∷ 0x62 ∷ []
+
+-- a Read of no bytes isn't the one that bytes were last taken of
+abbrev pub EmptyRead : Type 0
+EmptyRead = last_stream (Read 0 5 (Bytes []) ∷ failed_take.after3) 0 ≡ Some 0
+
+-- a sink that took at the last moment that an entry can tell
+abbrev pub late : Record
+late = Take 1 0 (1 ∷ []) ∷ Lease 1 0 (2 ^ 64 - 1) 0 ∷ failed_take.after7
+
+-- a wait goes past the last moment, and so does a sink batch's timeout
+abbrev pub RetryPastTheEnd : Type 0
+RetryPastTheEnd = retry_from (Attempt 1 (1 ∷ []) [] Failed ∷ late) 1 ≡ 2 ^ 64 + 999
+
+abbrev pub TimeoutPastTheEnd : Type 0
+TimeoutPastTheEnd = is_timed_out late 1 (2 ^ 64 - 1) ≡ false

@@ -1,0 +1,16 @@
+pub mod FirstRun
+pub mod Refused
+pub mod Parts
+pub mod FanOut
+pub mod Lost
+pub mod NeverStarted
+pub mod Dropped
+pub mod GivenUp
+pub mod Batched
+pub mod Waiting
+pub mod Facts
+pub mod RefusedToo
+pub mod EmptyInput
+pub mod UnfinishedLine
+pub mod FailedTake
+pub mod RefusedMore

@@ -1,0 +1,96 @@
+-- Components and events of the examples.
+use Rattle.std.specs.Prelude.{ℕ, ◌-◌, ◌^◌, Bool, true, false, List, [], ◌∷◌, codes}
+use Rattle.vx_value.specs.Texts.{Word}
+use Rattle.vx_value.specs.declared.event.Event.{Event}
+use Rattle.vx_value.specs.Datum.{Words}
+use Rattle.vx_plan.specs.declared.plan.Plan.{Plan}
+use Rattle.vx_plan.specs.declared.component.Component.{Component}
+use Rattle.vx_plan.specs.declared.class.Class.TheVariants.{Source, Sink}
+use Rattle.vx_plan.specs.declared.settings.Settings.TheVariants.{Stdin, Console}
+use Rattle.vx_plan.specs.declared.decoding.Decoding.TheVariants as decoding
+use Rattle.vx_plan.specs.declared.codec.Codec.TheVariants as codec
+use Rattle.vx_plan.specs.declared.console_target.ConsoleTarget.TheVariants.{Stdout}
+use Rattle.vx_plan.specs.declared.sink_settings.SinkSettings.{SinkSettings}
+use Rattle.vx_plan.specs.declared.stage.Stage.{Stage}
+use Rattle.vx_plan.specs.declared.when_full.WhenFull.TheVariants.{Block, DropNewest, Overflow}
+use Rattle.vx_record.specs.declared.child.Child.{Child}
+use Rattle.vx_record.specs.declared.instance.Instance.{Instance}
+use Rattle.vx_record.specs.declared.instance.Start.TheVariants.{New}
+
+abbrev pub source : Word → Component
+source name = record { name = name; class = Source; inputs = []; settings = Stdin 102400 decoding.Bytes }
+
+abbrev pub block : Stage
+block = record { max_events = 500; when_full = Block }
+
+abbrev pub drop : Stage
+drop = record { max_events = 1; when_full = DropNewest }
+
+-- the options of a sink: whether it acknowledges, its stages, its batches, its retries and its longest wait
+abbrev pub options : Bool → List Stage → ℕ → ℕ → ℕ → SinkSettings
+options acknowledgements buffer most retries longest = record {
+  acknowledgements = acknowledgements;
+  buffer = buffer;
+  batch_max_events = most;
+  batch_timeout_secs = 1;
+  request_retry_attempts = retries;
+  request_retry_initial_backoff_secs = 1;
+  request_retry_max_duration_secs = longest;
+}
+
+-- a console sink that reads one input
+abbrev pub sink : Word → Word → Stage → Component
+sink name input stage = record {
+  name = name;
+  class = Sink;
+  inputs = input ∷ [];
+  settings = Console Stdout codec.Text (options false (stage ∷ []) 1 (2 ^ 63 - 1) 30);
+}
+
+abbrev pub overflow : Stage
+overflow = record { max_events = 1; when_full = Overflow }
+
+abbrev pub pair : Stage
+pair = record { max_events = 2; when_full = Block }
+
+-- a sink with batches of two and a buffer of one and then two events
+abbrev pub batching : Word → Word → Component
+batching name input = record {
+  name = name;
+  class = Sink;
+  inputs = input ∷ [];
+  settings = Console Stdout codec.Text (options false (overflow ∷ pair ∷ []) 2 (2 ^ 63 - 1) 30);
+}
+
+-- a sink that makes batches wait
+abbrev pub acknowledging : Word → Word → Component
+acknowledging name input = record {
+  name = name;
+  class = Sink;
+  inputs = input ∷ [];
+  settings = Console Stdout codec.Text (options true (block ∷ []) 1 (2 ^ 63 - 1) 30);
+}
+
+abbrev pub plan_with : List Component → Plan
+plan_with components = record { global = record { data_dir = codes "/var/lib/vector/"; acknowledgements = false }; components = components }
+
+abbrev pub new_instance : ℕ → Word → Instance
+new_instance number name = record { name = name; number = number; start = New }
+
+-- the event of a line of one byte
+abbrev pub event_with : ℕ → Event
+event_with byte = record {
+  fields = record { name = codes "message"; value = Words (byte ∷ []) }
+      ∷ record { name = codes "source_type"; value = Words (codes "stdin") } ∷ [];
+}
+
+-- and of the line `de`
+abbrev pub event_de : Event
+event_de = record {
+  fields = record { name = codes "message"; value = Words (codes "de") }
+      ∷ record { name = codes "source_type"; value = Words (codes "stdin") } ∷ [];
+}
+
+-- a child of one copy
+abbrev pub child : ℕ → ℕ → Child
+child target copy = record { target = target; copies = copy ∷ [] }

@@ -1,0 +1,86 @@
+-- Further records that no later entry makes legal.
+use Rattle.std.specs.Prelude.{true, false, [], ◌∷◌}
+use Rattle.vx_ends.specs.declared.trouble.Reply.TheVariants.{Ok}
+use Rattle.vx_status.specs.declared.outcome.Outcome.TheVariants.{Abandoned}
+use Rattle.vx_status.specs.declared.batch_status.BatchStatus.TheVariants as batch
+use Rattle.vx_record.specs.declared.taken.Taken.TheVariants.{AllEnded}
+use Rattle.vx_record.specs.declared.entry.Entry.TheVariants.{Lease, Home, Read, Idle, SourceLost, Born, Split, Push, Attempt, Spent, Notice, Confirm, Closed, Retired}
+use Rattle.vx_record.specs.Records.{Record}
+use Rattle.vx_examples.specs.Parts.{event_with, child}
+use Rattle.vx_examples.specs.FirstRun as first
+use Rattle.vx_examples.specs.UnfinishedLine as unfinished
+use Rattle.vx_examples.specs.Batched as batched
+use Rattle.vx_examples.specs.Waiting as waiting
+use Rattle.vx_examples.specs.GivenUp as gone
+
+-- a Born for a Read that gives no event
+abbrev pub born_of_nothing : Record
+born_of_nothing = Born 0 0 0 [] [] false 0 0 ∷ unfinished.after3
+
+-- a Born with fewer copies than events
+abbrev pub born_of_too_few : Record
+born_of_too_few = Born 0 0 0 (0 ∷ []) (event_with 97 ∷ event_with 98 ∷ []) false 0 4 ∷ first.after3
+
+-- a Confirm of a source that is home
+abbrev pub confirm_at_home : Record
+confirm_at_home = Confirm 0 (record { stream = 0; end = 4 } ∷ []) true ∷ first.after20
+
+-- a Confirm of a sink
+abbrev pub confirm_of_a_sink : Record
+confirm_of_a_sink = Confirm 1 [] true ∷ first.after10
+
+-- a Retired of an instance that never was
+abbrev pub retired_stranger : Record
+retired_stranger = Retired 7 ∷ gone.after19
+
+-- a second Notice of a batch
+abbrev pub second_notice : Record
+second_notice = Notice 0 batch.Delivered ∷ first.after19
+
+-- a Push into a stage while an earlier one has room
+abbrev pub push_to_a_later_stage : Record
+push_to_a_later_stage = Push 0 1 1 (3 ∷ []) ∷ batched.after6
+
+-- an Idle of a sink
+abbrev pub idle_of_a_sink : Record
+idle_of_a_sink = Idle 1 false ∷ first.after10
+
+-- a SourceLost of a source that is home
+abbrev pub lost_at_home : Record
+lost_at_home = SourceLost 0 4 false ∷ first.after20
+
+-- a Split behind an Abandon
+abbrev pub split_after_an_abandon : Record
+split_after_an_abandon = Split 0 1 (1 ∷ []) (event_with 98) (child 1 3 ∷ []) ∷ gone.after10
+
+-- an Attempt of a sink that holds nothing
+abbrev pub attempt_of_nothing : Record
+attempt_of_nothing = Attempt 1 [] [] Ok ∷ first.after10
+
+-- a Closed of a source that was leased for a confirm
+abbrev pub closed_before_its_confirm : Record
+closed_before_its_confirm = Closed 0 ∷ batched.after45
+
+-- a Closed of a sink that was leased with a parcel in its buffer
+abbrev pub closed_with_a_parcel : Record
+closed_with_a_parcel = Closed 1 ∷ unfinished.after11
+
+-- a Closed of a sink that was leased with a parcel that it holds
+abbrev pub closed_with_a_held_parcel : Record
+closed_with_a_held_parcel = Closed 1 ∷ batched.after40
+
+-- a Lease of a source that has nothing left to do but to wait for a notice
+abbrev pub lease_before_its_notice : Record
+lease_before_its_notice = Lease 0 0 0 0 ∷ Home 0 ∷ Read 0 0 AllEnded ∷ Lease 0 0 0 0 ∷ waiting.after20
+
+-- a Lease of a source whose Read has no Born
+abbrev pub lease_without_its_birth : Record
+lease_without_its_birth = Lease 0 0 0 0 ∷ Home 0 ∷ first.after3
+
+-- an abandoned copy spent at an instance that does not hold it
+abbrev pub given_up_elsewhere : Record
+given_up_elsewhere = Spent 0 2 Abandoned ∷ gone.after14
+
+-- a Closed of an instance that is home
+abbrev pub closed_at_home : Record
+closed_at_home = Closed 0 ∷ first.after24

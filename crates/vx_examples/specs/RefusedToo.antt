@@ -1,0 +1,189 @@
+-- More records that no further entry makes legal.
+use Rattle.std.specs.Prelude.{true, false, [], ◌∷◌}
+use Rattle.vx_ends.specs.declared.trouble.Reply.TheVariants.{Ok}
+use Rattle.vx_status.specs.declared.outcome.Outcome.TheVariants.{Delivered, Filtered, NewestDropped, NoConsumer, Attempts, Abandoned}
+use Rattle.vx_record.specs.declared.taken.Taken.TheVariants.{Bytes}
+use Rattle.vx_record.specs.declared.abandon_cause.AbandonCause.TheVariants.{Numbers, WantOfMemory}
+use Rattle.vx_record.specs.declared.entry.Entry.TheVariants.{Install, Lease, Home, Read, Idle, SourceLost, Born, Split, Push, Take, Attempt, Spent, Confirm, Closed, Retired, Abandon}
+use Rattle.vx_record.specs.Records.{Record}
+use Rattle.vx_examples.specs.FirstRun.{plan, instances}
+use Rattle.vx_examples.specs.Parts.{event_with, child}
+use Rattle.vx_examples.specs.FirstRun as first
+use Rattle.vx_examples.specs.Batched as batched
+use Rattle.vx_examples.specs.NeverStarted as never_started
+use Rattle.vx_examples.specs.Lost as lost
+use Rattle.vx_examples.specs.Dropped as dropped
+use Rattle.vx_examples.specs.GivenUp as gone
+use Rattle.vx_examples.specs.Waiting as waiting
+
+-- a record that does not begin with an Install
+abbrev pub no_install : Record
+no_install = Lease 0 0 0 0 ∷ []
+
+-- a first Install whose version is not 0
+abbrev pub later_version : Record
+later_version = Install 1 plan false instances 0 ∷ []
+
+-- a first Install that starts nothing
+abbrev pub missing_instances : Record
+missing_instances = Install 0 plan false [] 0 ∷ []
+
+-- a Lease with polls, before Control is polled
+abbrev pub polled_lease : Record
+polled_lease = Lease 1 0 0 1 ∷ first.after9
+
+-- a Lease before its worker's last one
+abbrev pub falling_moment : Record
+falling_moment = Lease 1 0 999 0 ∷ batched.after26
+
+-- a Lease of a retired instance
+abbrev pub lease_of_the_retired : Record
+lease_of_the_retired = Lease 0 0 0 0 ∷ first.after32
+
+-- a fifth failed start that does not end the source
+abbrev pub fifth_idle : Record
+fifth_idle = Idle 0 true ∷ never_started.after14
+
+-- a source that ends at its first failed start
+abbrev pub lost_too_soon : Record
+lost_too_soon = SourceLost 0 0 true ∷ never_started.after2
+
+-- a source lost at a number of bytes that it did not take
+abbrev pub lost_at_another_byte : Record
+lost_at_another_byte = SourceLost 0 1 false ∷ lost.after8
+
+-- a Take from a stage while an earlier one has a parcel
+abbrev pub take_of_a_later_stage : Record
+take_of_a_later_stage = Take 1 1 (4 ∷ []) ∷ batched.after11
+
+-- a Take behind an Attempt of the same turn
+abbrev pub take_after_an_attempt : Record
+take_after_an_attempt = Take 1 0 (3 ∷ []) ∷ first.after13
+
+-- an Attempt of a sink batch that is not closed
+abbrev pub early_attempt : Record
+early_attempt = Attempt 1 (5 ∷ []) (99 ∷ 10 ∷ []) Ok ∷ batched.after20
+
+-- two Attempts under one Lease
+abbrev pub second_attempt : Record
+second_attempt = Attempt 1 (2 ∷ []) (97 ∷ 10 ∷ []) Ok ∷ first.after12
+
+-- an Attempt of a part of the sink batch
+abbrev pub attempt_of_a_part : Record
+attempt_of_a_part = Attempt 1 (3 ∷ []) (97 ∷ 10 ∷ []) Ok ∷ batched.after13
+
+-- a copy spent for its attempts before one failed
+abbrev pub spent_by_no_failure : Record
+spent_by_no_failure = Spent 1 2 Attempts ∷ first.after12
+
+-- a copy filtered where nothing filters
+abbrev pub filtered_by_a_sink : Record
+filtered_by_a_sink = Spent 1 2 Filtered ∷ first.after12
+
+-- a copy spent for want of a target, though its port has one
+abbrev pub unread_though_read : Record
+unread_though_read = Spent 0 0 NoConsumer ∷ first.after5
+
+-- a copy dropped as the newest while a stage has room
+abbrev pub newest_with_room : Record
+newest_with_room = Spent 0 2 NewestDropped ∷ dropped.after6
+
+-- a copy abandoned before an Abandon
+abbrev pub given_up_without_an_abandon : Record
+given_up_without_an_abandon = Spent 0 2 Abandoned ∷ first.after6
+
+-- a copy spent that a Split replaced
+abbrev pub spent_after_a_split : Record
+spent_after_a_split = Spent 0 0 Delivered ∷ first.after7
+
+-- a Confirm of positions that were confirmed
+abbrev pub confirmed_again : Record
+confirmed_again = Confirm 0 (record { stream = 0; end = 4 } ∷ []) true ∷ first.after29
+
+-- an instance retired after an Abandon while a copy stands at it
+abbrev pub retired_with_a_copy : Record
+retired_with_a_copy = Retired 1 ∷ Closed 1 ∷ gone.after14
+
+-- a second Abandon
+abbrev pub second_abandon : Record
+second_abandon = Abandon WantOfMemory ∷ gone.after10
+
+-- a Born that does not wait, though a sink acknowledges
+abbrev pub waiting_missed : Record
+waiting_missed = Born 0 0 0 (0 ∷ []) (event_with 97 ∷ []) false 0 2 ∷ waiting.after3
+
+-- a Confirm of a batch that waits for its notice
+abbrev pub confirmed_before_its_notice : Record
+confirmed_before_its_notice = Confirm 0 (record { stream = 0; end = 2 } ∷ []) true ∷ Lease 0 0 0 0 ∷ waiting.after7
+
+-- a Confirm past a batch that failed
+abbrev pub confirmed_past_an_error : Record
+confirmed_past_an_error = Confirm 0 (record { stream = 0; end = 4 } ∷ []) true ∷ waiting.after27
+
+-- a Home of an instance that is home
+abbrev pub home_twice : Record
+home_twice = Home 0 ∷ first.after5
+
+-- a Read without a Lease
+abbrev pub read_at_home : Record
+read_at_home = Read 0 0 (Bytes (97 ∷ 10 ∷ [])) ∷ first.after5
+
+-- a Read of a sink
+abbrev pub read_of_a_sink : Record
+read_of_a_sink = Read 1 0 (Bytes (97 ∷ 10 ∷ [])) ∷ first.after10
+
+-- a Born of an instance that did not read
+abbrev pub born_by_another : Record
+born_by_another = Born 1 0 0 (0 ∷ 1 ∷ []) (event_with 97 ∷ event_with 98 ∷ []) false 0 4 ∷ first.after3
+
+-- a Born that names another stream than its Read
+abbrev pub born_of_another_stream : Record
+born_of_another_stream = Born 0 0 0 (0 ∷ 1 ∷ []) (event_with 97 ∷ event_with 98 ∷ []) false 1 4 ∷ first.after3
+
+-- a Born that does not stand directly behind its Read
+abbrev pub born_late : Record
+born_late = Born 0 0 0 (0 ∷ 1 ∷ []) (event_with 97 ∷ event_with 98 ∷ []) false 0 4 ∷ Home 0 ∷ first.after3
+
+-- a Split while a child waits
+abbrev pub split_while_a_child_waits : Record
+split_while_a_child_waits = Split 0 1 (1 ∷ []) (event_with 98) (child 1 3 ∷ []) ∷ first.after6
+
+-- a Split on a port on which its parcel was not put out
+abbrev pub split_on_another_port : Record
+split_on_another_port = Split 0 2 (0 ∷ []) (event_with 97) (child 1 2 ∷ []) ∷ first.after5
+
+-- a Split without children
+abbrev pub split_to_nobody : Record
+split_to_nobody = Split 0 1 (0 ∷ []) (event_with 97) [] ∷ first.after5
+
+-- a Push by an instance that is out
+abbrev pub push_while_out : Record
+push_while_out = Push 0 1 0 (2 ∷ []) ∷ Lease 0 0 0 0 ∷ first.after6
+
+-- a Take without a Lease
+abbrev pub take_at_home : Record
+take_at_home = Take 1 0 (2 ∷ []) ∷ first.after9
+
+-- an Attempt without a Lease
+abbrev pub attempt_at_home : Record
+attempt_at_home = Attempt 1 (2 ∷ []) (97 ∷ 10 ∷ []) Ok ∷ Home 1 ∷ first.after11
+
+-- two Confirms under one Lease
+abbrev pub confirmed_twice : Record
+confirmed_twice = Confirm 0 (record { stream = 0; end = 4 } ∷ []) true ∷ first.after22
+
+-- a port closed twice
+abbrev pub closed_twice : Record
+closed_twice = Closed 0 ∷ first.after30
+
+-- an instance retired while it is out
+abbrev pub retired_while_out : Record
+retired_while_out = Retired 0 ∷ first.after30
+
+-- an instance retired twice
+abbrev pub retired_twice : Record
+retired_twice = Retired 0 ∷ first.after32
+
+-- an Abandon for numbers that are not used up
+abbrev pub numbers_not_used_up : Record
+numbers_not_used_up = Abandon (Numbers 2 2) ∷ first.after4

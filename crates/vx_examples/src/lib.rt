@@ -1,0 +1,187 @@
+//! Records that are legal, and records that are not.
+#![tactic(auto)]
+
+ghost use Rattle.vx_record.specs.Legal.{IsLegal, IsClosed};
+ghost use Rattle.vx_examples.specs.FirstRun.{first_run};
+ghost use Rattle.vx_examples.specs.EmptyInput.{run as empty_input};
+ghost use Rattle.vx_examples.specs.UnfinishedLine.{run as unfinished_line};
+ghost use Rattle.vx_examples.specs.FailedTake.{run as failed_take};
+ghost use Rattle.vx_examples.specs.FanOut.{run as fan_out};
+ghost use Rattle.vx_examples.specs.Lost.{run as lost};
+ghost use Rattle.vx_examples.specs.NeverStarted.{run as never_started};
+ghost use Rattle.vx_examples.specs.Dropped.{run as dropped};
+ghost use Rattle.vx_examples.specs.GivenUp.{run as given_up};
+ghost use Rattle.vx_examples.specs.Batched.{run as batched};
+ghost use Rattle.vx_examples.specs.Waiting.{run as waiting};
+ghost use Rattle.vx_examples.specs.Facts.{SourceCounts, SinkCounts, SourceBytes, SinkBytes, Positions, NewestCounts, UnreadCounts, FailedCounts, UnconfirmedCounts, RefusedCounts, Cut, CutOpen, CutShort, Likeness, Readers, NoReaders, Waits, NoWait, RetryWaits, Replaced, EmptyRead, RetryPastTheEnd, TimeoutPastTheEnd};
+ghost use Rattle.vx_examples.specs.RefusedMore.{born_of_nothing, born_of_too_few, confirm_at_home, confirm_of_a_sink, retired_stranger, second_notice, push_to_a_later_stage, idle_of_a_sink, lost_at_home, split_after_an_abandon, attempt_of_nothing, closed_before_its_confirm, closed_with_a_parcel, closed_with_a_held_parcel, lease_before_its_notice, lease_without_its_birth, given_up_elsewhere, closed_at_home};
+ghost use Rattle.vx_examples.specs.RefusedToo.{no_install, later_version, missing_instances, polled_lease, falling_moment, lease_of_the_retired, fifth_idle, lost_too_soon, lost_at_another_byte, take_of_a_later_stage, take_after_an_attempt, early_attempt, second_attempt, attempt_of_a_part, spent_by_no_failure, filtered_by_a_sink, unread_though_read, newest_with_room, given_up_without_an_abandon, spent_after_a_split, confirmed_again, retired_with_a_copy, second_abandon, waiting_missed, confirmed_before_its_notice, confirmed_past_an_error, home_twice, read_at_home, read_of_a_sink, born_by_another, born_of_another_stream, born_late, split_while_a_child_waits, split_on_another_port, split_to_nobody, push_while_out, take_at_home, attempt_at_home, confirmed_twice, closed_twice, retired_while_out, retired_twice, numbers_not_used_up};
+ghost use Rattle.vx_examples.specs.Refused.{NeverLegal, second_install, lease_without_work, lease_of_one_out, second_read, lost_line, wrong_position, needless_wait, used_number, split_of_the_younger, split_while_out, shared_copy, child_for_another, changed_event, push_past_room, pushed_twice, take_of_the_younger, take_past_the_batch, part_answered_ok, other_bytes, delivered_after_a_failure, spent_twice, spent_elsewhere, early_notice, late_notice, wrong_status, early_confirm, confirm_of_less, lease_of_a_debtor, read_past_the_end, close_too_soon, retired_with_its_port_open, grace_without_a_stop, lease_after_an_abandon, delivered_after_an_abandon};
+
+/// The record of a run of the first configuration on two lines is legal, and nothing is left to do in it.
+pub fn first_run()
+    ensures legal { IsLegal first_run }
+    ensures closed { IsClosed first_run }
+{}
+
+/// Short runs of the first configuration: no input, a line without a line feed, an input that fails.
+pub fn short_runs()
+    ensures empty_input_legal { IsLegal empty_input }
+    ensures empty_input_closed { IsClosed empty_input }
+    ensures unfinished_line_legal { IsLegal unfinished_line }
+    ensures unfinished_line_closed { IsClosed unfinished_line }
+    ensures failed_take_legal { IsLegal failed_take }
+    ensures failed_take_closed { IsClosed failed_take }
+{}
+
+/// Each of these records breaks one rule.
+pub fn refused()
+    ensures second_install { NeverLegal second_install }
+    ensures lease_without_work { NeverLegal lease_without_work }
+    ensures lease_of_one_out { NeverLegal lease_of_one_out }
+    ensures second_read { NeverLegal second_read }
+    ensures lost_line { NeverLegal lost_line }
+    ensures wrong_position { NeverLegal wrong_position }
+    ensures needless_wait { NeverLegal needless_wait }
+    ensures used_number { NeverLegal used_number }
+    ensures split_of_the_younger { NeverLegal split_of_the_younger }
+    ensures split_while_out { NeverLegal split_while_out }
+    ensures shared_copy { NeverLegal shared_copy }
+    ensures child_for_another { NeverLegal child_for_another }
+    ensures changed_event { NeverLegal changed_event }
+    ensures push_past_room { NeverLegal push_past_room }
+    ensures pushed_twice { NeverLegal pushed_twice }
+    ensures take_of_the_younger { NeverLegal take_of_the_younger }
+    ensures take_past_the_batch { NeverLegal take_past_the_batch }
+    ensures part_answered_ok { NeverLegal part_answered_ok }
+    ensures other_bytes { NeverLegal other_bytes }
+    ensures delivered_after_a_failure { NeverLegal delivered_after_a_failure }
+    ensures spent_twice { NeverLegal spent_twice }
+    ensures spent_elsewhere { NeverLegal spent_elsewhere }
+    ensures early_notice { NeverLegal early_notice }
+    ensures late_notice { NeverLegal late_notice }
+    ensures wrong_status { NeverLegal wrong_status }
+    ensures early_confirm { NeverLegal early_confirm }
+    ensures confirm_of_less { NeverLegal confirm_of_less }
+    ensures lease_of_a_debtor { NeverLegal lease_of_a_debtor }
+    ensures read_past_the_end { NeverLegal read_past_the_end }
+    ensures close_too_soon { NeverLegal close_too_soon }
+    ensures retired_with_its_port_open { NeverLegal retired_with_its_port_open }
+    ensures grace_without_a_stop { NeverLegal grace_without_a_stop }
+    ensures lease_after_an_abandon { NeverLegal lease_after_an_abandon }
+    ensures delivered_after_an_abandon { NeverLegal delivered_after_an_abandon }
+{}
+
+/// Other runs that are legal, and in which nothing is left to do.
+pub fn other_runs()
+    ensures fan_out_legal { IsLegal fan_out }
+    ensures fan_out_closed { IsClosed fan_out }
+    ensures lost_legal { IsLegal lost }
+    ensures lost_closed { IsClosed lost }
+    ensures never_started_legal { IsLegal never_started }
+    ensures never_started_closed { IsClosed never_started }
+    ensures dropped_legal { IsLegal dropped }
+    ensures dropped_closed { IsClosed dropped }
+    ensures given_up_legal { IsLegal given_up }
+    ensures given_up_closed { IsClosed given_up }
+    ensures batched_legal { IsLegal batched }
+    ensures batched_closed { IsClosed batched }
+    ensures waiting_legal { IsLegal waiting }
+    ensures waiting_closed { IsClosed waiting }
+{}
+
+/// What the definitions say of closed things.
+pub fn facts()
+    ensures source_counts { SourceCounts }
+    ensures sink_counts { SinkCounts }
+    ensures source_bytes { SourceBytes }
+    ensures sink_bytes { SinkBytes }
+    ensures positions { Positions }
+    ensures newest_counts { NewestCounts }
+    ensures unread_counts { UnreadCounts }
+    ensures failed_counts { FailedCounts }
+    ensures unconfirmed_counts { UnconfirmedCounts }
+    ensures refused_counts { RefusedCounts }
+    ensures cut { Cut }
+    ensures cut_open { CutOpen }
+    ensures cut_short { CutShort }
+    ensures likeness { Likeness }
+    ensures readers { Readers }
+    ensures no_readers { NoReaders }
+    ensures waits { Waits }
+    ensures no_wait { NoWait }
+    ensures retry_waits { RetryWaits }
+    ensures replaced { Replaced }
+    ensures empty_read { EmptyRead }
+    ensures retry_past_the_end { RetryPastTheEnd }
+    ensures timeout_past_the_end { TimeoutPastTheEnd }
+{}
+
+/// And each of these another one.
+pub fn refused_too()
+    ensures no_install { NeverLegal no_install }
+    ensures later_version { NeverLegal later_version }
+    ensures missing_instances { NeverLegal missing_instances }
+    ensures polled_lease { NeverLegal polled_lease }
+    ensures falling_moment { NeverLegal falling_moment }
+    ensures lease_of_the_retired { NeverLegal lease_of_the_retired }
+    ensures fifth_idle { NeverLegal fifth_idle }
+    ensures lost_too_soon { NeverLegal lost_too_soon }
+    ensures lost_at_another_byte { NeverLegal lost_at_another_byte }
+    ensures take_of_a_later_stage { NeverLegal take_of_a_later_stage }
+    ensures take_after_an_attempt { NeverLegal take_after_an_attempt }
+    ensures early_attempt { NeverLegal early_attempt }
+    ensures second_attempt { NeverLegal second_attempt }
+    ensures attempt_of_a_part { NeverLegal attempt_of_a_part }
+    ensures spent_by_no_failure { NeverLegal spent_by_no_failure }
+    ensures filtered_by_a_sink { NeverLegal filtered_by_a_sink }
+    ensures unread_though_read { NeverLegal unread_though_read }
+    ensures newest_with_room { NeverLegal newest_with_room }
+    ensures given_up_without_an_abandon { NeverLegal given_up_without_an_abandon }
+    ensures spent_after_a_split { NeverLegal spent_after_a_split }
+    ensures confirmed_again { NeverLegal confirmed_again }
+    ensures retired_with_a_copy { NeverLegal retired_with_a_copy }
+    ensures second_abandon { NeverLegal second_abandon }
+    ensures waiting_missed { NeverLegal waiting_missed }
+    ensures confirmed_before_its_notice { NeverLegal confirmed_before_its_notice }
+    ensures confirmed_past_an_error { NeverLegal confirmed_past_an_error }
+    ensures home_twice { NeverLegal home_twice }
+    ensures read_at_home { NeverLegal read_at_home }
+    ensures read_of_a_sink { NeverLegal read_of_a_sink }
+    ensures born_by_another { NeverLegal born_by_another }
+    ensures born_of_another_stream { NeverLegal born_of_another_stream }
+    ensures born_late { NeverLegal born_late }
+    ensures split_while_a_child_waits { NeverLegal split_while_a_child_waits }
+    ensures split_on_another_port { NeverLegal split_on_another_port }
+    ensures split_to_nobody { NeverLegal split_to_nobody }
+    ensures push_while_out { NeverLegal push_while_out }
+    ensures take_at_home { NeverLegal take_at_home }
+    ensures attempt_at_home { NeverLegal attempt_at_home }
+    ensures confirmed_twice { NeverLegal confirmed_twice }
+    ensures closed_twice { NeverLegal closed_twice }
+    ensures retired_while_out { NeverLegal retired_while_out }
+    ensures retired_twice { NeverLegal retired_twice }
+    ensures numbers_not_used_up { NeverLegal numbers_not_used_up }
+{}
+
+/// And these, each for a rule of its own.
+pub fn more_refused()
+    ensures born_of_nothing { NeverLegal born_of_nothing }
+    ensures born_of_too_few { NeverLegal born_of_too_few }
+    ensures confirm_at_home { NeverLegal confirm_at_home }
+    ensures confirm_of_a_sink { NeverLegal confirm_of_a_sink }
+    ensures retired_stranger { NeverLegal retired_stranger }
+    ensures second_notice { NeverLegal second_notice }
+    ensures push_to_a_later_stage { NeverLegal push_to_a_later_stage }
+    ensures idle_of_a_sink { NeverLegal idle_of_a_sink }
+    ensures lost_at_home { NeverLegal lost_at_home }
+    ensures split_after_an_abandon { NeverLegal split_after_an_abandon }
+    ensures attempt_of_nothing { NeverLegal attempt_of_nothing }
+    ensures closed_before_its_confirm { NeverLegal closed_before_its_confirm }
+    ensures closed_with_a_parcel { NeverLegal closed_with_a_parcel }
+    ensures closed_with_a_held_parcel { NeverLegal closed_with_a_held_parcel }
+    ensures lease_before_its_notice { NeverLegal lease_before_its_notice }
+    ensures lease_without_its_birth { NeverLegal lease_without_its_birth }
+    ensures given_up_elsewhere { NeverLegal given_up_elsewhere }
+    ensures closed_at_home { NeverLegal closed_at_home }
+{}
