@@ -1,0 +1,106 @@
+use crate::{FIRST, empty_input, failed_take, first_difference, first_run, unfinished_line};
+use std::alloc::Global;
+use std::process::Abort;
+use std::sync::Wait;
+use std::test::Fail;
+use vx_ends::{
+    ActList, Config, ConfigList, MemoryClock, MemoryPrinter, MemoryWorld, Scripted, ScriptedList,
+    Step, StepList,
+};
+use vx_record::Record;
+use vx_run::{Ended, vector};
+use vx_value::{Bytes, ItemList, Text, TextList, VariableList, WantOfMemory};
+
+fn add<T: Drop>(list: &mut ItemList<T>, item: T) -> Result<(), WantOfMemory> {
+    list.push(item).map_err(|_| WantOfMemory)
+}
+
+/// A world that has the first configuration, and whose `in` plays these steps.
+fn world(alloc: Global, steps: StepList) -> Result<MemoryWorld, WantOfMemory> {
+    let mut configs = ConfigList::new(alloc);
+    let config = Config {
+        path: Text::copy_of(alloc, "first.toml")?,
+        bytes: Bytes::copy_of(alloc, FIRST.as_bytes())?,
+    };
+    add(&mut configs, config)?;
+    let mut scripts = ScriptedList::new(alloc);
+    let script = Scripted {
+        name: Text::copy_of(alloc, "in")?,
+        steps,
+        acts: ActList::new(alloc),
+    };
+    add(&mut scripts, script)?;
+    Ok(MemoryWorld::new(alloc, configs, scripts))
+}
+
+fn words(alloc: Global) -> Result<TextList, WantOfMemory> {
+    let mut words = TextList::new(alloc);
+    add(&mut words, Text::copy_of(alloc, "--config")?)?;
+    add(&mut words, Text::copy_of(alloc, "first.toml")?)?;
+    Ok(words)
+}
+
+/// The record of a run of the first configuration on these steps.
+fn made<R: Wait + Abort>(rt: &R, alloc: Global, steps: StepList) -> Result<Record, WantOfMemory> {
+    let world = world(alloc, steps)?;
+    let words = words(alloc)?;
+    let environment = VariableList::new(alloc);
+    let mut out = MemoryPrinter::new(alloc, None);
+    let mut err = MemoryPrinter::new(alloc, None);
+    let clock = MemoryClock::new();
+    let Ended { history, .. } = vector(
+        rt,
+        alloc,
+        &words,
+        &environment,
+        world,
+        &clock,
+        &mut out,
+        &mut err,
+    );
+    Ok(history)
+}
+
+fn piece(alloc: Global, bytes: &str) -> Result<StepList, WantOfMemory> {
+    let mut steps = StepList::new(alloc);
+    let piece = Step::Bytes {
+        stream: 0,
+        bytes: Bytes::copy_of(alloc, bytes.as_bytes())?,
+    };
+    add(&mut steps, piece)?;
+    Ok(steps)
+}
+
+#[test]
+fn copies_two_lines(rt: HostRuntime) -> Result<(), Fail> {
+    let alloc = rt.alloc();
+    let made = made(&rt, alloc, piece(alloc, "a\nb\n")?)?;
+    assert_eq!(rt; first_difference(&made, &first_run(alloc)?), None);
+    Ok(())
+}
+
+#[test]
+fn nothing_to_copy(rt: HostRuntime) -> Result<(), Fail> {
+    let alloc = rt.alloc();
+    let made = made(&rt, alloc, StepList::new(alloc))?;
+    assert_eq!(rt; first_difference(&made, &empty_input(alloc)?), None);
+    Ok(())
+}
+
+#[test]
+fn unfinished_last_line(rt: HostRuntime) -> Result<(), Fail> {
+    let alloc = rt.alloc();
+    let made = made(&rt, alloc, piece(alloc, "a")?)?;
+    assert_eq!(rt; first_difference(&made, &unfinished_line(alloc)?), None);
+    Ok(())
+}
+
+#[test]
+fn fails_after_one_line(rt: HostRuntime) -> Result<(), Fail> {
+    let alloc = rt.alloc();
+    let mut steps = piece(alloc, "a\n")?;
+    add(&mut steps, Step::Fail)?;
+    let made = made(&rt, alloc, steps)?;
+    assert_eq!(rt; first_difference(&made, &failed_take(alloc)?), None);
+    Ok(())
+}
