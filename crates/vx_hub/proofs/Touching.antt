@@ -440,3 +440,21 @@ stands_attempted {P} told_by d log hand i copies bytes reply s out noted =
       size = s.size;
       berths = s.berths;
     }
+
+-- past the end there are no facts
+pub facts_past : (F : Facts → Type 0) (fs : List Facts) (i : ℕ) → length fs ≤ i → IsSomeAnd (facts_at fs i) F → ⊥
+facts_past F [] i l s = s
+facts_past F (f ∷ fs) zero l s = absurd (omega arith)
+facts_past F (f ∷ fs) (suc i) l s = facts_past F fs i (omega arith) s
+
+-- a fact of the facts that are read is one of the table
+pub facts_says : (F : Facts → Type 0) (fs : List Facts) (i : ℕ) (f : Facts) → i < length fs → f ≡ get_or fs i f → F f → IsSomeAnd (facts_at fs i) F
+facts_says F fs i f l at h = subst (λ (o : Option Facts). IsSomeAnd o F) (sym (facts_read fs i f l at)) h
+
+pub not_false : (b : Bool) → IsTrue (not b) → b ≡ false
+not_false true y = cc
+not_false false y = refl
+
+pub not_both : (b : Bool) → not b ≡ false → b ≡ false → ⊥
+not_both true n f = cc
+not_both false n f = cc

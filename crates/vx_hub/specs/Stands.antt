@@ -145,6 +145,12 @@ IsQuiet (Confirm i positions made) = ⊥
 IsQuiet (Abandon cause) = ⊥
 IsQuiet other = Unit {0}
 
+-- an instance whose port is closed for good and at which nothing stands, but that isn't retired
+pub record HasEnded {P : Type 0} (hub : Hub P) (i : ℕ) : Type 0 where
+  pub closed : IsSomeAnd (facts_at hub.facts.items i) (λ f. f.closed ≡ true)
+  pub unretired : IsSomeAnd (facts_at hub.facts.items i) (λ f. f.retired ≡ false)
+  pub bare : IsBareAt hub.rows.items i
+
 -- an instance that hasn't ended has room in its buffer
 pub record IsOpenTarget {P : Type 0} (hub : Hub P) (target : ℕ) : Type 0 where
   pub within : target < length hub.rows.items

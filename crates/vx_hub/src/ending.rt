@@ -1,5 +1,5 @@
-ghost use Rattle.std.specs.Prelude.{◌≡◌, ◌<◌, ◌↔◌, [], length, IfSome, IsSomeAnd, IsTrue, IsSome, All, false, true};
-ghost use Rattle.vx_hub.specs.Stands.{Stands, facts_at};
+ghost use Rattle.std.specs.Prelude.{◌≡◌, ◌<◌, ◌↔◌, [], length, IfSome, IsSomeAnd, IsTrue, IsSome, All, Some, ℕ, IfNone, false, true};
+ghost use Rattle.vx_hub.specs.Stands.{Stands, HasEnded, facts_at};
 ghost use Rattle.vx_hub.specs.Rows.{IsBareAt, option_copies, port_at};
 
 use crate::hub::Hub;
@@ -14,6 +14,8 @@ impl<P: Port> Hub<P> {
     pub fn retire(&mut self) -> Option<u32>
         requires { Stands P.told self.old [] self.old.log.history }
         ensures stands { Stands P.told self.new [] self.new.log.history }
+        ensures some { IfSome result (λ i. HasEnded self.old i × IsSomeAnd (facts_at self.new.facts.items i) (λ f. f.retired ≡ true)) }
+        ensures none { IfNone result ((i : ℕ) → i < length self.old.rows.items → HasEnded self.old i → ⊥) }
         ensures size { length self.new.rows.items ≡ length self.old.rows.items }
     {
         for i in 0..self.rows.len() {
@@ -30,19 +32,35 @@ impl<P: Port> Hub<P> {
     fn can_retire(&self, i: usize) -> bool
         requires { i < length self.now.rows.items }
         ensures within { IsTrue result → i < length self.now.facts.items }
-        ensures closed { IsTrue result → IsSomeAnd (facts_at self.now.facts.items i) (λ f. f.closed ≡ true) }
-        ensures bare { IsTrue result → IsBareAt self.now.rows.items i }
+        ensures ended { IsTrue result → HasEnded self.now i }
+        ensures goes_on { result ≡ false → HasEnded self.now i → ⊥ }
     {
-        if i >= self.facts.len() || self.facts[i].retired || !self.facts[i].closed {
+        if self.is_closing(i) {
+            self.is_bare(i)
+        } else {
+            false
+        }
+    }
+
+    /// Whether the port of an instance is closed for good, and it isn't retired.
+    fn is_closing(&self, i: usize) -> bool
+        ensures within { IsTrue result → i < length self.now.facts.items }
+        ensures closed { IsTrue result → IsSomeAnd (facts_at self.now.facts.items i) (λ f. f.closed ≡ true) }
+        ensures unretired { IsTrue result → IsSomeAnd (facts_at self.now.facts.items i) (λ f. f.retired ≡ false) }
+        ensures goes_on { result ≡ false → IsSomeAnd (facts_at self.now.facts.items i) (λ f. f.closed ≡ true) → IsSomeAnd (facts_at self.now.facts.items i) (λ f. f.retired ≡ false) → ⊥ }
+    {
+        if i >= self.facts.len() {
             return false;
         }
-        self.is_bare(i)
+        let facts = &self.facts[i];
+        facts.closed && !facts.retired
     }
 
     /// Whether nothing stands at an instance, and it is at home.
     fn is_bare(&self, i: usize) -> bool
         requires { i < length self.now.rows.items }
-        ensures { IsTrue result → IsBareAt self.now.rows.items i }
+        ensures bare { IsTrue result → IsBareAt self.now.rows.items i }
+        ensures something { result ≡ false → IsBareAt self.now.rows.items i → ⊥ }
     {
         self.rows[i].is_bare()
     }
@@ -55,6 +73,7 @@ impl<P: Port> Hub<P> {
         requires bare { IsBareAt self.old.rows.items instance }
         ensures stands { Stands P.told self.new [] self.new.log.history }
         ensures rows { self.new.rows ≡ self.old.rows }
+        ensures retired { IsSomeAnd (facts_at self.new.facts.items instance) (λ f. f.retired ≡ true) }
     {
         self.log.note(Ok(Entry::Retired { instance }));
         self.facts[instance as usize].retired = true;
@@ -73,6 +92,7 @@ impl<P: Port> Hub<P> {
         requires { Stands P.told self.old [] self.old.log.history }
         ensures stands { Stands P.told self.new [] self.new.log.history }
         ensures size { length self.new.rows.items ≡ length self.old.rows.items }
+        ensures cause { self.new.abandoned ≡ Some cause }
     {
         self.note_abandoned(cause);
         for i in 0..self.rows.len() {
@@ -87,6 +107,7 @@ impl<P: Port> Hub<P> {
         requires { Stands P.told self.old [] self.old.log.history }
         ensures stands { Stands P.told self.new [] self.new.log.history }
         ensures size { length self.new.rows.items ≡ length self.old.rows.items }
+        ensures cause { self.new.abandoned ≡ Some cause }
     {
         self.abandoned = Some(cause);
         self.log.note(Ok(Entry::Abandon { cause }));
@@ -98,6 +119,7 @@ impl<P: Port> Hub<P> {
         requires within { instance < length self.old.rows.items }
         ensures stands { Stands P.told self.new [] self.new.log.history }
         ensures size { length self.new.rows.items ≡ length self.old.rows.items }
+        ensures abandoned { self.new.abandoned ≡ self.old.abandoned }
     {
         for _ in 0..u64::MAX {
             if !self.spend_next(instance) {
@@ -131,6 +153,7 @@ impl<P: Port> Hub<P> {
         requires within { instance < length self.old.rows.items }
         ensures stands { Stands P.told self.new [] self.new.log.history }
         ensures size { length self.new.rows.items ≡ length self.old.rows.items }
+        ensures abandoned { self.new.abandoned ≡ self.old.abandoned }
     {
         match self.next_parcel(instance as usize) {
             Some(parcel) => {
@@ -147,6 +170,7 @@ impl<P: Port> Hub<P> {
         requires within { i < length self.old.rows.items }
         ensures stands { Stands P.told self.new (option_copies result) self.new.log.history }
         ensures size { length self.new.rows.items ≡ length self.old.rows.items }
+        ensures abandoned { self.new.abandoned ≡ self.old.abandoned }
     {
         if !self.rows[i].outputs.is_empty() {
             pop_output(&mut self.rows, i)
@@ -166,6 +190,7 @@ impl<P: Port> Hub<P> {
         requires home { IsSome (port_at self.old.rows.items instance) }
         ensures stands { Stands P.told self.new [] self.new.log.history }
         ensures size { length self.new.rows.items ≡ length self.old.rows.items }
+        ensures abandoned { self.new.abandoned ≡ self.old.abandoned }
     {
         self.close_port(instance as usize);
         self.mark_closed(instance);
@@ -179,6 +204,7 @@ impl<P: Port> Hub<P> {
         ensures stands { Stands P.told self.new [] self.new.log.history }
         ensures shut { IsSomeAnd (port_at self.new.rows.items i) (λ port. (P.told port).started ≡ false) }
         ensures size { length self.new.rows.items ≡ length self.old.rows.items }
+        ensures abandoned { self.new.abandoned ≡ self.old.abandoned }
     {
         close_at(&mut self.rows, i);
     }

@@ -1,3 +1,6 @@
+ghost use Rattle.std.specs.Prelude.{◌≡◌};
+ghost use Rattle.vx_hub.specs.Failures.{fatal_of};
+
 use vx_ledger::Short;
 
 /// Why the hub can't go on. Only an abandonment is left.
@@ -10,7 +13,9 @@ pub enum Fatal {
 }
 
 impl From<Short> for Fatal {
-    fn from(short: Short) -> Self {
+    fn from(short: Short) -> Self
+        ensures { result ≡ fatal_of short }
+    {
         match short {
             Short::Numbers { next, wanted } => Fatal::Numbers { next, wanted },
             Short::WantOfMemory => Fatal::WantOfMemory,

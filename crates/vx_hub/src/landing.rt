@@ -1,4 +1,4 @@
-ghost use Rattle.std.specs.Prelude.{◌≡◌, ◌<◌, ◌≤◌, ◌++◌, List, [], length, IfSome, IsSomeAnd, Some, None, false, IsTrue};
+ghost use Rattle.std.specs.Prelude.{◌≡◌, ◌<◌, ◌≤◌, ◌++◌, List, [], length, IfSome, IsSomeAnd, Some, None, false, true, IsTrue, OnOk, OnErr};
 ghost use Rattle.vx_ledger.specs.Copies.{Copy};
 ghost use Rattle.vx_record.specs.Confirms.{born_positions};
 ghost use Rattle.vx_record.specs.Noted.{Noted};
@@ -27,6 +27,8 @@ impl<P: Port> Hub<P> {
     pub fn land(&mut self, landing: Landing<P>) -> Result<(), Fatal>
         requires { IsBack P.told self.old landing }
         ensures stands { Stands P.told self.new [] self.new.log.history }
+        ensures fatal { OnErr result (self.new.fatal ≡ true) }
+        ensures whole { OnOk result (IsTrue self.new.log.whole) }
         ensures size { length self.new.rows.items ≡ length self.old.rows.items }
     {
         let instance = landing.instance;
@@ -127,7 +129,10 @@ impl<P: Port> Hub<P> {
 
     /// The answer of a landing. An entry that couldn't be noted is want of memory.
     fn settled(&mut self, landed: Result<(), Fatal>) -> Result<(), Fatal>
-        ensures { self.new ≡ record self.old { fatal = self.new.fatal } }
+        ensures rest { self.new ≡ record self.old { fatal = self.new.fatal } }
+        ensures fatal { OnErr result (self.new.fatal ≡ true) }
+        ensures whole { OnOk result (IsTrue self.new.log.whole) }
+        ensures passed { OnErr landed (result ≡ landed) }
     {
         let answer = match landed {
             Ok(()) if !self.log.whole => Err(Fatal::WantOfMemory),
@@ -172,6 +177,7 @@ impl<P: Port> Hub<P> {
         requires shut { IsSomeAnd (port_at self.old.rows.items instance) (λ port. (P.told port).started ≡ false) }
         ensures stands { Stands P.told self.new [] self.new.log.history }
         ensures rows { self.new.rows ≡ self.old.rows }
+        ensures abandoned { self.new.abandoned ≡ self.old.abandoned }
     {
         self.log.note(Ok(Entry::Closed { instance }));
         self.facts[instance as usize].closed = true;

@@ -34,6 +34,7 @@ impl<P: Port> Hub<P> {
         ensures leased { IfSome result (IsLeased P.told self.new) }
         ensures none { IfNone result (Stands P.told self.new [] self.new.log.history) }
         ensures size { length self.new.rows.items ≡ length self.old.rows.items }
+        ensures fatal { self.new.fatal ≡ self.old.fatal }
     {
         if self.fatal || self.abandoned.is_some() || !self.log.whole {
             return None;
@@ -57,6 +58,7 @@ impl<P: Port> Hub<P> {
         ensures open { IsOpenAt self.new instance }
         ensures due { IsSound self.new → IfSome result (λ positions. positions ≡ born_positions self.new.log.history instance) }
         ensures rows { self.new.rows ≡ self.old.rows }
+        ensures fatal { self.new.fatal ≡ self.old.fatal }
     {
         self.log.note(Ok(Entry::Lease {
             instance,
@@ -81,6 +83,7 @@ impl<P: Port> Hub<P> {
         ensures leased { IfSome result (IsLeased P.told self.new) }
         ensures none { IfNone result (Stands P.told self.new [] self.new.log.history) }
         ensures size { length self.new.rows.items ≡ length self.old.rows.items }
+        ensures fatal { self.new.fatal ≡ self.old.fatal }
     {
         let task = take_task(&mut self.rows, instance as usize)?;
         Some(Work {
@@ -161,6 +164,7 @@ impl<P: Port> Hub<P> {
         ensures stands { Stands P.told self.new [] self.new.log.history }
         ensures open { IsOpenAt self.new instance }
         ensures size { length self.new.rows.items ≡ length self.old.rows.items }
+        ensures fatal { self.new.fatal ≡ self.old.fatal }
     {
         for _ in 0..TAKES {
             if !self.take(instance, now) {
@@ -176,6 +180,7 @@ impl<P: Port> Hub<P> {
         ensures stands { Stands P.told self.new [] self.new.log.history }
         ensures facts { self.new.facts ≡ self.old.facts }
         ensures size { length self.new.rows.items ≡ length self.old.rows.items }
+        ensures fatal { self.new.fatal ≡ self.old.fatal }
     {
         if !self.can_hold(instance as usize) {
             return false;

@@ -1,4 +1,4 @@
-ghost use Rattle.std.specs.Prelude.{◌≡◌, ◌<◌, [], length, IfSome, IsTrue, IfNone};
+ghost use Rattle.std.specs.Prelude.{◌≡◌, ◌<◌, [], length, IfSome, IsTrue, IfNone, OnErr, true};
 ghost use Rattle.vx_record.specs.Noted.{Noted};
 ghost use Rattle.vx_record.specs.declared.entry.Entry.{Entry};
 ghost use Rattle.vx_hub.specs.Stands.{Stands, IsOpenTarget, IsQuiet};
@@ -51,6 +51,7 @@ impl<P: Port> Hub<P> {
         requires within { instance < length self.old.rows.items }
         ensures stands { Stands P.told self.new [] self.new.log.history }
         ensures size { length self.new.rows.items ≡ length self.old.rows.items }
+        ensures fatal { OnErr result (self.new.fatal ≡ true) }
     {
         let mut pushed: u32 = 0;
         for _ in 0..STEPS {
@@ -130,6 +131,7 @@ impl<P: Port> Hub<P> {
         requires none { NoneWaits self.old.rows.items instance }
         ensures stands { Stands P.told self.new [] self.new.log.history }
         ensures size { length self.new.rows.items ≡ length self.old.rows.items }
+        ensures fatal { OnErr result (self.new.fatal ≡ true) }
     {
         let i = instance as usize;
         let Some(parcel) = pop_output(&mut self.rows, i) else {

@@ -17,12 +17,13 @@ pub struct Row<P> {
 }
 
 impl<P> Row<P> {
-    ghost use Rattle.std.specs.Prelude.{IsTrue};
+    ghost use Rattle.std.specs.Prelude.{IsTrue, ◌≡◌, false};
     ghost use Rattle.vx_hub.specs.Rows.{IsBare};
 
     /// Whether nothing stands here, and the task is at home.
     pub fn is_bare(&self) -> bool
-        ensures { IsTrue result → IsBare self.now }
+        ensures bare { IsTrue result → IsBare self.now }
+        ensures something { result ≡ false → IsBare self.now → ⊥ }
     {
         self.outputs.is_empty()
             && self.waiting.is_empty()

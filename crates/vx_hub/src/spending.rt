@@ -16,6 +16,7 @@ impl<P: Port> Hub<P> {
         ensures stands { Stands P.told self.new [] self.new.log.history }
         ensures rows { self.new.rows ≡ self.old.rows }
         ensures facts { self.new.facts ≡ self.old.facts }
+        ensures abandoned { self.new.abandoned ≡ self.old.abandoned }
     {
         let Parcel {
             event: _,
@@ -33,6 +34,7 @@ impl<P: Port> Hub<P> {
         ensures stands { (rest : List Copy) → Stands P.told self.old (rest ++ finalizer ∷ []) self.old.log.history → Stands P.told self.new rest self.new.log.history }
         ensures rows { self.new.rows ≡ self.old.rows }
         ensures facts { self.new.facts ≡ self.old.facts }
+        ensures abandoned { self.new.abandoned ≡ self.old.abandoned }
     {
         let copy = finalizer.number();
         let notice = self.batches.spend(finalizer, outcome);
@@ -51,6 +53,7 @@ impl<P: Port> Hub<P> {
         ensures stands { (hand : List Copy) → Stands P.told self.old hand self.old.log.history → Stands P.told self.new hand self.new.log.history }
         ensures rows { self.new.rows ≡ self.old.rows }
         ensures facts { self.new.facts ≡ self.old.facts }
+        ensures abandoned { self.new.abandoned ≡ self.old.abandoned }
     {
         self.log.note(Ok(Entry::Notice {
             batch: notice.batch,

@@ -1,4 +1,4 @@
-ghost use Rattle.std.specs.Prelude.{◌≡◌, [], IsTrue, IsSome};
+ghost use Rattle.std.specs.Prelude.{◌≡◌, [], IsTrue, IsSome, false};
 ghost use Rattle.vx_hub.specs.Rows.{task_parcels};
 
 use crate::source::SourceCore;
@@ -31,6 +31,7 @@ pub struct Task<P> {
 pub(crate) fn holds_nothing<P>(task: &Option<Task<P>>) -> bool
     ensures home { IsTrue result → IsSome task.now }
     ensures none { IsTrue result → task_parcels task.now ≡ [] }
+    ensures something { result ≡ false → IsSome task.now → task_parcels task.now ≡ [] → ⊥ }
 {
     match task {
         Some(task) => match &task.role {

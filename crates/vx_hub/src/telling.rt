@@ -1,4 +1,4 @@
-ghost use Rattle.std.specs.Prelude.{◌≡◌, ◌<◌, ◌^◌, ◌-◌, min, length};
+ghost use Rattle.std.specs.Prelude.{◌≡◌, ◌<◌, ◌^◌, ◌-◌, min, length, [], None, IsTrue, IsSomeAnd, false};
 ghost use Rattle.std.specs.Option.{option_copied};
 ghost use Rattle.vx_hub.specs.Stands.{facts_at, lost_of, unconfirmed_of};
 
@@ -19,6 +19,7 @@ impl<P: Port> Hub<P> {
     /// The name of an instance's component.
     pub fn name_of(&self, instance: u32) -> &Text
         requires { instance < length self.now.facts.items }
+        ensures { IsSomeAnd (facts_at self.now.facts.items instance) (λ f. f.name ≡ result.now) }
     {
         &self.facts[instance as usize].name
     }
@@ -26,6 +27,7 @@ impl<P: Port> Hub<P> {
     /// The class of an instance's component.
     pub fn class_of(&self, instance: u32) -> Class
         requires { instance < length self.now.facts.items }
+        ensures { IsSomeAnd (facts_at self.now.facts.items instance) (λ f. f.class ≡ result) }
     {
         self.facts[instance as usize].class
     }
@@ -47,7 +49,11 @@ impl<P: Port> Hub<P> {
     }
 
     /// Whether a copy is live and the run wasn't abandoned.
-    pub fn unspent(&self) -> bool {
+    pub fn unspent(&self) -> bool
+        ensures live { IsTrue result → self.now.batches.open_rows ≡ [] → ⊥ }
+        ensures goes_on { IsTrue result → self.now.abandoned ≡ None }
+        ensures settled { self.now.abandoned ≡ None → result ≡ false → self.now.batches.open_rows ≡ [] }
+    {
         self.abandoned.is_none() && !self.batches.is_settled()
     }
 

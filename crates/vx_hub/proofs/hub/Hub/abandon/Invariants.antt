@@ -1,4 +1,4 @@
-use Rattle.std.proofs.Common.{◌≡◌, [], length}
+use Rattle.std.proofs.Common.{◌≡◌, [], length, Some}
 use Rattle.vx_hub.specs.Stands.{Stands}
 use Rattle.vx_hub.proofs.hub.Hub.abandon.Given as goal
 
@@ -6,4 +6,5 @@ abbrev pub invariant-loop-i : goal.invariant-loop-i
 invariant-loop-i g l = record {
   stands : Stands g.P.Port.told l.self [] l.self.log.history;
   size : length l.self.rows.items ≡ length l.fn.self.rows.items;
+  abandoned : l.self.abandoned ≡ Some l.fn.cause;
 }

@@ -6,5 +6,6 @@ abbrev pub invariant-loop : goal.invariant-loop
 invariant-loop g l = record {
   stands : Stands g.P.Port.told l.self [] l.self.log.history;
   facts : l.self.facts ≡ l.fn.self.facts;
+  fatal : l.self.fatal ≡ l.fn.self.fatal;
   size : length l.self.rows.items ≡ length l.fn.self.rows.items;
 }

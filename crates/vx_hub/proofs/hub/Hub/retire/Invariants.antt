@@ -1,9 +1,9 @@
-use Rattle.std.proofs.Common.{◌≡◌, [], length}
-use Rattle.vx_hub.specs.Stands.{Stands}
+use Rattle.std.proofs.Common.{◌≡◌, ℕ, ◌<◌}
+use Rattle.vx_hub.specs.Stands.{HasEnded}
 use Rattle.vx_hub.proofs.hub.Hub.retire.Given as goal
 
 abbrev pub invariant-loop-i : goal.invariant-loop-i
 invariant-loop-i g l = record {
-  stands : Stands g.P.Port.told l.self [] l.self.log.history;
-  size : length l.self.rows.items ≡ length l.fn.self.rows.items;
+  same : l.self ≡ l.fn.self;
+  none : (j : ℕ) → j < l.i → HasEnded l.fn.self j → ⊥;
 }

@@ -7,6 +7,7 @@ invariant-loop-finalizer g l = record {
   stands : Stands g.P.Port.told l.self l.finalizers l.self.log.history;
   rows : l.self.rows ≡ l.fn.self.rows;
   facts : l.self.facts ≡ l.fn.self.facts;
+  abandoned : l.self.abandoned ≡ l.fn.self.abandoned;
 }
 
 abbrev pub decreases-loop-finalizer : goal.decreases-loop-finalizer
