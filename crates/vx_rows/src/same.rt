@@ -1,7 +1,7 @@
 use vx_ends::PositionList;
 use vx_plan::Plan;
 use vx_record::{ChildList, Entry, InstanceList, Record, Taken};
-use vx_value::{EventList, NumberList};
+use vx_value::{EventList, NumberList, TextList};
 
 /// The index of the first entry in which two records differ, counted from the oldest; `None` where they are the same.
 pub fn first_difference(made: &Record, wanted: &Record) -> Option<usize> {
@@ -16,11 +16,15 @@ pub fn first_difference(made: &Record, wanted: &Record) -> Option<usize> {
 
 /// Whether two entries are the same.
 fn same_entry(a: &Entry, b: &Entry) -> bool {
-    same_source_entry(a, b) || same_move(a, b) || same_sink_entry(a, b) || same_end(a, b)
+    same_take(a, b)
+        || same_batch(a, b)
+        || same_move(a, b)
+        || same_sink_entry(a, b)
+        || same_end(a, b)
 }
 
-/// Whether two entries of a source are the same.
-fn same_source_entry(a: &Entry, b: &Entry) -> bool {
+/// Whether two entries of what a source took, or of its loss, are the same.
+fn same_take(a: &Entry, b: &Entry) -> bool {
     match (a, b) {
         (
             Entry::Read {
@@ -34,6 +38,25 @@ fn same_source_entry(a: &Entry, b: &Entry) -> bool {
                 taken: t,
             },
         ) => instance == i && stream == s && same_taken(taken, t),
+        (
+            Entry::SourceLost {
+                instance,
+                at,
+                start_failed,
+            },
+            Entry::SourceLost {
+                instance: i,
+                at: n,
+                start_failed: f,
+            },
+        ) => instance == i && at == n && start_failed == f,
+        _ => false,
+    }
+}
+
+/// Whether two entries of a batch's birth, or of its confirm, are the same.
+fn same_batch(a: &Entry, b: &Entry) -> bool {
+    match (a, b) {
         (
             Entry::Born {
                 instance,
@@ -65,18 +88,6 @@ fn same_source_entry(a: &Entry, b: &Entry) -> bool {
                 && stream == s
                 && end == n
         }
-        (
-            Entry::SourceLost {
-                instance,
-                at,
-                start_failed,
-            },
-            Entry::SourceLost {
-                instance: i,
-                at: n,
-                start_failed: f,
-            },
-        ) => instance == i && at == n && start_failed == f,
         (
             Entry::Confirm {
                 instance,
@@ -271,9 +282,18 @@ fn same_instances(a: &InstanceList, b: &InstanceList) -> bool {
         })
 }
 
-/// Whether two plans have the same components by name and class.
+/// Whether two plans have the same components by name, class and inputs.
 fn same_plan(a: &Plan, b: &Plan) -> bool {
     let mut pairs = a.components.as_slice().iter().zip(b.components.as_slice());
     a.components.len() == b.components.len()
-        && pairs.all(|(x, y)| x.name.as_str() == y.name.as_str() && x.class == y.class)
+        && pairs.all(|(x, y)| {
+            x.name.as_str() == y.name.as_str()
+                && x.class == y.class
+                && same_texts(&x.inputs, &y.inputs)
+        })
+}
+
+fn same_texts(a: &TextList, b: &TextList) -> bool {
+    let mut pairs = a.as_slice().iter().zip(b.as_slice());
+    a.len() == b.len() && pairs.all(|(x, y)| x.as_str() == y.as_str())
 }
