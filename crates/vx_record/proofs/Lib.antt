@@ -15,3 +15,9 @@ pub mod Grows
 pub mod FirstWiring
 pub mod SpentParcels
 mod ChunkLaws
+pub mod LineLengths
+pub mod Pasts
+pub mod ConfirmedPositions
+pub mod LineSteps
+pub mod PutSteps
+pub mod Tallied

@@ -32,3 +32,10 @@ pub mod Tallies
 pub mod Laws
 pub mod Growth
 pub mod Wirings
+pub mod Counting
+pub mod Lengths
+pub mod Cuts
+pub mod LineCounting
+pub mod PutCounting
+pub mod Counts
+pub mod TallyLists

@@ -3,13 +3,23 @@
 
 mod abandon_cause;
 mod child;
+mod confirmed_ends;
+mod count;
+mod cut;
 mod entry;
 mod instance;
 mod laws;
+mod line_counts;
 mod log;
+mod notice_counts;
+mod outcomes;
+mod plain_counts;
+mod put_counts;
 mod record;
+mod role;
 mod taken;
 mod tally;
+mod tally_list;
 
 pub use abandon_cause::AbandonCause;
 pub use child::{Child, ChildList};
@@ -23,6 +33,7 @@ pub use log::Log;
 pub use record::Record;
 pub use taken::Taken;
 pub use tally::Tally;
+pub use tally_list::{TallyList, tallies};
 
 #[cfg(test)]
 mod tests;

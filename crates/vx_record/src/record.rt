@@ -1,4 +1,4 @@
-ghost use Rattle.std.specs.Prelude.{◌≡◌, ◌∷◌, ◌++◌, ◌↔◌, [], List, length, reverse, slice_get, OnOk, OnErr, IsTrue};
+ghost use Rattle.std.specs.Prelude.{◌≡◌, ◌<◌, ◌∷◌, ◌++◌, ◌↔◌, [], List, length, reverse, slice_get, OnOk, OnErr, IsTrue};
 ghost use Rattle.std.specs.Option.{option_copied};
 ghost use Rattle.vx_record.specs.Chunks.{in_a_row, EachHas};
 
@@ -71,6 +71,17 @@ impl Record {
         match self.full.get(i / CHUNK) {
             Some(chunk) => chunk.get(i % CHUNK),
             None => self.last.get(i - self.full.len() * CHUNK),
+        }
+    }
+
+    /// The entry at an index, counted from 0 at the oldest.
+    pub(crate) fn entry(&self, i: usize) -> &Entry
+        requires { i < length self.now }
+        ensures { slice_get (reverse self.now) i ≡ Some result.now }
+    {
+        match self.get(i) {
+            Some(entry) => entry,
+            None => unreachable!(),
         }
     }
 

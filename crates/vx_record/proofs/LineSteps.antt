@@ -1,0 +1,135 @@
+-- How a Read moves the counts of lines.
+use Rattle.std.proofs.Common.{◌≡◌, ℕ, ◌+◌, ◌-◌, ◌^◌, ◌<◌, ◌≤◌, Bool, true, false, ◌&&◌, Some, unwrap_or, nat_eq, [], ◌∷◌, sym, refl, ap, ◌∙◌, arith, length, inl, inr}
+use Rattle.std.specs.Prelude.{if◌then◌else◌, ◌==◌, nat_lt}
+use Rattle.std.specs.HashMap as table
+use Rattle.std.proofs.lemmas.Bool.Decides.{nat_tests}
+use Rattle.std.proofs.lemmas.Bool.{cases_eq}
+use Rattle.vx_value.specs.Texts.{Word}
+use Rattle.vx_record.specs.declared.taken.Taken.{Taken}
+use Rattle.vx_record.specs.declared.taken.Taken.TheVariants.{Bytes, StreamEnded, AllEnded}
+use Rattle.vx_record.specs.declared.entry.Entry.TheVariants.{Read}
+use Rattle.vx_record.specs.declared.cut.Cut.{Cut}
+use Rattle.vx_record.specs.declared.line_counts.LineCounts.{LineCounts}
+use Rattle.vx_record.specs.Records.{Record, capped}
+use Rattle.vx_record.specs.Reads.{has_bytes, last_stream, stream_of, still_open, open_bytes, limit_of, new_lines, all_new_lines}
+use Rattle.vx_record.specs.Tallies.{one_if, lines_read, all_lines_read}
+use Rattle.vx_record.specs.Lengths.{is_within, is_over, left_of, ends, left_behind}
+use Rattle.vx_record.specs.Cuts.{IsCut}
+use Rattle.vx_record.specs.LineCounting.{AreLines}
+use Rattle.vx_record.proofs.LineLengths.{left-alike, ended-alike, within-alike, over-alike, ends-both, lines-past, all-lines-past, left-still_open}
+
+pub ends-alike : (test : ℕ → Bool) → ((m n : ℕ) → capped m ≡ capped n → test m ≡ test n) →
+    (m n : ℕ) (took : Taken) → capped m ≡ capped n → ends test m took ≡ ends test n took
+ends-alike test alike m n (Bytes bytes) same = ended-alike test alike m n bytes same
+ends-alike test alike m n StreamEnded same =
+    let some : nat_lt 0 m ≡ nat_lt 0 n = grind (arith, nat_tests) in λ t. one_if (some t && alike m n same t)
+ends-alike test alike m n AllEnded same =
+    let some : nat_lt 0 m ≡ nat_lt 0 n = grind (arith, nat_tests) in λ t. one_if (some t && alike m n same t)
+
+pub behind-alike : (m n : ℕ) (took : Taken) → capped m ≡ capped n → capped (left_behind m took) ≡ capped (left_behind n took)
+behind-alike m n (Bytes bytes) same = left-alike m n bytes same
+behind-alike m n StreamEnded same = refl
+behind-alike m n AllEnded same = refl
+
+if_self : (i x : ℕ) → (if i == i then x else 0) ≡ x
+if_self i x = grind (arith, nat_tests)
+
+-- the unfinished length of the stream whose lines a Read ends
+abbrev pub left_in : Record → ℕ → ℕ → Taken → ℕ
+left_in h i stream took = left_of 0 (open_bytes h i (stream_of h i stream took))
+
+pub lines_more : (h : Record) (i stream : ℕ) (took : Taken) →
+    lines_read (Read i stream took ∷ h) i ≡ lines_read h i + ends (is_within (limit_of h i)) (left_in h i stream took) took
+lines_more h i stream took =
+    ap (λ n. lines_read h i + n) (if_self i (length (new_lines h i stream took)) ∙ lines-past (limit_of h i) (open_bytes h i (stream_of h i stream took)) took)
+
+pub all_lines_more : (h : Record) (i stream : ℕ) (took : Taken) →
+    all_lines_read (Read i stream took ∷ h) i ≡ all_lines_read h i + ends (λ _. true) (left_in h i stream took) took
+all_lines_more h i stream took =
+    ap (λ n. all_lines_read h i + n) (if_self i (length (all_new_lines h i stream took)) ∙ all-lines-past (open_bytes h i (stream_of h i stream took)) took)
+
+-- lines within the limit are lines
+pub lines-le : (h : Record) (i : ℕ) → lines_read h i ≤ all_lines_read h i
+lines-le [] i = omega arith
+lines-le (Read j stream took ∷ h) i = go (j == i) (lines-le h i)
+  where
+    fewer : length (new_lines h i stream took) ≤ length (all_new_lines h i stream took)
+    fewer =
+        let a = lines-past (limit_of h i) (open_bytes h i (stream_of h i stream took)) took in
+        let b = all-lines-past (open_bytes h i (stream_of h i stream took)) took in
+        let c = ends-both (limit_of h i) (left_in h i stream took) took in
+        omega (arith, a, b, c)
+
+    go : (b : Bool) → lines_read h i ≤ all_lines_read h i →
+        lines_read h i + (if b then length (new_lines h i stream took) else 0) ≤ all_lines_read h i + (if b then length (all_new_lines h i stream took) else 0)
+    go true ih = omega (arith, fewer)
+    go false ih = omega arith
+lines-le (e ∷ h) i = lines-le h i
+
+if_both : (i s q : ℕ) (x y : Word) → s ≡ q → (if (i == i) && (s == q) then x else y) ≡ x
+if_both i s q x y same = grind (arith, nat_tests)
+
+if_other : (i s q : ℕ) (x y : Word) → (s ≡ q → ⊥) → (if (i == i) && (s == q) then x else y) ≡ y
+if_other i s q x y other = grind (arith, nat_tests)
+
+last_more : (h : Record) (i stream : ℕ) (took : Taken) → last_stream (Read i stream took ∷ h) i ≡ (if has_bytes took then Some stream else last_stream h i)
+last_more h i stream took = go (i == i) (grind (arith, nat_tests)) (has_bytes took)
+  where
+    go : (b : Bool) → b ≡ true → (c : Bool) → (if b && c then Some stream else last_stream h i) ≡ (if c then Some stream else last_stream h i)
+    go true e c = refl
+    go false e c = absurd (cc)
+
+pub lines_noted : (i limit stream s left : ℕ) (h : Record) (took : Taken) (old new : LineCounts) (cut : Cut) →
+    limit < 2 ^ 32 → limit ≡ limit_of h i → AreLines i h old → s ≡ stream_of h i stream took →
+    left ≡ unwrap_or (table.get nat_eq old.unfinished s) 0 → IsCut limit left took cut →
+    new.lines ≡ capped (old.lines + cut.within) → new.overlong ≡ capped (old.overlong + cut.over) →
+    new.last ≡ (if has_bytes took then Some stream else old.last) →
+    (table.get nat_eq new.unfinished s ≡ Some cut.left) →
+    ((q : ℕ) → (s ≡ q → ⊥) → table.get nat_eq new.unfinished q ≡ table.get nat_eq old.unfinished q) →
+    AreLines i (Read i stream took ∷ h) new
+lines_noted i limit stream s left h took old new cut small is_limit before is_stream is_left is_cut lines overlong last at others = record {
+  lines = more;
+  overlong = over;
+  last = last ∙ ap (λ o. if has_bytes took then Some stream else o) before.last ∙ sym (last_more h i stream took);
+  left = λ q. elim (cases_eq s q) [ inl same ↦ here q same | inr other ↦ there q other ];
+}
+  where
+    n : ℕ
+    n = left_in h i stream took
+
+    alike : capped left ≡ capped n
+    alike = ap capped is_left ∙ before.left s ∙ ap (λ x. capped (left_of 0 (open_bytes h i x))) is_stream
+
+    within : cut.within ≡ ends (is_within (limit_of h i)) n took
+    within = is_cut.within ∙ ends-alike (is_within limit) (within-alike limit (omega arith)) left n took alike ∙ ap (λ l. ends (is_within l) n took) is_limit
+
+    past : cut.over ≡ ends (is_over (limit_of h i)) n took
+    past = is_cut.over ∙ ends-alike (is_over limit) (over-alike limit (omega arith)) left n took alike ∙ ap (λ l. ends (is_over l) n took) is_limit
+
+    more : new.lines ≡ capped (lines_read (Read i stream took ∷ h) i)
+    more = let a = lines_more h i stream took in let b = before.lines in omega (arith, a, b, within, lines)
+
+    over : new.overlong ≡ capped (all_lines_read (Read i stream took ∷ h) i - lines_read (Read i stream took ∷ h) i)
+    over =
+        let a = lines_more h i stream took in
+        let b = all_lines_more h i stream took in
+        let c = ends-both (limit_of h i) n took in
+        let d = lines-le h i in
+        let e = before.overlong in
+        omega (arith, a, b, c, d, e, past, overlong)
+
+    here : (q : ℕ) → s ≡ q → capped (unwrap_or (table.get nat_eq new.unfinished q) 0) ≡ capped (left_of 0 (open_bytes (Read i stream took ∷ h) i q))
+    here q same =
+        let ending = stream_of h i stream took in
+        let e : stream_of h i stream took ≡ q = sym is_stream ∙ same in
+        ap (λ x. capped (unwrap_or (table.get nat_eq new.unfinished x) 0)) (sym same)
+        ∙ ap (λ o. capped (unwrap_or o 0)) at ∙ is_cut.left ∙ behind-alike left n took alike
+        ∙ ap capped (sym (left-still_open (open_bytes h i ending) took))
+        ∙ ap (λ x. capped (left_of 0 (still_open took (open_bytes h i x)))) e
+        ∙ ap (λ w. capped (left_of 0 w)) (sym (if_both i ending q (still_open took (open_bytes h i q)) (open_bytes h i q) e))
+
+    there : (q : ℕ) → (s ≡ q → ⊥) → capped (unwrap_or (table.get nat_eq new.unfinished q) 0) ≡ capped (left_of 0 (open_bytes (Read i stream took ∷ h) i q))
+    there q other =
+        let ending = stream_of h i stream took in
+        ap (λ o. capped (unwrap_or o 0)) (others q other) ∙ before.left q
+        ∙ ap (λ w. capped (left_of 0 w)) (sym (if_other i ending q (still_open took (open_bytes h i q)) (open_bytes h i q) (λ e. other (is_stream ∙ e))))

@@ -1,0 +1,100 @@
+ghost use Rattle.std.specs.Prelude.{◌≡◌, ℕ, [], ◌∷◌, Some, OnOk, if◌then◌else◌};
+ghost use Rattle.vx_record.specs.declared.entry.Entry.TheVariants.{Read};
+ghost use Rattle.vx_record.specs.Records.{Record};
+ghost use Rattle.vx_record.specs.Reads.{has_bytes, last_stream, limit_of, stream_of};
+ghost use Rattle.vx_record.specs.LineCounting.{AreLines};
+
+use crate::cut::Cut;
+use crate::entry::Entry;
+use crate::taken::Taken;
+use std::alloc::Global;
+use std::collections::HashMap;
+use vx_value::WantOfMemory;
+
+/// The lines of an instance's reads. Each count stands still at its type's end.
+#[derive(Drop)]
+pub(crate) struct LineCounts {
+    /// Lines that were not too long.
+    pub lines: u64,
+    /// Lines that were too long.
+    pub overlong: u64,
+    /// The stream that bytes were last taken of.
+    last: Option<u64>,
+    /// The length of each stream's unfinished line.
+    unfinished: HashMap<u64, u64>,
+}
+
+impl LineCounts {
+    /// The counts before the first entry. It takes no memory.
+    pub(crate) fn new(alloc: Global) -> Self
+        ensures { (i : ℕ) → AreLines i [] result }
+    {
+        LineCounts {
+            lines: 0,
+            overlong: 0,
+            last: None,
+            unfinished: HashMap::new(alloc),
+        }
+    }
+
+    /// Notes one more entry, before which a line may be as long as the limit.
+    pub(crate) fn note(
+        &mut self,
+        limit: u32,
+        instance: u32,
+        entry: &Entry,
+    ) -> Result<(), WantOfMemory>
+        ensures { OnOk result ((h : Record) → limit ≡ limit_of h instance → AreLines instance h self.old →
+            AreLines instance (entry.now ∷ h) self.new) }
+    {
+        match entry {
+            Entry::Read {
+                instance: source,
+                stream,
+                taken,
+            } if *source == instance => {
+                self.take(limit, *stream, taken)?;
+                Ok(())
+            }
+            _ => Ok(()),
+        }
+    }
+
+    // Takes what a read brings.
+    fn take(&mut self, limit: u32, stream: u64, taken: &Taken) -> Result<(), WantOfMemory>
+        ensures { OnOk result ((i : ℕ) (h : Record) → limit ≡ limit_of h i → AreLines i h self.old →
+            AreLines i (Read i stream taken.now ∷ h) self.new) }
+    {
+        let ending = self.ending(stream, taken);
+        let left = self.unfinished.get(&ending).copied().unwrap_or(0);
+        let cut = Cut::by(limit, left, taken);
+        match self.unfinished.insert(ending, cut.left) {
+            Ok(_) => {}
+            Err(_) => return Err(WantOfMemory),
+        }
+        self.lines = self.lines.saturating_add(cut.within);
+        self.overlong = self.overlong.saturating_add(cut.over);
+        self.last = last_after(self.last, stream, taken);
+        Ok(())
+    }
+
+    // The stream of which a read ends lines.
+    fn ending(&self, stream: u64, taken: &Taken) -> u64
+        ensures { (i : ℕ) (h : Record) → self.now.last ≡ last_stream h i → result ≡ stream_of h i stream taken.now }
+    {
+        match taken {
+            Taken::Bytes(_) | Taken::StreamEnded => stream,
+            Taken::AllEnded => self.last.unwrap_or(0),
+        }
+    }
+}
+
+// The stream that bytes were last taken of, after one more read.
+fn last_after(last: Option<u64>, stream: u64, taken: &Taken) -> Option<u64>
+    ensures { result ≡ (if has_bytes taken.now then Some stream else last) }
+{
+    match taken {
+        Taken::Bytes(bytes) if !bytes.is_empty() => Some(stream),
+        _ => last,
+    }
+}

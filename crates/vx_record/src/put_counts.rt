@@ -1,0 +1,128 @@
+ghost use Rattle.std.specs.Prelude.{◌≡◌, ℕ, [], ◌∷◌, ◌&&◌, ◌==◌, count_by, nat_eq};
+ghost use Rattle.std.specs.Option.{option_map};
+ghost use Rattle.std.specs.HashMap as table;
+ghost use Rattle.vx_status.specs.Tables.{status_of};
+ghost use Rattle.vx_record.specs.Records.{Record};
+ghost use Rattle.vx_record.specs.Parcels.{first_copy};
+ghost use Rattle.vx_record.specs.Tallies.{is_unread, is_newest};
+ghost use Rattle.vx_record.specs.Counting.{spent_in, any_in};
+ghost use Rattle.vx_record.specs.PutCounting.{ArePuts, IsHeldRaised};
+
+use crate::child::Child;
+use crate::entry::Entry;
+use crate::outcomes::Outcomes;
+use vx_status::EventStatus;
+
+/// The parcels of an instance by how they were spent. Each count stands still at its type's end.
+#[derive(Clone, Copy, Debug)]
+pub(crate) struct PutCounts {
+    /// Parcels that it put out and that nobody read.
+    pub unread: u64,
+    /// Parcels for it that its full buffer dropped.
+    pub newest: u64,
+    /// Parcels that it took and that were delivered.
+    pub delivered: u64,
+    /// Those that failed.
+    pub errored: u64,
+    /// Those that were refused.
+    pub rejected: u64,
+}
+
+impl PutCounts {
+    ghost use Rattle.vx_record.specs.declared.outcomes.Outcomes.{Outcomes};
+
+    /// The counts before the first entry.
+    pub(crate) fn zero() -> Self
+        ensures { (outcomes : Outcomes) (i : ℕ) → ArePuts outcomes i [] result }
+    {
+        PutCounts {
+            unread: 0,
+            newest: 0,
+            delivered: 0,
+            errored: 0,
+            rejected: 0,
+        }
+    }
+
+    /// Notes one more entry, by the outcomes of all copies.
+    pub(crate) fn note(&mut self, outcomes: &Outcomes, instance: u32, entry: &Entry)
+        ensures { (h : Record) → ArePuts outcomes.now instance h self.old → ArePuts outcomes.now instance (entry.now ∷ h) self.new }
+    {
+        match entry {
+            Entry::Born {
+                instance: source,
+                copies,
+                ..
+            } => {
+                if *source == instance {
+                    let unread = unread_among(outcomes, copies.as_slice());
+                    self.unread = self.unread.saturating_add(unread);
+                }
+            }
+            Entry::Split { children, .. } => {
+                let newest = newest_for(outcomes, instance, children.as_slice());
+                self.newest = self.newest.saturating_add(newest);
+            }
+            Entry::Take {
+                instance: sink,
+                copies,
+                ..
+            } => {
+                if *sink == instance {
+                    self.count_held(status_of(outcomes, copies.as_slice()));
+                }
+            }
+            _ => {}
+        }
+    }
+
+    // Counts a parcel that was taken.
+    fn count_held(&mut self, status: Option<EventStatus>)
+        ensures { IsHeldRaised status self.old self.new }
+    {
+        match status {
+            Some(EventStatus::Delivered) => self.delivered = self.delivered.saturating_add(1),
+            Some(EventStatus::Errored) => self.errored = self.errored.saturating_add(1),
+            Some(EventStatus::Rejected) => self.rejected = self.rejected.saturating_add(1),
+            Some(EventStatus::Dropped) | None => {}
+        }
+    }
+}
+
+// How many of some copies were spent for want of a reader.
+fn unread_among(outcomes: &Outcomes, copies: &[u64]) -> u64
+    ensures { result ≡ count_by (λ c. spent_in is_unread outcomes.now c) copies.now }
+{
+    copies
+        .iter()
+        .filter(|copy| outcomes.is_unread(**copy))
+        .count() as u64
+}
+
+// Whether one of some copies was dropped as the newest.
+fn any_newest(outcomes: &Outcomes, copies: &[u64]) -> bool
+    ensures { result ≡ any_in is_newest outcomes.now copies.now }
+{
+    copies.iter().any(|copy| outcomes.is_newest(*copy))
+}
+
+// How many of some children are for the instance and were dropped as the newest.
+fn newest_for(outcomes: &Outcomes, instance: u32, children: &[Child]) -> u64
+    ensures { result ≡ count_by (λ child. child.target == instance && any_in is_newest outcomes.now child.copies) children.now }
+{
+    children
+        .iter()
+        .filter(|child| child.target == instance && any_newest(outcomes, child.copies.as_slice()))
+        .count() as u64
+}
+
+// How a parcel was spent, by its first copy.
+fn status_of(outcomes: &Outcomes, copies: &[u64]) -> Option<EventStatus>
+    ensures { result ≡ option_map status_of (table.get nat_eq outcomes.now.table (first_copy copies.now)) }
+{
+    let first = match copies {
+        [] => 0,
+        [first, ..] => *first,
+    };
+    outcomes.outcome(first).map(|outcome| outcome.status())
+}
