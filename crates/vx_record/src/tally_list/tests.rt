@@ -1,0 +1,262 @@
+use super::tallies;
+use crate::{Child, Entry, Instance, Record, Start, Taken, Tally};
+use std::alloc::Global;
+use std::test::Fail;
+use vx_ends::{Position, Reply};
+use vx_plan::{
+    Class, Codec, Component, ConsoleTarget, Decoding, Global as Options, Plan, Settings,
+    SinkSettings, StageList,
+};
+use vx_status::{BatchStatus, Outcome};
+use vx_value::{Bytes, Event, ItemList, Text, TextList, WantOfMemory};
+
+// A list of one item.
+fn one<T: Drop>(alloc: Global, item: T) -> Result<ItemList<T>, WantOfMemory> {
+    let mut list = ItemList::new(alloc);
+    match list.push(item) {
+        Ok(()) => Ok(list),
+        Err(_) => Err(WantOfMemory),
+    }
+}
+
+// A list of two items.
+fn two<T: Drop>(alloc: Global, first: T, second: T) -> Result<ItemList<T>, WantOfMemory> {
+    let mut list = one(alloc, first)?;
+    match list.push(second) {
+        Ok(()) => Ok(list),
+        Err(_) => Err(WantOfMemory),
+    }
+}
+
+fn component(
+    alloc: Global,
+    name: &str,
+    class: Class,
+    settings: Settings,
+) -> Result<Component, WantOfMemory> {
+    Ok(Component {
+        name: Text::copy_of(alloc, name)?,
+        class,
+        inputs: TextList::new(alloc),
+        settings,
+    })
+}
+
+// A source of lines of at most three bytes, and a sink.
+fn plan(alloc: Global) -> Result<Plan, WantOfMemory> {
+    let stdin = Settings::Stdin {
+        max_length: 3,
+        decoding_codec: Decoding::Bytes,
+    };
+    let console = Settings::Console {
+        target: ConsoleTarget::Stdout,
+        encoding_codec: Codec::Text,
+        sink: SinkSettings {
+            acknowledgements: false,
+            buffer: StageList::new(alloc),
+            batch_max_events: 1,
+            batch_timeout_secs: 1,
+            request_retry_attempts: 1,
+            request_retry_initial_backoff_secs: 1,
+            request_retry_max_duration_secs: 1,
+        },
+    };
+    let source = component(alloc, "in", Class::Source, stdin)?;
+    let sink = component(alloc, "out", Class::Sink, console)?;
+    Ok(Plan {
+        global: Options {
+            data_dir: Text::copy_of(alloc, "")?,
+            acknowledgements: false,
+        },
+        components: two(alloc, source, sink)?,
+    })
+}
+
+fn instance(alloc: Global, name: &str, number: u32) -> Result<Instance, WantOfMemory> {
+    Ok(Instance {
+        name: Text::copy_of(alloc, name)?,
+        number,
+        start: Start::New,
+    })
+}
+
+fn install(alloc: Global) -> Result<Entry, WantOfMemory> {
+    let source = instance(alloc, "in", 0)?;
+    let sink = instance(alloc, "out", 1)?;
+    Ok(Entry::Install {
+        version: 0,
+        plan: plan(alloc)?,
+        once: false,
+        instances: two(alloc, source, sink)?,
+        now: 0,
+    })
+}
+
+fn read(alloc: Global, bytes: &[u8]) -> Result<Entry, WantOfMemory> {
+    Ok(Entry::Read {
+        instance: 0,
+        stream: 0,
+        taken: Taken::Bytes(Bytes::copy_of(alloc, bytes)?),
+    })
+}
+
+// A batch of one event.
+fn born(alloc: Global, batch: u64, copy: u64) -> Result<Entry, WantOfMemory> {
+    Ok(Entry::Born {
+        instance: 0,
+        batch,
+        place: 0,
+        copies: one(alloc, copy)?,
+        events: one(alloc, Event::new(alloc))?,
+        waits: false,
+        stream: 0,
+        end: 0,
+    })
+}
+
+// One child for the sink.
+fn split(alloc: Global, copy: u64, child: u64) -> Result<Entry, WantOfMemory> {
+    let child = Child {
+        target: 1,
+        copies: one(alloc, child)?,
+    };
+    Ok(Entry::Split {
+        instance: 0,
+        ports: 1,
+        copies: one(alloc, copy)?,
+        event: Event::new(alloc),
+        children: one(alloc, child)?,
+    })
+}
+
+fn take(alloc: Global, copy: u64) -> Result<Entry, WantOfMemory> {
+    Ok(Entry::Take {
+        instance: 1,
+        stage: 0,
+        copies: one(alloc, copy)?,
+    })
+}
+
+fn attempt(alloc: Global, copy: u64, bytes: &[u8], reply: Reply) -> Result<Entry, WantOfMemory> {
+    Ok(Entry::Attempt {
+        instance: 1,
+        copies: one(alloc, copy)?,
+        bytes: Bytes::copy_of(alloc, bytes)?,
+        reply,
+    })
+}
+
+fn spent(instance: u32, copy: u64, outcome: Outcome) -> Entry {
+    Entry::Spent {
+        instance,
+        copy,
+        outcome,
+    }
+}
+
+fn confirm(alloc: Global, stream: u64, end: u64, made: bool) -> Result<Entry, WantOfMemory> {
+    Ok(Entry::Confirm {
+        instance: 0,
+        positions: one(alloc, Position { stream, end })?,
+        made,
+    })
+}
+
+// Four lines, and one that is too long.
+fn push_reads(alloc: Global, history: &mut Record) -> Result<(), WantOfMemory> {
+    history.push(read(alloc, b"ab\ncdef")?)?;
+    history.push(born(alloc, 0, 0)?)?;
+    history.push(read(alloc, b"g\nh")?)?;
+    history.push(Entry::Read {
+        instance: 0,
+        stream: 0,
+        taken: Taken::StreamEnded,
+    })?;
+    history.push(born(alloc, 1, 1)?)?;
+    history.push(read(alloc, b"x\n")?)?;
+    history.push(born(alloc, 2, 2)?)?;
+    history.push(read(alloc, b"y\n")?)?;
+    history.push(born(alloc, 3, 3)?)
+}
+
+// The first event has no reader, the second is written at the second attempt.
+fn push_first_ways(alloc: Global, history: &mut Record) -> Result<(), WantOfMemory> {
+    history.push(spent(0, 0, Outcome::NoConsumer))?;
+    history.push(Entry::Notice {
+        batch: 0,
+        status: BatchStatus::Delivered,
+    })?;
+    history.push(split(alloc, 1, 4)?)?;
+    history.push(take(alloc, 4)?)?;
+    history.push(attempt(alloc, 4, b"h\n", Reply::Failed)?)?;
+    history.push(attempt(alloc, 4, b"h\n", Reply::Ok)?)?;
+    history.push(spent(1, 4, Outcome::Delivered))?;
+    history.push(Entry::Notice {
+        batch: 1,
+        status: BatchStatus::Delivered,
+    })
+}
+
+// The third event is dropped as the newest, the fourth is refused.
+fn push_last_ways(alloc: Global, history: &mut Record) -> Result<(), WantOfMemory> {
+    history.push(split(alloc, 2, 5)?)?;
+    history.push(spent(0, 5, Outcome::NewestDropped))?;
+    history.push(Entry::Notice {
+        batch: 2,
+        status: BatchStatus::Delivered,
+    })?;
+    history.push(split(alloc, 3, 6)?)?;
+    history.push(take(alloc, 6)?)?;
+    history.push(attempt(alloc, 6, b"y\n", Reply::Refused)?)?;
+    history.push(spent(1, 6, Outcome::Refusal))?;
+    history.push(Entry::Notice {
+        batch: 3,
+        status: BatchStatus::Rejected,
+    })
+}
+
+// Three confirms that were made, and one that failed.
+fn push_confirms(alloc: Global, history: &mut Record) -> Result<(), WantOfMemory> {
+    history.push(confirm(alloc, 0, 3, true)?)?;
+    history.push(confirm(alloc, 1, 6, true)?)?;
+    history.push(confirm(alloc, 0, 9, true)?)?;
+    history.push(confirm(alloc, 0, 99, false)?)
+}
+
+#[test]
+fn a_record_is_counted(rt: HostRuntime) -> Result<(), Fail> {
+    let alloc = rt.alloc();
+    let mut history = Record::new(alloc);
+    history.push(install(alloc)?)?;
+    push_reads(alloc, &mut history)?;
+    push_first_ways(alloc, &mut history)?;
+    push_last_ways(alloc, &mut history)?;
+    push_confirms(alloc, &mut history)?;
+    let list = tallies(alloc, &history, 3)?;
+    assert_eq!(rt; list.len(), 3);
+    let source = Tally {
+        read: 14,
+        lines: 4,
+        overlong: 1,
+        events: 4,
+        unread: 1,
+        batches: 4,
+        delivered: 3,
+        rejected: 1,
+        confirmed: 15,
+        ..Tally::zero()
+    };
+    let sink = Tally {
+        taken: 2,
+        newest: 1,
+        attempts: 3,
+        delivered: 1,
+        rejected: 1,
+        bytes: 6,
+        ..Tally::zero()
+    };
+    assert_eq!(rt; list.get(0).copied().ok_or("a tally")?, source);
+    assert_eq!(rt; list.get(1).copied().ok_or("a tally")?, sink);
+    assert_eq!(rt; list.get(2).copied().ok_or("a tally")?, Tally::zero());
+    Ok(())
+}
