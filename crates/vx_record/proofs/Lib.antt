@@ -21,3 +21,4 @@ pub mod ConfirmedPositions
 pub mod LineSteps
 pub mod PutSteps
 pub mod Tallied
+pub mod ConfirmedStreams

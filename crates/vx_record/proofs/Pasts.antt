@@ -3,9 +3,7 @@ use Rattle.std.proofs.Common.{◌≡◌, ℕ, zero, suc, ◌+◌, ◌≤◌, Som
 use Rattle.std.proofs.lemmas.List.{reverse-append, reverse-reverse, length-reverse, take_all}
 use Rattle.vx_record.specs.declared.entry.Entry.{Entry}
 use Rattle.vx_record.specs.Records.{Record}
-
-abbrev pub past : Record → ℕ → Record
-past h k = reverse (take k (reverse h))
+use Rattle.vx_record.specs.Pasts.{past}
 
 pub take_next : (xs : List Entry) (k : ℕ) (e : Entry) → slice_get xs k ≡ Some e → take (k + 1) xs ≡ take k xs ++ e ∷ []
 take_next [] k e at = absurd (cc)

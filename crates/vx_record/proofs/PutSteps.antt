@@ -1,8 +1,7 @@
 -- How an entry moves the counts of parcels.
-use Rattle.std.proofs.Common.{◌≡◌, ℕ, ◌+◌, Bool, true, false, ◌&&◌, ◌||◌, Option, Some, None, nat_eq, List, [], ◌∷◌, ◌++◌, sym, refl, ap, ◌∙◌, arith, map, cond}
+use Rattle.std.proofs.Common.{◌≡◌, ℕ, ◌+◌, Bool, true, false, ◌&&◌, ◌||◌, Option, Some, None, List, [], ◌∷◌, ◌++◌, sym, refl, ap, ◌∙◌, arith, map, cond}
 use Rattle.std.specs.Prelude.{◌==◌, count_by}
 use Rattle.std.specs.Option.{option_map}
-use Rattle.std.specs.HashMap as table
 use Rattle.std.proofs.lemmas.Bool.Decides.{nat_tests}
 use Rattle.std.proofs.lemmas.List.Sums.{sum_by-cons}
 use Rattle.vx_status.specs.declared.outcome.Outcome.{Outcome}
@@ -13,7 +12,6 @@ use Rattle.vx_value.specs.declared.event.Event.{Event}
 use Rattle.vx_record.specs.declared.child.Child.{Child}
 use Rattle.vx_record.specs.declared.entry.Entry.{Entry}
 use Rattle.vx_record.specs.declared.entry.Entry.TheVariants.{Born, Split, Take}
-use Rattle.vx_record.specs.declared.outcomes.Outcomes.{Outcomes}
 use Rattle.vx_record.specs.declared.put_counts.PutCounts.{PutCounts}
 use Rattle.vx_record.specs.Records.{Record, capped}
 use Rattle.vx_record.specs.Places.{Place, Put, one_each, puts, all_puts}
@@ -50,7 +48,7 @@ none_each test here p (c ∷ cs) out =
     ap (λ b. one_if (b && test (c ∷ [])) + count_puts (λ (put : Put). here put.place && test put.copies) (one_each p cs)) out
     ∙ (let ih = none_each test here p cs out in omega (arith, ih))
 
-unread_each : (o : Outcomes) (i : ℕ) (copies : List ℕ) →
+unread_each : (o : ℕ → Option Outcome) (i : ℕ) (copies : List ℕ) →
     count_by (λ c. spent_in is_unread o c) copies ≡ count_puts (λ (put : Put). is_output i put.place && any_in is_unread o put.copies) (one_each (Outputs i) copies)
 unread_each o i [] = refl
 unread_each o i (c ∷ cs) = sum_by-cons (λ d. cond (spent_in is_unread o d) 1 0) c cs ∙ go (spent_in is_unread o c) (i == i) (grind (arith, nat_tests)) (unread_each o i cs)
@@ -62,7 +60,7 @@ unread_each o i (c ∷ cs) = sum_by-cons (λ d. cond (spent_in is_unread o d) 1 
     go false true e ih = omega arith
     go b false e ih = absurd (cc)
 
-pub born_noted : (o : Outcomes) (i j b place stream end : ℕ) (copies : List ℕ) (events : List Event) (waits : Bool) (h : Record) (old : PutCounts) (unread : ℕ) →
+pub born_noted : (o : ℕ → Option Outcome) (i j b place stream end : ℕ) (copies : List ℕ) (events : List Event) (waits : Bool) (h : Record) (old : PutCounts) (unread : ℕ) →
     j ≡ i → ArePuts o i h old → unread ≡ capped (old.unread + count_by (λ c. spent_in is_unread o c) copies) →
     ArePuts o i (Born j b place copies events waits stream end ∷ h) (record old { unread = unread })
 born_noted o i j b place stream end copies events waits h old unread own before rises = record {
@@ -77,7 +75,7 @@ born_noted o i j b place stream end copies events waits h old unread own before 
     entry : Entry
     entry = Born j b place copies events waits stream end
 
-pub other_born : (o : Outcomes) (i j b place stream end : ℕ) (copies : List ℕ) (events : List Event) (waits : Bool) (h : Record) (old : PutCounts) →
+pub other_born : (o : ℕ → Option Outcome) (i j b place stream end : ℕ) (copies : List ℕ) (events : List Event) (waits : Bool) (h : Record) (old : PutCounts) →
     (j == i) ≡ false → ArePuts o i h old → ArePuts o i (Born j b place copies events waits stream end ∷ h) old
 other_born o i j b place stream end copies events waits h old other before = record {
   unread = kept (any_in is_unread o) (is_output i) entry h old.unread before.unread (none_each (any_in is_unread o) (is_output i) (Outputs j) copies other);
@@ -99,7 +97,7 @@ none_child test here j (child ∷ rest) out =
     ap (λ b. one_if (b && test child.copies) + count_puts (λ (put : Put). here put.place && test put.copies) (map (λ (child : Child). record { place = Waiting j child.target; copies = child.copies }) rest)) (out child.target)
     ∙ (let ih = none_child test here j rest out in omega (arith, ih))
 
-newest_each : (o : Outcomes) (i j : ℕ) (children : List Child) →
+newest_each : (o : ℕ → Option Outcome) (i j : ℕ) (children : List Child) →
     count_by (λ (child : Child). child.target == i && any_in is_newest o child.copies) children
     ≡ count_puts (λ (put : Put). is_child_for i put.place && any_in is_newest o put.copies) (map (λ (child : Child). record { place = Waiting j child.target; copies = child.copies }) children)
 newest_each o i j [] = refl
@@ -109,7 +107,7 @@ newest_each o i j (child ∷ rest) = sum_by-cons (λ (child : Child). cond (chil
     go true e = omega arith
     go false e = omega arith
 
-pub split_noted : (o : Outcomes) (i j ports : ℕ) (copies : List ℕ) (put_out : Event) (children : List Child) (h : Record) (old : PutCounts) (newest : ℕ) →
+pub split_noted : (o : ℕ → Option Outcome) (i j ports : ℕ) (copies : List ℕ) (put_out : Event) (children : List Child) (h : Record) (old : PutCounts) (newest : ℕ) →
     ArePuts o i h old → newest ≡ capped (old.newest + count_by (λ (child : Child). child.target == i && any_in is_newest o child.copies) children) →
     ArePuts o i (Split j ports copies put_out children ∷ h) (record old { newest = newest })
 split_noted o i j ports copies put_out children h old newest before rises = record {
@@ -129,9 +127,9 @@ abbrev pub is_of : EventStatus → Option EventStatus → Bool
 is_of status None = false
 is_of status (Some s) = same_status s status
 
-first_is : (o : Outcomes) (status : EventStatus) (copies : List ℕ) →
-    first_in status o copies ≡ is_of status (option_map status_of (table.get nat_eq o.table (first_copy copies)))
-first_is o status copies = go (table.get nat_eq o.table (first_copy copies))
+first_is : (o : ℕ → Option Outcome) (status : EventStatus) (copies : List ℕ) →
+    first_in status o copies ≡ is_of status (option_map status_of (o (first_copy copies)))
+first_is o status copies = go (o (first_copy copies))
   where
     go : (got : Option Outcome) → elim got as (λ _. Bool) [ None ↦ false | Some outcome ↦ same_status (status_of outcome) status ] ≡ is_of status (option_map status_of got)
     go None = refl
@@ -175,8 +173,8 @@ rejected_rises (Some event.Delivered) old new fits e = let x = ap (λ (p : PutCo
 rejected_rises (Some event.Errored) old new fits e = let x = ap (λ (p : PutCounts). p.rejected) e in omega (arith, x, fits)
 rejected_rises (Some event.Rejected) old new fits e = ap (λ (p : PutCounts). p.rejected) e
 
-held_one : (o : Outcomes) (status : EventStatus) (i j stage : ℕ) (copies : List ℕ) → j ≡ i →
-    one_if (is_of status (option_map status_of (table.get nat_eq o.table (first_copy copies)))) ≡ parcels_in (first_in status o) (is_held_by i) (Take j stage copies)
+held_one : (o : ℕ → Option Outcome) (status : EventStatus) (i j stage : ℕ) (copies : List ℕ) → j ≡ i →
+    one_if (is_of status (option_map status_of (o (first_copy copies)))) ≡ parcels_in (first_in status o) (is_held_by i) (Take j stage copies)
 held_one o status i j stage copies own =
     ap one_if (sym (first_is o status copies)) ∙ go (j == i) (grind (arith, nat_tests)) (first_in status o copies)
   where
@@ -184,8 +182,8 @@ held_one o status i j stage copies own =
     go true e b = omega arith
     go false e b = absurd (cc)
 
-pub take_noted : (o : Outcomes) (i j stage : ℕ) (copies : List ℕ) (h : Record) (old new : PutCounts) → j ≡ i → ArePuts o i h old →
-    IsHeldRaised (option_map status_of (table.get nat_eq o.table (first_copy copies))) old new → ArePuts o i (Take j stage copies ∷ h) new
+pub take_noted : (o : ℕ → Option Outcome) (i j stage : ℕ) (copies : List ℕ) (h : Record) (old new : PutCounts) → j ≡ i → ArePuts o i h old →
+    IsHeldRaised (option_map status_of (o (first_copy copies))) old new → ArePuts o i (Take j stage copies ∷ h) new
 take_noted o i j stage copies h old new own before held = record {
   unread = unread_stays s old new held ∙ kept (any_in is_unread o) (is_output i) entry h old.unread before.unread refl;
   newest = newest_stays s old new held ∙ kept (any_in is_newest o) (is_child_for i) entry h old.newest before.newest refl;
@@ -198,13 +196,13 @@ take_noted o i j stage copies h old new own before held = record {
 }
   where
     s : Option EventStatus
-    s = option_map status_of (table.get nat_eq o.table (first_copy copies))
+    s = option_map status_of (o (first_copy copies))
 
     entry : Entry
     entry = Take j stage copies
 
 -- an entry that puts nothing at any of these places
-pub nothing_noted : (o : Outcomes) (i : ℕ) (e : Entry) (h : Record) (old : PutCounts) → ArePuts o i h old →
+pub nothing_noted : (o : ℕ → Option Outcome) (i : ℕ) (e : Entry) (h : Record) (old : PutCounts) → ArePuts o i h old →
     ((test : List ℕ → Bool) → parcels_in test (is_output i) e ≡ 0) → ((test : List ℕ → Bool) → parcels_in test (is_child_for i) e ≡ 0) →
     ((test : List ℕ → Bool) → parcels_in test (is_held_by i) e ≡ 0) → ArePuts o i (e ∷ h) old
 nothing_noted o i e h old before outs children helds = record {
@@ -216,7 +214,7 @@ nothing_noted o i e h old before outs children helds = record {
 }
 
 -- an entry of another kind
-pub other_noted : (o : Outcomes) (i : ℕ) (e : Entry) (h : Record) (old : PutCounts) → ArePuts o i h old →
+pub other_noted : (o : ℕ → Option Outcome) (i : ℕ) (e : Entry) (h : Record) (old : PutCounts) → ArePuts o i h old →
     ((j b place : ℕ) (copies : List ℕ) (events : List Event) (waits : Bool) (stream end : ℕ) → e ≡ Born j b place copies events waits stream end → ⊥) →
     ((j ports : ℕ) (copies : List ℕ) (put_out : Event) (children : List Child) → e ≡ Split j ports copies put_out children → ⊥) →
     ((j stage : ℕ) (copies : List ℕ) → e ≡ Take j stage copies → ⊥) → ArePuts o i (e ∷ h) old
@@ -227,6 +225,6 @@ other_noted o i (Take j stage copies) h old before no_birth no_split no_take = a
 other_noted o i e h old before no_birth no_split no_take = nothing_noted o i e h old before (λ t. refl) (λ t. refl) (λ t. refl)
 
 -- a take of another instance
-pub other_take : (o : Outcomes) (i j stage : ℕ) (copies : List ℕ) (h : Record) (old : PutCounts) → (j == i) ≡ false → ArePuts o i h old → ArePuts o i (Take j stage copies ∷ h) old
+pub other_take : (o : ℕ → Option Outcome) (i j stage : ℕ) (copies : List ℕ) (h : Record) (old : PutCounts) → (j == i) ≡ false → ArePuts o i h old → ArePuts o i (Take j stage copies ∷ h) old
 other_take o i j stage copies h old other before =
     nothing_noted o i (Take j stage copies) h old before (λ t. refl) (λ t. refl) (λ test. ap (λ b. one_if (b && test copies) + 0) other)

@@ -1,107 +1,96 @@
 -- What is kept behind a whole record is the tally.
-use Rattle.std.proofs.Common.{◌≡◌, ℕ, zero, suc, ◌+◌, Bool, false, Option, Some, None, [], ◌∷◌, ◌++◌, sym, refl, ap, ◌∙◌, arith, map, sum, add-one}
-use Rattle.std.specs.List.{list_any}
+use Rattle.std.proofs.Common.{◌≡◌, ℕ, zero, suc, ◌+◌, Option, Some, None, [], ◌∷◌, ◌++◌, sym, refl, ap, ◌∙◌, arith, map, sum, add-one, subst}
 use Rattle.std.proofs.lemmas.List.{map-append}
 use Rattle.vx_ends.specs.declared.position.Position.{Position}
 use Rattle.vx_plan.specs.declared.class.Class.{Class}
 use Rattle.vx_plan.specs.declared.class.Class.TheVariants.{Source, Transform, Sink}
 use Rattle.vx_plan.specs.declared.component.Component.{Component}
 use Rattle.vx_status.specs.declared.outcome.Outcome.{Outcome}
-use Rattle.vx_status.specs.declared.event_status.EventStatus.{EventStatus}
-use Rattle.vx_status.specs.declared.event_status.EventStatus.TheVariants as event
-use Rattle.vx_status.specs.Tables.{status_of}
-use Rattle.vx_record.specs.declared.outcomes.Outcomes.{Outcomes}
 use Rattle.vx_record.specs.declared.count.Count.{Count}
 use Rattle.vx_record.specs.declared.role.Role.{Role}
 use Rattle.vx_record.specs.declared.tally.Tally.{Tally}
 use Rattle.vx_record.specs.Records.{Record, capped}
 use Rattle.vx_record.specs.Copies.{counting}
-use Rattle.vx_record.specs.Places.{Place}
-use Rattle.vx_record.specs.Parcels.{first_copy}
 use Rattle.vx_record.specs.Installs.{component_of}
 use Rattle.vx_record.specs.Tally.{nothing_counted}
-use Rattle.vx_record.specs.Tallies.{is_unread, is_newest, is_output, is_child_for, is_held_by, parcels_that, same_status, any_copy, spent_as, source_tally, transform_tally, sink_tally, tally}
+use Rattle.vx_record.specs.Tallies.{source_tally, transform_tally, sink_tally, tally}
 use Rattle.vx_record.specs.TallyLists.{tallies_of}
 use Rattle.vx_plan.specs.Components.{longest_line}
 use Rattle.vx_record.specs.Reads.{limit_of}
-use Rattle.vx_record.specs.Counting.{IsRole, AreOutcomes, any_in, first_in, positions_of, role_of}
-use Rattle.vx_record.specs.Counts.{IsCount}
-
--- ---- the parcels by the record's own outcomes
-any_from : (test : Outcome → Bool) (h : Record) (o : Outcomes) (here : Place → Bool) → AreOutcomes h o →
-    parcels_that (any_in test o) here h ≡ parcels_that (any_copy test h) here h
-any_from test h o here are = λ t. parcels_that (λ copies. list_any (λ c. elim (are.each c t) [ None ↦ false | Some outcome ↦ test outcome ]) copies) here h
-
-first_from : (status : EventStatus) (h : Record) (o : Outcomes) (here : Place → Bool) → AreOutcomes h o →
-    parcels_that (first_in status o) here h ≡ parcels_that (spent_as status h) here h
-first_from status h o here are =
-    λ t. parcels_that (λ copies. elim (are.each (first_copy copies) t) [ None ↦ false | Some outcome ↦ same_status (status_of outcome) status ]) here h
+use Rattle.vx_record.specs.Counting.{IsRole, AreWays, positions_of, role_of}
+use Rattle.vx_record.specs.declared.counted.Counted.{Counted}
+use Rattle.vx_record.specs.PutCounting.{ArePuts}
+use Rattle.vx_record.specs.Counts.{IsCounted, IsCount}
 
 -- ---- by class
-pub source_is : (o : Outcomes) (i : ℕ) (h : Record) (count : Count) (none : Tally) (ends : ℕ) → none ≡ nothing_counted →
-    ends ≡ capped (sum (map (λ (p : Position). p.end) (positions_of count.ends))) → AreOutcomes h o → IsCount o i h count →
+pub source_is : (i : ℕ) (h : Record) (counted : Counted) (none : Tally) → none ≡ nothing_counted → IsCounted i h counted →
     ◌≡◌ {A = Tally}
     (record none {
-      read = count.plain.read;
-      lines = count.lines.lines;
-      overlong = count.lines.overlong;
-      events = count.plain.events;
-      unread = count.puts.unread;
-      batches = count.plain.batches;
-      delivered = count.notices.delivered;
-      errored = count.notices.errored;
-      rejected = count.notices.rejected;
-      confirmed = ends;
+      read = counted.plain.read;
+      lines = counted.lines.lines;
+      overlong = counted.lines.overlong;
+      events = counted.plain.events;
+      unread = counted.puts.unread;
+      batches = counted.plain.batches;
+      delivered = counted.notices.delivered;
+      errored = counted.notices.errored;
+      rejected = counted.notices.rejected;
+      confirmed = counted.confirmed;
     })
     (source_tally h i)
-source_is o i h count none ends is_none total are is =
-    let unread = is.puts.unread ∙ ap capped (any_from is_unread h o (is_output i) are) in
-    let confirmed = total ∙ ap (λ ps. capped (sum (map (λ (p : Position). p.end) ps))) is.ends.each in
-    λ t. record (is_none t) {
-      read = is.plain.read t;
-      lines = is.lines.lines t;
-      overlong = is.lines.overlong t;
-      events = is.plain.events t;
-      unread = unread t;
-      batches = is.plain.batches t;
-      delivered = is.notices.delivered t;
-      errored = is.notices.errored t;
-      rejected = is.notices.rejected t;
-      confirmed = confirmed t;
-    }
+source_is i h counted none is_none is = λ t. record (is_none t) {
+  read = is.entries.plain.read t;
+  lines = is.entries.lines.lines t;
+  overlong = is.entries.lines.overlong t;
+  events = is.entries.plain.events t;
+  unread = is.entries.puts.unread t;
+  batches = is.entries.plain.batches t;
+  delivered = is.entries.notices.delivered t;
+  errored = is.entries.notices.errored t;
+  rejected = is.entries.notices.rejected t;
+  confirmed = is.confirmed t;
+}
 
-pub transform_is : (o : Outcomes) (i : ℕ) (h : Record) (count : Count) (none : Tally) → none ≡ nothing_counted → AreOutcomes h o → IsCount o i h count →
-    ◌≡◌ {A = Tally} (record none { taken = count.plain.taken; unread = count.puts.unread }) (transform_tally h i)
-transform_is o i h count none is_none are is =
-    let unread = is.puts.unread ∙ ap capped (any_from is_unread h o (is_output i) are) in
-    λ t. record (is_none t) { taken = is.plain.taken t; unread = unread t }
+pub transform_is : (i : ℕ) (h : Record) (counted : Counted) (none : Tally) → none ≡ nothing_counted → IsCounted i h counted →
+    ◌≡◌ {A = Tally} (record none { taken = counted.plain.taken; unread = counted.puts.unread }) (transform_tally h i)
+transform_is i h counted none is_none is = λ t. record (is_none t) { taken = is.entries.plain.taken t; unread = is.entries.puts.unread t }
 
-pub sink_is : (o : Outcomes) (i : ℕ) (h : Record) (count : Count) (none : Tally) → none ≡ nothing_counted → AreOutcomes h o → IsCount o i h count →
+pub sink_is : (i : ℕ) (h : Record) (counted : Counted) (none : Tally) → none ≡ nothing_counted → IsCounted i h counted →
     ◌≡◌ {A = Tally}
     (record none {
-      taken = count.plain.taken;
-      newest = count.puts.newest;
-      attempts = count.plain.attempts;
-      delivered = count.puts.delivered;
-      errored = count.puts.errored;
-      rejected = count.puts.rejected;
-      bytes = count.plain.bytes;
+      taken = counted.plain.taken;
+      newest = counted.puts.newest;
+      attempts = counted.plain.attempts;
+      delivered = counted.puts.delivered;
+      errored = counted.puts.errored;
+      rejected = counted.puts.rejected;
+      bytes = counted.plain.bytes;
     })
     (sink_tally h i)
-sink_is o i h count none is_none are is =
-    let newest = is.puts.newest ∙ ap capped (any_from is_newest h o (is_child_for i) are) in
-    let delivered = is.puts.delivered ∙ ap capped (first_from event.Delivered h o (is_held_by i) are) in
-    let errored = is.puts.errored ∙ ap capped (first_from event.Errored h o (is_held_by i) are) in
-    let rejected = is.puts.rejected ∙ ap capped (first_from event.Rejected h o (is_held_by i) are) in
-    λ t. record (is_none t) {
-      taken = is.plain.taken t;
-      newest = newest t;
-      attempts = is.plain.attempts t;
-      delivered = delivered t;
-      errored = errored t;
-      rejected = rejected t;
-      bytes = is.plain.bytes t;
-    }
+sink_is i h counted none is_none is = λ t. record (is_none t) {
+  taken = is.entries.plain.taken t;
+  newest = is.entries.puts.newest t;
+  attempts = is.entries.plain.attempts t;
+  delivered = is.entries.puts.delivered t;
+  errored = is.entries.puts.errored t;
+  rejected = is.entries.puts.rejected t;
+  bytes = is.entries.plain.bytes t;
+}
+
+-- the tables' counts are those of the record, where the ways are the record's
+pub counted_is : (way : ℕ → Option Outcome) (i : ℕ) (h : Record) (count : Count) (ends : ℕ) → AreWays h way → IsCount way i h count →
+    ends ≡ capped (sum (map (λ (p : Position). p.end) (positions_of count.ends))) →
+    IsCounted i h (record { role = count.role; plain = count.plain; lines = count.lines.totals; notices = count.notices.statuses; puts = count.puts; confirmed = ends })
+counted_is way i h count ends are is total = record {
+  entries = record {
+    role = is.role;
+    plain = is.plain;
+    lines = is.lines.totals;
+    notices = is.notices.statuses;
+    puts = subst (λ (w : ℕ → Option Outcome). ArePuts w i h count.puts) (λ t c. are.each c t) is.puts;
+  };
+  confirmed = total ∙ ap (λ ps. capped (sum (map (λ (p : Position). p.end) ps))) is.ends.each;
+}
 
 -- what a component's class says, by the role
 of_class : (o : Option Component) (role : Role) (k : Class) (none : Tally) (f : Class → Tally) → role ≡ role_of o → role.class ≡ Some k →

@@ -15,6 +15,7 @@ use Rattle.vx_status.specs.declared.batch_status.BatchStatus.TheVariants as batc
 use Rattle.vx_record.specs.declared.plain_counts.PlainCounts.{PlainCounts}
 use Rattle.vx_record.specs.declared.outcomes.Outcomes.{Outcomes}
 use Rattle.vx_record.specs.declared.notice_counts.NoticeCounts.{NoticeCounts}
+use Rattle.vx_record.specs.declared.status_counts.StatusCounts.{StatusCounts}
 use Rattle.vx_record.specs.declared.confirmed_ends.ConfirmedEnds.{ConfirmedEnds}
 use Rattle.vx_record.specs.declared.role.Role.{Role}
 use Rattle.vx_record.specs.Records.{Record, capped}
@@ -32,31 +33,39 @@ pub record ArePlain (i : ℕ) (h : Record) (counts : PlainCounts) : Type 0 where
   pub attempts : counts.attempts ≡ capped (attempts_made h i)
   pub bytes : counts.bytes ≡ capped (bytes_sent h i)
 
--- the table has each copy's outcome
-pub record AreOutcomes (h : Record) (outcomes : Outcomes) : Type 0 where
-  pub each : (c : ℕ) → table.get nat_eq outcomes.table c ≡ outcome_of h c
+-- how a table has a copy as spent
+abbrev pub kept_in : Outcomes → ℕ → Option Outcome
+kept_in outcomes c = table.get nat_eq outcomes.table c
 
--- whether a table has a copy as spent by an outcome that passes
-abbrev pub spent_in : (Outcome → Bool) → Outcomes → ℕ → Bool
-spent_in test outcomes c = elim (table.get nat_eq outcomes.table c) [ None ↦ false | Some outcome ↦ test outcome ]
+-- a way of each copy is that of the record
+pub record AreWays (h : Record) (way : ℕ → Option Outcome) : Type 0 where
+  pub each : (c : ℕ) → way c ≡ outcome_of h c
 
--- whether it has one of a parcel's copies so
-abbrev pub any_in : (Outcome → Bool) → Outcomes → List ℕ → Bool
-any_in test outcomes copies = list_any (spent_in test outcomes) copies
+-- whether a copy was spent by an outcome that passes
+abbrev pub spent_in : (Outcome → Bool) → (ℕ → Option Outcome) → ℕ → Bool
+spent_in test way c = elim (way c) [ None ↦ false | Some outcome ↦ test outcome ]
 
--- whether it has a parcel's first copy with a status
-abbrev pub first_in : EventStatus → Outcomes → List ℕ → Bool
-first_in status outcomes copies = spent_in (λ outcome. same_status (status_of outcome) status) outcomes (first_copy copies)
+-- whether one of a parcel's copies was spent so
+abbrev pub any_in : (Outcome → Bool) → (ℕ → Option Outcome) → List ℕ → Bool
+any_in test way copies = list_any (spent_in test way) copies
 
--- the batches that an instance bore, and their notices
-pub record AreNotices (i : ℕ) (h : Record) (counts : NoticeCounts) : Type 0 where
-  pub born : (b : ℕ) → set.contains nat_eq counts.born b ≡ is_batch_of h i b
+-- whether a parcel's first copy was spent with a status
+abbrev pub first_in : EventStatus → (ℕ → Option Outcome) → List ℕ → Bool
+first_in status way copies = spent_in (λ outcome. same_status (status_of outcome) status) way (first_copy copies)
+
+-- the notices of an instance's batches
+pub record AreStatuses (i : ℕ) (h : Record) (counts : StatusCounts) : Type 0 where
   pub delivered : counts.delivered ≡ capped (notices batch.Delivered h i)
   pub errored : counts.errored ≡ capped (notices batch.Errored h i)
   pub rejected : counts.rejected ≡ capped (notices batch.Rejected h i)
 
+-- the batches that an instance bore, and their notices
+pub record AreNotices (i : ℕ) (h : Record) (counts : NoticeCounts) : Type 0 where
+  pub born : (b : ℕ) → set.contains nat_eq counts.born b ≡ is_batch_of h i b
+  pub statuses : AreStatuses i h counts.statuses
+
 -- the count of one status rises
-abbrev pub AreRaised : BatchStatus → NoticeCounts → NoticeCounts → Type 0
+abbrev pub AreRaised : BatchStatus → StatusCounts → StatusCounts → Type 0
 AreRaised batch.Delivered old new = new ≡ record old { delivered = capped (old.delivered + 1) }
 AreRaised batch.Errored old new = new ≡ record old { errored = capped (old.errored + 1) }
 AreRaised batch.Rejected old new = new ≡ record old { rejected = capped (old.rejected + 1) }

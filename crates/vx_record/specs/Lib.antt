@@ -39,3 +39,6 @@ pub mod LineCounting
 pub mod PutCounting
 pub mod Counts
 pub mod TallyLists
+pub mod ConfirmedFrom
+pub mod Pasts
+pub mod Ways

@@ -2,19 +2,19 @@
 use Rattle.std.specs.Prelude.{ℕ, ◌≡◌, ◌+◌, Option, Some, None}
 use Rattle.vx_status.specs.declared.event_status.EventStatus.{EventStatus}
 use Rattle.vx_status.specs.declared.event_status.EventStatus.TheVariants as event
-use Rattle.vx_record.specs.declared.outcomes.Outcomes.{Outcomes}
+use Rattle.vx_status.specs.declared.outcome.Outcome.{Outcome}
 use Rattle.vx_record.specs.declared.put_counts.PutCounts.{PutCounts}
 use Rattle.vx_record.specs.Records.{Record, capped}
 use Rattle.vx_record.specs.Tallies.{is_unread, is_newest, is_output, is_child_for, is_held_by, parcels_that}
 use Rattle.vx_record.specs.Counting.{any_in, first_in}
 
 -- the parcels that were put at an instance's places so far, by the outcomes of a whole run
-pub record ArePuts (outcomes : Outcomes) (i : ℕ) (h : Record) (counts : PutCounts) : Type 0 where
-  pub unread : counts.unread ≡ capped (parcels_that (any_in is_unread outcomes) (is_output i) h)
-  pub newest : counts.newest ≡ capped (parcels_that (any_in is_newest outcomes) (is_child_for i) h)
-  pub delivered : counts.delivered ≡ capped (parcels_that (first_in event.Delivered outcomes) (is_held_by i) h)
-  pub errored : counts.errored ≡ capped (parcels_that (first_in event.Errored outcomes) (is_held_by i) h)
-  pub rejected : counts.rejected ≡ capped (parcels_that (first_in event.Rejected outcomes) (is_held_by i) h)
+pub record ArePuts (way : ℕ → Option Outcome) (i : ℕ) (h : Record) (counts : PutCounts) : Type 0 where
+  pub unread : counts.unread ≡ capped (parcels_that (any_in is_unread way) (is_output i) h)
+  pub newest : counts.newest ≡ capped (parcels_that (any_in is_newest way) (is_child_for i) h)
+  pub delivered : counts.delivered ≡ capped (parcels_that (first_in event.Delivered way) (is_held_by i) h)
+  pub errored : counts.errored ≡ capped (parcels_that (first_in event.Errored way) (is_held_by i) h)
+  pub rejected : counts.rejected ≡ capped (parcels_that (first_in event.Rejected way) (is_held_by i) h)
 
 -- the count of one status rises, and none where nothing failed or was delivered
 abbrev pub IsHeldRaised : Option EventStatus → PutCounts → PutCounts → Type 0

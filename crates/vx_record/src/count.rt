@@ -1,10 +1,11 @@
 ghost use Rattle.std.specs.Prelude.{◌≡◌, ℕ, [], ◌∷◌, OnOk, IfOk};
 ghost use Rattle.vx_record.specs.Records.{Record};
-ghost use Rattle.vx_record.specs.Tallies.{source_tally, transform_tally, sink_tally, tally};
-ghost use Rattle.vx_record.specs.Counting.{AreOutcomes};
-ghost use Rattle.vx_record.specs.Counts.{IsCount};
+ghost use Rattle.vx_record.specs.Counting.{AreWays, kept_in};
+ghost use Rattle.vx_record.specs.Ways.{way_of};
+ghost use Rattle.vx_record.specs.Counts.{IsCount, IsCounted};
 
 use crate::confirmed_ends::ConfirmedEnds;
+use crate::counted::Counted;
 use crate::entry::Entry;
 use crate::line_counts::LineCounts;
 use crate::notice_counts::NoticeCounts;
@@ -13,9 +14,8 @@ use crate::plain_counts::PlainCounts;
 use crate::put_counts::PutCounts;
 use crate::record::Record;
 use crate::role::Role;
-use crate::tally::Tally;
+use crate::ways::Ways;
 use std::alloc::Global;
-use vx_plan::Class;
 use vx_value::WantOfMemory;
 
 /// What is kept of one instance while a record is read from its oldest entry on.
@@ -30,11 +30,12 @@ pub(crate) struct Count {
 }
 
 impl Count {
-    ghost use Rattle.vx_record.specs.declared.outcomes.Outcomes.{Outcomes};
+    ghost use Rattle.std.specs.Prelude.{Option};
+    ghost use Rattle.vx_status.specs.declared.outcome.Outcome.{Outcome};
 
     // What is kept before the first entry. It takes no memory.
     fn new(alloc: Global) -> Self
-        ensures { (outcomes : Outcomes) (i : ℕ) → IsCount outcomes i [] result }
+        ensures { (way : ℕ → Option Outcome) (i : ℕ) → IsCount way i [] result }
     {
         Count {
             role: Role::none(),
@@ -47,21 +48,16 @@ impl Count {
     }
 
     // Notes one more entry, by the outcomes of all copies.
-    fn note(
-        &mut self,
-        outcomes: &Outcomes,
-        instance: u32,
-        entry: &Entry,
-    ) -> Result<(), WantOfMemory>
-        ensures { OnOk result ((h : Record) → IsCount outcomes.now instance h self.old →
-            IsCount outcomes.now instance (entry.now ∷ h) self.new) }
+    fn note(&mut self, ways: &Ways, instance: u32, entry: &Entry) -> Result<(), WantOfMemory>
+        ensures { OnOk result ((h : Record) → IsCount (way_of ways.now) instance h self.old →
+            IsCount (way_of ways.now) instance (entry.now ∷ h) self.new) }
     {
         self.lines.note(self.role.limit, instance, entry)?;
         self.notices.note(instance, entry)?;
         self.ends.note(instance, entry)?;
         self.role.note(instance, entry);
         self.plain.note(instance, entry);
-        self.puts.note(outcomes, instance, entry);
+        self.puts.note(ways, instance, entry);
         Ok(())
     }
 
@@ -72,70 +68,27 @@ impl Count {
         history: &Record,
         instance: u32,
     ) -> Result<Self, WantOfMemory>
-        ensures { IfOk result (λ count. IsCount outcomes.now instance history.now count) }
+        ensures { IfOk result (λ count. IsCount (kept_in outcomes.now) instance history.now count) }
     {
+        let ways = Ways::Kept(outcomes);
         let mut count = Count::new(alloc);
         for i in 0..history.len() {
-            count.note(outcomes, instance, history.entry(i))?;
+            count.note(&ways, instance, history.entry(i))?;
         }
         Ok(count)
     }
 
-    /// The counts that are told of the instance.
-    pub(crate) fn tally(&self) -> Tally
-        ensures { (outcomes : Outcomes) (i : ℕ) (h : Record) → AreOutcomes h outcomes → IsCount outcomes i h self.now → result ≡ tally h i }
+    /// What is counted of the instance.
+    pub(crate) fn counted(&self) -> Counted
+        ensures { (way : ℕ → Option Outcome) (i : ℕ) (h : Record) → AreWays h way → IsCount way i h self.now → IsCounted i h result }
     {
-        match self.role.class {
-            None => Tally::zero(),
-            Some(Class::Source) => self.source(),
-            Some(Class::Transform) => self.transform(),
-            Some(Class::Sink) => self.sink(),
-        }
-    }
-
-    // Those of a source.
-    fn source(&self) -> Tally
-        ensures { (outcomes : Outcomes) (i : ℕ) (h : Record) → AreOutcomes h outcomes → IsCount outcomes i h self.now → result ≡ source_tally h i }
-    {
-        Tally {
-            read: self.plain.read,
-            lines: self.lines.lines,
-            overlong: self.lines.overlong,
-            events: self.plain.events,
-            unread: self.puts.unread,
-            batches: self.plain.batches,
-            delivered: self.notices.delivered,
-            errored: self.notices.errored,
-            rejected: self.notices.rejected,
+        Counted {
+            role: self.role,
+            plain: self.plain,
+            lines: self.lines.totals,
+            notices: self.notices.statuses,
+            puts: self.puts,
             confirmed: self.ends.total(),
-            ..Tally::zero()
-        }
-    }
-
-    // Those of a transform.
-    fn transform(&self) -> Tally
-        ensures { (outcomes : Outcomes) (i : ℕ) (h : Record) → AreOutcomes h outcomes → IsCount outcomes i h self.now → result ≡ transform_tally h i }
-    {
-        Tally {
-            taken: self.plain.taken,
-            unread: self.puts.unread,
-            ..Tally::zero()
-        }
-    }
-
-    // Those of a sink.
-    fn sink(&self) -> Tally
-        ensures { (outcomes : Outcomes) (i : ℕ) (h : Record) → AreOutcomes h outcomes → IsCount outcomes i h self.now → result ≡ sink_tally h i }
-    {
-        Tally {
-            taken: self.plain.taken,
-            newest: self.puts.newest,
-            attempts: self.plain.attempts,
-            delivered: self.puts.delivered,
-            errored: self.puts.errored,
-            rejected: self.puts.rejected,
-            bytes: self.plain.bytes,
-            ..Tally::zero()
         }
     }
 }

@@ -6,18 +6,17 @@ ghost use Rattle.vx_record.specs.LineCounting.{AreLines};
 
 use crate::cut::Cut;
 use crate::entry::Entry;
+use crate::line_totals::LineTotals;
 use crate::taken::Taken;
 use std::alloc::Global;
 use std::collections::HashMap;
 use vx_value::WantOfMemory;
 
-/// The lines of an instance's reads. Each count stands still at its type's end.
+/// The lines of an instance's reads.
 #[derive(Drop)]
 pub(crate) struct LineCounts {
-    /// Lines that were not too long.
-    pub lines: u64,
-    /// Lines that were too long.
-    pub overlong: u64,
+    /// How many lines there were.
+    pub totals: LineTotals,
     /// The stream that bytes were last taken of.
     last: Option<u64>,
     /// The length of each stream's unfinished line.
@@ -30,8 +29,7 @@ impl LineCounts {
         ensures { (i : ℕ) → AreLines i [] result }
     {
         LineCounts {
-            lines: 0,
-            overlong: 0,
+            totals: LineTotals::zero(),
             last: None,
             unfinished: HashMap::new(alloc),
         }
@@ -65,32 +63,31 @@ impl LineCounts {
         ensures { OnOk result ((i : ℕ) (h : Record) → limit ≡ limit_of h i → AreLines i h self.old →
             AreLines i (Read i stream taken.now ∷ h) self.new) }
     {
-        let ending = self.ending(stream, taken);
+        let ending = ending(self.last, stream, taken);
         let left = self.unfinished.get(&ending).copied().unwrap_or(0);
         let cut = Cut::by(limit, left, taken);
         match self.unfinished.insert(ending, cut.left) {
             Ok(_) => {}
             Err(_) => return Err(WantOfMemory),
         }
-        self.lines = self.lines.saturating_add(cut.within);
-        self.overlong = self.overlong.saturating_add(cut.over);
+        self.totals.add(cut);
         self.last = last_after(self.last, stream, taken);
         Ok(())
     }
+}
 
-    // The stream of which a read ends lines.
-    fn ending(&self, stream: u64, taken: &Taken) -> u64
-        ensures { (i : ℕ) (h : Record) → self.now.last ≡ last_stream h i → result ≡ stream_of h i stream taken.now }
-    {
-        match taken {
-            Taken::Bytes(_) | Taken::StreamEnded => stream,
-            Taken::AllEnded => self.last.unwrap_or(0),
-        }
+/// The stream of which a read ends lines, if bytes were last taken of such a stream.
+pub(crate) fn ending(last: Option<u64>, stream: u64, taken: &Taken) -> u64
+    ensures { (i : ℕ) (h : Record) → last ≡ last_stream h i → result ≡ stream_of h i stream taken.now }
+{
+    match taken {
+        Taken::Bytes(_) | Taken::StreamEnded => stream,
+        Taken::AllEnded => last.unwrap_or(0),
     }
 }
 
-// The stream that bytes were last taken of, after one more read.
-fn last_after(last: Option<u64>, stream: u64, taken: &Taken) -> Option<u64>
+/// The stream that bytes were last taken of, after one more read.
+pub(crate) fn last_after(last: Option<u64>, stream: u64, taken: &Taken) -> Option<u64>
     ensures { result ≡ (if has_bytes taken.now then Some stream else last) }
 {
     match taken {

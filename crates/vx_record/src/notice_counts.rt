@@ -1,21 +1,20 @@
 ghost use Rattle.std.specs.Prelude.{◌≡◌, ℕ, [], ◌∷◌, OnOk};
-ghost use Rattle.vx_record.specs.Records.{Record, capped};
-ghost use Rattle.vx_record.specs.Counting.{AreNotices, AreRaised};
+ghost use Rattle.vx_record.specs.Records.{Record};
+ghost use Rattle.vx_record.specs.Counting.{AreNotices};
 
 use crate::entry::Entry;
+use crate::status_counts::StatusCounts;
 use std::alloc::Global;
 use std::collections::HashSet;
-use vx_status::BatchStatus;
 use vx_value::WantOfMemory;
 
-/// The notices of an instance's batches. Each count stands still at its type's end.
+/// The notices of an instance's batches.
 #[derive(Drop)]
 pub(crate) struct NoticeCounts {
     /// The batches that it bore so far.
     born: HashSet<u64>,
-    pub delivered: u64,
-    pub errored: u64,
-    pub rejected: u64,
+    /// Their notices.
+    pub statuses: StatusCounts,
 }
 
 impl NoticeCounts {
@@ -25,9 +24,7 @@ impl NoticeCounts {
     {
         NoticeCounts {
             born: HashSet::new(alloc),
-            delivered: 0,
-            errored: 0,
-            rejected: 0,
+            statuses: StatusCounts::zero(),
         }
     }
 
@@ -46,22 +43,11 @@ impl NoticeCounts {
             },
             Entry::Notice { batch, status } => {
                 if self.born.contains(batch) {
-                    self.count(*status);
+                    self.statuses.count(*status);
                 }
                 Ok(())
             }
             _ => Ok(()),
-        }
-    }
-
-    // Counts a notice.
-    fn count(&mut self, status: BatchStatus)
-        ensures { AreRaised status self.old self.new }
-    {
-        match status {
-            BatchStatus::Delivered => self.delivered = self.delivered.saturating_add(1),
-            BatchStatus::Errored => self.errored = self.errored.saturating_add(1),
-            BatchStatus::Rejected => self.rejected = self.rejected.saturating_add(1),
         }
     }
 }

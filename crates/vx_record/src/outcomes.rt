@@ -1,8 +1,6 @@
-ghost use Rattle.std.specs.Prelude.{◌≡◌, ℕ, [], ◌∷◌, OnOk, IfOk, nat_eq};
-ghost use Rattle.std.specs.HashMap as table;
+ghost use Rattle.std.specs.Prelude.{◌≡◌, ℕ, [], ◌∷◌, OnOk, IfOk};
 ghost use Rattle.vx_record.specs.Records.{Record};
-ghost use Rattle.vx_record.specs.Tallies.{is_unread, is_newest};
-ghost use Rattle.vx_record.specs.Counting.{AreOutcomes, spent_in};
+ghost use Rattle.vx_record.specs.Counting.{AreWays, kept_in};
 
 use crate::entry::Entry;
 use crate::record::Record;
@@ -20,7 +18,7 @@ pub(crate) struct Outcomes {
 impl Outcomes {
     /// The outcomes before the first entry. It takes no memory.
     fn new(alloc: Global) -> Self
-        ensures { AreOutcomes [] result }
+        ensures { AreWays [] (kept_in result) }
     {
         Outcomes {
             table: HashMap::new(alloc),
@@ -29,7 +27,7 @@ impl Outcomes {
 
     /// Notes one more entry.
     fn note(&mut self, entry: &Entry) -> Result<(), WantOfMemory>
-        ensures { OnOk result ((h : Record) → AreOutcomes h self.old → AreOutcomes (entry.now ∷ h) self.new) }
+        ensures { OnOk result ((h : Record) → AreWays h (kept_in self.old) → AreWays (entry.now ∷ h) (kept_in self.new)) }
     {
         match entry {
             Entry::Spent { copy, outcome, .. } => match self.table.insert(*copy, *outcome) {
@@ -42,7 +40,7 @@ impl Outcomes {
 
     /// The outcomes of all copies of a record.
     pub(crate) fn of(alloc: Global, history: &Record) -> Result<Self, WantOfMemory>
-        ensures { IfOk result (λ outcomes. AreOutcomes history.now outcomes) }
+        ensures { IfOk result (λ outcomes. AreWays history.now (kept_in outcomes)) }
     {
         let mut outcomes = Outcomes::new(alloc);
         for i in 0..history.len() {
@@ -53,28 +51,8 @@ impl Outcomes {
 
     /// How a copy was spent; `None` exactly where it wasn't.
     pub(crate) fn outcome(&self, copy: u64) -> Option<Outcome>
-        ensures { result ≡ table.get nat_eq self.now.table copy }
+        ensures { result ≡ kept_in self.now copy }
     {
         self.table.get(&copy).copied()
-    }
-
-    /// Whether a copy was spent for want of a reader.
-    pub(crate) fn is_unread(&self, copy: u64) -> bool
-        ensures { result ≡ spent_in is_unread self.now copy }
-    {
-        match self.outcome(copy) {
-            Some(Outcome::NoConsumer) => true,
-            _ => false,
-        }
-    }
-
-    /// Whether a copy was dropped as the newest.
-    pub(crate) fn is_newest(&self, copy: u64) -> bool
-        ensures { result ≡ spent_in is_newest self.now copy }
-    {
-        match self.outcome(copy) {
-            Some(Outcome::NewestDropped) => true,
-            _ => false,
-        }
     }
 }

@@ -1,16 +1,16 @@
-ghost use Rattle.std.specs.Prelude.{◌≡◌, ℕ, [], ◌∷◌, ◌&&◌, ◌==◌, count_by, nat_eq};
+ghost use Rattle.std.specs.Prelude.{◌≡◌, ℕ, [], ◌∷◌, ◌&&◌, ◌==◌, count_by, Option};
 ghost use Rattle.std.specs.Option.{option_map};
-ghost use Rattle.std.specs.HashMap as table;
 ghost use Rattle.vx_status.specs.Tables.{status_of};
 ghost use Rattle.vx_record.specs.Records.{Record};
 ghost use Rattle.vx_record.specs.Parcels.{first_copy};
 ghost use Rattle.vx_record.specs.Tallies.{is_unread, is_newest};
 ghost use Rattle.vx_record.specs.Counting.{spent_in, any_in};
+ghost use Rattle.vx_record.specs.Ways.{way_of};
 ghost use Rattle.vx_record.specs.PutCounting.{ArePuts, IsHeldRaised};
 
 use crate::child::Child;
 use crate::entry::Entry;
-use crate::outcomes::Outcomes;
+use crate::ways::Ways;
 use vx_status::EventStatus;
 
 /// The parcels of an instance by how they were spent. Each count stands still at its type's end.
@@ -29,11 +29,11 @@ pub(crate) struct PutCounts {
 }
 
 impl PutCounts {
-    ghost use Rattle.vx_record.specs.declared.outcomes.Outcomes.{Outcomes};
+    ghost use Rattle.vx_status.specs.declared.outcome.Outcome.{Outcome};
 
     /// The counts before the first entry.
     pub(crate) fn zero() -> Self
-        ensures { (outcomes : Outcomes) (i : ℕ) → ArePuts outcomes i [] result }
+        ensures { (way : ℕ → Option Outcome) (i : ℕ) → ArePuts way i [] result }
     {
         PutCounts {
             unread: 0,
@@ -45,8 +45,8 @@ impl PutCounts {
     }
 
     /// Notes one more entry, by the outcomes of all copies.
-    pub(crate) fn note(&mut self, outcomes: &Outcomes, instance: u32, entry: &Entry)
-        ensures { (h : Record) → ArePuts outcomes.now instance h self.old → ArePuts outcomes.now instance (entry.now ∷ h) self.new }
+    pub(crate) fn note(&mut self, ways: &Ways, instance: u32, entry: &Entry)
+        ensures { (h : Record) → ArePuts (way_of ways.now) instance h self.old → ArePuts (way_of ways.now) instance (entry.now ∷ h) self.new }
     {
         match entry {
             Entry::Born {
@@ -55,12 +55,12 @@ impl PutCounts {
                 ..
             } => {
                 if *source == instance {
-                    let unread = unread_among(outcomes, copies.as_slice());
+                    let unread = unread_among(ways, copies.as_slice());
                     self.unread = self.unread.saturating_add(unread);
                 }
             }
             Entry::Split { children, .. } => {
-                let newest = newest_for(outcomes, instance, children.as_slice());
+                let newest = newest_for(ways, instance, children.as_slice());
                 self.newest = self.newest.saturating_add(newest);
             }
             Entry::Take {
@@ -69,7 +69,7 @@ impl PutCounts {
                 ..
             } => {
                 if *sink == instance {
-                    self.count_held(status_of(outcomes, copies.as_slice()));
+                    self.count_held(status_of(ways, copies.as_slice()));
                 }
             }
             _ => {}
@@ -90,39 +90,36 @@ impl PutCounts {
 }
 
 // How many of some copies were spent for want of a reader.
-fn unread_among(outcomes: &Outcomes, copies: &[u64]) -> u64
-    ensures { result ≡ count_by (λ c. spent_in is_unread outcomes.now c) copies.now }
+fn unread_among(ways: &Ways, copies: &[u64]) -> u64
+    ensures { result ≡ count_by (λ c. spent_in is_unread (way_of ways.now) c) copies.now }
 {
-    copies
-        .iter()
-        .filter(|copy| outcomes.is_unread(**copy))
-        .count() as u64
+    copies.iter().filter(|copy| ways.is_unread(**copy)).count() as u64
 }
 
 // Whether one of some copies was dropped as the newest.
-fn any_newest(outcomes: &Outcomes, copies: &[u64]) -> bool
-    ensures { result ≡ any_in is_newest outcomes.now copies.now }
+fn any_newest(ways: &Ways, copies: &[u64]) -> bool
+    ensures { result ≡ any_in is_newest (way_of ways.now) copies.now }
 {
-    copies.iter().any(|copy| outcomes.is_newest(*copy))
+    copies.iter().any(|copy| ways.is_newest(*copy))
 }
 
 // How many of some children are for the instance and were dropped as the newest.
-fn newest_for(outcomes: &Outcomes, instance: u32, children: &[Child]) -> u64
-    ensures { result ≡ count_by (λ child. child.target == instance && any_in is_newest outcomes.now child.copies) children.now }
+fn newest_for(ways: &Ways, instance: u32, children: &[Child]) -> u64
+    ensures { result ≡ count_by (λ child. child.target == instance && any_in is_newest (way_of ways.now) child.copies) children.now }
 {
     children
         .iter()
-        .filter(|child| child.target == instance && any_newest(outcomes, child.copies.as_slice()))
+        .filter(|child| child.target == instance && any_newest(ways, child.copies.as_slice()))
         .count() as u64
 }
 
 // How a parcel was spent, by its first copy.
-fn status_of(outcomes: &Outcomes, copies: &[u64]) -> Option<EventStatus>
-    ensures { result ≡ option_map status_of (table.get nat_eq outcomes.now.table (first_copy copies.now)) }
+fn status_of(ways: &Ways, copies: &[u64]) -> Option<EventStatus>
+    ensures { result ≡ option_map status_of (way_of ways.now (first_copy copies.now)) }
 {
     let first = match copies {
         [] => 0,
         [first, ..] => *first,
     };
-    outcomes.outcome(first).map(|outcome| outcome.status())
+    ways.outcome(first).map(|outcome| outcome.status())
 }

@@ -1,8 +1,11 @@
 ghost use Rattle.std.specs.Prelude.{◌≡◌, ◌<◌, ◌∷◌, ◌++◌, ◌↔◌, [], List, length, reverse, slice_get, OnOk, OnErr, IsTrue};
 ghost use Rattle.std.specs.Option.{option_copied};
 ghost use Rattle.vx_record.specs.Chunks.{in_a_row, EachHas};
+ghost use Rattle.vx_record.specs.Tallies.{tally};
 
+use crate::counted::Counted;
 use crate::entry::Entry;
+use crate::tally::Tally;
 use std::alloc::Global;
 use std::marker::Model;
 use std::mem;
@@ -83,6 +86,13 @@ impl Record {
             Some(entry) => entry,
             None => unreachable!(),
         }
+    }
+
+    /// The counts of an instance. It takes no memory, and reads the record again for each entry: `tallies` is fast.
+    pub fn tally(&self, instance: u32) -> Tally
+        ensures { result ≡ tally self.now instance }
+    {
+        Counted::of(self, instance).tally()
     }
 
     /// Adds an entry. For want of memory the record is as before.

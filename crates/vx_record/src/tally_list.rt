@@ -20,8 +20,8 @@ pub fn tallies(alloc: Global, history: &Record, count: u32) -> Result<TallyList,
     let outcomes = Outcomes::of(alloc, history)?;
     let mut list = TallyList::new(alloc);
     for instance in 0..count {
-        let counted = Count::of(alloc, &outcomes, history, instance)?;
-        match list.push(counted.tally()) {
+        let count = Count::of(alloc, &outcomes, history, instance)?;
+        match list.push(count.counted().tally()) {
             Ok(()) => {}
             Err(_) => return Err(WantOfMemory),
         }

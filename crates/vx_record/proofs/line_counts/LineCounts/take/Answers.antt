@@ -10,5 +10,5 @@ returns c =
     lines_noted i c.args.limit c.args.stream c.ending-ending.result c.unwrap_or-left.result h c.args.taken.now c.args.self.now _ c.by-cut.result
     small limit before (c.ending-ending.ensures i h before.last)
     (c.unwrap_or-left.ensures ∙ ap (λ o. unwrap_or o 0) (c.copied.ensures ∙ c.get.ensures.value)) c.by-cut.ensures
-    c.saturating_add-self.ensures c.saturating_add-self-2.ensures c.last_after-self.ensures
+    c.add.ensures c.last_after-self.ensures
     c.in-Ok.ensures.updates.1 (λ q other. c.in-Ok.ensures.updates.2 q (grind (arith, nat_tests)))

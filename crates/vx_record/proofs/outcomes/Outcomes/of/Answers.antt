@@ -1,4 +1,5 @@
-use Rattle.vx_record.proofs.Pasts.{past, past_more}
+use Rattle.vx_record.specs.Pasts.{past}
+use Rattle.vx_record.proofs.Pasts.{past_more}
 use Rattle.vx_record.proofs.outcomes.Outcomes.of.Goals as goal
 
 pub loop-i-preserved : goal.loop-i-preserved

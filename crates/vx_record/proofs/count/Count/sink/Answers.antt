@@ -1,5 +1,0 @@
-use Rattle.vx_record.proofs.Tallied.{sink_is}
-use Rattle.vx_record.proofs.count.Count.sink.Goals as goal
-
-pub returns : goal.returns
-returns c = λ o i h are is. sink_is o i h c.args.self.now c.zero.result c.zero.ensures are is

@@ -1,0 +1,34 @@
+ghost use Rattle.std.specs.Prelude.{◌≡◌, ℕ, ◌+◌, [], ◌∷◌};
+ghost use Rattle.vx_record.specs.Records.{capped};
+ghost use Rattle.vx_record.specs.LineCounting.{AreTotals};
+
+use crate::cut::Cut;
+
+/// How many lines there were. Each count stands still at its type's end.
+#[derive(Clone, Copy, Debug)]
+pub(crate) struct LineTotals {
+    /// Lines that were not too long.
+    pub lines: u64,
+    /// Lines that were too long.
+    pub overlong: u64,
+}
+
+impl LineTotals {
+    /// The counts before the first entry.
+    pub(crate) fn zero() -> Self
+        ensures { (i : ℕ) → AreTotals i [] result }
+    {
+        LineTotals {
+            lines: 0,
+            overlong: 0,
+        }
+    }
+
+    /// Counts the lines that some bytes end.
+    pub(crate) fn add(&mut self, cut: Cut)
+        ensures { self.new ≡ record { lines = capped (self.old.lines + cut.within); overlong = capped (self.old.overlong + cut.over) } }
+    {
+        self.lines = self.lines.saturating_add(cut.within);
+        self.overlong = self.overlong.saturating_add(cut.over);
+    }
+}
