@@ -3,12 +3,13 @@ use crate::{Child, Entry, Instance, Record, Start, Taken, Tally};
 use std::alloc::Global;
 use std::test::Fail;
 use vx_ends::{Position, Reply};
-use vx_plan::{
-    Class, Codec, Component, ConsoleTarget, Decoding, Global as Options, Plan, Settings,
-    SinkSettings, StageList,
-};
+use vx_plan::read_plan;
 use vx_status::{BatchStatus, Outcome};
-use vx_value::{Bytes, Event, ItemList, Text, TextList, WantOfMemory};
+use vx_value::{Bytes, Event, ItemList, Text, VariableList, WantOfMemory};
+
+/// A source, whose lines may have 102,400 bytes, and a sink.
+const CONFIGURATION: &str =
+    "[sources.in]\ntype = \"stdin\"\n\n[sinks.out]\ntype = \"console\"\ninputs = [\"in\"]\nencoding.codec = \"text\"\n";
 
 // A list of one item.
 fn one<T: Drop>(alloc: Global, item: T) -> Result<ItemList<T>, WantOfMemory> {
@@ -28,50 +29,6 @@ fn two<T: Drop>(alloc: Global, first: T, second: T) -> Result<ItemList<T>, WantO
     }
 }
 
-fn component(
-    alloc: Global,
-    name: &str,
-    class: Class,
-    settings: Settings,
-) -> Result<Component, WantOfMemory> {
-    Ok(Component {
-        name: Text::copy_of(alloc, name)?,
-        class,
-        inputs: TextList::new(alloc),
-        settings,
-    })
-}
-
-// A source of lines of at most three bytes, and a sink.
-fn plan(alloc: Global) -> Result<Plan, WantOfMemory> {
-    let stdin = Settings::Stdin {
-        max_length: 3,
-        decoding_codec: Decoding::Bytes,
-    };
-    let console = Settings::Console {
-        target: ConsoleTarget::Stdout,
-        encoding_codec: Codec::Text,
-        sink: SinkSettings {
-            acknowledgements: false,
-            buffer: StageList::new(alloc),
-            batch_max_events: 1,
-            batch_timeout_secs: 1,
-            request_retry_attempts: 1,
-            request_retry_initial_backoff_secs: 1,
-            request_retry_max_duration_secs: 1,
-        },
-    };
-    let source = component(alloc, "in", Class::Source, stdin)?;
-    let sink = component(alloc, "out", Class::Sink, console)?;
-    Ok(Plan {
-        global: Options {
-            data_dir: Text::copy_of(alloc, "")?,
-            acknowledgements: false,
-        },
-        components: two(alloc, source, sink)?,
-    })
-}
-
 fn instance(alloc: Global, name: &str, number: u32) -> Result<Instance, WantOfMemory> {
     Ok(Instance {
         name: Text::copy_of(alloc, name)?,
@@ -80,12 +37,14 @@ fn instance(alloc: Global, name: &str, number: u32) -> Result<Instance, WantOfMe
     })
 }
 
-fn install(alloc: Global) -> Result<Entry, WantOfMemory> {
+fn install(alloc: Global) -> Result<Entry, Fail> {
+    let environment = VariableList::new(alloc);
+    let plan = read_plan(alloc, CONFIGURATION.as_bytes(), &environment)?;
     let source = instance(alloc, "in", 0)?;
     let sink = instance(alloc, "out", 1)?;
     Ok(Entry::Install {
         version: 0,
-        plan: plan(alloc)?,
+        plan,
         once: false,
         instances: two(alloc, source, sink)?,
         now: 0,
@@ -97,6 +56,16 @@ fn read(alloc: Global, bytes: &[u8]) -> Result<Entry, WantOfMemory> {
         instance: 0,
         stream: 0,
         taken: Taken::Bytes(Bytes::copy_of(alloc, bytes)?),
+    })
+}
+
+// A line that is as long as may be, and a byte more.
+fn read_much(alloc: Global) -> Result<Entry, Fail> {
+    let bytes = vec![in alloc; b'c'; 102_401]?;
+    Ok(Entry::Read {
+        instance: 0,
+        stream: 0,
+        taken: Taken::Bytes(Bytes::from_vec(bytes)),
     })
 }
 
@@ -163,10 +132,11 @@ fn confirm(alloc: Global, stream: u64, end: u64, made: bool) -> Result<Entry, Wa
 }
 
 // Four lines, and one that is too long.
-fn push_reads(alloc: Global, history: &mut Record) -> Result<(), WantOfMemory> {
-    history.push(read(alloc, b"ab\ncdef")?)?;
+fn push_reads(alloc: Global, history: &mut Record) -> Result<(), Fail> {
+    history.push(read(alloc, b"ab\n")?)?;
     history.push(born(alloc, 0, 0)?)?;
-    history.push(read(alloc, b"g\nh")?)?;
+    history.push(read_much(alloc)?)?;
+    history.push(read(alloc, b"\nh")?)?;
     history.push(Entry::Read {
         instance: 0,
         stream: 0,
@@ -176,7 +146,8 @@ fn push_reads(alloc: Global, history: &mut Record) -> Result<(), WantOfMemory> {
     history.push(read(alloc, b"x\n")?)?;
     history.push(born(alloc, 2, 2)?)?;
     history.push(read(alloc, b"y\n")?)?;
-    history.push(born(alloc, 3, 3)?)
+    history.push(born(alloc, 3, 3)?)?;
+    Ok(())
 }
 
 // The first event has no reader, the second is written at the second attempt.
@@ -235,7 +206,7 @@ fn a_record_is_counted(rt: HostRuntime) -> Result<(), Fail> {
     let list = tallies(alloc, &history, 3)?;
     assert_eq!(rt; list.len(), 3);
     let source = Tally {
-        read: 14,
+        read: 102_410,
         lines: 4,
         overlong: 1,
         events: 4,
@@ -258,5 +229,8 @@ fn a_record_is_counted(rt: HostRuntime) -> Result<(), Fail> {
     assert_eq!(rt; list.get(0).copied().ok_or("a tally")?, source);
     assert_eq!(rt; list.get(1).copied().ok_or("a tally")?, sink);
     assert_eq!(rt; list.get(2).copied().ok_or("a tally")?, Tally::zero());
+    assert_eq!(rt; history.tally(0), source);
+    assert_eq!(rt; history.tally(1), sink);
+    assert_eq!(rt; history.tally(2), Tally::zero());
     Ok(())
 }
