@@ -1,5 +1,6 @@
-ghost use Rattle.std.specs.Prelude.{◌≡◌, ℕ, ◌+◌, ◌-◌, ◌*◌, ◌^◌, ◌<◌, ◌≤◌, ◌↔◌, ◌==◌, [], ◌∷◌, ◌++◌, List, length, take, min, replicate, slice_set, All, IfOk, IfErr, OnErr, OnOk, IsErr, IsTrue, vec_capacity};
+ghost use Rattle.std.specs.Prelude.{◌≡◌, ℕ, ◌+◌, ◌-◌, ◌*◌, ◌^◌, ◌<◌, ◌≤◌, ◌↔◌, ◌==◌, [], ◌∷◌, ◌++◌, List, length, take, min, replicate, slice_get, slice_set, All, IfOk, IfErr, OnErr, OnOk, IsErr, IsTrue, vec_capacity};
 ghost use Rattle.std.specs.Int.{bit_at};
+ghost use Rattle.std.specs.Option.{option_copied};
 ghost use Rattle.vx_ledger.specs.Ledger.{AreLive, Exchanges, IsKept, IsShort, grown_rows};
 ghost use Rattle.vx_ledger.specs.Routing.{targets_of, child_of, children_for, copies_in, IfChildren, IfNoConsumer, IsNoConsumer};
 
@@ -51,6 +52,13 @@ impl Outlet {
         ensures { self.new ≡ slice_set self.old port targets }
     {
         self.ports[port as usize] = targets;
+    }
+
+    /// The numbers of the instances that a port goes to. `None` exactly where there is no such port.
+    pub fn port_targets(&self, port: u32) -> Option<&NumberList>
+        ensures { option_copied result ≡ slice_get self.now port }
+    {
+        self.ports.get(port as usize)
     }
 
     /// Splits a parcel to all targets of a set of ports, which has the bit of each port that it names. Gives one
