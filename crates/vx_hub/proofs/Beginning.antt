@@ -1,13 +1,17 @@
 -- Seats come and go at the end of a list.
-use Rattle.std.proofs.Common.{◌≡◌, ℕ, zero, suc, ◌+◌, ◌<◌, ◌≤◌, false, List, [], ◌∷◌, ◌++◌, length, IfSome, refl, sym, ap, subst, ◌∙◌, arith, get_or}
-use Rattle.std.specs.Prelude.{remove, ◌^◌}
+use Rattle.std.proofs.Common.{◌≡◌, ℕ, zero, suc, ◌+◌, ◌<◌, ◌≤◌, false, List, [], ◌∷◌, ◌++◌, length, IfSome, refl, sym, ap, subst, arith, get_or}
+use Rattle.std.specs.Prelude.{remove, ◌^◌, drop, slice_get, Bool}
 use Rattle.vx_hub.specs.declared.seat.Seat.{Seat}
 use Rattle.vx_hub.specs.declared.facts.Facts.{Facts}
 use Rattle.vx_hub.specs.declared.row.Row.{Row}
 use Rattle.vx_ledger.specs.Copies.{copies_of}
-use Rattle.vx_hub.specs.Making.{IsUnused, AreUnused, IsUntouched}
+use Rattle.vx_hub.specs.Making.{IsUnused, AreUnused, IsUntouched, AreUntouched, AreNew}
 use Rattle.vx_hub.specs.Rows.{row_at, row_copies, copies_in, port_at, task_port, role_parcels, role_copies, parcel_copies}
-use Rattle.vx_hub.specs.Stands.{Stands, IsTold, IsRecorded, facts_at, capped}
+use Rattle.vx_plan.specs.declared.plan.Plan.{Plan}
+use Rattle.vx_plan.specs.declared.component.Component.{Component}
+use Rattle.vx_record.specs.Wirings.{begun}
+use Rattle.vx_hub.specs.declared.parts.Named.{Named}
+use Rattle.vx_hub.specs.Stands.{Stands, IsTold, IsKnown, IsRecorded, facts_at, spec_of}
 use Rattle.vx_hub.specs.Beginning.{Begins, HasFirst}
 use Rattle.vx_hub.specs.declared.hub.Hub.{Hub}
 use Rattle.vx_hub.specs.declared.task.Role.{Role}
@@ -15,7 +19,7 @@ use Rattle.vx_hub.specs.declared.task.Role.TheVariants.{Source, Sink}
 use Rattle.vx_ends.specs.Told.{Told}
 use Rattle.vx_record.specs.Records.{Record}
 use Rattle.vx_ledger.specs.Ledger.{live_count}
-use Rattle.vx_hub.proofs.StandsLaws.{some_mapped, told_quiet, known_quiet, bytes_quiet, losses_quiet, confirms_quiet, cause_quiet}
+use Rattle.vx_hub.proofs.StandsLaws.{some_mapped}
 
 pub unused_more : (seats : List Seat) (seat : Seat) → AreUnused seats → IsUnused seat → AreUnused (seats ++ seat ∷ [])
 unused_more [] seat a u = (u, tt)
@@ -46,11 +50,12 @@ pub copies_more : {P : Type 0} (batch place : ℕ) (rows : List (Row P)) (new : 
 copies_more batch place [] new = omega arith
 copies_more batch place (r ∷ rows) new = omega (arith, copies_more batch place rows new)
 
-pub ports_more : {P : Type 0} (G : P → Type 0) (rows : List (Row P)) (new : Row P) → ((i : ℕ) → IfSome (port_at rows i) G) → IfSome (task_port new.task) G → (i : ℕ) → IfSome (port_at (rows ++ new ∷ []) i) G
+pub ports_more : {P : Type 0} (G : ℕ → P → Type 0) (rows : List (Row P)) (new : Row P) → ((i : ℕ) → IfSome (port_at rows i) (G i)) → IfSome (task_port new.task) (G (length rows)) → (i : ℕ) →
+    IfSome (port_at (rows ++ new ∷ []) i) (G i)
 ports_more G [] new all f zero = f
 ports_more G [] new all f (suc i) = tt
 ports_more G (r ∷ rows) new all f zero = all zero
-ports_more G (r ∷ rows) new all f (suc i) = ports_more G rows new (λ j. all (suc j)) f i
+ports_more G (r ∷ rows) new all f (suc i) = ports_more (λ k. G (suc k)) rows new (λ j. all (suc j)) f i
 
 -- a role that holds no parcel has no copy
 pub role_counts : (batch place : ℕ) (role : Role) → role_parcels role ≡ [] → copies_of batch place (role_copies role) ≡ 0
@@ -62,25 +67,42 @@ pub front_of : {X : Type 0} (xs : List X) (x : X) → 0 < length xs → x ≡ ge
 front_of [] x l at = absurd (omega arith)
 front_of (y ∷ ys) x l at = ap (λ z. z ∷ ys) (sym at)
 
-untouched_told : (told : Told) (i : ℕ) → IsUntouched told → IsTold told [] i
-untouched_told told i u = record { taken = u.taken; given = u.given; confirmed = u.confirmed; ended = u.ended; over = λ over. cc; faults = omega arith; refusals = omega arith; idles = omega arith }
+untouched_told : (told : Told) (plan : Plan) (once : Bool) (now i : ℕ) → IsUntouched (spec_of (slice_get plan.components i)) told → IsTold told (begun plan once now) i
+untouched_told told plan once now i u = record { taken = u.taken; given = u.given; spec = u.made_for; confirmed = u.confirmed; ended = u.ended; over = λ over. cc; faults = omega arith; refusals = omega arith; idles = omega arith }
+
+new_known : (f : Facts) (plan : Plan) (once : Bool) (now i : ℕ) → AreNew f → IsKnown f (begun plan once now) i
+new_known f plan once now i n = record { taken = n.taken; lost = n.lost; failed_starts = n.failed_starts; ends = n.ends; to_confirm = subst (λ (o : _). IfSome o (λ positions. positions ≡ [])) (sym n.to_confirm) tt; confirm_failed = n.confirm_failed }
 
 -- a hub whose instances were all seated stands for the record of their install
-pub begun_stands : {P : Type 0} (told_by : P → Told) (hub : Hub P) → Begins told_by hub → HasFirst hub.log.history → hub.ports.items ≡ [] → length hub.rows.items ≤ hub.ports.room → length hub.rows.items < 2 ^ 32 →
+pub begun_stands : {P : Type 0} (told_by : P → Told) (plan : Plan) (hub : Hub P) → Begins told_by plan hub → HasFirst plan hub.log.history → hub.ports.items ≡ [] → length hub.rows.items ≤ hub.ports.room → length hub.rows.items < 2 ^ 32 →
     Stands told_by hub [] hub.log.history
-begun_stands told_by hub b first none room few = record {
+begun_stands told_by plan hub b first none room few = record {
   history = refl;
   balanced = λ batch place. let live : live_count batch place hub.batches.open_rows ≡ 0 = ap (live_count batch place) b.batches in omega (arith, b.copies batch place);
   recorded = λ sound. subst (λ (h : Record). IsRecorded told_by hub h) (sym first.alone) (record {
-    ports = λ i. some_mapped _ _ (port_at hub.rows.items i) (λ port u. told_quiet (told_by port) [] i first.entry first.quiet (untouched_told (told_by port) i u)) (b.ports i);
-    facts = λ i. some_mapped _ _ (facts_at hub.facts.items i) (λ f n. known_quiet f [] i first.entry first.quiet (record { taken = n.taken; lost = n.lost; failed_starts = n.failed_starts; ends = n.ends; to_confirm = subst (λ (o : _). IfSome o (λ positions. positions ≡ [])) (sym n.to_confirm) tt; confirm_failed = n.confirm_failed })) (b.facts i);
-    bytes = b.bytes ∙ ap capped (sym (bytes_quiet [] first.entry first.quiet));
-    losses = losses_quiet [] first.entry first.quiet tt;
-    confirms = confirms_quiet [] first.entry first.quiet tt;
-    cause = b.abandoned ∙ sym (cause_quiet [] first.entry first.quiet);
+    ports = λ i. some_mapped _ _ (port_at hub.rows.items i) (λ port u. untouched_told (told_by port) plan first.once first.now i u) (b.ports i);
+    facts = λ i. some_mapped _ _ (facts_at hub.facts.items i) (λ f n. new_known f plan first.once first.now i n) (b.facts i);
+    bytes = b.bytes;
+    next = b.next;
+    order = (record { first = refl; zeroth = refl; all_new = refl }, tt);
+    unknown = λ i past. record { unlost = refl; confirmed = refl };
+    cause = b.abandoned;
   });
   shut = λ i. some_mapped _ _ (facts_at hub.facts.items i) (λ f n closed. let no : f.closed ≡ false = n.closed in cc) (b.facts i);
   gone = λ i. some_mapped _ _ (facts_at hub.facts.items i) (λ f n retired. let no : f.retired ≡ false = n.retired in cc) (b.facts i);
   size = b.size;
   berths = record { none = none; room = room; few = few };
 }
+
+suc_plus : (k : ℕ) → suc (k + 1) ≡ suc k + 1
+suc_plus k = omega arith
+
+-- of the ports that are left, the first is made for the component in its place
+pub untouched_first : {P : Type 0} (told_by : P → Told) (components : List Component) (k : ℕ) (named : Named P) (rest : List (Named P)) → AreUntouched told_by (drop k components) (named ∷ rest) →
+    IsUntouched (spec_of (slice_get components k)) (told_by named.port) × AreUntouched told_by (drop (k + 1) components) rest
+untouched_first told_by [] zero named rest u = absurd u
+untouched_first told_by [] (suc k) named rest u = absurd u
+untouched_first told_by (c ∷ cs) zero named rest u = u
+untouched_first told_by (c ∷ cs) (suc k) named rest u =
+    let tail = untouched_first told_by cs k named rest u in
+    (tail.0, subst (λ (n : ℕ). AreUntouched told_by (drop n (c ∷ cs)) rest) (suc_plus k) tail.1)

@@ -9,3 +9,5 @@ pub mod Beginning
 pub mod Remaining
 pub mod Returning
 pub mod Dues
+mod Ordering
+mod Numbering

@@ -15,8 +15,10 @@ use Rattle.vx_hub.specs.declared.work.Done.{Done}
 use Rattle.vx_hub.specs.declared.work.Done.TheVariants.{Nothing, Read, Attempted, Closed, Starved}
 use Rattle.vx_hub.specs.Rows.{role_copies, IsOutAt}
 use Rattle.vx_hub.specs.declared.confirming.Confirmed.{Confirmed}
-use Rattle.vx_hub.specs.Works.{Did, Reports, Names, event_count_of, taken_by, given_by, ended_by, confirmed_by, confirm_faults, faults_by, refusals_by, idles_by}
-use Rattle.vx_hub.specs.Stands.{Stands, IsTold}
+use Rattle.vx_hub.specs.Works.{Did, Reports, Names, NamesBy, IsReading, event_count_of, taken_by, given_by, ended_by, confirmed_by, confirm_faults, faults_by, refusals_by, idles_by}
+use Rattle.vx_ends.specs.declared.port_spec.PortSpec.{PortSpec}
+use Rattle.vx_hub.specs.declared.work.Job.TheVariants as job
+use Rattle.vx_hub.specs.Stands.{Stands, IsTold, IsUnlost, spec_at}
 use Rattle.vx_hub.specs.Leases.{IsLeased, IsBack, IsOpenAt, Adds, Brings}
 use Rattle.vx_hub.proofs.Touching.{not_true}
 
@@ -33,6 +35,7 @@ adds_of : (old new : Told) (confirm : Option Confirmed) (done : Done) (h : Recor
 adds_of old new confirm done h i did told = record {
   taken = λ stream. grown (old.taken stream) (new.taken stream) (taken h i stream) (taken_by done stream) (did.taken stream) (told.taken stream);
   given = grown old.given new.given (given h i) (given_by done) did.given told.given;
+  spec = subst (λ (o : Option PortSpec). IfSome o (λ spec. spec_at h i ≡ Some spec)) (sym did.spec) told.spec;
   confirmed = grown old.confirmed new.confirmed (confirmed h i) (confirmed_by confirm) did.confirms told.confirmed;
   ended = did.ended ∙ ap (λ (xs : List ℕ). xs ++ ended_by done) told.ended;
   over = λ over. did.left (told.over over);
@@ -55,17 +58,26 @@ named_due given None due names is = tt
 named_due None (Some c) due names is = absurd names
 named_due (Some positions) (Some c) due names is = names ∙ is
 
+named_by : (given : Option (List Position)) (confirm : Option Confirmed) (done : Done) (due : List Position) → NamesBy given confirm done → IfSome given (λ positions. positions ≡ due) → IfSome confirm (λ c. c.positions ≡ due)
+named_by given None done due names is = tt
+named_by given (Some c) Starved due names is = named_due given (Some c) due names is
+named_by given (Some c) Nothing due names is = named_due given (Some c) due names is
+named_by given (Some c) (Read turned) due names is = named_due given (Some c) due names is
+named_by given (Some c) (Attempted bytes reply) due names is = named_due given (Some c) due names is
+named_by given (Some c) Closed due names is = named_due given (Some c) due names is
+
 -- what was handed out may land
 pub back_of : {P : Type 0} (told_by : P → Told) (hub : Hub P) (work : Work P) (landing : Landing P) → IsLeased told_by hub work → landing.instance ≡ work.instance →
-    role_copies landing.task.role ≡ role_copies work.task.role → Reports (told_by work.task.port) landing.confirmed landing.done (told_by landing.task.port) → Names work.positions landing.confirmed → event_count_of landing.done ≤ 65536 →
-    IsBack told_by hub landing
-back_of {P} told_by hub work landing leased instance copies reports names events = record {
+    role_copies landing.task.role ≡ role_copies work.task.role → Reports (told_by work.task.port) landing.confirmed landing.done (told_by landing.task.port) → NamesBy work.positions landing.confirmed landing.done → event_count_of landing.done ≤ 65536 →
+    (IsReading landing.done → work.job ≡ job.Read) → IsBack told_by hub landing
+back_of {P} told_by hub work landing leased instance copies reports names events reads = record {
   stands = subst (λ (cs : List Copy). Stands told_by hub cs hub.log.history) (sym copies) leased.stands;
   open_at = subst (λ (i : ℕ). IsOpenAt hub i) (sym instance) leased.open_at;
   out = subst (λ (i : ℕ). IsOutAt hub.rows.items i) (sym instance) leased.out;
   brings = λ sound. brings_of (told_by work.task.port) (told_by landing.task.port) landing.confirmed landing.done hub.log.history landing.instance reports
       (subst (λ (i : ℕ). IsTold (told_by work.task.port) hub.log.history i) (sym instance) (leased.told sound));
-  due = λ sound. subst (λ (i : ℕ). IfSome landing.confirmed (λ c. c.positions ≡ born_positions hub.log.history i)) (sym instance) (named_due work.positions landing.confirmed _ names (leased.due sound));
+  unlost = λ reading. subst (λ (i : ℕ). IsUnlost hub i) (sym instance) (leased.unlost (reads reading));
+  due = λ sound. subst (λ (i : ℕ). IfSome landing.confirmed (λ c. c.positions ≡ born_positions hub.log.history i)) (sym instance) (named_by work.positions landing.confirmed landing.done _ names (leased.due sound));
   events = events;
   closed = λ done. let r : Reports (told_by work.task.port) landing.confirmed Closed (told_by landing.task.port) = subst (λ (d : Done). Reports (told_by work.task.port) landing.confirmed d (told_by landing.task.port)) done reports in
       not_true (told_by landing.task.port).started (r.closed refl);

@@ -1,5 +1,5 @@
 -- What an entry says is what was done, so the port tells what the record has.
-use Rattle.std.proofs.Common.{◌≡◌, inl, inr, ◌⊎◌, ℕ, ◌+◌, ◌≤◌, Bool, true, false, IsTrue, List, [], ◌∷◌, ◌++◌, Some, None, IfSome, refl, sym, ap, subst, ◌∙◌, arith}
+use Rattle.std.proofs.Common.{◌≡◌, inl, inr, ◌⊎◌, ℕ, ◌+◌, ◌≤◌, Bool, true, false, IsTrue, List, [], ◌∷◌, ◌++◌, Option, Some, None, IfSome, refl, sym, ap, subst, ◌∙◌, arith}
 use Rattle.std.specs.Prelude.{◌==◌, ◌&&◌, ◌||◌, not, if◌then◌else◌}
 use Rattle.std.proofs.lemmas.List.{append-nil}
 use Rattle.vx_value.specs.declared.event.Event.{Event}
@@ -26,7 +26,9 @@ use Rattle.vx_hub.specs.declared.work.Done.{Done}
 use Rattle.vx_hub.specs.declared.work.Done.TheVariants.{Nothing, Read, Attempted, Closed, Starved}
 use Rattle.vx_hub.specs.Works.{taken_by, given_by, ended_by, ends_all_by, confirmed_by, confirm_faults, faults_by, refusals_by, idles_by}
 use Rattle.vx_hub.specs.Leases.{Adds, Brings}
-use Rattle.vx_hub.specs.Stands.{IsTold}
+use Rattle.vx_plan.specs.declared.plan.Plan.{Plan}
+use Rattle.vx_record.specs.Installs.{in_force}
+use Rattle.vx_hub.specs.Stands.{IsTold, spec_of, component_in}
 use Rattle.vx_hub.proofs.Silence.{same_test}
 
 -- what an entry of an instance says is what was done
@@ -39,12 +41,14 @@ pub record Says (e : Entry) (h : Record) (i : ℕ) (done : Done) : Type 0 where
   pub faults : faults_in i e ≡ faults_by done
   pub refusals : refusals_in i e ≡ refusals_by done
   pub idles : idles_in i e ≡ idles_by done
+  pub plan : in_force (e ∷ h) ≡ in_force h
 
 -- a port tells what the record has with such an entry
 pub told_said : (told : Told) (h : Record) (i : ℕ) (e : Entry) (done : Done) → Says e h i done → Adds told h i None done → IsTold told (e ∷ h) i
 told_said told h i e done s a = record {
   taken = λ stream. subst (λ (g : List ℕ). IfSome (told.taken stream) (λ bytes. bytes ≡ g)) (ap (λ m. taken h i stream ++ m) (sym (s.taken stream)) ∙ sym (taken_grows e h i stream)) (a.taken stream);
   given = subst (λ (g : List ℕ). IfSome told.given (λ bytes. bytes ≡ g)) (ap (λ m. given h i ++ m) (sym s.given)) a.given;
+  spec = subst (λ (p : Option Plan). IfSome told.spec (λ spec. spec_of (component_in p i) ≡ Some spec)) (sym s.plan) a.spec;
   confirmed = subst (λ (g : List Position). IfSome told.confirmed (λ positions. positions ≡ g)) (ap (λ m. confirmed h i ++ m) (sym s.confirmed)) a.confirmed;
   ended = a.ended ∙ ap (λ m. ended_streams h i ++ m) (sym s.ended);
   over = λ over. elim (s.over over) [ inl before ↦ a.over before | inr now ↦ a.over_now now ];
@@ -74,6 +78,7 @@ says_bytes h i stream bytes events end = record {
   faults = refl;
   refusals = refl;
   idles = refl;
+  plan = refl;
 }
 
 pub says_stream_end : (h : Record) (i stream : ℕ) (events : List Event) (end : ℕ) →
@@ -87,6 +92,7 @@ says_stream_end h i stream events end = record {
   faults = refl;
   refusals = refl;
   idles = refl;
+  plan = refl;
 }
 
 pub says_all_end : (h : Record) (i stream : ℕ) (events : List Event) (end : ℕ) →
@@ -100,6 +106,7 @@ says_all_end h i stream events end = record {
   faults = refl;
   refusals = refl;
   idles = refl;
+  plan = refl;
 }
 
 pub says_idle : (h : Record) (i : ℕ) → Says (entry.Idle i false) h i (Read turned.Idle)
@@ -112,6 +119,7 @@ says_idle h i = record {
   faults = ap (λ t. if t && false then 1 else 0) (same_test i);
   refusals = refl;
   idles = ap (λ t. if t && true then 1 else 0) (same_test i);
+  plan = refl;
 }
 
 pub says_failed_start : (h : Record) (i : ℕ) (at_start : Bool) → Says (entry.Idle i true) h i (Read (turned.Failed at_start))
@@ -124,6 +132,7 @@ says_failed_start h i at_start = record {
   faults = ap (λ t. if t && true then 1 else 0) (same_test i);
   refusals = refl;
   idles = ap (λ t. if t && false then 1 else 0) (same_test i);
+  plan = refl;
 }
 
 pub says_lost : (h : Record) (i at : ℕ) (failed at_start : Bool) → Says (entry.SourceLost i at failed) h i (Read (turned.Failed at_start))
@@ -136,6 +145,7 @@ says_lost h i at failed at_start = record {
   faults = ap (λ t. if t then 1 else 0) (same_test i);
   refusals = refl;
   idles = refl;
+  plan = refl;
 }
 
 pub says_attempt : (h : Record) (i : ℕ) (copies bytes : List ℕ) (reply : Reply) → Says (entry.Attempt i copies bytes reply) h i (Attempted bytes reply)
@@ -148,6 +158,7 @@ says_attempt h i copies bytes reply = record {
   faults = ap (λ t. if t && is_failed reply then 1 else 0) (same_test i);
   refusals = ap (λ t. if t && is_refused reply then 1 else 0) (same_test i);
   idles = refl;
+  plan = refl;
 }
 
 -- what was done is noted
@@ -159,6 +170,7 @@ pub adds_confirm : (told : Told) (h : Record) (i : ℕ) (c : Confirmed) (done : 
 adds_confirm told h i c done a = record {
   taken = a.taken;
   given = subst (λ (g : List ℕ). IfSome told.given (λ bytes. bytes ≡ g ++ given_by done)) (sym (append-nil (given h i))) a.given;
+  spec = a.spec;
   confirmed = subst (λ (g : List Position). IfSome told.confirmed (λ positions. positions ≡ g)) (named ∙ sym (append-nil _)) a.confirmed;
   ended = a.ended ∙ ap (λ (g : List ℕ). g ++ ended_by done) (sym (append-nil (ended_streams h i)));
   over = a.over;

@@ -1,5 +1,5 @@
 -- How an entry changes what a port has to tell.
-use Rattle.std.proofs.Common.{◌≡◌, ℕ, ◌+◌, ◌≤◌, Bool, true, false, List, [], ◌∷◌, ◌++◌, Some, IfSome, refl, sym, ap, subst, ◌∙◌, arith}
+use Rattle.std.proofs.Common.{◌≡◌, ℕ, ◌+◌, ◌≤◌, Bool, true, false, List, [], ◌∷◌, ◌++◌, Option, Some, IfSome, refl, sym, ap, subst, ◌∙◌, arith}
 use Rattle.std.specs.Prelude.{◌==◌, ◌≢◌, ◌&&◌, ◌||◌, not, if◌then◌else◌}
 use Rattle.std.proofs.lemmas.Bool.Decides.{nat_tests}
 use Rattle.std.proofs.lemmas.List.{append-nil}
@@ -13,9 +13,11 @@ use Rattle.vx_record.specs.Growth.{taken_in}
 use Rattle.vx_record.specs.PortCounts.{fault_count, refusal_count, idle_count, faults_in, refusals_in, idles_in}
 use Rattle.vx_record.proofs.Grows.{taken_grows}
 use Rattle.vx_record.specs.declared.entry.Entry.{Entry}
-use Rattle.vx_record.specs.declared.entry.Entry.TheVariants.{Read, Idle, SourceLost, Born, Attempt, Confirm}
+use Rattle.vx_record.specs.declared.entry.Entry.TheVariants.{Install, Read, Idle, SourceLost, Born, Attempt, Confirm}
 use Rattle.vx_record.specs.declared.taken.Taken.TheVariants as taken
-use Rattle.vx_hub.specs.Stands.{IsTold, IsMute, touched}
+use Rattle.vx_plan.specs.declared.plan.Plan.{Plan}
+use Rattle.vx_record.specs.Installs.{in_force}
+use Rattle.vx_hub.specs.Stands.{IsTold, IsMute, touched, spec_of, component_in}
 
 -- an entry that says nothing of an instance's port
 pub record IsSilent (e : Entry) (h : Record) (i : ℕ) : Type 0 where
@@ -27,6 +29,7 @@ pub record IsSilent (e : Entry) (h : Record) (i : ℕ) : Type 0 where
   pub faults : faults_in i e ≡ 0
   pub refusals : refusals_in i e ≡ 0
   pub idles : idles_in i e ≡ 0
+  pub plan : in_force (e ∷ h) ≡ in_force h
 
 nothing_added : {X : Type 0} (before more : List X) → more ≡ [] → before ≡ before ++ more
 nothing_added before more none = sym (ap (λ m. before ++ m) none ∙ append-nil before)
@@ -36,6 +39,7 @@ pub told_silent : (told : Told) (h : Record) (i : ℕ) (e : Entry) → IsSilent 
 told_silent told h i e s t = record {
   taken = λ stream. subst (λ (g : List ℕ). IfSome (told.taken stream) (λ bytes. bytes ≡ g)) (nothing_added (taken h i stream) (taken_in i stream e) (s.taken stream) ∙ sym (taken_grows e h i stream)) (t.taken stream);
   given = subst (λ (g : List ℕ). IfSome told.given (λ bytes. bytes ≡ g)) (nothing_added (given h i) (given_in i e) s.given) t.given;
+  spec = subst (λ (p : Option Plan). IfSome told.spec (λ spec. spec_of (component_in p i) ≡ Some spec)) (sym s.plan) t.spec;
   confirmed = subst (λ (g : List Position). IfSome told.confirmed (λ positions. positions ≡ g)) (nothing_added (confirmed h i) (confirmed_in i e) s.confirmed) t.confirmed;
   ended = t.ended ∙ nothing_added (ended_streams h i) (ended_by i e) s.ended;
   over = λ over. t.over (s.over over);
@@ -46,12 +50,13 @@ told_silent told h i e s t = record {
 
 -- a mute entry is silent
 pub silent_mute : (h : Record) (i : ℕ) (e : Entry) → IsMute e → IsSilent e h i
+silent_mute h i (Install version plan once instances now) m = absurd m
 silent_mute h i (Read j stream took) m = absurd m
 silent_mute h i (Idle j failed) m = absurd m
 silent_mute h i (SourceLost j at failed) m = absurd m
 silent_mute h i (Attempt j copies bytes reply) m = absurd m
 silent_mute h i (Confirm j positions made) m = absurd m
-silent_mute h i e m = record { taken = λ stream. refl; given = refl; confirmed = refl; ended = refl; over = λ over. over; faults = refl; refusals = refl; idles = refl }
+silent_mute h i e m = record { taken = λ stream. refl; given = refl; confirmed = refl; ended = refl; over = λ over. over; faults = refl; refusals = refl; idles = refl; plan = refl }
 
 -- a test that fails chooses the other side
 chosen : {X : Type 0} (a : Bool) (x y : X) → a ≡ false → (if a then x else y) ≡ y
@@ -95,23 +100,24 @@ silent_other h i j (Read k stream took) t other =
       faults = refl;
       refusals = refl;
       idles = refl;
+      plan = refl;
     }
 silent_other h i j (Idle k failed) t other =
     let k_is : k ≡ i = cc in
     let test : (k == j) ≡ false = other_test k j (λ e. other (e ∙ k_is)) in
-    record { taken = λ from. refl; given = refl; confirmed = refl; ended = refl; over = λ over. over; faults = chosen_both (k == j) failed 1 0 test; refusals = refl; idles = chosen_both (k == j) (not failed) 1 0 test }
+    record { taken = λ from. refl; given = refl; confirmed = refl; ended = refl; over = λ over. over; faults = chosen_both (k == j) failed 1 0 test; refusals = refl; idles = chosen_both (k == j) (not failed) 1 0 test; plan = refl }
 silent_other h i j (SourceLost k at failed) t other =
     let k_is : k ≡ i = cc in
     let test : (k == j) ≡ false = other_test k j (λ e. other (e ∙ k_is)) in
-    record { taken = λ from. refl; given = refl; confirmed = refl; ended = refl; over = λ over. over; faults = chosen (k == j) 1 0 test; refusals = refl; idles = refl }
+    record { taken = λ from. refl; given = refl; confirmed = refl; ended = refl; over = λ over. over; faults = chosen (k == j) 1 0 test; refusals = refl; idles = refl; plan = refl }
 silent_other h i j (Attempt k copies bytes reply) t other =
     let k_is : k ≡ i = cc in
     let test : (k == j) ≡ false = other_test k j (λ e. other (e ∙ k_is)) in
-    record { taken = λ from. refl; given = chosen (k == j) bytes [] test; confirmed = refl; ended = refl; over = λ over. over; faults = chosen_both (k == j) _ 1 0 test; refusals = chosen_both (k == j) _ 1 0 test; idles = refl }
+    record { taken = λ from. refl; given = chosen (k == j) bytes [] test; confirmed = refl; ended = refl; over = λ over. over; faults = chosen_both (k == j) _ 1 0 test; refusals = chosen_both (k == j) _ 1 0 test; idles = refl; plan = refl }
 silent_other h i j (Confirm k positions made) t other =
     let k_is : k ≡ i = cc in
     let test : (k == j) ≡ false = other_test k j (λ e. other (e ∙ k_is)) in
-    record { taken = λ from. refl; given = refl; confirmed = chosen_both (k == j) made positions [] test; ended = refl; over = λ over. over; faults = chosen_both (k == j) (not made) 1 0 test; refusals = refl; idles = refl }
+    record { taken = λ from. refl; given = refl; confirmed = chosen_both (k == j) made positions [] test; ended = refl; over = λ over. over; faults = chosen_both (k == j) (not made) 1 0 test; refusals = refl; idles = refl; plan = refl }
 silent_other h i j (Born k b place copies events waits stream end) t other =
-    record { taken = λ from. refl; given = refl; confirmed = refl; ended = refl; over = λ over. over; faults = refl; refusals = refl; idles = refl }
+    record { taken = λ from. refl; given = refl; confirmed = refl; ended = refl; over = λ over. over; faults = refl; refusals = refl; idles = refl; plan = refl }
 silent_other h i j e t other = cc

@@ -1,6 +1,6 @@
 -- The steps by which the hub goes on standing for the record.
-use Rattle.std.proofs.Common.{◌≡◌, inr, ℕ, ◌+◌, Bool, true, false, IsTrue, List, [], ◌∷◌, ◌++◌, length, Option, Some, None, IfSome, refl, sym, ap, subst, ◌∙◌, arith}
-use Rattle.std.specs.Prelude.{IsSomeAnd, ◌==◌, ◌≢◌, map}
+use Rattle.std.proofs.Common.{◌≡◌, inr, ℕ, Bool, true, false, IsTrue, List, [], ◌∷◌, ◌++◌, length, Option, Some, None, IfSome, refl, sym, ap, subst, ◌∙◌, arith}
+use Rattle.std.specs.Prelude.{IsSomeAnd, ◌==◌, ◌≢◌, ◌≤◌, map, not, if◌then◌else◌}
 use Rattle.std.proofs.lemmas.Bool.Decides.{nat_tests}
 use Rattle.vx_ends.specs.Told.{Told}
 use Rattle.vx_ledger.specs.Copies.{Copy, copies_of}
@@ -10,23 +10,27 @@ use Rattle.vx_record.specs.Records.{Record}
 use Rattle.vx_record.specs.Noted.{Noted}
 use Rattle.vx_record.specs.declared.log.Log.{Log}
 use Rattle.vx_record.specs.declared.entry.Entry.{Entry}
-use Rattle.vx_record.specs.declared.entry.Entry.TheVariants.{Read, Idle, SourceLost, Born, Attempt, Confirm, Abandon}
+use Rattle.vx_record.specs.declared.entry.Entry.TheVariants.{Install, Read, Idle, SourceLost, Born, Attempt, Confirm, Abandon}
 use Rattle.vx_record.specs.declared.abandon_cause.AbandonCause.{AbandonCause}
 use Rattle.vx_hub.specs.declared.facts.Facts.{Facts}
 use Rattle.vx_hub.specs.declared.row.Row.{Row}
 use Rattle.vx_hub.specs.declared.hub.Hub.{Hub}
-use Rattle.vx_hub.specs.Rows.{port_at, copies_in, IsBareAt, SamePorts, KeepsBare, KeepsOthersBare, Loses, Gains}
-use Rattle.vx_hub.specs.Stands.{Stands, IsTold, IsKnown, IsRecorded, IsShut, IsGone, IsBalanced, LossesTold, ConfirmsTold, IsQuiet, IsMute, facts_at, capped, HasBerths, spare_of, cause_of}
+use Rattle.vx_hub.specs.Rows.{port_at, IsBareAt, SamePorts, KeepsBare, KeepsOthersBare, Loses, Gains}
+use Rattle.vx_hub.specs.Stands.{Stands, IsTold, IsKnown, IsRecorded, IsShut, IsGone, IsBalanced, IsSound, IsQuiet, touched, lost_at, IsMute, facts_at, capped, HasBerths, spare_of, cause_of}
 use Rattle.vx_hub.specs.declared.parts.Numbered.{Numbered}
 use Rattle.vx_value.specs.Filled.{Filled}
 use Rattle.std.proofs.lemmas.List.{append-nil}
 use Rattle.vx_record.specs.Reads.{bytes_of_all}
 use Rattle.vx_ends.specs.declared.position.Position.{Position}
 use Rattle.vx_record.specs.Confirms.{Birth, births, births_in, born_positions, last_of_each, position_of}
-use Rattle.vx_hub.proofs.Silence.{told_silent, silent_mute}
+use Rattle.vx_record.specs.Copies.{next_copy, makes}
+use Rattle.vx_record.specs.Confirms.{is_unconfirmed}
+use Rattle.vx_hub.specs.Order.{IsInOrder, IsUnknown, IsReason}
+use Rattle.vx_hub.proofs.Silence.{told_silent, silent_mute, other_test}
 
 -- a quiet entry is mute
 pub mute_of_quiet : (e : Entry) → IsQuiet e → IsMute e
+mute_of_quiet (Install version plan once instances now) q = absurd q
 mute_of_quiet (Read j stream took) q = absurd q
 mute_of_quiet (Idle j failed) q = absurd q
 mute_of_quiet (SourceLost j at failed) q = absurd q
@@ -74,23 +78,34 @@ pub bytes_mute : (h : Record) (e : Entry) → IsMute e → bytes_of_all (e ∷ h
 bytes_mute h (Read j stream took) m = absurd m
 bytes_mute h e m = refl
 
-pub losses_mute : (h : Record) (e : Entry) → IsMute e → LossesTold h → LossesTold (e ∷ h)
-losses_mute h (Idle j failed) m l = absurd m
-losses_mute h (SourceLost j at failed) m l = absurd m
-losses_mute h e m l = l
-
-pub confirms_mute : (h : Record) (e : Entry) → IsMute e → ConfirmsTold h → ConfirmsTold (e ∷ h)
-confirms_mute h (Confirm j positions made) m c = absurd m
-confirms_mute h e m c = c
-
 pub bytes_quiet : (h : Record) (e : Entry) → IsQuiet e → bytes_of_all (e ∷ h) ≡ bytes_of_all h
 bytes_quiet h e q = bytes_mute h e (mute_of_quiet e q)
 
-pub losses_quiet : (h : Record) (e : Entry) → IsQuiet e → LossesTold h → LossesTold (e ∷ h)
-losses_quiet h e q l = losses_mute h e (mute_of_quiet e q) l
+-- an instance that isn't there, behind an entry that doesn't touch it
+pub unknown_on : (e : Entry) (h : Record) (i : ℕ) → (touched e ≡ Some i → ⊥) → IsUnknown h i → IsUnknown (e ∷ h) i
+unknown_on (SourceLost j at failed) h i other u =
+    let test : (j == i) ≡ false = other_test j i (λ e. other (ap Some (sym e))) in
+    record { unlost = ap (λ t. if t then Some at else lost_at h i) test ∙ u.unlost; confirmed = u.confirmed }
+unknown_on (Confirm j positions made) h i other u =
+    let test : (j == i) ≡ false = other_test j i (λ e. other (ap Some (sym e))) in
+    record { unlost = u.unlost; confirmed = ap (λ t. if t then not made else is_unconfirmed h i) test ∙ u.confirmed }
+unknown_on e h i other u = record { unlost = u.unlost; confirmed = u.confirmed }
 
-pub confirms_quiet : (h : Record) (e : Entry) → IsQuiet e → ConfirmsTold h → ConfirmsTold (e ∷ h)
-confirms_quiet h e q c = confirms_mute h e (mute_of_quiet e q) c
+-- a mute entry touches nothing of that
+pub unknown_mute : (e : Entry) (h : Record) (i : ℕ) → IsMute e → IsUnknown h i → IsUnknown (e ∷ h) i
+unknown_mute (SourceLost j at failed) h i m u = absurd m
+unknown_mute (Confirm j positions made) h i m u = absurd m
+unknown_mute e h i m u = record { unlost = u.unlost; confirmed = u.confirmed }
+
+-- the next number stays, where an entry makes no copy
+pub same_next : (old new : Ledger) (h : Record) (entry : Entry) → makes entry ≡ 0 → new.next ≡ old.next → old.next ≡ next_copy h → new.next ≡ next_copy (entry ∷ h)
+same_next old new h entry none same next = omega (arith, none, same, next)
+
+-- what an entry needs that is noted while parcels move
+pub record Passes {P : Type 0} (d e : Hub P) (entry : Entry) : Type 0 where
+  pub quiet : IsQuiet entry
+  pub next : d.batches.next ≡ next_copy d.log.history → e.batches.next ≡ next_copy (entry ∷ d.log.history)
+  pub order : IsSound d → IsInOrder d.log.history entry
 
 pub cause_quiet : (h : Record) (e : Entry) → IsQuiet e → cause_of (e ∷ h) ≡ cause_of h
 cause_quiet h (Abandon cause) q = absurd q
@@ -113,31 +128,35 @@ berths_kept old new before after same size b = subst (λ (f : _). HasBerths f af
 pub stands_quiet : {P : Type 0} (told_by : P → Told) (d e : Hub P) (hand after : List Copy) (entry : Entry) →
     Stands told_by d hand d.log.history → IsBalanced e.batches e.rows.items after → e.facts ≡ d.facts → SamePorts d.rows.items e.rows.items →
     ((i : ℕ) → IfSome (facts_at d.facts.items i) (λ f. IsTrue f.retired → IsBareAt d.rows.items i → IsBareAt e.rows.items i)) →
-    length e.rows.items ≡ length d.rows.items → Noted d.log entry e.log → IsQuiet entry → e.starved ≡ d.starved → e.bytes ≡ d.bytes → spare_of e ≡ spare_of d →
+    length e.rows.items ≡ length d.rows.items → Noted d.log entry e.log → Passes d e entry → e.starved ≡ d.starved → e.bytes ≡ d.bytes → spare_of e ≡ spare_of d →
     Stands told_by e after e.log.history
-stands_quiet {P} told_by d e hand after entry s balanced facts ports bare size noted quiet starved bytes berths = record {
-  history = refl;
-  balanced = balanced;
-  recorded = λ sound.
-      let w = noted.whole sound.whole in
-      let r : IsRecorded told_by d d.log.history = s.recorded (record { whole = w.0; fed = sym starved ∙ sound.fed }) in
-      subst (λ (h : Record). IsRecorded told_by e h) (sym w.1) (record {
-        ports = λ i. subst (λ (p : Option P). IfSome p (λ port. IsTold (told_by port) (entry ∷ d.log.history) i)) (sym (ports i))
-            (some_mapped _ _ (port_at d.rows.items i) (λ port t. told_quiet (told_by port) d.log.history i entry quiet t) (r.ports i));
-        facts = λ i. subst (λ (fs : List Facts). IfSome (facts_at fs i) (λ f. IsKnown f (entry ∷ d.log.history) i)) (sym (ap (λ (v : _). v.items) facts))
-            (some_mapped _ _ (facts_at d.facts.items i) (λ f k. known_quiet f d.log.history i entry quiet k) (r.facts i));
-        bytes = bytes ∙ r.bytes ∙ ap capped (sym (bytes_quiet d.log.history entry quiet));
-        losses = losses_quiet d.log.history entry quiet r.losses;
-        confirms = confirms_quiet d.log.history entry quiet r.confirms;
-        cause = ap (λ (t : _). t.1) berths ∙ r.cause ∙ sym (cause_quiet d.log.history entry quiet);
-      });
-  shut = λ i. subst (λ (fs : List Facts). IfSome (facts_at fs i) (IsShut told_by e.rows.items i)) (sym (ap (λ (v : _). v.items) facts))
-      (some_mapped _ _ (facts_at d.facts.items i) (λ f shut closed. subst (λ (p : Option P). IsSomeAnd p (λ port. (told_by port).started ≡ false)) (sym (ports i)) (shut closed)) (s.shut i));
-  gone = λ i. subst (λ (fs : List Facts). IfSome (facts_at fs i) (IsGone e.rows.items i)) (sym (ap (λ (v : _). v.items) facts))
-      (some_both _ _ _ (facts_at d.facts.items i) (λ f keep gone retired. ((gone retired).0, keep retired (gone retired).1)) (bare i) (s.gone i));
-  size = ap (λ (v : _). length v.items) facts ∙ s.size ∙ sym size;
-  berths = berths_kept d.ports e.ports d.rows.items e.rows.items (ap (λ (t : _). t.0) berths) size s.berths;
-}
+stands_quiet {P} told_by d e hand after entry s balanced facts ports bare size noted passes starved bytes berths =
+    let quiet : IsQuiet entry = passes.quiet in
+    record {
+      history = refl;
+      balanced = balanced;
+      recorded = λ sound.
+          let w = noted.whole sound.whole in
+          let fine : IsSound d = record { whole = w.0; fed = sym starved ∙ sound.fed } in
+          let r : IsRecorded told_by d d.log.history = s.recorded fine in
+          subst (λ (h : Record). IsRecorded told_by e h) (sym w.1) (record {
+            ports = λ i. subst (λ (p : Option P). IfSome p (λ port. IsTold (told_by port) (entry ∷ d.log.history) i)) (sym (ports i))
+                (some_mapped _ _ (port_at d.rows.items i) (λ port t. told_quiet (told_by port) d.log.history i entry quiet t) (r.ports i));
+            facts = λ i. subst (λ (fs : List Facts). IfSome (facts_at fs i) (λ f. IsKnown f (entry ∷ d.log.history) i)) (sym (ap (λ (v : _). v.items) facts))
+                (some_mapped _ _ (facts_at d.facts.items i) (λ f k. known_quiet f d.log.history i entry quiet k) (r.facts i));
+            bytes = bytes ∙ r.bytes ∙ ap capped (sym (bytes_quiet d.log.history entry quiet));
+            next = passes.next r.next;
+            order = (passes.order fine, r.order);
+            unknown = λ i past. unknown_mute entry d.log.history i (mute_of_quiet entry quiet) (r.unknown i (subst (λ n. n ≤ i) size past));
+            cause = ap (λ (t : _). t.1) berths ∙ r.cause ∙ sym (cause_quiet d.log.history entry quiet);
+          });
+      shut = λ i. subst (λ (fs : List Facts). IfSome (facts_at fs i) (IsShut told_by e.rows.items i)) (sym (ap (λ (v : _). v.items) facts))
+          (some_mapped _ _ (facts_at d.facts.items i) (λ f shut closed. subst (λ (p : Option P). IsSomeAnd p (λ port. (told_by port).started ≡ false)) (sym (ports i)) (shut closed)) (s.shut i));
+      gone = λ i. subst (λ (fs : List Facts). IfSome (facts_at fs i) (IsGone e.rows.items i)) (sym (ap (λ (v : _). v.items) facts))
+          (some_both _ _ _ (facts_at d.facts.items i) (λ f keep gone retired. ((gone retired).0, keep retired (gone retired).1)) (bare i) (s.gone i));
+      size = ap (λ (v : _). length v.items) facts ∙ s.size ∙ sym size;
+      berths = berths_kept d.ports e.ports d.rows.items e.rows.items (ap (λ (t : _). t.0) berths) size s.berths;
+    }
 
 -- what holds in any case
 pub some_all : {X : Type 0} (F : X → Type 0) (o : Option X) → ((x : X) → F x) → IfSome o F
@@ -169,9 +188,9 @@ unmade old entry new whole same = record { whole = λ w. cc; other = inr same }
 pub stands_moved : {P : Type 0} (told_by : P → Told) (d e : Hub P) (hand after : List Copy) →
     Stands told_by d hand d.log.history → IsBalanced e.batches e.rows.items after → e.facts ≡ d.facts → SamePorts d.rows.items e.rows.items →
     ((i : ℕ) → IfSome (facts_at d.facts.items i) (λ f. IsTrue f.retired → IsBareAt d.rows.items i → IsBareAt e.rows.items i)) →
-    length e.rows.items ≡ length d.rows.items → e.log ≡ d.log → e.starved ≡ d.starved → e.bytes ≡ d.bytes → spare_of e ≡ spare_of d →
+    length e.rows.items ≡ length d.rows.items → e.batches.next ≡ d.batches.next → e.log ≡ d.log → e.starved ≡ d.starved → e.bytes ≡ d.bytes → spare_of e ≡ spare_of d →
     Stands told_by e after e.log.history
-stands_moved {P} told_by d e hand after s balanced facts ports bare size log starved bytes berths = record {
+stands_moved {P} told_by d e hand after s balanced facts ports bare size next log starved bytes berths = record {
   history = refl;
   balanced = balanced;
   recorded = λ sound.
@@ -180,8 +199,9 @@ stands_moved {P} told_by d e hand after s balanced facts ports bare size log sta
         ports = λ i. subst (λ (p : Option P). IfSome p (λ port. IsTold (told_by port) d.log.history i)) (sym (ports i)) (r.ports i);
         facts = λ i. subst (λ (fs : List Facts). IfSome (facts_at fs i) (λ f. IsKnown f d.log.history i)) (sym (ap (λ (v : _). v.items) facts)) (r.facts i);
         bytes = bytes ∙ r.bytes;
-        losses = r.losses;
-        confirms = r.confirms;
+        next = next ∙ r.next;
+        order = r.order;
+        unknown = λ i past. r.unknown i (subst (λ n. n ≤ i) size past);
         cause = ap (λ (t : _). t.1) berths ∙ r.cause;
       });
   shut = λ i. subst (λ (fs : List Facts). IfSome (facts_at fs i) (IsShut told_by e.rows.items i)) (sym (ap (λ (v : _). v.items) facts))
@@ -200,6 +220,20 @@ bare_but {P} fs old mid new i had keeps others j = some_all _ (facts_at fs j) (�
     go : (b : Bool) → (j == i) ≡ b → IsBareAt old j → IsBareAt new j
     go true e bare = let same : j ≡ i = grind (arith, nat_tests) in absurd (had (subst (λ (k : ℕ). IsBareAt old k) same bare))
     go false e bare = let other : j ≢ i = grind (arith, nat_tests) in others j other (keeps j bare)
+
+-- an instance that hasn't ended gets something; the others keep nothing
+pub bare_running : {P : Type 0} (fs : List Facts) (old mid new : List (Row P)) (i : ℕ) → IfSome (facts_at fs i) (λ f. f.retired ≡ false) → KeepsBare old mid → KeepsOthersBare i mid new → (j : ℕ) →
+    IfSome (facts_at fs j) (λ f. IsTrue f.retired → IsBareAt old j → IsBareAt new j)
+bare_running {P} fs old mid new i running keeps others j = go (j == i) refl
+  where
+    never : (o : Option Facts) → IfSome o (λ f. f.retired ≡ false) → IfSome o (λ f. IsTrue f.retired → IsBareAt old i → IsBareAt new i)
+    never None r = tt
+    never (Some f) r = λ retired. cc
+
+    go : (b : Bool) → (j == i) ≡ b → IfSome (facts_at fs j) (λ f. IsTrue f.retired → IsBareAt old j → IsBareAt new j)
+    go true e = let same : j ≡ i = grind (arith, nat_tests) in
+        subst (λ (k : ℕ). IfSome (facts_at fs k) (λ f. IsTrue f.retired → IsBareAt old k → IsBareAt new k)) (sym same) (never (facts_at fs i) running)
+    go false e = let other : j ≢ i = grind (arith, nat_tests) in some_all _ (facts_at fs j) (λ f retired bare. others j other (keeps j bare))
 
 -- a parcel is replaced by its children
 pub split_balanced : {P : Type 0} (old new : Ledger) (before mid after : List (Row P)) (parcel children : List Copy) → IsBalanced old before [] → Loses before parcel mid →
@@ -241,20 +275,22 @@ known_abandoned f h i cause k = record {
 }
 
 -- a run is abandoned
-pub stands_abandoned : {P : Type 0} (told_by : P → Told) (d : Hub P) (log : Log) (cause : AbandonCause) → Stands told_by d [] d.log.history → Noted d.log (Abandon cause) log →
+pub stands_abandoned : {P : Type 0} (told_by : P → Told) (d : Hub P) (log : Log) (cause : AbandonCause) → Stands told_by d [] d.log.history → d.abandoned ≡ None → (IsSound d → IsReason d.log.history cause) → Noted d.log (Abandon cause) log →
     Stands told_by (record d { abandoned = Some cause; log = log }) [] log.history
-stands_abandoned {P} told_by d log cause s noted = record {
+stands_abandoned {P} told_by d log cause s once reason noted = record {
   history = refl;
   balanced = s.balanced;
   recorded = λ sound.
       let w = noted.whole sound.whole in
-      let r : IsRecorded told_by d d.log.history = s.recorded (record { whole = w.0; fed = sound.fed }) in
+      let fine : IsSound d = record { whole = w.0; fed = sound.fed } in
+      let r : IsRecorded told_by d d.log.history = s.recorded fine in
       subst (λ (h : Record). IsRecorded told_by (record d { abandoned = Some cause; log = log }) h) (sym w.1) (record {
         ports = λ i. some_mapped _ _ (port_at d.rows.items i) (λ port t. told_mute (told_by port) d.log.history i (Abandon cause) tt t) (r.ports i);
         facts = λ i. some_mapped _ _ (facts_at d.facts.items i) (λ f k. known_abandoned f d.log.history i cause k) (r.facts i);
         bytes = r.bytes;
-        losses = r.losses;
-        confirms = r.confirms;
+        next = same_next d.batches d.batches d.log.history (Abandon cause) refl refl r.next;
+        order = (record { first = sym r.cause ∙ once; reason = reason fine }, r.order);
+        unknown = λ i past. unknown_mute (Abandon cause) d.log.history i tt (r.unknown i past);
         cause = refl;
       });
   shut = s.shut;
@@ -270,27 +306,16 @@ stands_counted {P} told_by d e hand same s = subst (λ (x : Hub P). Stands told_
   balanced = s.balanced;
   recorded = λ sound.
       let r : IsRecorded told_by d d.log.history = s.recorded (record { whole = sound.whole; fed = sound.fed }) in
-      record { ports = r.ports; facts = r.facts; bytes = r.bytes; losses = r.losses; confirms = r.confirms; cause = r.cause };
+      record { ports = r.ports; facts = r.facts; bytes = r.bytes; next = r.next; order = r.order; unknown = r.unknown; cause = r.cause };
   shut = s.shut;
   gone = s.gone;
   size = s.size;
   berths = s.berths;
 })
 
--- copies are born into the hand
-pub stands_born : {P : Type 0} (told_by : P → Told) (d : Hub P) (batches : Ledger) (copies : List Copy) → Stands told_by d [] d.log.history → Exchanges d.batches [] batches copies →
-    ((e : Hub P) → e.batches ≡ batches → e.rows ≡ d.rows → e.facts ≡ d.facts → e.log ≡ d.log → e.starved ≡ d.starved → e.bytes ≡ d.bytes → spare_of e ≡ spare_of d → Stands told_by e copies e.log.history)
-stands_born {P} told_by d batches copies s born e made rows facts log starved bytes spare =
-    stands_moved told_by d e [] copies s
-    (λ batch place. subst (λ (b : Ledger). live_count batch place b.open_rows ≡ copies_in batch place e.rows.items + copies_of batch place copies) (sym made)
-    (subst (λ (r : _). live_count batch place batches.open_rows ≡ copies_in batch place r.items + copies_of batch place copies) (sym rows)
-    (let b : live_count batch place d.batches.open_rows ≡ copies_in batch place d.rows.items + 0 = s.balanced batch place in omega (arith, b, born batch place))))
-    facts (λ i. ap (λ (r : _). port_at r.items i) rows)
-    (λ i. subst (λ (r : _). IfSome (facts_at d.facts.items i) (λ f. IsTrue f.retired → IsBareAt d.rows.items i → IsBareAt r.items i)) (sym rows) (bare_stays d.facts.items d.rows.items i))
-    (ap (λ (r : _). length r.items) rows) log starved bytes spare
-
 -- an entry that says nothing is noted, and then whether the hub goes on
-pub stands_settled : {P : Type 0} (told_by : P → Told) (d e : Hub P) (log : Log) (entry : Entry) → Stands told_by d [] d.log.history → Noted d.log entry log → IsQuiet entry →
+pub stands_settled : {P : Type 0} (told_by : P → Told) (d e : Hub P) (log : Log) (entry : Entry) → Stands told_by d [] d.log.history → Noted d.log entry log → IsQuiet entry → makes entry ≡ 0 → IsInOrder d.log.history entry →
     e ≡ record d { log = log; fatal = e.fatal } → Stands told_by e [] e.log.history
-stands_settled {P} told_by d e log entry s noted quiet same = subst (λ (x : Hub P). Stands told_by x [] x.log.history) (sym same)
-    (stands_quiet told_by d (record d { log = log; fatal = e.fatal }) [] [] entry s s.balanced refl (λ i. refl) (bare_stays d.facts.items d.rows.items) refl noted quiet refl refl refl)
+stands_settled {P} told_by d e log entry s noted quiet none order same = subst (λ (x : Hub P). Stands told_by x [] x.log.history) (sym same)
+    (stands_quiet told_by d (record d { log = log; fatal = e.fatal }) [] [] entry s s.balanced refl (λ i. refl) (bare_stays d.facts.items d.rows.items) refl noted
+    (record { quiet = quiet; next = same_next d.batches d.batches d.log.history entry none refl; order = λ sound. order }) refl refl refl)

@@ -1,10 +1,10 @@
 -- One change of what a port tells after another.
-use Rattle.std.proofs.Common.{◌≡◌, inl, inr, ◌≤◌, ℕ, ◌+◌, ◌++◌, List, [], Option, Some, None, IfSome, false, sym, ap, subst, arith, ◌∙◌}
+use Rattle.std.proofs.Common.{◌≡◌, inl, inr, ◌≤◌, ℕ, ◌+◌, ◌++◌, List, [], Option, Some, None, IfSome, false, refl, sym, ap, subst, arith, ◌∙◌}
 use Rattle.std.proofs.lemmas.List.{append-nil}
 use Rattle.vx_ends.specs.Told.{Told, Rose, Grows, SameBytes}
 use Rattle.vx_ends.specs.declared.position.Position.{Position}
 use Rattle.vx_ends.proofs.Growing.{grows_nothing}
-use Rattle.vx_hub.specs.Turns.{taken_in, ended_in, LeavesNothing, OnlyTakes, FailsBy}
+use Rattle.vx_hub.specs.Turns.{taken_in, ended_in, LeavesNothing, OnlyTakes, FailsBy, BringsSome}
 use Rattle.vx_hub.specs.declared.source.Turned.{Turned}
 use Rattle.vx_hub.specs.declared.source.Turned.TheVariants.{Lines, StreamEnded, AllEnded, Idle, Failed}
 use Rattle.vx_record.specs.Records.{capped}
@@ -63,6 +63,8 @@ did_after a b c confirm done first next = record {
   refusals = capped_first a.refusals b.refusals c.refusals (refusals_by done) first.refusals next.refusals;
   idles = capped_first a.idles b.idles c.idles (idles_by done) first.idles next.idles;
   closed = next.closed;
+  some = next.some;
+  spec = next.spec ∙ first.spec;
 }
 
 pub reports_after : (a b c : Told) (confirm : Option Confirmed) (done : Done) → Did a confirm Nothing b → Reports b None done c → Reports a confirm done c
@@ -85,6 +87,8 @@ did_nothing t = record {
   refusals = omega arith;
   idles = omega arith;
   closed = λ done. cc;
+  some = tt;
+  spec = refl;
 }
 
 -- a port that was closed
@@ -100,6 +104,8 @@ did_close old new same closed faults refusals idles = record {
   refusals = omega arith;
   idles = omega arith;
   closed = λ done started. cc;
+  some = tt;
+  spec = same.spec;
 }
 
 -- a count that rose, or stands at its end
@@ -115,7 +121,7 @@ turn_counts old new (Lines stream bytes events end) others fails = counts_none o
 turn_counts old new (StreamEnded stream events end) others fails = counts_none old.faults new.faults others.faults
 turn_counts old new (AllEnded stream events end) others fails = counts_none old.faults new.faults others.faults
 turn_counts old new Idle others fails = counts_none old.faults new.faults others.faults
-turn_counts old new (Failed at_start) others fails = counts_one old.faults new.faults others.faults fails
+turn_counts old new (Failed at_start) others fails = counts_one old.faults new.faults others.faults fails.0
 
 turn_rests : (old new : Told) (turned : Turned) → OnlyTakes old new → FailsBy old new turned → Counts old.idles new.idles (turn_idles turned)
 turn_rests old new (Lines stream bytes events end) others fails = counts_none old.idles new.idles others.idles
@@ -126,8 +132,8 @@ turn_rests old new (Failed at_start) others fails = counts_none old.idles new.id
 
 -- a port that a turn took from
 pub did_turn : (old new : Told) (turned : Turned) → ((stream : ℕ) → Grows (old.taken stream) (new.taken stream) (taken_in turned stream)) → new.ended ≡ old.ended ++ ended_in turned →
-    LeavesNothing new turned → OnlyTakes old new → FailsBy old new turned → Did old None (Read turned) new
-did_turn old new turned taken ended over others fails = record {
+    LeavesNothing new turned → OnlyTakes old new → FailsBy old new turned → BringsSome turned → Did old None (Read turned) new
+did_turn old new turned taken ended over others fails some = record {
   taken = taken;
   given = subst (λ (o : Option (List ℕ)). Grows old.given o []) (sym others.given) (grows_nothing old.given);
   confirms = subst (λ (o : Option (List Position)). Grows old.confirmed o []) (sym others.confirmed) (grows_nothing old.confirmed);
@@ -138,4 +144,6 @@ did_turn old new turned taken ended over others fails = record {
   refusals = counts_none old.refusals new.refusals others.refusals;
   idles = turn_rests old new turned others fails;
   closed = λ done. cc;
+  some = some;
+  spec = others.spec;
 }

@@ -24,8 +24,10 @@ use Rattle.vx_hub.specs.declared.hub.Hub.{Hub}
 use Rattle.vx_hub.specs.Rows.{port_at, port_of, task_port, row_at, copies_in, IsBareAt, IsOutAt, SameOtherPorts, KeepsOthersBare, KeepsBare, Gains, Loses}
 use Rattle.vx_hub.specs.Works.{IsClosedBy}
 use Rattle.vx_hub.specs.declared.task.Task.{Task}
-use Rattle.vx_hub.specs.Stands.{Stands, IsTold, IsKnown, IsRecorded, IsSound, IsShut, IsGone, LossesTold, ConfirmsTold, facts_at, lost_at, capped, touched, IsBalanced, IsMute, spare_of, cause_of}
-use Rattle.vx_hub.proofs.StandsLaws.{some_mapped, some_all, berths_kept, ends_on, to_confirm_on, told_mute, bytes_mute, losses_mute, confirms_mute}
+use Rattle.vx_hub.specs.Stands.{Stands, IsTold, IsKnown, IsRecorded, IsSound, IsShut, IsGone, facts_at, lost_at, spec_at, capped, touched, IsBalanced, IsMute, spare_of, cause_of}
+use Rattle.vx_hub.proofs.StandsLaws.{some_mapped, some_all, berths_kept, ends_on, to_confirm_on, told_mute, bytes_mute, same_next, unknown_on, unknown_mute}
+use Rattle.vx_record.specs.Copies.{next_copy, makes}
+use Rattle.vx_hub.specs.Order.{IsInOrder}
 use Rattle.vx_hub.proofs.Silence.{told_silent, silent_other, other_test, same_test}
 
 -- a test that fails chooses the other side
@@ -170,10 +172,9 @@ pub stands_touched : {P : Type 0} (told_by : P → Told) (d e : Hub P) (hand : L
     e.rows ≡ d.rows → spare_of e ≡ spare_of d → e.batches ≡ d.batches → e.starved ≡ d.starved → Noted d.log entry e.log → touched entry ≡ Some i →
     (IsKnown f d.log.history i → IsKnown g (entry ∷ d.log.history) i) →
     (d.bytes ≡ capped (bytes_of_all d.log.history) → e.bytes ≡ capped (bytes_of_all (entry ∷ d.log.history))) →
-    (IsKnown f d.log.history i → LossesTold d.log.history → LossesTold (entry ∷ d.log.history)) →
-    (IsSound d → ConfirmsTold d.log.history → ConfirmsTold (entry ∷ d.log.history)) →
+    makes entry ≡ 0 → (IsSound d → IsKnown f d.log.history i → IsInOrder d.log.history entry) →
     Stands told_by e hand e.log.history
-stands_touched {P} told_by d e hand entry i f g s out within at written closed retired rows berths batches starved noted touch known bytes losses confirms =
+stands_touched {P} told_by d e hand entry i f g s out within at written closed retired rows berths batches starved noted touch known bytes none_made order =
     let was : facts_at d.facts.items i ≡ Some f = facts_read d.facts.items i f within at in
     let none : port_at d.rows.items i ≡ None = out_port (row_at d.rows.items i) out in
     let port_gone : (Q : Option P → Type 0) → Q None → Q (port_at d.rows.items i) = λ Q q. subst (λ (p : Option P). Q p) (sym none) q in
@@ -183,7 +184,8 @@ stands_touched {P} told_by d e hand entry i f g s out within at written closed r
           (subst (λ (r : _). live_count batch place d.batches.open_rows ≡ copies_in batch place r.items + copies_of batch place hand) (sym rows) (s.balanced batch place));
       recorded = λ sound.
           let w = noted.whole sound.whole in
-          let r : IsRecorded told_by d d.log.history = s.recorded (record { whole = w.0; fed = sym starved ∙ sound.fed }) in
+          let fine : IsSound d = record { whole = w.0; fed = sym starved ∙ sound.fed } in
+          let r : IsRecorded told_by d d.log.history = s.recorded fine in
           let mine : IsKnown f d.log.history i = subst (λ (o : Option Facts). IfSome o (λ x. IsKnown x d.log.history i)) was (r.facts i) in
           subst (λ (h : Record). IsRecorded told_by e h) (sym w.1) (record {
             ports = λ j. subst (λ (v : _). IfSome (port_at v.items j) (λ port. IsTold (told_by port) (entry ∷ d.log.history) j)) (sym rows)
@@ -193,8 +195,10 @@ stands_touched {P} told_by d e hand entry i f g s out within at written closed r
                 (facts_keep (λ k o. IfSome o (λ x. IsKnown x (entry ∷ d.log.history) k)) d.facts.items i g within (known mine)
                 (λ k other. some_mapped _ _ (facts_at d.facts.items k) (λ x t. known_other x d.log.history i k entry touch other t) (r.facts k)) j);
             bytes = bytes r.bytes;
-            losses = losses mine r.losses;
-            confirms = confirms (record { whole = w.0; fed = sym starved ∙ sound.fed }) r.confirms;
+            next = same_next d.batches e.batches d.log.history entry none_made (ap (λ (l : Ledger). l.next) batches) r.next;
+            order = (order fine mine, r.order);
+            unknown = λ j past. let beyond : length d.rows.items ≤ j = subst (λ (v : _). length v.items ≤ j) rows past in
+                unknown_on entry d.log.history j (λ t. let same : i ≡ j = cc in omega (arith, within, beyond, s.size, same)) (r.unknown j beyond);
             cause = ap (λ (t : _). t.1) berths ∙ r.cause ∙ sym (cause_touched d.log.history entry i touch);
           });
       shut = λ j. subst (λ (v : _). IfSome (facts_at e.facts.items j) (IsShut told_by v.items j)) (sym rows)
@@ -210,24 +214,25 @@ stands_touched {P} told_by d e hand entry i f g s out within at written closed r
     }
 
 -- an instance is marked, and an entry tells it that says nothing of a port
-pub stands_marked : {P : Type 0} (told_by : P → Told) (d e : Hub P) (hand : List Copy) (entry : Entry) (i : ℕ) (f g : Facts) →
+pub stands_marked : {P : Type 0} (told_by : P → Told) (d e : Hub P) (hand after : List Copy) (entry : Entry) (i : ℕ) (f g : Facts) →
     Stands told_by d hand d.log.history → i < length d.facts.items → f ≡ get_or d.facts.items i f →
     e.facts.items ≡ slice_set d.facts.items i g →
-    e.rows ≡ d.rows → spare_of e ≡ spare_of d → e.batches ≡ d.batches → e.starved ≡ d.starved → e.bytes ≡ d.bytes → Noted d.log entry e.log → IsMute entry →
+    e.rows ≡ d.rows → spare_of e ≡ spare_of d → IsBalanced e.batches d.rows.items after → e.starved ≡ d.starved → e.bytes ≡ d.bytes → Noted d.log entry e.log → IsMute entry →
+    (d.batches.next ≡ next_copy d.log.history → e.batches.next ≡ next_copy (entry ∷ d.log.history)) → (IsSound d → IsInOrder d.log.history entry) →
     cause_of (entry ∷ d.log.history) ≡ cause_of d.log.history →
     (IsKnown f d.log.history i → IsKnown g (entry ∷ d.log.history) i) →
     ((x : Facts) (k : ℕ) → k ≢ i → IsKnown x d.log.history k → IsKnown x (entry ∷ d.log.history) k) →
     IsShut told_by d.rows.items i g → IsGone d.rows.items i g →
-    Stands told_by e hand e.log.history
-stands_marked {P} told_by d e hand entry i f g s within at written rows berths batches starved bytes noted mute cause known others shut gone =
+    Stands told_by e after e.log.history
+stands_marked {P} told_by d e hand after entry i f g s within at written rows berths balanced starved bytes noted mute next order cause known others shut gone =
     let was : facts_at d.facts.items i ≡ Some f = facts_read d.facts.items i f within at in
     record {
       history = refl;
-      balanced = λ batch place. subst (λ (b : _). live_count batch place b.open_rows ≡ copies_in batch place e.rows.items + copies_of batch place hand) (sym batches)
-          (subst (λ (r : _). live_count batch place d.batches.open_rows ≡ copies_in batch place r.items + copies_of batch place hand) (sym rows) (s.balanced batch place));
+      balanced = λ batch place. subst (λ (r : _). live_count batch place e.batches.open_rows ≡ copies_in batch place r.items + copies_of batch place after) (sym rows) (balanced batch place);
       recorded = λ sound.
           let w = noted.whole sound.whole in
-          let r : IsRecorded told_by d d.log.history = s.recorded (record { whole = w.0; fed = sym starved ∙ sound.fed }) in
+          let fine : IsSound d = record { whole = w.0; fed = sym starved ∙ sound.fed } in
+          let r : IsRecorded told_by d d.log.history = s.recorded fine in
           let mine : IsKnown f d.log.history i = subst (λ (o : Option Facts). IfSome o (λ x. IsKnown x d.log.history i)) was (r.facts i) in
           subst (λ (h : Record). IsRecorded told_by e h) (sym w.1) (record {
             ports = λ j. subst (λ (v : _). IfSome (port_at v.items j) (λ port. IsTold (told_by port) (entry ∷ d.log.history) j)) (sym rows)
@@ -237,8 +242,9 @@ stands_marked {P} told_by d e hand entry i f g s within at written rows berths b
                 (known mine)
                 (λ k other. some_mapped _ _ (facts_at d.facts.items k) (λ x t. others x k other t) (r.facts k)) j);
             bytes = bytes ∙ r.bytes ∙ ap capped (sym (bytes_mute d.log.history entry mute));
-            losses = losses_mute d.log.history entry mute r.losses;
-            confirms = confirms_mute d.log.history entry mute r.confirms;
+            next = next r.next;
+            order = (order fine, r.order);
+            unknown = λ j past. unknown_mute entry d.log.history j mute (r.unknown j (subst (λ (v : _). length v.items ≤ j) rows past));
             cause = ap (λ (t : _). t.1) berths ∙ r.cause ∙ sym cause;
           });
       shut = λ j. subst (λ (v : _). IfSome (facts_at e.facts.items j) (IsShut told_by v.items j)) (sym rows)
@@ -256,9 +262,9 @@ pub stands_brought : {P : Type 0} (told_by : P → Told) (d e : Hub P) (copies :
     Stands told_by d copies d.log.history → IsSomeAnd (facts_at d.facts.items i) (λ f. f.closed ≡ false) →
     (IsSound d → IsTold (told_by port) d.log.history i) →
     IsBalanced e.batches e.rows.items [] → port_at e.rows.items i ≡ Some port → SameOtherPorts i d.rows.items e.rows.items → KeepsOthersBare i d.rows.items e.rows.items →
-    length e.rows.items ≡ length d.rows.items → e.facts ≡ d.facts → e.log ≡ d.log → e.starved ≡ d.starved → e.bytes ≡ d.bytes → spare_of e ≡ spare_of d →
+    length e.rows.items ≡ length d.rows.items → e.batches.next ≡ d.batches.next → e.facts ≡ d.facts → e.log ≡ d.log → e.starved ≡ d.starved → e.bytes ≡ d.bytes → spare_of e ≡ spare_of d →
     Stands told_by e [] e.log.history
-stands_brought {P} told_by d e copies port i s unclosed told balanced here ports bare size facts log starved bytes berths =
+stands_brought {P} told_by d e copies port i s unclosed told balanced here ports bare size next facts log starved bytes berths =
     record {
       history = refl;
       balanced = balanced;
@@ -271,8 +277,9 @@ stands_brought {P} told_by d e copies port i s unclosed told balanced here ports
                 (λ k other. subst (λ (p : Option P). IfSome p (λ q. IsTold (told_by q) d.log.history k)) (sym (ports k other)) (r.ports k));
             facts = λ k. subst (λ (v : _). IfSome (facts_at v.items k) (λ f. IsKnown f d.log.history k)) (sym facts) (r.facts k);
             bytes = bytes ∙ r.bytes;
-            losses = r.losses;
-            confirms = r.confirms;
+            next = next ∙ r.next;
+            order = r.order;
+            unknown = λ k past. r.unknown k (subst (λ n. n ≤ k) size past);
             cause = ap (λ (t : _). t.1) berths ∙ r.cause;
           });
       shut = λ k. subst (λ (v : _). IfSome (facts_at v.items k) (IsShut told_by e.rows.items k)) (sym facts)
@@ -341,6 +348,7 @@ pub told_closed : (told after : Told) (h : Record) (i : ℕ) → IsClosedBy told
 told_closed told after h i c t = record {
   taken = λ stream. subst (λ (f : _). IfSome (f stream) (λ bytes. bytes ≡ taken h i stream)) (sym c.bytes.taken) (t.taken stream);
   given = subst (λ (o : _). IfSome o (λ bytes. bytes ≡ given h i)) (sym c.bytes.given) t.given;
+  spec = subst (λ (o : _). IfSome o (λ spec. spec_at h i ≡ Some spec)) (sym c.bytes.spec) t.spec;
   confirmed = subst (λ (o : _). IfSome o (λ positions. positions ≡ confirmed h i)) (sym c.bytes.confirmed) t.confirmed;
   ended = c.bytes.ended ∙ t.ended;
   over = λ over stream. subst (λ (f : _). IfSome (f stream) (λ rest. rest ≡ [])) (sym c.bytes.left) (t.over over stream);
@@ -383,8 +391,9 @@ stands_shut {P} told_by d e i s home becomes loses ports bare size batches facts
                 (λ k other. subst (λ (p : Option P). IfSome p (λ q. IsTold (told_by q) d.log.history k)) (sym (ports k other)) (r.ports k));
             facts = λ k. subst (λ (v : _). IfSome (facts_at v.items k) (λ f. IsKnown f d.log.history k)) (sym facts) (r.facts k);
             bytes = bytes ∙ r.bytes;
-            losses = r.losses;
-            confirms = r.confirms;
+            next = ap (λ (l : Ledger). l.next) batches ∙ r.next;
+            order = r.order;
+            unknown = λ k past. r.unknown k (subst (λ n. n ≤ k) size past);
             cause = ap (λ (t : _). t.1) berths ∙ r.cause;
           });
       shut = λ k. subst (λ (v : _). IfSome (facts_at v.items k) (IsShut told_by e.rows.items k)) (sym facts)
@@ -414,9 +423,9 @@ known_attempt f h i j copies bytes reply k = record {
 
 -- an attempt of an instance that is out is told
 pub stands_attempted : {P : Type 0} (told_by : P → Told) (d : Hub P) (log : Log) (hand : List Copy) (i : ℕ) (copies bytes : List ℕ) (reply : Reply) →
-    Stands told_by d hand d.log.history → IsOutAt d.rows.items i → Noted d.log (Attempt i copies bytes reply) log →
+    Stands told_by d hand d.log.history → i < length d.rows.items → IsOutAt d.rows.items i → Noted d.log (Attempt i copies bytes reply) log →
     Stands told_by (record d { log = log }) hand log.history
-stands_attempted {P} told_by d log hand i copies bytes reply s out noted =
+stands_attempted {P} told_by d log hand i copies bytes reply s within out noted =
     let e : Entry = Attempt i copies bytes reply in
     let none : port_at d.rows.items i ≡ None = out_port (row_at d.rows.items i) out in
     record {
@@ -431,8 +440,9 @@ stands_attempted {P} told_by d log hand i copies bytes reply s out noted =
                 (λ k other. some_mapped _ _ (port_at d.rows.items k) (λ port t. told_silent (told_by port) d.log.history k e (silent_other d.log.history i k e refl other) t) (r.ports k));
             facts = λ j. some_mapped _ _ (facts_at d.facts.items j) (λ f k. known_attempt f d.log.history i j copies bytes reply k) (r.facts j);
             bytes = r.bytes;
-            losses = r.losses;
-            confirms = r.confirms;
+            next = same_next d.batches d.batches d.log.history e refl refl r.next;
+            order = (tt, r.order);
+            unknown = λ k past. unknown_on e d.log.history k (λ t. let same : i ≡ k = cc in omega (arith, within, past, same)) (r.unknown k past);
             cause = r.cause;
           });
       shut = s.shut;

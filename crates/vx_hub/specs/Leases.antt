@@ -1,5 +1,5 @@
 -- What an instance that is out takes along, and what it brings home.
-use Rattle.std.specs.Prelude.{◌≡◌, ◌<◌, ◌≤◌, ◌+◌, ◌++◌, ℕ, true, false, length, Option, IfSome, IsSomeAnd}
+use Rattle.std.specs.Prelude.{◌≡◌, ◌<◌, ◌≤◌, ◌+◌, ◌++◌, ℕ, true, false, length, Option, Some, IfSome, IsSomeAnd}
 use Rattle.vx_ends.specs.Told.{Told}
 use Rattle.vx_record.specs.Records.{Record}
 use Rattle.vx_record.specs.Records.{capped}
@@ -15,8 +15,9 @@ use Rattle.vx_hub.specs.declared.work.Done.TheVariants.{Closed, Starved}
 use Rattle.vx_hub.specs.Rows.{role_copies, IsOutAt}
 use Rattle.vx_hub.specs.declared.confirming.Confirmed.{Confirmed}
 use Rattle.vx_hub.specs.Turns.{NothingLeft}
-use Rattle.vx_hub.specs.Works.{taken_by, given_by, ended_by, ends_all_by, confirmed_by, confirm_faults, faults_by, refusals_by, idles_by, event_count_of}
-use Rattle.vx_hub.specs.Stands.{Stands, IsTold, IsSound, facts_at}
+use Rattle.vx_hub.specs.Works.{taken_by, given_by, ended_by, ends_all_by, confirmed_by, confirm_faults, faults_by, refusals_by, idles_by, event_count_of, IsReading}
+use Rattle.vx_hub.specs.declared.work.Job.TheVariants as job
+use Rattle.vx_hub.specs.Stands.{Stands, IsTold, IsSound, IsUnlost, facts_at, spec_at}
 
 -- an instance that is there, and whose port isn't closed for good
 pub record IsOpenAt {P : Type 0} (hub : Hub P) (i : ℕ) : Type 0 where
@@ -29,12 +30,14 @@ pub record IsLeased {P : Type 0} (told_by : P → Told) (hub : Hub P) (work : Wo
   pub open_at : IsOpenAt hub work.instance
   pub out : IsOutAt hub.rows.items work.instance
   pub told : IsSound hub → IsTold (told_by work.task.port) hub.log.history work.instance
+  pub unlost : work.job ≡ job.Read → IsUnlost hub work.instance
   pub due : IsSound hub → IfSome work.positions (λ positions. positions ≡ born_positions hub.log.history work.instance)
 
 -- what the port tells now is what the record has, and behind it what was confirmed and done
 pub record Adds (told : Told) (h : Record) (i : ℕ) (confirm : Option Confirmed) (done : Done) : Type 0 where
   pub taken : (stream : ℕ) → IfSome (told.taken stream) (λ bytes. bytes ≡ taken h i stream ++ taken_by done stream)
   pub given : IfSome told.given (λ bytes. bytes ≡ given h i ++ given_by done)
+  pub spec : IfSome told.spec (λ spec. spec_at h i ≡ Some spec)
   pub confirmed : IfSome told.confirmed (λ positions. positions ≡ confirmed h i ++ confirmed_by confirm)
   pub ended : told.ended ≡ ended_streams h i ++ ended_by done
   pub over : all_ended h i ≡ true → NothingLeft told
@@ -53,6 +56,7 @@ pub record IsBack {P : Type 0} (told_by : P → Told) (hub : Hub P) (landing : L
   pub open_at : IsOpenAt hub landing.instance
   pub out : IsOutAt hub.rows.items landing.instance
   pub brings : IsSound hub → Brings (told_by landing.task.port) hub.log.history landing.instance landing.confirmed landing.done
+  pub unlost : IsReading landing.done → IsUnlost hub landing.instance
   pub due : IsSound hub → IfSome landing.confirmed (λ confirmed. confirmed.positions ≡ born_positions hub.log.history landing.instance)
   pub events : event_count_of landing.done ≤ 65536
   pub closed : landing.done ≡ Closed → (told_by landing.task.port).started ≡ false

@@ -1,6 +1,9 @@
 -- What a hub begins with.
-use Rattle.std.specs.Prelude.{◌≡◌, ℕ, false, List, [], ◌∷◌, None, IfSome}
+use Rattle.std.specs.Prelude.{◌≡◌, ℕ, false, List, [], ◌∷◌, Option, Some, None, IfSome}
 use Rattle.vx_ends.specs.Told.{Told}
+use Rattle.vx_ends.specs.declared.port_spec.PortSpec.{PortSpec}
+use Rattle.vx_plan.specs.declared.component.Component.{Component}
+use Rattle.vx_plan.specs.Ports.{port_of}
 use Rattle.vx_hub.specs.declared.facts.Facts.{Facts}
 use Rattle.vx_hub.specs.declared.parts.Named.{Named}
 use Rattle.vx_hub.specs.declared.seat.Seat.{Seat}
@@ -28,14 +31,17 @@ abbrev pub AreUnused : List Seat → Type 0
 AreUnused [] = Unit {0}
 AreUnused (seat ∷ seats) = IsUnused seat × AreUnused seats
 
--- nothing went through a port
-pub record IsUntouched (told : Told) : Type 0 where
+-- nothing went through a port, and it is made for that
+pub record IsUntouched (spec : Option PortSpec) (told : Told) : Type 0 where
+  pub made_for : IfSome told.spec (λ made. spec ≡ Some made)
   pub taken : (stream : ℕ) → IfSome (told.taken stream) (λ bytes. bytes ≡ [])
   pub given : IfSome told.given (λ bytes. bytes ≡ [])
   pub confirmed : IfSome told.confirmed (λ positions. positions ≡ [])
   pub ended : told.ended ≡ []
 
--- nothing went through the ports
-abbrev pub AreUntouched : {P : Type 0} → (P → Told) → List (Named P) → Type 0
-AreUntouched told_by [] = Unit {0}
-AreUntouched told_by (named ∷ rest) = IsUntouched (told_by named.port) × AreUntouched told_by rest
+-- nothing went through the ports, and each is made for the component in its place
+abbrev pub AreUntouched : {P : Type 0} → (P → Told) → List Component → List (Named P) → Type 0
+AreUntouched told_by components [] = Unit {0}
+AreUntouched told_by [] (named ∷ rest) = ⊥
+AreUntouched told_by (component ∷ components) (named ∷ rest) =
+    IsUntouched (port_of component) (told_by named.port) × AreUntouched told_by components rest

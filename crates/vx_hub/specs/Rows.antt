@@ -2,7 +2,7 @@
 use Rattle.std.specs.Prelude.{◌≡◌, ◌≢◌, ℕ, zero, suc, ◌+◌, ◌<◌, ◌≤◌, List, [], ◌∷◌, ◌++◌, length, Option, Some, None, IfSome, IsSome}
 use Rattle.vx_ledger.specs.Copies.{Copy, copies_of}
 use Rattle.vx_ledger.specs.declared.parcel.Parcel.{Parcel}
-use Rattle.vx_hub.specs.declared.child.Child.{Child}
+pub use Rattle.vx_ledger.specs.Routing.{copies_in as child_copies}
 use Rattle.vx_hub.specs.declared.task.Role.{Role}
 use Rattle.vx_hub.specs.declared.task.Role.TheVariants.{Source, Sink}
 use Rattle.vx_hub.specs.declared.task.Task.{Task}
@@ -12,11 +12,6 @@ use Rattle.vx_hub.specs.declared.row.Row.{Row}
 abbrev pub parcel_copies : List Parcel → List Copy
 parcel_copies [] = []
 parcel_copies (p ∷ ps) = p.finalizers ++ parcel_copies ps
-
--- the copies behind some children
-abbrev pub child_copies : List Child → List Copy
-child_copies [] = []
-child_copies (c ∷ cs) = c.parcel.finalizers ++ child_copies cs
 
 -- the copies that a task holds
 abbrev pub role_copies : Role → List Copy

@@ -1,5 +1,5 @@
 -- What the hub's state means for a record.
-use Rattle.std.specs.Prelude.{◌≡◌, ℕ, zero, suc, ◌+◌, ◌<◌, ◌≤◌, ◌^◌, Bool, true, false, IsTrue, List, [], ◌∷◌, length, Option, Some, None, IfSome, IsSomeAnd, if◌then◌else◌, ◌==◌}
+use Rattle.std.specs.Prelude.{◌≡◌, ℕ, zero, suc, ◌+◌, ◌<◌, ◌≤◌, ◌^◌, Bool, true, false, IsTrue, List, [], ◌∷◌, length, Option, Some, None, IfSome, IsSomeAnd, slice_get}
 use Rattle.vx_ends.specs.Told.{Told}
 use Rattle.vx_ledger.specs.Copies.{Copy, copies_of}
 use Rattle.vx_ledger.specs.Ledger.{Ledger, live_count}
@@ -11,7 +11,7 @@ use Rattle.vx_record.specs.Sourcing.{failed_starts}
 use Rattle.vx_record.specs.PortCounts.{fault_count, refusal_count, idle_count}
 use Rattle.vx_record.specs.Encoding.{given}
 use Rattle.vx_record.specs.declared.entry.Entry.{Entry}
-use Rattle.vx_record.specs.declared.entry.Entry.TheVariants.{Read, Idle, SourceLost, Born, Attempt, Confirm, Abandon}
+use Rattle.vx_record.specs.declared.entry.Entry.TheVariants.{Install, Read, Idle, SourceLost, Born, Attempt, Confirm, Abandon}
 use Rattle.vx_record.specs.declared.abandon_cause.AbandonCause.{AbandonCause}
 use Rattle.vx_hub.specs.declared.facts.Facts.{Facts}
 use Rattle.vx_hub.specs.declared.row.Row.{Row}
@@ -20,36 +20,34 @@ use Rattle.vx_hub.specs.declared.parts.Numbered.{Numbered}
 use Rattle.vx_value.specs.Filled.{Filled}
 use Rattle.vx_hub.specs.Rows.{copies_in, port_at, IsBareAt, HasRoom}
 use Rattle.vx_hub.specs.Turns.{NothingLeft}
+pub use Rattle.vx_hub.specs.Order.{lost_at, cause_of}
+use Rattle.vx_hub.specs.Order.{IsOrderly, IsUnknown}
+use Rattle.vx_record.specs.Copies.{next_copy}
+use Rattle.vx_record.specs.Installs.{in_force}
+use Rattle.vx_ends.specs.declared.port_spec.PortSpec.{PortSpec}
+use Rattle.vx_plan.specs.declared.plan.Plan.{Plan}
+use Rattle.vx_plan.specs.declared.component.Component.{Component}
+use Rattle.vx_plan.specs.Ports.{port_of}
 
--- after how many bytes a source was lost
-abbrev pub lost_at : Record → ℕ → Option ℕ
-lost_at [] i = None
-lost_at (SourceLost j at failed ∷ h) i = if j == i then Some at else lost_at h i
-lost_at (e ∷ h) i = lost_at h i
+-- the component that an instance runs: the numbers of instances are the places of components in the installed plan
+abbrev pub component_in : Option Plan → ℕ → Option Component
+component_in None i = None
+component_in (Some plan) i = slice_get plan.components i
 
--- a source is lost by a failed take or at its fifth failed start in a row, after as many bytes as it took
-pub record IsLossOf (h : Record) (j at : ℕ) (failed : Bool) : Type 0 where
-  pub after : at ≡ capped (bytes_taken h j)
-  pub many : failed ≡ true → 4 ≤ failed_starts h j
+-- what the port of an instance is made for
+abbrev pub spec_of : Option Component → Option PortSpec
+spec_of None = None
+spec_of (Some component) = port_of component
 
--- each loss of a source is such a loss, and no fifth failed start in a row is passed over
-abbrev pub LossesTold : Record → Type 0
-LossesTold [] = Unit {0}
-LossesTold (SourceLost j at failed ∷ h) = IsLossOf h j at failed × LossesTold h
-LossesTold (Idle j failed ∷ h) = (failed ≡ true → failed_starts h j < 4) × LossesTold h
-LossesTold (e ∷ h) = LossesTold h
+abbrev pub spec_at : Record → ℕ → Option PortSpec
+spec_at h i = spec_of (component_in (in_force h) i)
 
--- each confirm names, for each stream, the end of the last batch that its source bore
-abbrev pub ConfirmsTold : Record → Type 0
-ConfirmsTold [] = Unit {0}
-ConfirmsTold (Confirm j positions made ∷ h) = (positions ≡ born_positions h j) × ConfirmsTold h
-ConfirmsTold (e ∷ h) = ConfirmsTold h
-
--- what a port tells is what the record has of its instance: bytes, confirmed positions and ends, and at least as many
--- failures, refusals and idle takes
+-- what a port tells is what the record has of its instance: bytes, confirmed positions and ends, what it is made for,
+-- and at least as many failures, refusals and idle takes
 pub record IsTold (told : Told) (h : Record) (i : ℕ) : Type 0 where
   pub taken : (stream : ℕ) → IfSome (told.taken stream) (λ bytes. bytes ≡ taken h i stream)
   pub given : IfSome told.given (λ bytes. bytes ≡ given h i)
+  pub spec : IfSome told.spec (λ spec. spec_at h i ≡ Some spec)
   pub confirmed : IfSome told.confirmed (λ positions. positions ≡ confirmed h i)
   pub ended : told.ended ≡ ended_streams h i
   pub over : all_ended h i ≡ true → NothingLeft told
@@ -77,19 +75,14 @@ abbrev pub IsBalanced : {P : Type 0} → Ledger → List (Row P) → List Copy �
 IsBalanced ledger rows hand =
     (batch place : ℕ) → live_count batch place ledger.open_rows ≡ copies_in batch place rows + copies_of batch place hand
 
--- why the run was abandoned
-abbrev pub cause_of : Record → Option AbandonCause
-cause_of [] = None
-cause_of (Abandon cause ∷ h) = Some cause
-cause_of (e ∷ h) = cause_of h
-
 -- what is known and told, where the record has all that happened
 pub record IsRecorded {P : Type 0} (told_by : P → Told) (hub : Hub P) (h : Record) : Type 0 where
   pub ports : (i : ℕ) → IfSome (port_at hub.rows.items i) (λ port. IsTold (told_by port) h i)
   pub facts : (i : ℕ) → IfSome (facts_at hub.facts.items i) (λ f. IsKnown f h i)
   pub bytes : hub.bytes ≡ capped (bytes_of_all h)
-  pub losses : LossesTold h
-  pub confirms : ConfirmsTold h
+  pub next : hub.batches.next ≡ next_copy h
+  pub order : IsOrderly h
+  pub unknown : (i : ℕ) → length hub.rows.items ≤ i → IsUnknown h i
   pub cause : hub.abandoned ≡ cause_of h
 
 -- whether the record has all that happened
@@ -125,8 +118,9 @@ pub record Stands {P : Type 0} (told_by : P → Told) (hub : Hub P) (hand : List
   pub size : length hub.facts.items ≡ length hub.rows.items
   pub berths : HasBerths hub.ports hub.rows.items
 
--- an entry that tells nothing of any port
+-- an entry that installs nothing and tells nothing of any port
 abbrev pub IsMute : Entry → Type 0
+IsMute (Install version plan once instances now) = ⊥
 IsMute (Read i stream took) = ⊥
 IsMute (Idle i failed) = ⊥
 IsMute (SourceLost i at failed) = ⊥
@@ -134,8 +128,9 @@ IsMute (Attempt i copies bytes reply) = ⊥
 IsMute (Confirm i positions made) = ⊥
 IsMute other = Unit {0}
 
--- an entry that tells nothing of any port, bears no batch and abandons nothing
+-- an entry that installs nothing, tells nothing of any port, bears no batch and abandons nothing
 abbrev pub IsQuiet : Entry → Type 0
+IsQuiet (Install version plan once instances now) = ⊥
 IsQuiet (Read i stream took) = ⊥
 IsQuiet (Idle i failed) = ⊥
 IsQuiet (SourceLost i at failed) = ⊥
@@ -156,6 +151,10 @@ pub record IsOpenTarget {P : Type 0} (hub : Hub P) (target : ℕ) : Type 0 where
   pub within : target < length hub.rows.items
   pub room : HasRoom hub.rows.items target
   pub running : IfSome (facts_at hub.facts.items target) (λ f. f.retired ≡ false)
+
+-- a source that wasn't lost
+abbrev pub IsUnlost : {P : Type 0} → Hub P → ℕ → Type 0
+IsUnlost hub i = IsSomeAnd (facts_at hub.facts.items i) (λ f. f.lost ≡ None)
 
 -- the instance of whose port or births an entry tells
 abbrev pub touched : Entry → Option ℕ

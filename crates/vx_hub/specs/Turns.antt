@@ -1,5 +1,5 @@
 -- What one turn of a source says of its port.
-use Rattle.std.specs.Prelude.{◌≡◌, ℕ, ◌≤◌, ◌==◌, if◌then◌else◌, Bool, true, false, List, [], ◌∷◌, length, IfSome}
+use Rattle.std.specs.Prelude.{◌≡◌, ℕ, ◌≤◌, ◌<◌, ◌==◌, not, if◌then◌else◌, Bool, true, false, List, [], ◌∷◌, length, IfSome}
 use Rattle.vx_ends.specs.Told.{Told, Rose}
 use Rattle.vx_hub.specs.declared.source.Turned.{Turned}
 use Rattle.vx_hub.specs.declared.source.Turned.TheVariants.{Lines, StreamEnded, AllEnded, Idle, Failed}
@@ -40,11 +40,17 @@ ends_all (Failed at_start) = false
 abbrev pub NothingLeft : Told → Type 0
 NothingLeft told = (stream : ℕ) → IfSome (told.left stream) (λ rest. rest ≡ [])
 
--- a turn tells a failure only where the count of faults rose, and that there is nothing only where that of idles did
+-- a turn tells a failure only where the count of faults rose, of a start where the port isn't started and of a take
+-- where it is, and that there is nothing only where the count of idles rose
 abbrev pub FailsBy : Told → Told → Turned → Type 0
-FailsBy old new (Failed at_start) = Rose old.faults new.faults
+FailsBy old new (Failed at_start) = Rose old.faults new.faults × (new.started ≡ not at_start)
 FailsBy old new Idle = Rose old.idles new.idles
 FailsBy old new other = Unit {0}
+
+-- a turn that brings bytes brings at least one
+abbrev pub BringsSome : Turned → Type 0
+BringsSome (Lines from bytes events end) = 0 < length bytes
+BringsSome other = Unit {0}
 
 -- a turn tells the end of all only where nothing is left
 abbrev pub LeavesNothing : Told → Turned → Type 0

@@ -1,11 +1,11 @@
 -- What a worker's call did to the port of an instance.
-use Rattle.std.specs.Prelude.{◌≡◌, ◌≤◌, ℕ, ◌+◌, Bool, true, false, not, List, [], ◌++◌, IsTrue, Option, Some, None, IfSome, IsSomeAnd, if◌then◌else◌}
+use Rattle.std.specs.Prelude.{◌≡◌, ◌≤◌, ℕ, ◌+◌, Bool, true, false, not, List, [], ◌++◌, IsTrue, Option, Some, None, if◌then◌else◌}
 use Rattle.vx_ends.specs.Told.{Told, Grows, SameBytes}
 use Rattle.vx_ends.specs.declared.position.Position.{Position}
 use Rattle.vx_record.specs.Records.{capped}
 use Rattle.vx_record.specs.SinkBatches.{is_failed}
 use Rattle.vx_record.specs.PortCounts.{is_refused}
-use Rattle.vx_hub.specs.Turns.{taken_in, event_count, ended_in, ends_all, NothingLeft}
+use Rattle.vx_hub.specs.Turns.{taken_in, event_count, ended_in, ends_all, NothingLeft, BringsSome}
 use Rattle.vx_hub.specs.declared.source.Turned.{Turned}
 use Rattle.vx_hub.specs.declared.source.Turned.TheVariants.{Failed, Idle}
 use Rattle.vx_hub.specs.declared.confirming.Confirmed.{Confirmed}
@@ -75,10 +75,16 @@ idles_by other = 0
 abbrev pub Counts : ℕ → ℕ → ℕ → Type 0
 Counts before now more = capped (before + more) ≤ now
 
+-- bytes that were taken are some
+abbrev pub BringsBy : Done → Type 0
+BringsBy (Read turned) = BringsSome turned
+BringsBy other = Unit {0}
+
 -- what the port told before, what was confirmed and then done, and what the port tells now
 pub record Did (old : Told) (confirmed : Option Confirmed) (done : Done) (new : Told) : Type 0 where
   pub taken : (stream : ℕ) → Grows (old.taken stream) (new.taken stream) (taken_by done stream)
   pub given : Grows old.given new.given (given_by done)
+  pub spec : new.spec ≡ old.spec
   pub confirms : Grows old.confirmed new.confirmed (confirmed_by confirmed)
   pub ended : new.ended ≡ old.ended ++ ended_by done
   pub left : NothingLeft old → NothingLeft new
@@ -87,15 +93,28 @@ pub record Did (old : Told) (confirmed : Option Confirmed) (done : Done) (new : 
   pub refusals : Counts old.refusals new.refusals (refusals_by done)
   pub idles : Counts old.idles new.idles (idles_by done)
   pub closed : done ≡ Closed → IsTrue new.started → ⊥
+  pub some : BringsBy done
 
 -- the same, but for a call that found no memory
 abbrev pub Reports : Told → Option Confirmed → Done → Told → Type 0
 Reports old confirmed Starved new = Unit {0}
 Reports old confirmed done new = Did old confirmed done new
 
--- a confirm names the positions that it was given
+-- a confirm names the positions that it was given, and there is one where some were given
 abbrev pub Names : Option (List Position) → Option Confirmed → Type 0
-Names positions confirmed = IfSome confirmed (λ c. IsSomeAnd positions (λ given. c.positions ≡ given))
+Names None None = Unit {0}
+Names (Some given) (Some c) = c.positions ≡ given
+Names given confirmed = ⊥
+
+-- the same, but where no memory was found the confirm may be missing
+abbrev pub NamesBy : Option (List Position) → Option Confirmed → Done → Type 0
+NamesBy given None Starved = Unit {0}
+NamesBy given confirmed done = Names given confirmed
+
+-- whether it is what a source's turn brought
+abbrev pub IsReading : Done → Type 0
+IsReading (Read turned) = Unit {0}
+IsReading other = ⊥
 
 -- a port was closed, and nothing else
 pub record IsClosedBy (old new : Told) : Type 0 where

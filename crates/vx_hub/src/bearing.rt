@@ -1,8 +1,10 @@
-ghost use Rattle.std.specs.Prelude.{◌≡◌, ◌<◌, ◌≤◌, ◌+◌, ◌++◌, ℕ, [], length, List, IfOk, IsSomeAnd};
+ghost use Rattle.std.specs.Prelude.{◌≡◌, ◌<◌, ◌≤◌, ◌+◌, ◌++◌, ℕ, [], length, List, IfOk, IfErr, OnErr, IsSomeAnd};
 ghost use Rattle.vx_ledger.specs.Copies.{Copy};
 ghost use Rattle.vx_hub.specs.Stands.{Stands, facts_at};
 ghost use Rattle.vx_hub.specs.Ending.{AreMovedTo};
+ghost use Rattle.vx_hub.specs.Failures.{HasReason};
 ghost use Rattle.vx_hub.specs.Leases.{IsOpenAt};
+ghost use Rattle.vx_hub.specs.Spending.{HasRead};
 ghost use Rattle.vx_hub.specs.Rows.{HasOutputRoom};
 
 use crate::due::moved;
@@ -31,9 +33,11 @@ impl<P: Port> Hub<P> {
     ) -> Result<(), Fatal>
         requires stands { Stands P.told self.old [] self.old.log.history }
         requires open { IsOpenAt self.old instance }
+        requires read { HasRead self.old instance }
         requires few { length events ≤ 65536 }
         ensures stands { Stands P.told self.new [] self.new.log.history }
         ensures size { length self.new.rows.items ≡ length self.old.rows.items }
+        ensures reason { IfErr result (HasReason self.new) }
     {
         if events.is_empty() {
             return Ok(());
@@ -58,19 +62,16 @@ impl<P: Port> Hub<P> {
     ) -> Result<(), Fatal>
         requires stands { Stands P.told self.old [] self.old.log.history }
         requires open { IsOpenAt self.old instance }
+        requires read { HasRead self.old instance }
         requires some { 0 < length events }
         requires few { length events ≤ 65536 }
         requires room { HasOutputRoom self.old.rows.items instance (length events) }
         requires moved { IsSomeAnd (facts_at self.old.facts.items instance) (AreMovedTo position ends) }
         ensures stands { Stands P.told self.new [] self.new.log.history }
         ensures size { length self.new.rows.items ≡ length self.old.rows.items }
+        ensures reason { IfErr result (HasReason self.new) }
     {
-        let n = events.len();
-        let (batch, finalizers) = match self.batches.born(instance, n as u32) {
-            Ok(born) => born,
-            Err(short) => return Err(Fatal::from(short)),
-        };
-        self.note_birth(instance, batch, &finalizers, &events, position, ends);
+        let finalizers = self.open_batch(instance, &events, position, ends)?;
         self.count_batch(instance);
         self.put_out(instance, events, finalizers)
     }
@@ -87,35 +88,45 @@ impl<P: Port> Hub<P> {
         })
     }
 
-    /// Notes the birth of a batch, and that its end is to be confirmed.
-    fn note_birth(
+    /// Opens a batch of some events, and notes its birth and that its end is to be confirmed.
+    fn open_batch(
         &mut self,
         instance: u32,
-        batch: u64,
-        finalizers: &Finalizers,
         events: &EventList,
         position: Position,
         ends: Ends,
-    )
-        requires within { instance < length self.old.facts.items }
+    ) -> Result<Finalizers, Fatal>
+        requires stands { Stands P.told self.old [] self.old.log.history }
+        requires open { IsOpenAt self.old instance }
+        requires read { HasRead self.old instance }
+        requires some { 0 < length events.now }
+        requires few { length events.now ≤ 65536 }
         requires moved { IsSomeAnd (facts_at self.old.facts.items instance) (AreMovedTo position ends) }
-        ensures stands { (hand : List Copy) → Stands P.told self.old hand self.old.log.history → Stands P.told self.new hand self.new.log.history }
+        ensures stands { IfOk result (λ finalizers. Stands P.told self.new finalizers self.new.log.history) }
+        ensures each { IfOk result (λ finalizers. length events.now ≡ length finalizers) }
+        ensures open { IsOpenAt self.new instance }
         ensures rows { self.new.rows ≡ self.old.rows }
-        ensures batches { self.new.batches ≡ self.old.batches }
-        ensures open { IsOpenAt self.old instance → IsOpenAt self.new instance }
+        ensures same { OnErr result (self.new ≡ self.old) }
+        ensures reason { IfErr result (HasReason self.new) }
     {
+        let n = events.len();
+        let (batch, finalizers) = match self.batches.born(instance, n as u32) {
+            Ok(born) => born,
+            Err(short) => return Err(Fatal::from(short)),
+        };
         note_born(
             self.alloc,
             &mut self.log,
             instance,
             batch,
-            finalizers,
+            &finalizers,
             events,
             position,
         );
         let facts = &mut self.facts[instance as usize];
         facts.ends = ends.ends;
         facts.to_confirm = Some(ends.to_confirm);
+        Ok(finalizers)
     }
 
     /// Counts a batch that has no notice yet.
@@ -140,6 +151,7 @@ impl<P: Port> Hub<P> {
         requires room { HasOutputRoom self.old.rows.items instance (length events) }
         ensures stands { Stands P.told self.new [] self.new.log.history }
         ensures size { length self.new.rows.items ≡ length self.old.rows.items }
+        ensures reason { IfErr result (HasReason self.new) }
     {
         let (mut events, mut finalizers) = (events, finalizers);
         while let Some(event) = events.pop() {

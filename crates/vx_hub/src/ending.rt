@@ -1,5 +1,6 @@
-ghost use Rattle.std.specs.Prelude.{◌≡◌, ◌<◌, ◌↔◌, [], length, IfSome, IsSomeAnd, IsTrue, IsSome, All, Some, ℕ, IfNone, false, true};
-ghost use Rattle.vx_hub.specs.Stands.{Stands, HasEnded, facts_at};
+ghost use Rattle.std.specs.Prelude.{◌≡◌, ◌<◌, ◌↔◌, [], length, IfSome, IsSomeAnd, IsTrue, IsSome, All, Some, None, ℕ, IfNone, false, true};
+ghost use Rattle.vx_hub.specs.Order.{IsReason};
+ghost use Rattle.vx_hub.specs.Stands.{Stands, HasEnded, IsSound, facts_at};
 ghost use Rattle.vx_hub.specs.Rows.{IsBareAt, option_copies, port_at};
 
 use crate::hub::Hub;
@@ -89,7 +90,9 @@ impl<P: Port> Hub<P> {
     /// Gives the run up: spends every copy that stands at an instance as `Abandoned`, and closes the ports at home. It
     /// takes no memory but for the record.
     pub fn abandon(&mut self, cause: AbandonCause)
-        requires { Stands P.told self.old [] self.old.log.history }
+        requires stands { Stands P.told self.old [] self.old.log.history }
+        requires once { self.old.abandoned ≡ None }
+        requires reason { IsSound self.old → IsReason self.old.log.history cause }
         ensures stands { Stands P.told self.new [] self.new.log.history }
         ensures size { length self.new.rows.items ≡ length self.old.rows.items }
         ensures cause { self.new.abandoned ≡ Some cause }
@@ -104,7 +107,9 @@ impl<P: Port> Hub<P> {
 
     /// Notes that the run is given up.
     fn note_abandoned(&mut self, cause: AbandonCause)
-        requires { Stands P.told self.old [] self.old.log.history }
+        requires stands { Stands P.told self.old [] self.old.log.history }
+        requires once { self.old.abandoned ≡ None }
+        requires reason { IsSound self.old → IsReason self.old.log.history cause }
         ensures stands { Stands P.told self.new [] self.new.log.history }
         ensures size { length self.new.rows.items ≡ length self.old.rows.items }
         ensures cause { self.new.abandoned ≡ Some cause }
@@ -116,6 +121,7 @@ impl<P: Port> Hub<P> {
     /// Spends every copy that stands at an instance, and closes its port if it is at home.
     fn abandon_at(&mut self, instance: u32)
         requires stands { Stands P.told self.old [] self.old.log.history }
+        requires given_up { IsSome self.old.abandoned }
         requires within { instance < length self.old.rows.items }
         ensures stands { Stands P.told self.new [] self.new.log.history }
         ensures size { length self.new.rows.items ≡ length self.old.rows.items }
@@ -150,6 +156,7 @@ impl<P: Port> Hub<P> {
     /// Spends one of the parcels that stand at an instance, if there is one.
     fn spend_next(&mut self, instance: u32) -> bool
         requires stands { Stands P.told self.old [] self.old.log.history }
+        requires given_up { IsSome self.old.abandoned }
         requires within { instance < length self.old.rows.items }
         ensures stands { Stands P.told self.new [] self.new.log.history }
         ensures size { length self.new.rows.items ≡ length self.old.rows.items }
@@ -157,11 +164,22 @@ impl<P: Port> Hub<P> {
     {
         match self.next_parcel(instance as usize) {
             Some(parcel) => {
-                self.spend(instance, parcel, Outcome::Abandoned);
+                self.spend_abandoned(instance, parcel);
                 true
             }
             None => false,
         }
+    }
+
+    /// Spends the copies of a parcel of a run that was given up.
+    fn spend_abandoned(&mut self, instance: u32, parcel: Parcel)
+        requires stands { Stands P.told self.old parcel.finalizers self.old.log.history }
+        requires given_up { IsSome self.old.abandoned }
+        ensures stands { Stands P.told self.new [] self.new.log.history }
+        ensures rows { self.new.rows ≡ self.old.rows }
+        ensures abandoned { self.new.abandoned ≡ self.old.abandoned }
+    {
+        self.spend(instance, parcel, Outcome::Abandoned);
     }
 
     /// Takes one of the parcels that stand at an instance, if there is one.

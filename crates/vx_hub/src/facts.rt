@@ -1,6 +1,7 @@
 use vx_ends::PositionList;
+use vx_ledger::Outlet;
 use vx_plan::Class;
-use vx_value::{ItemList, Text};
+use vx_value::Text;
 
 /// What is known of an instance beside its places.
 #[derive(Drop)]
@@ -8,8 +9,8 @@ pub struct Facts {
     /// The name of its component.
     pub name: Text,
     pub class: Class,
-    /// The instances that read it, in byte order of their components' names.
-    pub targets: ItemList<u32>,
+    /// The instances that read each of its ports, in byte order of their components' names.
+    pub outlet: Outlet,
     /// How many bytes it took, at most 2^64 - 1.
     pub taken: u64,
     /// After how many bytes it was lost.

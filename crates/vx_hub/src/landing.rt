@@ -1,8 +1,11 @@
-ghost use Rattle.std.specs.Prelude.{◌≡◌, ◌<◌, ◌≤◌, ◌++◌, List, [], length, IfSome, IsSomeAnd, Some, None, false, true, IsTrue, OnOk, OnErr};
+ghost use Rattle.std.specs.Prelude.{◌≡◌, ℕ, ◌<◌, ◌≤◌, ◌++◌, List, [], length, IfSome, IsSomeAnd, Some, None, false, true, IsTrue, OnOk, OnErr, IfErr};
 ghost use Rattle.vx_ledger.specs.Copies.{Copy};
 ghost use Rattle.vx_record.specs.Confirms.{born_positions};
 ghost use Rattle.vx_record.specs.Noted.{Noted};
-ghost use Rattle.vx_hub.specs.Stands.{Stands, IsTold, IsSound};
+ghost use Rattle.vx_hub.specs.Order.{reply_behind};
+ghost use Rattle.vx_hub.specs.Failures.{HasReason};
+ghost use Rattle.vx_hub.specs.Spending.{MaySpend, IsReplied, HasRead};
+ghost use Rattle.vx_hub.specs.Stands.{Stands, IsTold, IsSound, IsUnlost};
 ghost use Rattle.vx_hub.specs.Leases.{IsBack, IsOpenAt, Adds};
 ghost use Rattle.vx_hub.specs.Turns.{event_count};
 ghost use Rattle.vx_hub.specs.Rows.{role_copies, port_at, IsOutAt};
@@ -29,6 +32,7 @@ impl<P: Port> Hub<P> {
         ensures stands { Stands P.told self.new [] self.new.log.history }
         ensures fatal { OnErr result (self.new.fatal ≡ true) }
         ensures whole { OnOk result (IsTrue self.new.log.whole) }
+        ensures reason { IfErr result (HasReason self.new) }
         ensures size { length self.new.rows.items ≡ length self.old.rows.items }
     {
         let instance = landing.instance;
@@ -43,6 +47,7 @@ impl<P: Port> Hub<P> {
         requires back { IsBack P.told self.old landing }
         requires noted { landing.confirmed ≡ None }
         ensures stands { Stands P.told self.new [] self.new.log.history }
+        ensures reason { IfErr result (HasReason self.new) }
         ensures size { length self.new.rows.items ≡ length self.old.rows.items }
     {
         let Landing {
@@ -67,7 +72,7 @@ impl<P: Port> Hub<P> {
             }
             Done::Attempted { bytes, reply } => {
                 self.bring_attempt(instance, task, bytes, reply);
-                self.spend_held(instance, outcome_of(reply));
+                self.spend_attempted(instance, reply);
                 Ok(())
             }
             Done::Read(turned) => self.bring_read(instance, task, turned),
@@ -116,6 +121,7 @@ impl<P: Port> Hub<P> {
         ensures rows { self.new.rows ≡ self.old.rows }
         ensures starved { self.new.starved ≡ self.old.starved }
         ensures open { IsOpenAt self.old instance → IsOpenAt self.new instance }
+        ensures unlost { IsUnlost self.old instance → IsUnlost self.new instance }
     {
         let Confirmed { positions, made } = confirmed;
         let facts = &mut self.facts[instance as usize];
@@ -133,6 +139,7 @@ impl<P: Port> Hub<P> {
         ensures fatal { OnErr result (self.new.fatal ≡ true) }
         ensures whole { OnOk result (IsTrue self.new.log.whole) }
         ensures passed { OnErr landed (result ≡ landed) }
+        ensures starved { OnOk landed (IfErr result (λ fatal. fatal ≡ Fatal.WantOfMemory)) }
     {
         let answer = match landed {
             Ok(()) if !self.log.whole => Err(Fatal::WantOfMemory),
@@ -153,6 +160,8 @@ impl<P: Port> Hub<P> {
         ensures stands { Stands P.told self.new [] self.new.log.history }
         ensures port { port_at self.new.rows.items instance ≡ Some task.port }
         ensures facts { self.new.facts ≡ self.old.facts }
+        ensures log { self.new.log ≡ self.old.log }
+        ensures read { (i : ℕ) → HasRead self.old i → HasRead self.new i }
         ensures size { length self.new.rows.items ≡ length self.old.rows.items }
     {
         put_task(&mut self.rows, instance as usize, task);
@@ -190,6 +199,7 @@ impl<P: Port> Hub<P> {
         requires out { IsOutAt self.old.rows.items instance }
         requires brings { IsSound self.old → Adds (P.told task.port) self.old.log.history instance None (Done.Attempted bytes reply) }
         ensures stands { Stands P.told self.new [] self.new.log.history }
+        ensures replied { IsReplied self.new instance reply }
         ensures facts { self.new.facts ≡ self.old.facts }
         ensures size { length self.new.rows.items ≡ length self.old.rows.items }
     {
@@ -204,9 +214,21 @@ impl<P: Port> Hub<P> {
         self.bring(instance, task);
     }
 
+    /// Spends what a sink at home holds, as its last attempt was answered.
+    fn spend_attempted(&mut self, instance: u32, reply: Reply)
+        requires stands { Stands P.told self.old [] self.old.log.history }
+        requires replied { IsReplied self.old instance reply }
+        requires within { instance < length self.old.rows.items }
+        ensures stands { Stands P.told self.new [] self.new.log.history }
+        ensures size { length self.new.rows.items ≡ length self.old.rows.items }
+    {
+        self.spend_held(instance, outcome_of(reply));
+    }
+
     /// Spends what a sink at home holds.
     pub(crate) fn spend_held(&mut self, instance: u32, outcome: Outcome)
         requires stands { Stands P.told self.old [] self.old.log.history }
+        requires cause { MaySpend self.old instance outcome }
         requires within { instance < length self.old.rows.items }
         ensures stands { Stands P.told self.new [] self.new.log.history }
         ensures facts { self.new.facts ≡ self.old.facts }
@@ -222,8 +244,10 @@ impl<P: Port> Hub<P> {
     /// Spends the oldest parcel that a sink at home holds, if there is one.
     fn spend_first(&mut self, instance: u32, outcome: Outcome) -> bool
         requires stands { Stands P.told self.old [] self.old.log.history }
+        requires cause { MaySpend self.old instance outcome }
         requires within { instance < length self.old.rows.items }
         ensures stands { Stands P.told self.new [] self.new.log.history }
+        ensures cause { MaySpend self.new instance outcome }
         ensures facts { self.new.facts ≡ self.old.facts }
         ensures size { length self.new.rows.items ≡ length self.old.rows.items }
     {
@@ -238,7 +262,9 @@ impl<P: Port> Hub<P> {
 }
 
 /// What becomes of the copies of a sink batch that was attempted. No attempt is made again so far.
-fn outcome_of(reply: Reply) -> Outcome {
+fn outcome_of(reply: Reply) -> Outcome
+    ensures { reply_behind result ≡ Some reply }
+{
     match reply {
         Reply::Ok => Outcome::Delivered,
         Reply::Failed => Outcome::Attempts,

@@ -1,6 +1,6 @@
-ghost use Rattle.std.specs.Prelude.{◌≡◌, ◌<◌, [], length, IfSome, IfNone, IsTrue};
+ghost use Rattle.std.specs.Prelude.{◌≡◌, ◌≢◌, ◌<◌, [], length, IfSome, IfNone, IsTrue, false};
 ghost use Rattle.vx_record.specs.Confirms.{born_positions};
-ghost use Rattle.vx_hub.specs.Stands.{Stands, IsSound};
+ghost use Rattle.vx_hub.specs.Stands.{Stands, IsSound, IsUnlost};
 ghost use Rattle.vx_hub.specs.Leases.{IsLeased, IsOpenAt};
 ghost use Rattle.vx_hub.specs.Rows.{CanHold};
 
@@ -56,6 +56,7 @@ impl<P: Port> Hub<P> {
         requires open { IsOpenAt self.old instance }
         ensures stands { Stands P.told self.new [] self.new.log.history }
         ensures open { IsOpenAt self.new instance }
+        ensures unlost { IsUnlost self.old instance → IsUnlost self.new instance }
         ensures due { IsSound self.new → IfSome result (λ positions. positions ≡ born_positions self.new.log.history instance) }
         ensures rows { self.new.rows ≡ self.old.rows }
         ensures fatal { self.new.fatal ≡ self.old.fatal }
@@ -79,6 +80,7 @@ impl<P: Port> Hub<P> {
     ) -> Option<Work<P>>
         requires stands { Stands P.told self.old [] self.old.log.history }
         requires open { IsOpenAt self.old instance }
+        requires unlost { job ≡ Job.Read → IsUnlost self.old instance }
         requires due { IsSound self.old → IfSome positions (λ positions. positions ≡ born_positions self.old.log.history instance) }
         ensures leased { IfSome result (IsLeased P.told self.new) }
         ensures none { IfNone result (Stands P.told self.new [] self.new.log.history) }
@@ -96,7 +98,8 @@ impl<P: Port> Hub<P> {
 
     /// The instance that is leased next: the last one that has work.
     fn ready(&self, now: u64) -> Option<Ready>
-        ensures { IfSome result (λ ready. IsOpenAt self.now ready.instance) }
+        ensures open { IfSome result (λ ready. IsOpenAt self.now ready.instance) }
+        ensures unlost { IfSome result (λ ready. ready.job ≡ Job.Read → IsUnlost self.now ready.instance) }
     {
         for i in (0..self.rows.len()).rev() {
             if let Some(job) = self.job(i, now) {
@@ -112,7 +115,8 @@ impl<P: Port> Hub<P> {
     /// What an instance has to do, if it is at home and has work.
     fn job(&self, i: usize, now: u64) -> Option<Job>
         requires { i < length self.now.rows.items }
-        ensures { IfSome result (λ job. IsOpenAt self.now i) }
+        ensures open { IfSome result (λ job. IsOpenAt self.now i) }
+        ensures unlost { IfSome result (λ job. job ≡ Job.Read → IsUnlost self.now i) }
     {
         if i >= self.facts.len() || self.facts[i].closed || self.rows[i].task.is_none() {
             return None;
@@ -129,9 +133,9 @@ impl<P: Port> Hub<P> {
     fn source_job(&self, i: usize) -> Option<Job>
         requires rows { i < length self.now.rows.items }
         requires facts { i < length self.now.facts.items }
+        ensures { IfSome result (λ job. job ≡ Job.Read → IsUnlost self.now i) }
     {
-        let reads = self.has_sent(i) && !self.is_dry(i);
-        if reads {
+        if self.can_read(i) {
             Some(Job::Read)
         } else if self.facts[i].to_confirm.is_some() {
             Some(Job::Confirm)
@@ -142,9 +146,30 @@ impl<P: Port> Hub<P> {
         }
     }
 
+    /// Whether a source may be read: it isn't dry, and all that it put out is on its way.
+    fn can_read(&self, i: usize) -> bool
+        requires rows { i < length self.now.rows.items }
+        requires facts { i < length self.now.facts.items }
+        ensures { IsTrue result → IsUnlost self.now i }
+    {
+        if self.is_lost(i) {
+            return false;
+        }
+        self.has_sent(i) && !self.is_dry(i)
+    }
+
+    /// Whether a source was lost.
+    fn is_lost(&self, i: usize) -> bool
+        requires { i < length self.now.facts.items }
+        ensures { result ≡ false → IsUnlost self.now i }
+    {
+        self.facts[i].lost.is_some()
+    }
+
     /// A sink takes what is in its buffer, writes its sink batch once that is closed, and is closed in the end.
     fn sink_job(&self, i: usize, now: u64) -> Option<Job>
         requires { i < length self.now.rows.items }
+        ensures { IfSome result (λ job. job ≢ Job.Read) }
     {
         if self.is_batch_closed(i, now) {
             Some(Job::Attempt)
@@ -163,6 +188,7 @@ impl<P: Port> Hub<P> {
         requires open { IsOpenAt self.old instance }
         ensures stands { Stands P.told self.new [] self.new.log.history }
         ensures open { IsOpenAt self.new instance }
+        ensures facts { self.new.facts ≡ self.old.facts }
         ensures size { length self.new.rows.items ≡ length self.old.rows.items }
         ensures fatal { self.new.fatal ≡ self.old.fatal }
     {
@@ -196,6 +222,7 @@ impl<P: Port> Hub<P> {
     /// What is to be done once parcels were taken.
     fn decided(&self, i: usize, job: Job, now: u64) -> Job
         requires { i < length self.now.rows.items }
+        ensures { result ≡ Job.Read → job ≡ Job.Read }
     {
         if job == Job::Collect && self.is_batch_closed(i, now) {
             Job::Attempt
@@ -301,11 +328,16 @@ impl<P: Port> Hub<P> {
         if self.facts[j].class != Class::Source || self.facts[j].retired {
             return false;
         }
-        let names = self.facts[j]
-            .targets
-            .as_slice()
-            .iter()
-            .any(|target| *target as usize == i);
-        !self.is_dry(j) || (names && !self.has_sent(j))
+        !self.is_dry(j) || (self.names(j, i) && !self.has_sent(j))
+    }
+
+    /// Whether an instance is a target of another one.
+    fn names(&self, j: usize, i: usize) -> bool
+        requires { j < length self.now.facts.items }
+    {
+        match self.facts[j].outlet.port_targets(0) {
+            Some(targets) => targets.as_slice().iter().any(|target| *target == i as u64),
+            None => false,
+        }
     }
 }

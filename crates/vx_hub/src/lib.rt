@@ -2,7 +2,6 @@
 #![tactic(auto)]
 
 mod bearing;
-mod child;
 mod confirming;
 mod due;
 mod ending;
@@ -19,7 +18,6 @@ mod parts;
 mod pushing;
 mod reading;
 mod remains;
-mod routing;
 mod row;
 mod rows;
 mod seat;
@@ -31,7 +29,6 @@ mod task;
 mod telling;
 mod work;
 
-pub use child::Child;
 pub use confirming::Confirmed;
 pub use facts::{Facts, Progress};
 pub use fatal::Fatal;

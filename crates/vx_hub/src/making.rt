@@ -1,5 +1,9 @@
-ghost use Rattle.std.specs.Prelude.{◌≡◌, ◌<◌, ◌+◌, ◌≤◌, ◌^◌, ℕ, [], ◌∷◌, length, IfOk};
-ghost use Rattle.vx_hub.specs.Stands.{Stands, IsQuiet};
+ghost use Rattle.std.specs.Prelude.{◌≡◌, ◌<◌, ◌+◌, ◌≤◌, ◌^◌, ℕ, [], ◌∷◌, length, slice_get, Some, IfOk};
+ghost use Rattle.vx_plan.specs.declared.plan.Plan.{Plan};
+ghost use Rattle.vx_record.specs.Installs.{in_force};
+ghost use Rattle.vx_record.specs.Starting.{first_instances};
+ghost use Rattle.vx_record.specs.Wirings.{begun};
+ghost use Rattle.vx_hub.specs.Stands.{Stands, spec_of};
 ghost use Rattle.vx_hub.specs.Beginning.{HasRoomFor, HasSeats, Begins};
 ghost use Rattle.vx_hub.specs.Making.{IsUnused, AreUnused, IsUntouched, AreUntouched};
 
@@ -34,9 +38,10 @@ impl<P: Port> Hub<P> {
     pub fn new(alloc: Global, parts: Parts<P>, now: u64) -> Result<Self, NewRefused<P>>
         requires ports { length parts.ports ≡ length parts.plan.components }
         requires few { length parts.plan.components < 2 ^ 32 }
-        requires untouched { AreUntouched P.told parts.ports }
+        requires untouched { AreUntouched P.told parts.plan.components parts.ports }
         ensures stands { IfOk result (λ hub. Stands P.told hub [] hub.log.history) }
         ensures size { IfOk result (λ hub. length hub.rows.items ≡ length parts.plan.components) }
+        ensures installed { IfOk result (λ hub. in_force hub.log.history ≡ Some parts.plan) }
     {
         let Ok(seats) = seats(alloc, &parts.plan) else {
             return Err(NewRefused { parts });
@@ -44,11 +49,11 @@ impl<P: Port> Hub<P> {
         match make_room(alloc, &parts, now) {
             Ok(room) => {
                 let Parts {
-                    plan: _,
+                    plan,
                     once: _,
                     ports,
                 } = parts;
-                Ok(seated(alloc, room, seats, ports.into_vec()))
+                Ok(seated(alloc, &plan, room, seats, ports.into_vec()))
             }
             Err(WantOfMemory) => {
                 end_seats(seats);
@@ -60,7 +65,7 @@ impl<P: Port> Hub<P> {
 
 /// Room for the instances of a plan, and the record of their install.
 fn make_room<P>(alloc: Global, parts: &Parts<P>, now: u64) -> Result<Room<P>, WantOfMemory>
-    ensures { IfOk result (HasRoomFor (length parts.now.plan.components)) }
+    ensures { IfOk result (HasRoomFor parts.now.plan (length parts.now.plan.components)) }
 {
     let n = parts.plan.components.len();
     let batches = Batches::new(alloc)?;
@@ -94,7 +99,7 @@ fn make_room<P>(alloc: Global, parts: &Parts<P>, now: u64) -> Result<Room<P>, Wa
 
 /// The entry of the first install.
 fn install<P>(alloc: Global, parts: &Parts<P>, now: u64) -> Result<Entry, WantOfMemory>
-    ensures { IfOk result IsQuiet }
+    ensures { IfOk result (λ entry. entry ∷ [] ≡ begun parts.now.plan parts.now.once now) }
 {
     Ok(Entry::Install {
         version: 0,
@@ -106,7 +111,9 @@ fn install<P>(alloc: Global, parts: &Parts<P>, now: u64) -> Result<Entry, WantOf
 }
 
 /// The instances of the first install: each component begins.
-fn instances(alloc: Global, plan: &Plan) -> Result<InstanceList, WantOfMemory> {
+fn instances(alloc: Global, plan: &Plan) -> Result<InstanceList, WantOfMemory>
+    ensures { IfOk result (λ instances. instances ≡ first_instances 0 plan.now.components) }
+{
     let mut instances = InstanceList::new(alloc);
     for (i, component) in plan.components.as_slice().iter().enumerate() {
         let Ok(number) = u32::try_from(i) else {
@@ -126,13 +133,20 @@ fn instances(alloc: Global, plan: &Plan) -> Result<InstanceList, WantOfMemory> {
 }
 
 /// The hub whose instances have these seats and ports.
-fn seated<P: Port>(alloc: Global, room: Room<P>, seats: Vec<Seat>, ports: Vec<Named<P>>) -> Hub<P>
-    requires room { HasRoomFor (length seats.items) room }
+fn seated<P: Port>(
+    alloc: Global,
+    plan: &Plan,
+    room: Room<P>,
+    seats: Vec<Seat>,
+    ports: Vec<Named<P>>,
+) -> Hub<P>
+    requires room { HasRoomFor plan.now (length seats.items) room }
     requires unused { AreUnused seats.items }
     requires ports { length ports.items ≡ length seats.items }
     requires few { length seats.items < 2 ^ 32 }
-    requires untouched { AreUntouched P.told ports.items }
+    requires untouched { AreUntouched P.told plan.now.components ports.items }
     ensures stands { Stands P.told result [] result.log.history }
+    ensures installed { in_force result.log.history ≡ Some plan.now }
     ensures size { length result.rows.items ≡ length seats.items }
 {
     let Room {
@@ -170,10 +184,8 @@ impl<P: Port> Hub<P> {
     /// Adds an instance that begins.
     fn seat(&mut self, seat: Seat, port: P)
         requires unused { IsUnused seat }
-        requires untouched { IsUntouched (P.told port) }
-        requires begins { Begins P.told self.old }
         requires room { HasSeats self.old 1 }
-        ensures begins { Begins P.told self.new }
+        ensures begins { (plan : Plan) → Begins P.told plan self.old → IsUntouched (spec_of (slice_get plan.components (length self.old.rows.items))) (P.told port) → Begins P.told plan self.new }
         ensures room { (n : ℕ) → HasSeats self.old (n + 1) → HasSeats self.new n }
         ensures size { length self.new.rows.items ≡ length self.old.rows.items + 1 }
         ensures rest { (self.new.log ≡ self.old.log) × (self.new.ports ≡ self.old.ports) }

@@ -1,13 +1,13 @@
 // The entries that have lists: each is noted, or the log isn't whole any more.
 ghost use Rattle.std.specs.Prelude.{ℕ, List, false};
+ghost use Rattle.vx_hub.specs.Numbers.{numbers_in, noted_of};
 ghost use Rattle.vx_record.specs.Noted.{Noted};
 
-use crate::child::Child;
 use crate::numbers::{noted_children, numbers_held, numbers_of};
 use crate::task::Role;
 use std::alloc::Global;
 use vx_ends::{Position, Reply};
-use vx_ledger::Finalizers;
+use vx_ledger::{Child, Finalizers};
 use vx_record::{Entry, Log};
 use vx_value::{Bytes, Event, EventList, NumberList, WantOfMemory};
 
@@ -21,7 +21,7 @@ pub(crate) fn note_born(
     events: &EventList,
     position: Position,
 )
-    ensures { (copies : List ℕ) × Noted log.old (Entry.Born instance batch batch copies events.now false position.stream position.end) log.new }
+    ensures { Noted log.old (Entry.Born instance batch batch (numbers_in finalizers.now) events.now false position.stream position.end) log.new }
 {
     match (numbers_of(alloc, finalizers), events.copy(alloc)) {
         (Ok(copies), Ok(events)) => log.note(Ok(Entry::Born {
@@ -46,7 +46,7 @@ pub(crate) fn note_push(
     target: u32,
     finalizers: &Finalizers,
 )
-    ensures { (copies : List ℕ) × Noted log.old (Entry.Push instance target 0 copies) log.new }
+    ensures { Noted log.old (Entry.Push instance target 0 (numbers_in finalizers.now)) log.new }
 {
     match numbers_of(alloc, finalizers) {
         Ok(copies) => log.note(Ok(Entry::Push {
@@ -61,7 +61,7 @@ pub(crate) fn note_push(
 
 /// Notes that an instance took a parcel from its buffer.
 pub(crate) fn note_take(alloc: Global, log: &mut Log, instance: u32, finalizers: &Finalizers)
-    ensures { (copies : List ℕ) × Noted log.old (Entry.Take instance 0 copies) log.new }
+    ensures { Noted log.old (Entry.Take instance 0 (numbers_in finalizers.now)) log.new }
 {
     match numbers_of(alloc, finalizers) {
         Ok(copies) => log.note(Ok(Entry::Take {
@@ -104,7 +104,7 @@ pub(crate) fn note_split(
     event: Event,
     children: &[Child],
 )
-    ensures { (noted : _) × Noted log.old (Entry.Split instance 1 copies event noted) log.new }
+    ensures { Noted log.old (Entry.Split instance 1 copies event (noted_of children.now)) log.new }
 {
     match noted_children(alloc, children) {
         Ok(children) => log.note(Ok(Entry::Split {

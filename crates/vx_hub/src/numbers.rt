@@ -1,30 +1,39 @@
 // The numbers of copies, as entries of the record have them.
+ghost use Rattle.std.specs.Prelude.{◌≡◌, ◌∷◌, ◌++◌, [], IfOk, OnOk};
+ghost use Rattle.vx_hub.specs.Numbers.{numbers_in, noted_of};
 
-use crate::child::Child;
 use crate::task::Role;
 use std::alloc::Global;
-use vx_ledger::Finalizers;
+use vx_ledger::{Child, Finalizers};
 use vx_record::ChildList;
 use vx_value::{NumberList, WantOfMemory};
 
 /// Adds the numbers of some copies.
-fn append(numbers: &mut NumberList, finalizers: &Finalizers) -> Result<(), WantOfMemory> {
+fn append(numbers: &mut NumberList, finalizers: &Finalizers) -> Result<(), WantOfMemory>
+    ensures { OnOk result (numbers.new ≡ numbers.old ++ numbers_in finalizers.now) }
+{
     for i in 0..finalizers.len() {
         if let Some(finalizer) = finalizers.get(i) {
-            match numbers.push(finalizer.number()) {
-                Ok(()) => {}
-                Err(_) => return Err(WantOfMemory),
-            }
+            push(numbers, finalizer.number())?;
         }
     }
     Ok(())
 }
 
+/// Adds a number.
+fn push(numbers: &mut NumberList, number: u64) -> Result<(), WantOfMemory>
+    ensures { OnOk result (numbers.new ≡ numbers.old ++ number ∷ []) }
+{
+    match numbers.push(number) {
+        Ok(()) => Ok(()),
+        Err(_) => Err(WantOfMemory),
+    }
+}
+
 /// The numbers of some copies.
-pub(crate) fn numbers_of(
-    alloc: Global,
-    finalizers: &Finalizers,
-) -> Result<NumberList, WantOfMemory> {
+pub(crate) fn numbers_of(alloc: Global, finalizers: &Finalizers) -> Result<NumberList, WantOfMemory>
+    ensures { IfOk result (λ numbers. numbers ≡ numbers_in finalizers.now) }
+{
     let mut numbers = NumberList::new(alloc);
     append(&mut numbers, finalizers)?;
     Ok(numbers)
@@ -44,7 +53,9 @@ pub(crate) fn numbers_held(alloc: Global, role: &Role) -> Result<NumberList, Wan
 }
 
 /// The children of a split, as its entry has them.
-pub(crate) fn noted_children(alloc: Global, children: &[Child]) -> Result<ChildList, WantOfMemory> {
+pub(crate) fn noted_children(alloc: Global, children: &[Child]) -> Result<ChildList, WantOfMemory>
+    ensures { IfOk result (λ noted. noted ≡ noted_of children.now) }
+{
     let mut noted = ChildList::new(alloc);
     for child in children {
         let copies = numbers_of(alloc, &child.parcel.finalizers)?;

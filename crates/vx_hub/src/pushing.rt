@@ -1,22 +1,26 @@
-ghost use Rattle.std.specs.Prelude.{◌≡◌, ◌<◌, [], length, IfSome, IsTrue, IfNone, OnErr, true};
+ghost use Rattle.std.specs.Prelude.{◌≡◌, ◌<◌, [], length, IfSome, IsTrue, IfOk, IfErr, IfNone, OnErr, true};
 ghost use Rattle.vx_record.specs.Noted.{Noted};
+ghost use Rattle.std.specs.Bool.{IsFalse};
 ghost use Rattle.vx_record.specs.declared.entry.Entry.{Entry};
-ghost use Rattle.vx_hub.specs.Stands.{Stands, IsOpenTarget, IsQuiet};
+ghost use Rattle.vx_hub.specs.Numbers.{numbers_in, noted_of};
+ghost use Rattle.vx_hub.specs.Stands.{Stands, IsOpenTarget};
+ghost use Rattle.vx_hub.specs.Failures.{HasReason};
 ghost use Rattle.vx_hub.specs.Rows.{HasChild, HasRoom, NoneWaits};
 
-use crate::child::Child;
 use crate::fatal::Fatal;
 use crate::hub::Hub;
 use crate::notes::{note_push, note_split};
 use crate::numbers::numbers_of;
-use crate::routing::{RouteRefused, route};
 use crate::rows::{pop_output, push_buffer, push_output, put_children, take_child};
 use std::alloc::Global;
 use vx_ends::Port;
-use vx_ledger::Parcel;
+use vx_ledger::{Child, Parcel, RouteRefused, Routed};
 use vx_record::Log;
 use vx_status::Outcome;
 use vx_value::{Event, NumberList, WantOfMemory};
+
+/// The set of ports that has the first port alone, which is the only one of a source.
+const FIRST_PORT: u128 = 1;
 
 /// How many steps one call makes at the most.
 const STEPS: u32 = 64;
@@ -52,6 +56,7 @@ impl<P: Port> Hub<P> {
         ensures stands { Stands P.told self.new [] self.new.log.history }
         ensures size { length self.new.rows.items ≡ length self.old.rows.items }
         ensures fatal { OnErr result (self.new.fatal ≡ true) }
+        ensures reason { IfErr result (HasReason self.new) }
     {
         let mut pushed: u32 = 0;
         for _ in 0..STEPS {
@@ -82,7 +87,7 @@ impl<P: Port> Hub<P> {
         ensures target { IfSome result (λ next. IsOpenTarget self.now next.target) }
     {
         let waiting = &self.rows[i].waiting;
-        for place in (0..waiting.len()).rev() {
+        for place in 0..waiting.len() {
             let target = waiting[place].target as usize;
             if self.has_room(target) {
                 return Some(Pushable { place, target });
@@ -132,19 +137,18 @@ impl<P: Port> Hub<P> {
         ensures stands { Stands P.told self.new [] self.new.log.history }
         ensures size { length self.new.rows.items ≡ length self.old.rows.items }
         ensures fatal { OnErr result (self.new.fatal ≡ true) }
+        ensures reason { IfErr result (HasReason self.new) }
     {
         let i = instance as usize;
         let Some(parcel) = pop_output(&mut self.rows, i) else {
             return Ok(());
         };
-        if self.facts[i].targets.is_empty() {
-            self.spend(instance, parcel, Outcome::NoConsumer);
-            return Ok(());
-        }
         let noted = self.taken_apart(&parcel);
-        let targets = self.facts[i].targets.as_slice();
-        match route(self.alloc, targets, parcel, &mut self.batches) {
-            Ok(children) => {
+        match self.facts[i]
+            .outlet
+            .route(FIRST_PORT, parcel, &mut self.batches)
+        {
+            Ok(Routed::Children(children)) => {
                 note_children(
                     self.alloc,
                     &mut self.log,
@@ -155,17 +159,22 @@ impl<P: Port> Hub<P> {
                 put_children(&mut self.rows, i, children);
                 Ok(())
             }
-            Err(refused) => {
-                let RouteRefused { cause, parcel } = refused;
+            Ok(Routed::NoConsumer(parcel)) => {
+                self.spend(instance, parcel, Outcome::NoConsumer);
+                Ok(())
+            }
+            Err(RouteRefused { cause, parcel }) => {
                 push_output(&mut self.rows, i, parcel);
                 self.fatal = true;
-                Err(cause)
+                Err(Fatal::from(cause))
             }
         }
     }
 
     /// The numbers of a parcel's copies, and its event once more.
-    fn taken_apart(&self, parcel: &Parcel) -> Result<(NumberList, Event), WantOfMemory> {
+    fn taken_apart(&self, parcel: &Parcel) -> Result<(NumberList, Event), WantOfMemory>
+        ensures { IfOk result (λ apart. apart.0 ≡ numbers_in parcel.now.finalizers) }
+    {
         let copies = numbers_of(self.alloc, &parcel.finalizers)?;
         Ok((copies, parcel.event.copy(self.alloc)?))
     }
@@ -179,7 +188,8 @@ fn note_children(
     parcel: Result<(NumberList, Event), WantOfMemory>,
     children: &[Child],
 )
-    ensures { (entry : Entry) × IsQuiet entry × Noted log.old entry log.new }
+    ensures noted { IfOk parcel (λ apart. Noted log.old (Entry.Split instance 1 apart.0 apart.1 (noted_of children.now)) log.new) }
+    ensures unmade { OnErr parcel (IsFalse log.new.whole × (log.new.history ≡ log.old.history)) }
 {
     match parcel {
         Ok((copies, event)) => note_split(alloc, log, instance, copies, event, children),

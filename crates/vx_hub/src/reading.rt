@@ -1,10 +1,11 @@
-ghost use Rattle.std.specs.Prelude.{◌≡◌, ◌<◌, ◌≤◌, ◌+◌, ℕ, [], length, List, None, IsSomeAnd, true, if◌then◌else◌};
+ghost use Rattle.std.specs.Prelude.{◌≡◌, ◌<◌, ◌≤◌, ◌+◌, ℕ, [], length, List, None, IfErr, IsSomeAnd, true, if◌then◌else◌};
 ghost use Rattle.vx_ledger.specs.Copies.{Copy};
 ghost use Rattle.vx_record.specs.Noted.{Noted};
-ghost use Rattle.vx_hub.specs.Stands.{Stands, IsTold, IsSound, facts_at};
+ghost use Rattle.vx_hub.specs.Stands.{Stands, IsTold, IsSound, IsUnlost, facts_at};
 ghost use Rattle.vx_hub.specs.Leases.{IsOpenAt, Adds};
+ghost use Rattle.vx_hub.specs.Spending.{HasRead};
 ghost use Rattle.vx_hub.specs.Turns.{event_count};
-ghost use Rattle.vx_hub.specs.Failures.{IsFailureOf};
+ghost use Rattle.vx_hub.specs.Failures.{IsFailureOf, HasReason};
 ghost use Rattle.vx_hub.specs.declared.work.Done.TheVariants.{Read};
 ghost use Rattle.vx_hub.specs.Rows.{role_copies, IsOutAt};
 ghost use Rattle.vx_record.specs.Reads.{bytes_of};
@@ -33,7 +34,9 @@ impl<P: Port> Hub<P> {
         requires out { IsOutAt self.old.rows.items instance }
         requires brings { IsSound self.old → Adds (P.told task.port) self.old.log.history instance None (Read turned) }
         requires events { event_count turned ≤ 65536 }
+        requires unlost { IsUnlost self.old instance }
         ensures stands { Stands P.told self.new [] self.new.log.history }
+        ensures reason { IfErr result (HasReason self.new) }
         ensures size { length self.new.rows.items ≡ length self.old.rows.items }
     {
         match turned {
@@ -83,8 +86,10 @@ impl<P: Port> Hub<P> {
     fn note_taken(&mut self, instance: u32, stream: u64, bytes: Bytes)
         requires out { IsOutAt self.old.rows.items instance }
         requires within { instance < length self.old.facts.items }
+        requires unlost { IsUnlost self.old instance }
         ensures stands { (hand : List Copy) → Stands P.told self.old hand self.old.log.history → Stands P.told self.new hand self.new.log.history }
         ensures noted { Noted self.old.log (Entry.Read instance stream (Taken.Bytes bytes)) self.new.log }
+        ensures read { HasRead self.new instance }
         ensures rows { self.new.rows ≡ self.old.rows }
         ensures starved { self.new.starved ≡ self.old.starved }
         ensures open { IsOpenAt self.old instance → IsOpenAt self.new instance }
@@ -105,9 +110,11 @@ impl<P: Port> Hub<P> {
     fn note_end(&mut self, instance: u32, stream: u64, taken: Taken)
         requires out { IsOutAt self.old.rows.items instance }
         requires within { instance < length self.old.facts.items }
+        requires unlost { IsUnlost self.old instance }
         requires end { bytes_of taken ≡ [] }
         ensures stands { (hand : List Copy) → Stands P.told self.old hand self.old.log.history → Stands P.told self.new hand self.new.log.history }
         ensures noted { Noted self.old.log (Entry.Read instance stream taken) self.new.log }
+        ensures read { HasRead self.new instance }
         ensures rows { self.new.rows ≡ self.old.rows }
         ensures starved { self.new.starved ≡ self.old.starved }
         ensures open { IsOpenAt self.old instance → IsOpenAt self.new instance }
@@ -125,6 +132,7 @@ impl<P: Port> Hub<P> {
     fn note_failed(&mut self, instance: u32, at_start: bool)
         requires out { IsOutAt self.old.rows.items instance }
         requires within { instance < length self.old.facts.items }
+        requires unlost { IsUnlost self.old instance }
         ensures stands { (hand : List Copy) → Stands P.told self.old hand self.old.log.history → Stands P.told self.new hand self.new.log.history }
         ensures noted { IsFailureOf instance at_start self.old.log self.new.log }
         ensures rows { self.new.rows ≡ self.old.rows }
@@ -142,6 +150,7 @@ impl<P: Port> Hub<P> {
     fn note_idle(&mut self, instance: u32, start_failed: bool)
         requires out { IsOutAt self.old.rows.items instance }
         requires within { instance < length self.old.facts.items }
+        requires unlost { IsUnlost self.old instance }
         requires few { start_failed ≡ true → IsSomeAnd (facts_at self.old.facts.items instance) (λ f. f.failed_starts < 4) }
         ensures stands { (hand : List Copy) → Stands P.told self.old hand self.old.log.history → Stands P.told self.new hand self.new.log.history }
         ensures noted { Noted self.old.log (Entry.Idle instance start_failed) self.new.log }
@@ -161,6 +170,7 @@ impl<P: Port> Hub<P> {
     fn note_lost(&mut self, instance: u32, start_failed: bool)
         requires out { IsOutAt self.old.rows.items instance }
         requires within { instance < length self.old.facts.items }
+        requires unlost { IsUnlost self.old instance }
         requires many { start_failed ≡ true → IsSomeAnd (facts_at self.old.facts.items instance) (λ f. 4 ≤ f.failed_starts) }
         ensures stands { (hand : List Copy) → Stands P.told self.old hand self.old.log.history → Stands P.told self.new hand self.new.log.history }
         ensures noted { (at : ℕ) × Noted self.old.log (Entry.SourceLost instance at start_failed) self.new.log }
@@ -180,7 +190,8 @@ impl<P: Port> Hub<P> {
 
     /// Marks that a source was told the end of all.
     fn mark_over(&mut self, instance: u32)
-        ensures { self.new ≡ record self.old { progress = self.new.progress } }
+        ensures rest { self.new ≡ record self.old { progress = self.new.progress } }
+        ensures read { (i : ℕ) → HasRead self.old i → HasRead self.new i }
     {
         if let Some(progress) = self.progress.get_mut(instance as usize) {
             progress.over = true;

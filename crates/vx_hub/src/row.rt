@@ -1,14 +1,13 @@
-use crate::child::Child;
 use crate::stack::Stack;
 use crate::task::{Task, holds_nothing};
-use vx_ledger::Parcel;
+use vx_ledger::{Child, Parcel};
 use vx_value::Queue;
 
 /// Where an instance's parcels stand.
 pub struct Row<P> {
     /// Parcels that its births made and that weren't split, the oldest on top.
     pub outputs: Stack<Parcel>,
-    /// Children of its last split that entered no buffer yet.
+    /// Children of its last split that entered no buffer yet, in the order of their targets.
     pub waiting: Vec<Child>,
     /// Its buffer.
     pub buffer: Queue<Parcel>,

@@ -3,12 +3,11 @@ ghost use Rattle.std.specs.Prelude.{◌≡◌, ◌+◌, ◌<◌, ℕ, [], length
 ghost use Rattle.vx_hub.specs.Works.{IsClosedBy};
 ghost use Rattle.vx_hub.specs.Rows.{child_copies, role_copies, option_copies, task_copies, port_at, Loses, Gains, SamePorts, SameOtherPorts, KeepsBare, KeepsOthersBare, HasOutputRoom, HasRoom, NoneWaits, HasChild, IsOutAt, IsBareAt, CanHold};
 
-use crate::child::Child;
 use crate::row::Row;
 use crate::task::{Role, Task};
 use std::mem;
 use vx_ends::Port;
-use vx_ledger::Parcel;
+use vx_ledger::{Child, ChildList, Parcel};
 use vx_value::WantOfMemory;
 
 /// Takes the oldest output of an instance.
@@ -55,15 +54,15 @@ pub(crate) fn reserve_outputs<P>(
 }
 
 /// Puts the children of a split into an instance of which no child waits.
-pub(crate) fn put_children<P>(rows: &mut Vec<Row<P>>, i: usize, children: Vec<Child>)
+pub(crate) fn put_children<P>(rows: &mut Vec<Row<P>>, i: usize, children: ChildList)
     requires within { i < length rows.old.items }
     requires none { NoneWaits rows.old.items i }
-    ensures gains { Gains rows.old.items (child_copies children.items) rows.new.items }
+    ensures gains { Gains rows.old.items (child_copies children) rows.new.items }
     ensures ports { SamePorts rows.old.items rows.new.items }
     ensures bare { KeepsOthersBare i rows.old.items rows.new.items }
     ensures size { length rows.new.items ≡ length rows.old.items }
 {
-    let none = mem::replace(&mut rows[i].waiting, children);
+    let none = mem::replace(&mut rows[i].waiting, children.into_vec());
     none.destroy_empty();
 }
 

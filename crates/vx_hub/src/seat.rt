@@ -1,4 +1,5 @@
 ghost use Rattle.std.specs.Prelude.{◌≡◌, ◌++◌, ◌∷◌, [], length, IfOk};
+ghost use Rattle.vx_plan.specs.Numbers.{reader_numbers};
 ghost use Rattle.vx_hub.specs.Making.{IsUnused, AreUnused};
 ghost use Rattle.vx_hub.specs.Rows.{role_parcels};
 
@@ -8,9 +9,12 @@ use crate::stack::Stack;
 use crate::task::{Role, SinkCore};
 use std::alloc::Global;
 use vx_ends::PositionList;
-use vx_ledger::Parcel;
+use vx_ledger::{Outlet, Parcel};
 use vx_plan::{Component, Plan, Settings};
-use vx_value::{ItemList, Queue, Text, WantOfMemory};
+use vx_value::{Queue, Text, WantOfMemory};
+
+/// The greatest number that an instance may have.
+const MOST_INSTANCES: u64 = 0xffff_ffff;
 
 /// What an instance begins with, but for its port.
 pub struct Seat {
@@ -45,7 +49,7 @@ fn make_seat(alloc: Global, plan: &Plan, component: &Component) -> Result<Seat, 
     let facts = Facts {
         name: component.name.copy(alloc)?,
         class: component.class,
-        targets: targets(alloc, plan, component)?,
+        outlet: outlet(alloc, plan, component)?,
         taken: 0,
         lost: None,
         failed_starts: 0,
@@ -70,23 +74,22 @@ fn make_seat(alloc: Global, plan: &Plan, component: &Component) -> Result<Seat, 
     }
 }
 
-/// The instances that read a component: their numbers are the places of their components in the plan.
-fn targets(
-    alloc: Global,
-    plan: &Plan,
-    component: &Component,
-) -> Result<ItemList<u32>, WantOfMemory> {
-    let mut targets = ItemList::new(alloc);
-    for number in plan.readers(alloc, component.name.as_str(), 0)?.as_slice() {
-        match u32::try_from(*number) {
-            Ok(target) => match targets.push(target) {
-                Ok(()) => {}
-                Err(_) => return Err(WantOfMemory),
-            },
-            Err(_) => return Err(WantOfMemory),
-        }
+/// The outlet of a component, which has one port: the numbers of the instances that read it are the places of their
+/// components in the plan.
+fn outlet(alloc: Global, plan: &Plan, component: &Component) -> Result<Outlet, WantOfMemory>
+    ensures { IfOk result (λ outlet. outlet ≡ reader_numbers plan.now component.now.name 0 ∷ []) }
+{
+    let readers = plan.readers(alloc, component.name.as_str(), 0)?;
+    if readers
+        .as_slice()
+        .iter()
+        .any(|reader| *reader > MOST_INSTANCES)
+    {
+        return Err(WantOfMemory);
     }
-    Ok(targets)
+    let mut outlet = Outlet::new(alloc, 1)?;
+    outlet.rewire(0, readers);
+    Ok(outlet)
 }
 
 /// For how many parcels the buffer of a component has room.

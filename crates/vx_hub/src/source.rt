@@ -63,9 +63,9 @@ pub struct SourceCore {
 }
 
 impl SourceCore {
-    ghost use Rattle.std.specs.Prelude.{◌≡◌, ℕ, ◌+◌, ◌++◌, ◌<◌, ◌≤◌, [], List, length, take, IfOk, OnErr};
+    ghost use Rattle.std.specs.Prelude.{◌≡◌, ℕ, ◌+◌, ◌++◌, ◌<◌, ◌≤◌, [], List, length, take, IfOk, OnErr, IsTrue};
     ghost use Rattle.vx_ends.specs.Told.{Grows};
-    ghost use Rattle.vx_hub.specs.Turns.{taken_in, ended_in, event_count, FailsBy, LeavesNothing, OnlyTakes};
+    ghost use Rattle.vx_hub.specs.Turns.{taken_in, ended_in, event_count, BringsSome, FailsBy, LeavesNothing, OnlyTakes};
 
     /// A source that takes lines of at most `limit` bytes.
     pub fn new(alloc: Global, limit: u32, source_type: Text) -> Result<Self, WantOfMemory> {
@@ -87,6 +87,7 @@ impl SourceCore {
         ensures over { IfOk result (LeavesNothing (P.told port.new)) }
         ensures others { OnlyTakes (P.told port.old) (P.told port.new) }
         ensures failed { IfOk result (FailsBy (P.told port.old) (P.told port.new)) }
+        ensures some { IfOk result BringsSome }
         ensures events { IfOk result (λ turned. event_count turned ≤ 65536) }
     {
         match port.start() {
@@ -98,11 +99,13 @@ impl SourceCore {
 
     /// Makes one take of a port.
     fn take<P: Port>(&mut self, port: &mut P) -> Result<Turned, WantOfMemory>
+        requires { IsTrue (P.told port.old).started }
         ensures taken { IfOk result (λ turned. (stream : ℕ) → Grows ((P.told port.old).taken stream) ((P.told port.new).taken stream) (taken_in turned stream)) }
         ensures ended { IfOk result (λ turned. (P.told port.new).ended ≡ (P.told port.old).ended ++ ended_in turned) }
         ensures over { IfOk result (LeavesNothing (P.told port.new)) }
         ensures others { OnlyTakes (P.told port.old) (P.told port.new) }
         ensures failed { IfOk result (FailsBy (P.told port.old) (P.told port.new)) }
+        ensures some { IfOk result BringsSome }
         ensures events { IfOk result (λ turned. event_count turned ≤ 65536) }
     {
         match port.take(self.room.as_mut_slice()) {

@@ -1,6 +1,8 @@
-ghost use Rattle.std.specs.Prelude.{◌≡◌, List, [], ◌∷◌, ◌++◌, length};
+ghost use Rattle.std.specs.Prelude.{◌≡◌, ℕ, List, [], ◌∷◌, ◌++◌, length};
 ghost use Rattle.vx_ledger.specs.Copies.{Copy};
 ghost use Rattle.vx_ledger.specs.Ledger.{AreLive};
+ghost use Rattle.vx_status.specs.declared.outcome.Outcome.{Outcome};
+ghost use Rattle.vx_hub.specs.Spending.{MaySpend};
 ghost use Rattle.vx_hub.specs.Stands.{Stands};
 
 use crate::hub::Hub;
@@ -12,8 +14,10 @@ use vx_status::Outcome;
 impl<P: Port> Hub<P> {
     /// Spends the copies behind a parcel that an instance had, each with the same outcome.
     pub(crate) fn spend(&mut self, instance: u32, parcel: Parcel, outcome: Outcome)
-        requires { Stands P.told self.old parcel.finalizers self.old.log.history }
+        requires stands { Stands P.told self.old parcel.finalizers self.old.log.history }
+        requires cause { MaySpend self.old instance outcome }
         ensures stands { Stands P.told self.new [] self.new.log.history }
+        ensures cause { MaySpend self.new instance outcome }
         ensures rows { self.new.rows ≡ self.old.rows }
         ensures facts { self.new.facts ≡ self.old.facts }
         ensures abandoned { self.new.abandoned ≡ self.old.abandoned }
@@ -30,7 +34,9 @@ impl<P: Port> Hub<P> {
 
     /// Spends one copy, and notes the notice that is due.
     fn spend_one(&mut self, instance: u32, finalizer: Finalizer, outcome: Outcome)
-        requires { AreLive self.old.batches (finalizer ∷ []) }
+        requires live { AreLive self.old.batches (finalizer ∷ []) }
+        requires cause { MaySpend self.old instance outcome }
+        ensures cause { MaySpend self.new instance outcome }
         ensures stands { (rest : List Copy) → Stands P.told self.old (rest ++ finalizer ∷ []) self.old.log.history → Stands P.told self.new rest self.new.log.history }
         ensures rows { self.new.rows ≡ self.old.rows }
         ensures facts { self.new.facts ≡ self.old.facts }
@@ -50,6 +56,7 @@ impl<P: Port> Hub<P> {
 
     /// Notes a notice, and counts it at the source.
     fn tell(&mut self, notice: Notice)
+        ensures cause { (instance : ℕ) (outcome : Outcome) → MaySpend self.old instance outcome → MaySpend self.new instance outcome }
         ensures stands { (hand : List Copy) → Stands P.told self.old hand self.old.log.history → Stands P.told self.new hand self.new.log.history }
         ensures rows { self.new.rows ≡ self.old.rows }
         ensures facts { self.new.facts ≡ self.old.facts }

@@ -1,6 +1,6 @@
 ghost use Rattle.std.specs.Prelude.{◌≡◌, ◌≤◌, None};
 ghost use Rattle.vx_hub.specs.Rows.{role_copies};
-ghost use Rattle.vx_hub.specs.Works.{Reports, Names, event_count_of};
+ghost use Rattle.vx_hub.specs.Works.{Reports, NamesBy, IsReading, event_count_of};
 ghost use Rattle.vx_hub.specs.Leases.{IsLeased, IsBack};
 ghost use Rattle.vx_hub.specs.declared.hub.Hub.{Hub};
 ghost use Rattle.vx_hub.specs.declared.work.Done.{Done};
@@ -68,7 +68,8 @@ impl<P: Port> Work<P> {
         ensures instance { result.instance ≡ self.instance }
         ensures copies { role_copies result.task.role ≡ role_copies self.task.role }
         ensures reports { Reports (P.told self.task.port) result.confirmed result.done (P.told result.task.port) }
-        ensures names { Names self.positions result.confirmed }
+        ensures names { NamesBy self.positions result.confirmed result.done }
+        ensures reads { IsReading result.done → self.job ≡ Job.Read }
         ensures events { event_count_of result.done ≤ 65536 }
         ensures back { (hub : Hub P) → IsLeased P.told hub self → IsBack P.told hub result }
     {
@@ -106,7 +107,8 @@ fn confirm_and_act<P: Port>(
 ) -> Deeds
     ensures copies { role_copies role.new ≡ role_copies role.old }
     ensures reports { Reports (P.told port.old) result.confirmed result.done (P.told port.new) }
-    ensures names { Names positions result.confirmed }
+    ensures names { NamesBy positions result.confirmed result.done }
+    ensures reads { IsReading result.done → job ≡ Job.Read }
     ensures events { event_count_of result.done ≤ 65536 }
 {
     match confirm(port, positions) {
@@ -126,6 +128,7 @@ fn act<P: Port>(alloc: Global, job: Job, port: &mut P, role: &mut Role) -> Done
     ensures copies { role_copies role.new ≡ role_copies role.old }
     ensures reports { Reports (P.told port.old) None result (P.told port.new) }
     ensures events { event_count_of result ≤ 65536 }
+    ensures reads { IsReading result → job ≡ Job.Read }
 {
     match (job, role) {
         (Job::Read, Role::Source(core)) => read(port, core),
@@ -167,6 +170,7 @@ fn read<P: Port>(port: &mut P, core: &mut SourceCore) -> Done
 fn send<P: Port>(alloc: Global, port: &mut P, core: &SinkCore) -> Done
     ensures reports { Reports (P.told port.old) None result (P.told port.new) }
     ensures events { event_count_of result ≤ 65536 }
+    ensures unread { IsReading result → ⊥ }
 {
     let Ok(mut bytes) = encode(alloc, core) else {
         return Done::Starved;

@@ -11,8 +11,14 @@ use Rattle.vx_hub.specs.declared.facts.Facts.{Facts}
 use Rattle.vx_hub.specs.Stands.{Stands, IsSound, IsKnown, facts_at, lost_of, lost_at, unconfirmed_of, cause_of}
 use Rattle.vx_run.specs.declared.fault.Fault.{Fault}
 use Rattle.vx_run.specs.declared.fault.Fault.TheVariants.{Usage, ConfigRead, ConfigRefused, Numbers, TooLong, SourceFailed, ConfirmFailed, WantOfMemory}
-use Rattle.vx_run.specs.Answers.{IsJudged, NoneLost, AllConfirmed, GoesOn}
-use Rattle.vx_run.specs.Judging.{IsNamed, IsUnconfirmedAt}
+use Rattle.vx_run.specs.Answers.{IsJudged, NoneLost, AllConfirmed, WentOn}
+use Rattle.std.specs.Prelude.{nat_lt, Bool}
+use Rattle.std.proofs.lemmas.Bool.Decides.{nat_tests}
+use Rattle.vx_record.specs.declared.abandon_cause.AbandonCause.{AbandonCause}
+use Rattle.vx_record.specs.declared.abandon_cause.AbandonCause.TheVariants as cause
+use Rattle.vx_record.specs.declared.entry.Entry.TheVariants.{Abandon}
+use Rattle.vx_hub.specs.Order.{IsOrderly, IsReason}
+use Rattle.vx_run.specs.Judging.{IsSure, IsNamed, IsUnconfirmedAt, IsUnasked, IsFaultOf}
 
 facts_there : (fs : List Facts) (i : ℕ) → i < length fs → IsSome (facts_at fs i)
 facts_there [] i l = absurd (omega arith)
@@ -30,9 +36,14 @@ lost_known told_by hub i stands sound l = known_lost hub.log.history i (facts_at
 
 pub none_lost : {P : Type 0} (told_by : P → Told) (hub : Hub P) → Stands told_by hub [] hub.log.history → IsSound hub → length hub.rows.items ≡ length first_plan.components →
     ((i : ℕ) → i < length hub.facts.items → lost_of (facts_at hub.facts.items i) ≡ None) → NoneLost hub.log.history
-none_lost told_by hub stands sound size none i l =
-    let within : i < length hub.facts.items = omega (arith, stands.size, size) in
-    lost_known told_by hub i stands sound within ∙ none i within
+none_lost told_by hub stands sound size none i = go (nat_lt i (length hub.facts.items)) refl
+  where
+    go : (b : Bool) → nat_lt i (length hub.facts.items) ≡ b → lost_at hub.log.history i ≡ None
+    go true e = let within : i < length hub.facts.items = grind (arith, nat_tests) in lost_known told_by hub i stands sound within ∙ none i within
+    go false e =
+        let beyond : length hub.facts.items ≤ i = grind (arith, nat_tests) in
+        let past : length hub.rows.items ≤ i = omega (arith, beyond, stands.size) in
+        ((stands.recorded sound).unknown i past).unlost
 
 -- the count of bytes decides as the record's does
 pub few_bytes : (n bytes : ℕ) → bytes ≡ capped n → bytes < 2 ^ 48 → n < 2 ^ 48
@@ -41,7 +52,7 @@ few_bytes n bytes e l = omega arith
 pub many_bytes : (n bytes : ℕ) → bytes ≡ capped n → 2 ^ 48 ≤ bytes → 2 ^ 48 ≤ n
 many_bytes n bytes e l = omega arith
 
-pub judged_lost : (h : Record) (i at : ℕ) (fault : Fault) → GoesOn (cause_of h) → bytes_of_all h < 2 ^ 48 → lost_at h i ≡ Some at → ((j : ℕ) → j < i → lost_at h j ≡ None) → IsNamed first_plan i at fault → IsJudged h (Some fault)
+pub judged_lost : (h : Record) (i at : ℕ) (fault : Fault) → WentOn h → bytes_of_all h < 2 ^ 48 → lost_at h i ≡ Some at → ((j : ℕ) → j < i → lost_at h j ≡ None) → IsNamed first_plan i at fault → IsJudged h (Some fault)
 judged_lost h i at Usage goes few lost least named = absurd named
 judged_lost h i at (ConfigRead path) goes few lost least named = absurd named
 judged_lost h i at (ConfigRefused f) goes few lost least named = absurd named
@@ -63,11 +74,16 @@ unconfirmed_known told_by hub i stands sound l = known_unconfirmed hub.log.histo
 
 pub all_confirmed : {P : Type 0} (told_by : P → Told) (hub : Hub P) → Stands told_by hub [] hub.log.history → IsSound hub → length hub.rows.items ≡ length first_plan.components →
     ((i : ℕ) → i < length hub.facts.items → unconfirmed_of (facts_at hub.facts.items i) ≡ false) → AllConfirmed hub.log.history
-all_confirmed told_by hub stands sound size none i l =
-    let within : i < length hub.facts.items = omega (arith, stands.size, size) in
-    unconfirmed_known told_by hub i stands sound within ∙ none i within
+all_confirmed told_by hub stands sound size none i = go (nat_lt i (length hub.facts.items)) refl
+  where
+    go : (b : Bool) → nat_lt i (length hub.facts.items) ≡ b → is_unconfirmed hub.log.history i ≡ false
+    go true e = let within : i < length hub.facts.items = grind (arith, nat_tests) in unconfirmed_known told_by hub i stands sound within ∙ none i within
+    go false e =
+        let beyond : length hub.facts.items ≤ i = grind (arith, nat_tests) in
+        let past : length hub.rows.items ≤ i = omega (arith, beyond, stands.size) in
+        ((stands.recorded sound).unknown i past).confirmed
 
-pub judged_unconfirmed : (h : Record) (i : ℕ) (fault : Fault) → GoesOn (cause_of h) → bytes_of_all h < 2 ^ 48 → NoneLost h → is_unconfirmed h i ≡ true →
+pub judged_unconfirmed : (h : Record) (i : ℕ) (fault : Fault) → WentOn h → bytes_of_all h < 2 ^ 48 → NoneLost h → is_unconfirmed h i ≡ true →
     ((j : ℕ) → j < i → is_unconfirmed h j ≡ false) → IsUnconfirmedAt first_plan i fault → IsJudged h (Some fault)
 judged_unconfirmed h i Usage goes few kept failed least named = absurd named
 judged_unconfirmed h i (ConfigRead path) goes few kept failed least named = absurd named
@@ -77,3 +93,37 @@ judged_unconfirmed h i TooLong goes few kept failed least named = absurd named
 judged_unconfirmed h i (SourceFailed name n) goes few kept failed least named = absurd named
 judged_unconfirmed h i (ConfirmFailed name) goes few kept failed least named = (goes, (few, (kept, (i, record { failed = failed; least = least; named = named }))))
 judged_unconfirmed h i WantOfMemory goes few kept failed least named = tt
+
+-- nobody asked for a reason that there is
+reason_unasked : (h : Record) (cause : AbandonCause) → IsReason h cause → IsUnasked cause
+reason_unasked h (cause.Grace stopped now limit) r = absurd r
+reason_unasked h (cause.Numbers next wanted) r = tt
+reason_unasked h cause.WantOfMemory r = tt
+
+-- a run that was given up has a reason, and nobody asked it to stop
+orderly_unasked : (h : Record) (cause : AbandonCause) → IsOrderly h → cause_of h ≡ Some cause → IsUnasked cause
+orderly_unasked [] cause o is = cc
+orderly_unasked (Abandon found ∷ h) cause o is = let same : found ≡ cause = cc in subst (λ (c : AbandonCause). IsUnasked c) same (reason_unasked h found o.0.reason)
+orderly_unasked (e ∷ h) cause o is = orderly_unasked h cause o.1 is
+
+pub given_up_unasked : {P : Type 0} (told_by : P → Told) (hub : Hub P) (cause : AbandonCause) → Stands told_by hub [] hub.log.history → IsSound hub → hub.abandoned ≡ Some cause → IsUnasked cause
+given_up_unasked told_by hub cause stands sound is =
+    let r = stands.recorded sound in orderly_unasked hub.log.history cause r.order (sym r.cause ∙ is)
+
+-- the fault of a run that was given up says why
+pub judged_given_up : (h : Record) (cause : AbandonCause) (fault : Fault) → cause_of h ≡ Some cause → IsUnasked cause → IsFaultOf cause fault → IsJudged h (Some fault)
+judged_given_up h (cause.Grace stopped now limit) fault is unasked of = absurd unasked
+judged_given_up h (cause.Numbers next wanted) fault is unasked of = subst (λ (f : Fault). IsJudged h (Some f)) (sym of) is
+judged_given_up h cause.WantOfMemory fault is unasked of = subst (λ (f : Fault). IsJudged h (Some f)) (sym of) tt
+
+-- what is sound is sure, whatever the fault
+pub sure_of : {P : Type 0} (hub : Hub P) (fault : Option Fault) → IsSound hub → IsSure hub fault
+sure_of hub None sound = sound
+sure_of hub (Some WantOfMemory) sound = tt
+sure_of hub (Some Usage) sound = sound
+sure_of hub (Some (ConfigRead path)) sound = sound
+sure_of hub (Some (ConfigRefused f)) sound = sound
+sure_of hub (Some (Numbers next wanted)) sound = sound
+sure_of hub (Some TooLong) sound = sound
+sure_of hub (Some (SourceFailed name at)) sound = sound
+sure_of hub (Some (ConfirmFailed name)) sound = sound

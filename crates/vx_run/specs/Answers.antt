@@ -1,5 +1,5 @@
 -- What each answer of a run says.
-use Rattle.std.specs.Prelude.{◌≡◌, ◌≢◌, ℕ, ◌<◌, ◌≤◌, ◌^◌, true, false, List, length, slice_get, Option, Some, None, IfSome, IsSomeAnd}
+use Rattle.std.specs.Prelude.{◌≡◌, ◌≢◌, ℕ, ◌<◌, ◌≤◌, ◌^◌, true, false, List, slice_get, Option, Some, None, IfSome, IsSomeAnd}
 use Rattle.vx_value.specs.Texts.{Word}
 use Rattle.vx_ends.specs.Told.{Rose}
 use Rattle.vx_ends.specs.Texts.{text_at, IsTextAt}
@@ -9,7 +9,6 @@ use Rattle.vx_plan.specs.declared.plan_fault.PlanFault.TheVariants as plan
 use Rattle.vx_record.specs.Records.{Record}
 use Rattle.vx_record.specs.Reads.{bytes_of_all}
 use Rattle.vx_record.specs.Confirms.{is_unconfirmed}
-use Rattle.vx_record.specs.declared.abandon_cause.AbandonCause.{AbandonCause}
 use Rattle.vx_record.specs.declared.abandon_cause.AbandonCause.TheVariants as cause
 use Rattle.vx_hub.specs.Stands.{lost_at, cause_of}
 use Rattle.vx_run.specs.declared.fault.Fault.{Fault}
@@ -50,9 +49,9 @@ pub record IsLost (h : Record) (name : Word) (at i : ℕ) : Type 0 where
   pub least : (j : ℕ) → j < i → lost_at h j ≡ None
   pub named : IsSomeAnd (slice_get first_plan.components i) (λ component. name ≡ component.name)
 
--- no instance of the first plan was lost
+-- no instance was lost
 abbrev pub NoneLost : Record → Type 0
-NoneLost h = (i : ℕ) → i < length first_plan.components → lost_at h i ≡ None
+NoneLost h = (i : ℕ) → lost_at h i ≡ None
 
 -- the least instance of the first plan whose last confirm failed, with its component's name
 pub record IsUnconfirmed (h : Record) (name : Word) (i : ℕ) : Type 0 where
@@ -60,22 +59,20 @@ pub record IsUnconfirmed (h : Record) (name : Word) (i : ℕ) : Type 0 where
   pub least : (j : ℕ) → j < i → is_unconfirmed h j ≡ false
   pub named : IsSomeAnd (slice_get first_plan.components i) (λ component. name ≡ component.name)
 
--- no instance of the first plan has a last confirm that failed
+-- no instance has a last confirm that failed
 abbrev pub AllConfirmed : Record → Type 0
-AllConfirmed h = (i : ℕ) → i < length first_plan.components → is_unconfirmed h i ≡ false
+AllConfirmed h = (i : ℕ) → is_unconfirmed h i ≡ false
 
--- a run that wasn't given up for want of numbers or memory
-abbrev pub GoesOn : Option AbandonCause → Type 0
-GoesOn (Some (cause.Numbers next wanted)) = ⊥
-GoesOn (Some cause.WantOfMemory) = ⊥
-GoesOn other = Unit {0}
+-- a run that wasn't given up
+abbrev pub WentOn : Record → Type 0
+WentOn h = cause_of h ≡ None
 
 -- what it says of a run that began
 abbrev pub IsJudged : Record → Option Fault → Type 0
-IsJudged h None = GoesOn (cause_of h) × ((bytes_of_all h < 2 ^ 48) × (NoneLost h × AllConfirmed h))
-IsJudged h (Some TooLong) = GoesOn (cause_of h) × (2 ^ 48 ≤ bytes_of_all h)
-IsJudged h (Some (SourceFailed name at)) = GoesOn (cause_of h) × ((bytes_of_all h < 2 ^ 48) × ((i : ℕ) × IsLost h name at i))
-IsJudged h (Some (ConfirmFailed name)) = GoesOn (cause_of h) × ((bytes_of_all h < 2 ^ 48) × (NoneLost h × ((i : ℕ) × IsUnconfirmed h name i)))
+IsJudged h None = WentOn h × ((bytes_of_all h < 2 ^ 48) × (NoneLost h × AllConfirmed h))
+IsJudged h (Some TooLong) = WentOn h × (2 ^ 48 ≤ bytes_of_all h)
+IsJudged h (Some (SourceFailed name at)) = WentOn h × ((bytes_of_all h < 2 ^ 48) × ((i : ℕ) × IsLost h name at i))
+IsJudged h (Some (ConfirmFailed name)) = WentOn h × ((bytes_of_all h < 2 ^ 48) × (NoneLost h × ((i : ℕ) × IsUnconfirmed h name i)))
 IsJudged h (Some (Numbers next wanted)) = cause_of h ≡ Some (cause.Numbers next wanted)
 IsJudged h (Some WantOfMemory) = Unit {0}
 IsJudged h (Some other) = ⊥

@@ -4,7 +4,9 @@ use Rattle.vx_plan.specs.declared.plan.Plan.{Plan}
 use Rattle.vx_hub.specs.declared.hub.Hub.{Hub}
 use Rattle.vx_hub.specs.Stands.{IsSound}
 use Rattle.vx_run.specs.declared.fault.Fault.{Fault}
-use Rattle.vx_run.specs.declared.fault.Fault.TheVariants.{SourceFailed, ConfirmFailed, WantOfMemory}
+use Rattle.vx_record.specs.declared.abandon_cause.AbandonCause.{AbandonCause}
+use Rattle.vx_record.specs.declared.abandon_cause.AbandonCause.TheVariants as cause
+use Rattle.vx_run.specs.declared.fault.Fault.TheVariants.{Numbers, SourceFailed, ConfirmFailed, WantOfMemory}
 
 -- but for want of memory the record has all that happened
 abbrev pub IsSure : {P : Type 0} → Hub P → Option Fault → Type 0
@@ -22,3 +24,13 @@ abbrev pub IsNamed : Plan → ℕ → ℕ → Fault → Type 0
 IsNamed plan i at (SourceFailed name n) = (n ≡ at) × IsSomeAnd (slice_get plan.components i) (λ component. name ≡ component.name)
 IsNamed plan i at WantOfMemory = Unit {0}
 IsNamed plan i at other = ⊥
+
+-- a cause for which nobody asked
+abbrev pub IsUnasked : AbandonCause → Type 0
+IsUnasked (cause.Grace stopped now limit) = ⊥
+IsUnasked other = Unit {0}
+
+-- the fault of a run that was given up
+abbrev pub IsFaultOf : AbandonCause → Fault → Type 0
+IsFaultOf (cause.Numbers next wanted) fault = fault ≡ Numbers next wanted
+IsFaultOf other fault = fault ≡ WantOfMemory

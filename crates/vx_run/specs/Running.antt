@@ -1,19 +1,20 @@
 -- What a run leaves behind.
-use Rattle.std.specs.Prelude.{◌≡◌, ◌⊎◌, List, [], length, Option, Some}
+use Rattle.std.specs.Prelude.{◌≡◌, ◌⊎◌, ℕ, List, [], length, Option, Some}
 use Rattle.vx_ends.specs.Told.{Told}
 use Rattle.vx_plan.specs.First.{first_plan}
 use Rattle.vx_record.specs.Records.{Record}
+use Rattle.vx_record.specs.TallyLists.{tallies_of}
+use Rattle.vx_record.specs.declared.tally.Tally.{Tally}
 use Rattle.vx_hub.specs.declared.parts.Numbered.{Numbered}
-use Rattle.vx_hub.specs.Stands.{LossesTold, ConfirmsTold}
+use Rattle.vx_hub.specs.Order.{IsOrderly}
 use Rattle.vx_hub.specs.Remains.{AreTold}
 use Rattle.vx_run.specs.declared.fault.Fault.{Fault}
 use Rattle.vx_run.specs.declared.fault.Fault.TheVariants.{Usage, ConfigRead, ConfigRefused, WantOfMemory}
 
--- but for want of memory, the ports tell what the record has, each loss has its cause and tells how many bytes were
--- taken, and each confirm names the ends of the batches that were born
+-- but for want of memory, the ports tell what the record has, and each entry of the record is in order
 abbrev pub IsTrueTo : {P : Type 0} → (P → Told) → Record → List (Numbered P) → Option Fault → Type 0
 IsTrueTo told_by h ports (Some WantOfMemory) = Unit {0}
-IsTrueTo told_by h ports fault = AreTold told_by h ports × (LossesTold h × ConfirmsTold h)
+IsTrueTo told_by h ports fault = AreTold told_by h ports × IsOrderly h
 
 -- a run that didn't begin has no record and no port
 abbrev pub IsUnbegun : {P : Type 0} → Record → List (Numbered P) → Type 0
@@ -30,3 +31,8 @@ NoneMissing h ports (Some (ConfigRead path)) = IsUnbegun h ports
 NoneMissing h ports (Some (ConfigRefused fault)) = IsUnbegun h ports
 NoneMissing h ports (Some WantOfMemory) = IsUnbegun h ports ⊎ HasAll ports
 NoneMissing h ports other = HasAll ports
+
+-- each instance counted what the record has; for want of memory nothing may be counted
+abbrev pub IsCounted : Record → ℕ → List Tally → Option Fault → Type 0
+IsCounted h instances tallies (Some WantOfMemory) = (tallies ≡ tallies_of h instances) ⊎ (tallies ≡ [])
+IsCounted h instances tallies fault = tallies ≡ tallies_of h instances

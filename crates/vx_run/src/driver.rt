@@ -1,5 +1,6 @@
 ghost use Rattle.std.specs.Prelude.{◌≡◌, ◌<◌, [], length, All, true};
 ghost use Rattle.vx_hub.specs.Stands.{Stands};
+ghost use Rattle.vx_hub.specs.Failures.{HasReason, abandon_cause};
 ghost use Rattle.vx_hub.specs.Leases.{IsLeased};
 
 use std::alloc::Global;
@@ -81,7 +82,8 @@ fn land<P: Port, C: Clock>(alloc: Global, hub: &mut Hub<P>, work: Work<P>, clock
 
 /// Gives a run up that can't go on, once.
 fn give_up<P: Port>(hub: &mut Hub<P>, fatal: Fatal)
-    requires { Stands P.told hub.old [] hub.old.log.history }
+    requires stands { Stands P.told hub.old [] hub.old.log.history }
+    requires reason { HasReason hub.old fatal }
     ensures stands { Stands P.told hub.new [] hub.new.log.history }
     ensures size { length hub.new.rows.items ≡ length hub.old.rows.items }
 {
@@ -91,7 +93,9 @@ fn give_up<P: Port>(hub: &mut Hub<P>, fatal: Fatal)
 }
 
 /// Why a run is given up.
-fn cause_of(fatal: Fatal) -> AbandonCause {
+fn cause_of(fatal: Fatal) -> AbandonCause
+    ensures { result ≡ abandon_cause fatal }
+{
     match fatal {
         Fatal::Numbers { next, wanted } => AbandonCause::Numbers { next, wanted },
         Fatal::WantOfMemory => AbandonCause::WantOfMemory,

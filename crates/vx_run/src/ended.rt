@@ -1,7 +1,7 @@
 use crate::fault::Fault;
 use vx_ends::World;
 use vx_hub::NumberedList;
-use vx_record::Record;
+use vx_record::{Record, TallyList};
 
 /// How a run ended, and what it leaves behind.
 #[derive(Drop)]
@@ -12,6 +12,9 @@ pub struct Ended<W: World> {
     pub fault: Option<Fault>,
     /// What happened, entry by entry.
     pub history: Record,
+    /// What each instance counted, in the order of their numbers. It is empty where the run didn't begin, and may be
+    /// where no memory was found.
+    pub tallies: TallyList,
     /// The port of each instance, in the order of their numbers. It is empty where the run didn't begin.
     pub ports: NumberedList<W::Port>,
     /// The world that the run was given.

@@ -1,9 +1,9 @@
 ghost use Rattle.std.specs.Prelude.{◌≡◌, ◌<◌, ◌^◌, ℕ, [], length, Some, None, IfSome, IfNone, true, false};
 ghost use Rattle.vx_plan.specs.First.{first_plan};
-ghost use Rattle.vx_hub.specs.Stands.{Stands, IsSound, facts_at, lost_of, unconfirmed_of, cause_of};
+ghost use Rattle.vx_hub.specs.Stands.{Stands, IsSound, facts_at, lost_of, unconfirmed_of};
 ghost use Rattle.vx_record.specs.Reads.{bytes_of_all};
-ghost use Rattle.vx_run.specs.Answers.{IsJudged, GoesOn, NoneLost};
-ghost use Rattle.vx_run.specs.Judging.{IsSure, IsNamed, IsUnconfirmedAt};
+ghost use Rattle.vx_run.specs.Answers.{IsJudged, WentOn, NoneLost};
+ghost use Rattle.vx_run.specs.Judging.{IsSure, IsNamed, IsUnconfirmedAt, IsUnasked, IsFaultOf};
 
 use crate::fault::Fault;
 use std::alloc::Global;
@@ -32,10 +32,37 @@ pub(crate) fn judge<P: Port>(alloc: Global, plan: &Plan, hub: &Hub<P>) -> Option
     if hub.starved() || !hub.whole() {
         return Some(Fault::WantOfMemory);
     }
+    judge_sound(alloc, plan, hub)
+}
+
+/// The same, of a run whose record has all that happened.
+fn judge_sound<P: Port>(alloc: Global, plan: &Plan, hub: &Hub<P>) -> Option<Fault>
+    requires plan { plan.now ≡ first_plan }
+    requires stands { Stands P.told hub.now [] hub.now.log.history }
+    requires size { length hub.now.rows.items ≡ length first_plan.components }
+    requires sound { IsSound hub.now }
+    ensures sure { IsSure hub.now result }
+    ensures judged { IsJudged hub.now.log.history result }
+{
     match hub.abandoned() {
-        Some(AbandonCause::WantOfMemory) => Some(Fault::WantOfMemory),
-        Some(AbandonCause::Numbers { next, wanted }) => Some(Fault::Numbers { next, wanted }),
-        _ => judge_whole(alloc, plan, hub),
+        None => judge_whole(alloc, plan, hub),
+        Some(cause) => Some(fault_of(cause)),
+    }
+}
+
+/// The fault of a run that was given up. Nobody asks a run to stop yet.
+fn fault_of(cause: AbandonCause) -> Fault
+    requires { IsUnasked cause }
+    ensures { IsFaultOf cause result }
+{
+    match cause {
+        AbandonCause::WantOfMemory => Fault::WantOfMemory,
+        AbandonCause::Numbers { next, wanted } => Fault::Numbers { next, wanted },
+        AbandonCause::Grace {
+            stopped: _,
+            now: _,
+            limit: _,
+        } => unreachable!(),
     }
 }
 
@@ -45,7 +72,7 @@ fn judge_whole<P: Port>(alloc: Global, plan: &Plan, hub: &Hub<P>) -> Option<Faul
     requires stands { Stands P.told hub.now [] hub.now.log.history }
     requires size { length hub.now.rows.items ≡ length first_plan.components }
     requires sound { IsSound hub.now }
-    requires goes_on { GoesOn (cause_of hub.now.log.history) }
+    requires goes_on { WentOn hub.now.log.history }
     ensures judged { IsJudged hub.now.log.history result }
 {
     if hub.bytes() >= MOST_BYTES {
@@ -63,7 +90,7 @@ fn judge_confirms<P: Port>(alloc: Global, plan: &Plan, hub: &Hub<P>) -> Option<F
     requires stands { Stands P.told hub.now [] hub.now.log.history }
     requires size { length hub.now.rows.items ≡ length first_plan.components }
     requires sound { IsSound hub.now }
-    requires goes_on { GoesOn (cause_of hub.now.log.history) }
+    requires goes_on { WentOn hub.now.log.history }
     requires few { bytes_of_all hub.now.log.history < 2 ^ 48 }
     requires kept { NoneLost hub.now.log.history }
     ensures judged { IsJudged hub.now.log.history result }

@@ -2,6 +2,7 @@ ghost use Rattle.std.specs.Prelude.{◌≡◌, ◌≢◌, ◌↔◌, length, Err
 ghost use Rattle.vx_ends.specs.Texts.{IsTextAt};
 ghost use Rattle.vx_ends.specs.Told.{Rose};
 ghost use Rattle.vx_plan.specs.First.{first_plan, first_configuration};
+ghost use Rattle.vx_plan.specs.Ports.{port_of};
 ghost use Rattle.vx_hub.specs.Making.{IsUntouched, AreUntouched};
 ghost use Rattle.vx_run.specs.Answers.{IsUnready, IsReady, IsUnread, IsRefused};
 
@@ -23,7 +24,7 @@ pub(crate) fn prepare<W: World>(
     ensures ready { IfOk result (λ parts. IsReady words.now (W.texts world.old)) }
     ensures plan { IfOk result (λ parts. parts.plan ≡ first_plan) }
     ensures ports { IfOk result (λ parts. length parts.ports ≡ length parts.plan.components) }
-    ensures untouched { IfOk result (λ parts. AreUntouched W.Port.told parts.ports) }
+    ensures untouched { IfOk result (λ parts. AreUntouched W.Port.told parts.plan.components parts.ports) }
     ensures unready { IfErr result (IsUnready words.now (W.texts world.old) (W.faults world.old) (W.faults world.new)) }
     ensures texts { W.texts world.new ≡ W.texts world.old }
 {
@@ -79,7 +80,7 @@ fn ports<W: World>(
     world: &mut W,
 ) -> Result<NamedList<W::Port>, WantOfMemory>
     ensures count { IfOk result (λ ports. length ports ≡ length plan.now.components) }
-    ensures untouched { IfOk result (λ ports. AreUntouched W.Port.told ports) }
+    ensures untouched { IfOk result (λ ports. AreUntouched W.Port.told plan.now.components ports) }
     ensures texts { W.texts world.new ≡ W.texts world.old }
     ensures faults { W.faults world.new ≡ W.faults world.old }
 {
@@ -100,7 +101,7 @@ fn port<W: World>(
     component: &Component,
     world: &mut W,
 ) -> Result<Named<W::Port>, WantOfMemory>
-    ensures untouched { IfOk result (λ named. IsUntouched (W.Port.told named.port)) }
+    ensures untouched { IfOk result (λ named. IsUntouched (port_of component.now) (W.Port.told named.port)) }
     ensures texts { W.texts world.new ≡ W.texts world.old }
     ensures faults { W.faults world.new ≡ W.faults world.old }
 {

@@ -1,10 +1,10 @@
-ghost use Rattle.std.specs.Prelude.{◌≡◌, [], length, Some};
+ghost use Rattle.std.specs.Prelude.{◌≡◌, ◌⊎◌, [], length, Some};
 ghost use Rattle.vx_plan.specs.First.{first_plan};
 ghost use Rattle.vx_hub.specs.Making.{AreUntouched};
 ghost use Rattle.vx_hub.specs.Stands.{Stands};
 ghost use Rattle.vx_hub.specs.Remains.{AreNumbered, AreClosed};
 ghost use Rattle.vx_run.specs.Answers.{IsAnswer, IsJudged};
-ghost use Rattle.vx_run.specs.Running.{IsTrueTo, NoneMissing};
+ghost use Rattle.vx_run.specs.Running.{IsTrueTo, IsCounted, NoneMissing};
 
 use crate::driver::drive;
 use crate::fault::Fault;
@@ -15,14 +15,15 @@ use std::sync::Wait;
 use vx_ends::{Clock, Port, World};
 use vx_hub::{Hub, NumberedList, Parts, Remains};
 use vx_plan::Plan;
-use vx_record::Record;
-use vx_value::{TextList, VariableList};
+use vx_record::{Record, TallyList, tallies};
+use vx_value::{TextList, VariableList, WantOfMemory};
 
 /// A run that ended, before its fault is told.
 #[derive(Drop)]
 pub(crate) struct Outcome<P> {
     pub fault: Option<Fault>,
     pub history: Record,
+    pub tallies: TallyList,
     pub ports: NumberedList<P>,
 }
 
@@ -37,6 +38,7 @@ pub(crate) fn run<R: Wait, W: World, C: Clock>(
 ) -> Outcome<W::Port>
     ensures answer { IsAnswer words.now (W.texts world.old) (W.faults world.old) (W.faults world.new) result.history result.fault }
     ensures told { IsTrueTo W.Port.told result.history result.ports result.fault }
+    ensures counted { IsCounted result.history (length result.ports) result.tallies result.fault }
     ensures closed { AreClosed W.Port.told result.ports }
     ensures numbers { AreNumbered 0 result.ports }
     ensures none_missing { NoneMissing result.history result.ports result.fault }
@@ -52,11 +54,14 @@ pub(crate) fn run<R: Wait, W: World, C: Clock>(
 fn unbegun<P>(alloc: Global, fault: Fault) -> Outcome<P>
     ensures fault { result.fault ≡ Some fault }
     ensures history { result.history ≡ [] }
+    ensures tallies { result.tallies ≡ [] }
     ensures ports { result.ports ≡ [] }
+    ensures counted { IsCounted result.history (length result.ports) result.tallies result.fault }
 {
     Outcome {
         fault: Some(fault),
         history: Record::new(alloc),
+        tallies: TallyList::new(alloc),
         ports: NumberedList::new(alloc),
     }
 }
@@ -70,9 +75,10 @@ fn begin<R: Wait, P: Port, C: Clock>(
 ) -> Outcome<P>
     requires plan { parts.plan ≡ first_plan }
     requires ports { length parts.ports ≡ length parts.plan.components }
-    requires untouched { AreUntouched P.told parts.ports }
+    requires untouched { AreUntouched P.told parts.plan.components parts.ports }
     ensures judged { IsJudged result.history result.fault }
     ensures told { IsTrueTo P.told result.history result.ports result.fault }
+    ensures counted { IsCounted result.history (length result.ports) result.tallies result.fault }
     ensures closed { AreClosed P.told result.ports }
     ensures numbers { AreNumbered 0 result.ports }
     ensures none_missing { NoneMissing result.history result.ports result.fault }
@@ -99,6 +105,7 @@ fn finish<R: Wait, P: Port, C: Clock>(
     requires size { length hub.rows.items ≡ length first_plan.components }
     ensures judged { IsJudged result.history result.fault }
     ensures told { IsTrueTo P.told result.history result.ports result.fault }
+    ensures counted { IsCounted result.history (length result.ports) result.tallies result.fault }
     ensures closed { AreClosed P.told result.ports }
     ensures numbers { AreNumbered 0 result.ports }
     ensures count { length result.ports ≡ length first_plan.components }
@@ -106,10 +113,33 @@ fn finish<R: Wait, P: Port, C: Clock>(
     let mut hub = hub;
     drive(rt, alloc, &mut hub, clock);
     let fault = judge(alloc, plan, &hub);
+    let instances = hub.instances();
     let Remains { ports, history } = hub.end();
+    let Counted { tallies, fault } = count(alloc, &history, instances, fault);
     Outcome {
         fault,
         history,
+        tallies,
         ports,
+    }
+}
+
+/// What each instance of an ended run counted, and the run's fault.
+struct Counted {
+    tallies: TallyList,
+    fault: Option<Fault>,
+}
+
+/// Counts what the instances did. Where no memory is found for that, nothing is counted, and that is the run's fault.
+fn count(alloc: Global, history: &Record, instances: u32, fault: Option<Fault>) -> Counted
+    ensures counted { IsCounted history.now instances result.tallies result.fault }
+    ensures kept { (result.fault ≡ fault) ⊎ (result.fault ≡ Some Fault.WantOfMemory) }
+{
+    match tallies(alloc, history, instances) {
+        Ok(tallies) => Counted { tallies, fault },
+        Err(WantOfMemory) => Counted {
+            tallies: TallyList::new(alloc),
+            fault: Some(Fault::WantOfMemory),
+        },
     }
 }

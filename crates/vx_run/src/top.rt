@@ -1,8 +1,8 @@
-ghost use Rattle.std.specs.Prelude.{◌≡◌};
+ghost use Rattle.std.specs.Prelude.{◌≡◌, length};
 ghost use Rattle.vx_hub.specs.Remains.{AreNumbered, AreClosed};
 ghost use Rattle.vx_run.specs.Answers.{IsAnswer};
 ghost use Rattle.vx_run.specs.Faults.{ended_status};
-ghost use Rattle.vx_run.specs.Running.{IsTrueTo, NoneMissing};
+ghost use Rattle.vx_run.specs.Running.{IsTrueTo, IsCounted, NoneMissing};
 ghost use Rattle.vx_run.specs.Telling.{IsSaid};
 
 use crate::ended::Ended;
@@ -28,6 +28,7 @@ pub fn vector<R: Wait, W: World, C: Clock, P: Printer, L: Printer>(
     err: &mut L,
 ) -> Ended<W>
     ensures told { IsTrueTo W.Port.told result.history result.ports result.fault }
+    ensures counted { IsCounted result.history (length result.ports) result.tallies result.fault }
     ensures closed { AreClosed W.Port.told result.ports }
     ensures numbers { AreNumbered 0 result.ports }
     ensures none_missing { NoneMissing result.history result.ports result.fault }
@@ -41,6 +42,7 @@ pub fn vector<R: Wait, W: World, C: Clock, P: Printer, L: Printer>(
     let Outcome {
         fault,
         history,
+        tallies,
         ports,
     } = run(rt, alloc, words, environment, &mut world, clock);
     let fault = tell(alloc, fault, err);
@@ -48,6 +50,7 @@ pub fn vector<R: Wait, W: World, C: Clock, P: Printer, L: Printer>(
         status: status_of(&fault),
         fault,
         history,
+        tallies,
         ports,
         world,
     }

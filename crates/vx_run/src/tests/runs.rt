@@ -38,7 +38,11 @@ fn piece(alloc: Global, bytes: &str) -> Result<Step, WantOfMemory> {
 }
 
 /// A world with that text at `first.toml`, whose `in` plays these steps.
-fn world(alloc: Global, text: &str, steps: StepList) -> Result<MemoryWorld, WantOfMemory> {
+pub(crate) fn world(
+    alloc: Global,
+    text: &str,
+    steps: StepList,
+) -> Result<MemoryWorld, WantOfMemory> {
     staged(alloc, text, steps, ActList::new(alloc), ActList::new(alloc))
 }
 

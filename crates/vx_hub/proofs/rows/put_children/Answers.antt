@@ -13,6 +13,7 @@ returns-clause-gains g c =
       row_counts batch place c.index_mut.result.now,
       row_counts batch place (record c.index_mut.result.now { waiting = c.replace-none.new.dest }),
       ap (λ (v : _). copies_of batch place (child_copies v.items)) c.replace-none.ensures.after,
+      ap (λ cs. copies_of batch place (child_copies cs)) c.into_vec.ensures,
       ap (λ cs. copies_of batch place (child_copies cs)) (row_has (λ row. row.waiting.items ≡ []) c.args.rows.now.items c.args.i c.index_mut.result.now c.requires.within c.index_mut.ensures.value c.requires.none),
     ))
 

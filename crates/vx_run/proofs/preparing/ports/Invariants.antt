@@ -5,7 +5,7 @@ use Rattle.vx_run.proofs.preparing.ports.Given as goal
 abbrev pub invariant-loop-component : goal.invariant-loop-component
 invariant-loop-component g l = record {
   count : length l.ports ≡ l.component-index;
-  untouched : AreUntouched g.W.Port.Port.told l.ports;
+  untouched : AreUntouched g.W.Port.Port.told l.plan.components l.ports;
   texts : g.W.World.texts l.world ≡ g.W.World.texts l.fn.world;
   faults : g.W.World.faults l.world ≡ g.W.World.faults l.fn.world;
 }

@@ -1,7 +1,21 @@
-use Rattle.std.proofs.Common.{sym, subst}
+use Rattle.std.proofs.Common.{◌≡◌, length, sym, subst, arith}
 use Rattle.vx_record.specs.Records.{Record}
+use Rattle.vx_hub.specs.Order.{IsOrderly}
 use Rattle.vx_run.specs.Answers.{IsJudged}
+use Rattle.vx_run.specs.Running.{IsCounted}
+use Rattle.vx_run.proofs.Counting.{judged_short, true_short, true_of}
 use Rattle.vx_run.proofs.running.finish.Goals as goal
 
 pub returns-clause-judged : goal.returns-clause-judged
-returns-clause-judged g c = subst (λ (h : Record). IsJudged h c.judge-fault.result) (sym c.end-ports.ensures.history) c.judge-fault.ensures.judged
+returns-clause-judged g c = judged_short c.end-ports.result.history c.judge-fault.result c.count-tallies.result.fault c.count-tallies.ensures.kept
+    (subst (λ (h : Record). IsJudged h c.judge-fault.result) (sym c.end-ports.ensures.history) c.judge-fault.ensures.judged)
+
+pub returns-clause-told : goal.returns-clause-told
+returns-clause-told g c = true_short g.P.Port.told c.end-ports.result.history c.end-ports.result.ports c.judge-fault.result c.count-tallies.result.fault c.count-tallies.ensures.kept
+    (true_of g.P.Port.told c.drive.new.hub c.end-ports.result.history c.end-ports.result.ports c.judge-fault.result c.judge-fault.ensures.sure c.end-ports.ensures.told
+    (λ sound. subst (λ (h : Record). IsOrderly h) (sym c.end-ports.ensures.history) (c.drive.ensures.stands.recorded sound).order))
+
+pub returns-clause-counted : goal.returns-clause-counted
+returns-clause-counted g c =
+    let same : c.instances-instances.result ≡ length c.end-ports.result.ports = omega (arith, c.instances-instances.ensures, c.end-ports.ensures.count, c.drive.ensures.stands.berths.few) in
+    subst (λ n. IsCounted c.end-ports.result.history n c.count-tallies.result.tallies c.count-tallies.result.fault) same c.count-tallies.ensures.counted

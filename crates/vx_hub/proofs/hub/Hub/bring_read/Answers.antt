@@ -15,3 +15,12 @@ bring-requires-in-Idle-clause-stands g c = c.note_idle.ensures.stands (role_copi
 
 pub bring-requires-in-Failed-clause-stands : goal.bring-requires-in-Failed-clause-stands
 bring-requires-in-Failed-clause-stands g c = c.note_failed.ensures.stands (role_copies c.args.task.role) c.requires.stands
+
+pub give_birth-requires-clause-read : goal.give_birth-requires-clause-read
+give_birth-requires-clause-read g c = c.bring.ensures.read c.args.instance c.note_taken.ensures.read
+
+pub give_birth-requires-in-StreamEnded-clause-read : goal.give_birth-requires-in-StreamEnded-clause-read
+give_birth-requires-in-StreamEnded-clause-read g c = c.bring-in-StreamEnded.ensures.read c.args.instance c.note_end.ensures.read
+
+pub give_birth-requires-in-AllEnded-clause-read : goal.give_birth-requires-in-AllEnded-clause-read
+give_birth-requires-in-AllEnded-clause-read g c = c.mark_over.ensures.read c.args.instance (c.bring-in-AllEnded.ensures.read c.args.instance c.note_end-in-AllEnded.ensures.read)

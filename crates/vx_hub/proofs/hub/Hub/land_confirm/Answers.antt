@@ -20,6 +20,7 @@ returns-in-Some-clause-back g c =
           let before = c.requires.brings (record { whole = w.0; fed = sym c.note_confirm.ensures.starved ∙ sound.fed }) in
           subst (λ (k : Record). Brings told k i None c.args.landing.done) (sym w.1)
           (brings_confirm told h i c.in-Some.confirmed c.args.landing.done (subst (λ (o : Option Confirmed). Brings told h i o c.args.landing.done) c.in-Some.is before));
+      unlost = λ reading. c.note_confirm.ensures.unlost (c.requires.unlost reading);
       due = λ sound. tt;
       events = c.requires.events;
       closed = c.requires.closed;

@@ -1,4 +1,4 @@
-use Rattle.std.proofs.Common.{refl, false, ◌≡◌, ap, sym}
+use Rattle.std.proofs.Common.{refl, false, ◌≡◌, ap, sym, None}
 use Rattle.std.specs.Prelude.{if◌then◌else◌, not}
 use Rattle.vx_record.specs.Confirms.{is_unconfirmed}
 use Rattle.vx_record.specs.declared.entry.Entry.TheVariants as entry
@@ -20,8 +20,7 @@ returns-clause-stands g c hand s =
       confirm_failed = sym (ap (λ t. if t then not c.args.confirmed.made else is_unconfirmed c.args.self.now.log.history c.args.instance) (same_test c.args.instance));
     })
     (λ bytes. bytes)
-    (λ known losses. losses)
-    (λ sound confirms. (c.requires.due sound, confirms))
+    refl (λ fine known. c.requires.due fine)
 
 pub returns-clause-open : goal.returns-clause-open
 returns-clause-open g c open_at = record {
@@ -29,3 +28,7 @@ returns-clause-open g c open_at = record {
   unclosed = facts_get (λ f. f.closed ≡ false) c.args.self.now.facts.items c.args.instance _ c.requires.within
       (facts_surely (λ f. f.closed ≡ false) c.args.self.now.facts.items c.args.instance c.index_mut-facts.result.now c.requires.within c.index_mut-facts.ensures.value open_at.unclosed);
 }
+
+pub returns-clause-unlost : goal.returns-clause-unlost
+returns-clause-unlost g c unlost = facts_get (λ f. f.lost ≡ None) c.args.self.now.facts.items c.args.instance _ c.requires.within
+    (facts_surely (λ f. f.lost ≡ None) c.args.self.now.facts.items c.args.instance c.index_mut-facts.result.now c.requires.within c.index_mut-facts.ensures.value unlost)

@@ -1,4 +1,4 @@
-use Rattle.std.proofs.Common.{refl, false, ◌≡◌, ◌+◌, ◌<◌, ◌∙◌, ap, sym, subst}
+use Rattle.std.proofs.Common.{refl, false, ◌≡◌, ◌+◌, ◌<◌, ◌∙◌, ap, sym, subst, None}
 use Rattle.std.specs.Prelude.{if◌then◌else◌}
 use Rattle.vx_record.specs.Sourcing.{failed_starts}
 use Rattle.vx_record.specs.declared.entry.Entry.TheVariants as entry
@@ -20,8 +20,7 @@ returns-clause-stands g c hand s =
       confirm_failed = known.confirm_failed;
     })
     (λ bytes. bytes)
-    (λ known losses. (λ failed. subst (λ n. n < 4) known.failed_starts (facts_surely (λ f. f.failed_starts < 4) c.args.self.now.facts.items c.args.instance c.index_mut-facts.result.now c.requires.within c.index_mut-facts.ensures.value (c.requires.few failed)), losses))
-    (λ sound confirms. confirms)
+    refl (λ fine known. record { unlost = sym known.lost ∙ facts_surely (λ f. f.lost ≡ None) c.args.self.now.facts.items c.args.instance c.index_mut-facts.result.now c.requires.within c.index_mut-facts.ensures.value c.requires.unlost; few = λ failed. subst (λ n. n < 4) known.failed_starts (facts_surely (λ f. f.failed_starts < 4) c.args.self.now.facts.items c.args.instance c.index_mut-facts.result.now c.requires.within c.index_mut-facts.ensures.value (c.requires.few failed)) })
 
 pub returns-clause-open : goal.returns-clause-open
 returns-clause-open g c open_at = record {

@@ -1,17 +1,17 @@
-use Rattle.std.proofs.Common.{[], refl, false, ◌≡◌, ◌<◌, sym, subst, length, Option, IfSome, arith}
+use Rattle.std.proofs.Common.{[], refl, false, ◌≡◌, ◌<◌, sym, subst, length, Option, None, IfSome, arith}
 use Rattle.vx_record.specs.Confirms.{born_positions}
 use Rattle.vx_hub.specs.Stands.{IsShut, IsGone, IsKnown}
 use Rattle.vx_record.specs.Records.{Record}
 use Rattle.vx_record.specs.declared.entry.Entry.TheVariants.{Lease}
-use Rattle.vx_hub.proofs.StandsLaws.{known_quiet, to_confirm_on}
+use Rattle.vx_hub.proofs.StandsLaws.{known_quiet, to_confirm_on, same_next}
 use Rattle.vx_hub.proofs.Touching.{stands_marked, facts_surely, facts_get, facts_has}
 use Rattle.vx_hub.proofs.hub.Hub.note_lease.Goals as goal
 
 pub returns-clause-stands : goal.returns-clause-stands
 returns-clause-stands g c =
     let within : c.args.instance < length c.args.self.now.facts.items = omega (arith, c.requires.stands.size, c.requires.open.within) in
-    stands_marked g.P.Port.told c.args.self.now _ [] _ c.args.instance c.index_mut-facts.result.now _ c.requires.stands within c.index_mut-facts.ensures.value
-    refl refl refl refl refl refl c.note.ensures.noted tt refl
+    stands_marked g.P.Port.told c.args.self.now _ [] [] _ c.args.instance c.index_mut-facts.result.now _ c.requires.stands within c.index_mut-facts.ensures.value
+    refl refl refl c.requires.stands.balanced refl refl c.note.ensures.noted tt (same_next c.args.self.now.batches c.args.self.now.batches c.args.self.now.log.history (Lease c.args.instance c.args.worker c.args.now 0) refl refl) (λ fine. tt) refl
     (λ known. known_quiet _ c.args.self.now.log.history c.args.instance _ tt (record { taken = known.taken; lost = known.lost; failed_starts = known.failed_starts; ends = known.ends; to_confirm = subst (λ (o : Option _). IfSome o (λ positions. positions ≡ born_positions c.args.self.now.log.history c.args.instance)) (sym c.take.ensures.after) tt; confirm_failed = known.confirm_failed }))
     (λ x k other known. known_quiet x c.args.self.now.log.history k _ tt known)
     (facts_has (IsShut g.P.Port.told c.args.self.now.rows.items c.args.instance) c.args.self.now.facts.items c.args.instance c.index_mut-facts.result.now within c.index_mut-facts.ensures.value (c.requires.stands.shut c.args.instance))
@@ -37,3 +37,9 @@ returns-clause-due g c sound =
     subst (λ (o : Option _). IfSome o (λ positions. positions ≡ born_positions c.note.new.self.history c.args.instance)) (sym c.take.ensures.value)
     (subst (λ (k : Record). IfSome c.index_mut-facts.result.now.to_confirm (λ positions. positions ≡ born_positions k c.args.instance)) (sym w.1)
     (to_confirm_on c.index_mut-facts.result.now h c.args.instance (Lease c.args.instance c.args.worker c.args.now 0) refl mine.to_confirm))
+
+pub returns-clause-unlost : goal.returns-clause-unlost
+returns-clause-unlost g c unlost =
+    let within : c.args.instance < length c.args.self.now.facts.items = omega (arith, c.requires.stands.size, c.requires.open.within) in
+    facts_get (λ f. f.lost ≡ None) c.args.self.now.facts.items c.args.instance _ within
+    (facts_surely (λ f. f.lost ≡ None) c.args.self.now.facts.items c.args.instance c.index_mut-facts.result.now within c.index_mut-facts.ensures.value unlost)

@@ -1,4 +1,4 @@
-use Rattle.std.proofs.Common.{refl, false, ◌≡◌, ◌≤◌, ap, sym, subst, Some}
+use Rattle.std.proofs.Common.{refl, false, ◌≡◌, ◌≤◌, ap, sym, subst, Some, None, ◌∙◌}
 use Rattle.std.specs.Prelude.{if◌then◌else◌}
 use Rattle.vx_hub.specs.Stands.{lost_at}
 use Rattle.vx_record.specs.declared.entry.Entry.TheVariants as entry
@@ -20,8 +20,7 @@ returns-clause-stands g c hand s =
       confirm_failed = known.confirm_failed;
     })
     (λ bytes. bytes)
-    (λ known losses. (record { after = known.taken; many = λ failed. subst (λ n. 4 ≤ n) known.failed_starts (facts_surely (λ f. 4 ≤ f.failed_starts) c.args.self.now.facts.items c.args.instance c.index_mut-facts.result.now c.requires.within c.index_mut-facts.ensures.value (c.requires.many failed)) }, losses))
-    (λ sound confirms. confirms)
+    refl (λ fine known. record { first = sym known.lost ∙ facts_surely (λ f. f.lost ≡ None) c.args.self.now.facts.items c.args.instance c.index_mut-facts.result.now c.requires.within c.index_mut-facts.ensures.value c.requires.unlost; after = known.taken; many = λ failed. subst (λ n. 4 ≤ n) known.failed_starts (facts_surely (λ f. 4 ≤ f.failed_starts) c.args.self.now.facts.items c.args.instance c.index_mut-facts.result.now c.requires.within c.index_mut-facts.ensures.value (c.requires.many failed)) })
 
 pub returns-clause-open : goal.returns-clause-open
 returns-clause-open g c open_at = record {

@@ -1,8 +1,10 @@
-use Rattle.std.proofs.Common.{refl, false, ◌≡◌, ◌+◌, ◌∙◌, ap, sym, length}
+use Rattle.std.proofs.Common.{refl, false, ◌≡◌, ◌+◌, ◌∙◌, ap, sym, length, None, subst}
 use Rattle.std.specs.Prelude.{if◌then◌else◌, min, ◌^◌, ◌-◌}
 use Rattle.vx_record.specs.Sourcing.{failed_starts}
 use Rattle.vx_record.specs.declared.entry.Entry.TheVariants as entry
 use Rattle.vx_record.specs.declared.taken.Taken.TheVariants as taken
+use Rattle.vx_record.specs.Records.{Record}
+use Rattle.vx_hub.specs.Order.{IsReadBy}
 use Rattle.vx_hub.proofs.StandsLaws.{ends_on, to_confirm_on}
 use Rattle.vx_hub.proofs.Silence.{same_test}
 use Rattle.vx_hub.proofs.Touching.{stands_touched, facts_surely, facts_get, capped_on, capped_mine}
@@ -21,8 +23,7 @@ returns-clause-stands g c hand s =
       confirm_failed = known.confirm_failed;
     })
     (λ bytes. c.saturating_add-self.ensures ∙ ap (λ n. min (c.args.self.now.bytes + n) (2 ^ 64 - 1)) c.len-n.ensures ∙ capped_on c.args.self.now.bytes _ (length c.args.bytes) _ bytes)
-    (λ known losses. losses)
-    (λ sound confirms. confirms)
+    refl (λ fine known. sym known.lost ∙ facts_surely (λ f. f.lost ≡ None) c.args.self.now.facts.items c.args.instance c.index_mut-facts.result.now c.requires.within c.index_mut-facts.ensures.value c.requires.unlost)
 
 pub returns-clause-open : goal.returns-clause-open
 returns-clause-open g c open_at = record {
@@ -30,3 +31,6 @@ returns-clause-open g c open_at = record {
   unclosed = facts_get (λ f. f.closed ≡ false) c.args.self.now.facts.items c.args.instance _ c.requires.within
       (facts_surely (λ f. f.closed ≡ false) c.args.self.now.facts.items c.args.instance c.index_mut-facts.result.now c.requires.within c.index_mut-facts.ensures.value open_at.unclosed);
 }
+
+pub returns-clause-read : goal.returns-clause-read
+returns-clause-read g c sound = subst (λ (h : Record). IsReadBy h c.args.instance) (sym (c.note.ensures.noted.whole sound.whole).1) refl

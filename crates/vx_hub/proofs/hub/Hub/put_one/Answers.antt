@@ -8,4 +8,4 @@ returns-clause-stands g c rest s =
     stands_moved g.P.Port.told c.args.self.now _ _ rest s
     (rest_balanced c.args.self.now.batches c.args.self.now.rows.items c.push_output.new.rows.items rest c.args.finalizers s.balanced c.push_output.ensures.gains)
     refl c.push_output.ensures.ports (bare_unclosed c.args.self.now.facts.items c.args.self.now.rows.items c.push_output.new.rows.items c.args.instance c.requires.open.unclosed s.gone c.push_output.ensures.bare)
-    c.push_output.ensures.size refl refl refl refl
+    c.push_output.ensures.size refl refl refl refl refl

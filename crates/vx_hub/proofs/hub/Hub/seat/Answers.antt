@@ -3,33 +3,35 @@ use Rattle.vx_ledger.specs.Copies.{copies_of}
 use Rattle.vx_hub.specs.declared.row.Row.{Row}
 use Rattle.vx_hub.specs.declared.facts.Facts.{Facts}
 use Rattle.vx_hub.specs.Making.{IsUntouched, AreNew}
-use Rattle.vx_hub.specs.Stands.{facts_at}
+use Rattle.std.specs.Prelude.{slice_get}
+use Rattle.vx_hub.specs.Stands.{facts_at, spec_of}
 use Rattle.vx_hub.specs.Rows.{parcel_copies, child_copies, copies_in, port_at}
 use Rattle.vx_hub.proofs.Parcels.{row_counts}
 use Rattle.vx_hub.proofs.Beginning.{ports_more, facts_more, copies_more, role_counts}
 use Rattle.vx_hub.proofs.hub.Hub.seat.Goals as goal
 
 pub returns-clause-begins : goal.returns-clause-begins
-returns-clause-begins g c =
+returns-clause-begins g c plan begins untouched =
     let row : Row _ = record { outputs = c.args.seat.outputs; waiting = c.new.result; buffer = c.args.seat.buffer; task = Some (record { port = c.args.port; role = c.args.seat.role }) } in
     record {
-      batches = c.requires.begins.batches;
+      batches = begins.batches;
+      next = begins.next;
       copies = λ batch place. omega (
         arith,
         ap (copies_in batch place) c.push_reserved-3.ensures.items,
         copies_more batch place c.args.self.now.rows.items row,
-        c.requires.begins.copies batch place,
+        begins.copies batch place,
         row_counts batch place row,
         ap (λ ps. copies_of batch place (parcel_copies ps)) c.requires.unused.outputs,
         ap (λ ps. copies_of batch place (parcel_copies ps)) c.requires.unused.buffer,
         ap (λ cs. copies_of batch place (child_copies cs)) c.new.ensures.items,
         role_counts batch place c.args.seat.role c.requires.unused.held,
       );
-      ports = λ i. subst (λ (rows : List (Row _)). IfSome (port_at rows i) (λ port. IsUntouched (g.P.Port.told port))) (sym c.push_reserved-3.ensures.items)
-          (ports_more (λ port. IsUntouched (g.P.Port.told port)) c.args.self.now.rows.items row c.requires.begins.ports c.requires.untouched i);
+      ports = λ i. subst (λ (rows : List (Row _)). IfSome (port_at rows i) (λ port. IsUntouched (spec_of (slice_get plan.components i)) (g.P.Port.told port))) (sym c.push_reserved-3.ensures.items)
+          (ports_more (λ k port. IsUntouched (spec_of (slice_get plan.components k)) (g.P.Port.told port)) c.args.self.now.rows.items row begins.ports untouched i);
       facts = λ i. subst (λ (fs : List Facts). IfSome (facts_at fs i) AreNew) (sym c.push_reserved.ensures.items)
-          (facts_more AreNew c.args.self.now.facts.items c.args.seat.facts c.requires.begins.facts c.requires.unused.facts i);
-      bytes = c.requires.begins.bytes;
-      abandoned = c.requires.begins.abandoned;
-      size = omega (arith, c.push_reserved.ensures.len, c.push_reserved-3.ensures.len, c.requires.begins.size);
+          (facts_more AreNew c.args.self.now.facts.items c.args.seat.facts begins.facts c.requires.unused.facts i);
+      bytes = begins.bytes;
+      abandoned = begins.abandoned;
+      size = omega (arith, c.push_reserved.ensures.len, c.push_reserved-3.ensures.len, begins.size);
     }

@@ -4,8 +4,8 @@ use Rattle.vx_hub.specs.Stands.{Stands}
 use Rattle.vx_hub.proofs.StandsLaws.{hand_live}
 use Rattle.vx_hub.proofs.hub.Hub.spend.Goals as goal
 
-pub spend_one-requires : goal.spend_one-requires
-spend_one-requires g c =
+pub spend_one-requires-clause-live : goal.spend_one-requires-clause-live
+spend_one-requires-clause-live g c =
     let stands : Stands g.P.Port.told c.loop-finalizer.self (c.pop.new.self ++ c.in-Some.finalizer ∷ []) c.loop-finalizer.self.log.history =
     subst (λ (fs : List Copy). Stands g.P.Port.told c.loop-finalizer.self fs c.loop-finalizer.self.log.history) c.in-Some.ensures.some c.loop-finalizer.invariant.stands in
     hand_live c.loop-finalizer.self.batches c.loop-finalizer.self.rows.items c.pop.new.self c.in-Some.finalizer stands.balanced
@@ -14,6 +14,7 @@ pub loop-finalizer-preserved : goal.loop-finalizer-preserved
 loop-finalizer-preserved g c = record {
   stands = c.spend_one.ensures.stands c.pop.new.self
       (subst (λ (fs : List Copy). Stands g.P.Port.told c.loop-finalizer.self fs c.loop-finalizer.self.log.history) c.in-Some.ensures.some c.loop-finalizer.invariant.stands);
+  cause = c.spend_one.ensures.cause;
   rows = c.spend_one.ensures.rows ∙ c.loop-finalizer.invariant.rows;
   facts = c.spend_one.ensures.facts ∙ c.loop-finalizer.invariant.facts;
   abandoned = c.spend_one.ensures.abandoned ∙ c.loop-finalizer.invariant.abandoned;

@@ -1,10 +1,12 @@
 use Rattle.std.proofs.Common.{◌≡◌, length}
+use Rattle.vx_hub.specs.Spending.{MaySpend}
 use Rattle.vx_hub.specs.Stands.{Stands}
 use Rattle.vx_hub.proofs.hub.Hub.spend.Given as goal
 
 abbrev pub invariant-loop-finalizer : goal.invariant-loop-finalizer
 invariant-loop-finalizer g l = record {
   stands : Stands g.P.Port.told l.self l.finalizers l.self.log.history;
+  cause : MaySpend l.self l.instance l.outcome;
   rows : l.self.rows ≡ l.fn.self.rows;
   facts : l.self.facts ≡ l.fn.self.facts;
   abandoned : l.self.abandoned ≡ l.fn.self.abandoned;

@@ -1,10 +1,12 @@
 use Rattle.std.proofs.Common.{◌≡◌, [], length}
+use Rattle.vx_hub.specs.Spending.{MaySpend}
 use Rattle.vx_hub.specs.Stands.{Stands}
 use Rattle.vx_hub.proofs.hub.Hub.spend_held.Given as goal
 
 abbrev pub invariant-loop : goal.invariant-loop
 invariant-loop g l = record {
   stands : Stands g.P.Port.told l.self [] l.self.log.history;
+  cause : MaySpend l.self l.instance l.outcome;
   facts : l.self.facts ≡ l.fn.self.facts;
   size : length l.self.rows.items ≡ length l.fn.self.rows.items;
 }

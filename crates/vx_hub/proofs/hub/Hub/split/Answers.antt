@@ -1,21 +1,73 @@
-use Rattle.std.proofs.Common.{refl, ◌∙◌, []}
-use Rattle.vx_hub.proofs.StandsLaws.{stands_quiet, stands_moved, split_balanced, back_balanced, bare_but}
+use Rattle.std.proofs.Common.{refl, sym, ap, subst, ◌∙◌, ◌≡◌, ◌*◌, ◌+◌, ◌≤◌, [], length}
+use Rattle.std.specs.Prelude.{◌^◌}
+use Rattle.vx_ledger.specs.Ledger.{Ledger, Exchanges}
+use Rattle.vx_ledger.specs.Routing.{targets_of, children_for}
+use Rattle.vx_ledger.specs.declared.parcel.Parcel.{Parcel}
+use Rattle.vx_record.specs.declared.entry.Entry.TheVariants.{Split}
+use Rattle.vx_hub.specs.declared.fatal.Fatal.{Fatal}
+use Rattle.vx_hub.specs.Rows.{child_copies}
+use Rattle.vx_hub.specs.Numbers.{numbers_in, noted_of}
+use Rattle.vx_hub.specs.Failures.{abandon_cause}
+use Rattle.vx_hub.specs.Order.{IsReason}
+use Rattle.vx_hub.proofs.Ordering.{children_have, parcel_has, targets_some, split_next, split_in_order, noted_split, short_reason, unread_balanced, unread_may}
+use Rattle.vx_hub.proofs.StandsLaws.{stands_quiet, stands_moved, split_balanced, back_balanced, bare_but, bare_by}
 use Rattle.vx_hub.proofs.hub.Hub.split.Goals as goal
 
-pub returns-in-Ok-clause-stands : goal.returns-in-Ok-clause-stands
-returns-in-Ok-clause-stands g c =
-    stands_quiet g.P.Port.told c.args.self.now _ [] [] c.note_children.ensures.0 c.requires.stands
-    (split_balanced c.args.self.now.batches c.route.new.batches c.args.self.now.rows.items c.pop_output.new.rows.items c.put_children.new.rows.items c.in-Some.parcel.finalizers _
-    c.requires.stands.balanced c.in-Some.ensures.loses c.in-Ok.ensures.exchange c.put_children.ensures.gains)
+pub returns-in-Ok-Children-clause-stands : goal.returns-in-Ok-Children-clause-stands
+returns-in-Ok-Children-clause-stands g c =
+    let s = c.requires.stands in
+    let d = c.args.self.now in
+    let parcel = c.in-Some.parcel in
+    let targets = targets_of 1 c.index.result.now.outlet in
+    let made = c.in-Ok-Children.children in
+    let cs = c.as_slice.result.now in
+    let are : cs ≡ children_for targets d.batches.next parcel =
+    c.as_slice.ensures ∙ children_have c.in-Ok-Children.field-0 made (λ children. children ≡ children_for targets d.batches.next parcel) c.in-Ok-Children.field-0-is c.in-Ok-Children.ensures.children in
+    let more : c.route.new.batches.next ≡ d.batches.next + length targets * length parcel.finalizers =
+    children_have c.in-Ok-Children.field-0 made (λ children. c.route.new.batches.next ≡ d.batches.next + length targets * length parcel.finalizers) c.in-Ok-Children.field-0-is c.in-Ok-Children.ensures.next in
+    let exchange = children_have c.in-Ok-Children.field-0 made (λ children. Exchanges d.batches parcel.finalizers c.route.new.batches (child_copies children)) c.in-Ok-Children.field-0-is c.in-Ok-Children.ensures.exchange in
+    let noted = noted_split d.log c.note_children.new.log c.args.instance c.taken_apart-noted.result (numbers_in parcel.finalizers) parcel.event (noted_of cs) c.taken_apart-noted.ensures c.note_children.ensures.noted c.note_children.ensures.unmade in
+    stands_quiet g.P.Port.told d _ [] [] (Split c.args.instance 1 (numbers_in parcel.finalizers) noted.0 (noted_of cs)) s
+    (split_balanced d.batches c.route.new.batches d.rows.items c.pop_output.new.rows.items c.put_children.new.rows.items parcel.finalizers (child_copies made)
+    s.balanced c.in-Some.ensures.loses exchange c.put_children.ensures.gains)
     refl (λ i. c.put_children.ensures.ports i ∙ c.pop_output.ensures.ports i)
-    (bare_but c.args.self.now.facts.items c.args.self.now.rows.items c.pop_output.new.rows.items c.put_children.new.rows.items c.args.instance (c.in-Some.ensures.held refl) c.pop_output.ensures.bare c.put_children.ensures.bare)
-    (c.put_children.ensures.size ∙ c.pop_output.ensures.size) c.note_children.ensures.2 c.note_children.ensures.1 refl refl refl
+    (bare_but d.facts.items d.rows.items c.pop_output.new.rows.items c.put_children.new.rows.items c.args.instance (c.in-Some.ensures.held refl) c.pop_output.ensures.bare c.put_children.ensures.bare)
+    (c.put_children.ensures.size ∙ c.pop_output.ensures.size) noted.1
+    (record {
+      quiet = tt;
+      next = split_next d.log.history d.batches.next c.route.new.batches.next targets parcel cs are more;
+      order = λ fine. split_in_order d.log.history d.batches.next targets parcel cs (s.recorded fine).next are
+          (targets_some c.in-Ok-Children.field-0 made targets c.in-Ok-Children.field-0-is c.in-Ok-Children.ensures.no_consumer.1)
+          (subst (λ n. n ≤ 2 ^ 63) more c.in-Ok-Children.ensures.kept.numbers);
+    })
+    refl refl refl
 
 pub returns-in-Err-clause-stands : goal.returns-in-Err-clause-stands
 returns-in-Err-clause-stands g c =
-    stands_moved g.P.Port.told c.args.self.now _ [] [] c.requires.stands
-    (back_balanced c.args.self.now.batches c.route.new.batches c.args.self.now.rows.items c.pop_output.new.rows.items c.push_output.new.rows.items c.in-Some.parcel.finalizers c.in-Err.refused.parcel.finalizers
-    c.requires.stands.balanced c.in-Some.ensures.loses c.in-Err.ensures.same c.in-Err.ensures.back c.push_output.ensures.gains)
+    let s = c.requires.stands in
+    let d = c.args.self.now in
+    stands_moved g.P.Port.told d _ [] [] s
+    (back_balanced d.batches c.route.new.batches d.rows.items c.pop_output.new.rows.items c.push_output.new.rows.items c.in-Some.parcel.finalizers c.in-Err.field-0.parcel.finalizers
+    s.balanced c.in-Some.ensures.loses c.in-Err.ensures.unchanged (ap (λ (p : Parcel). p.finalizers) c.in-Err.ensures.back) c.push_output.ensures.gains)
     refl (λ i. c.push_output.ensures.ports i ∙ c.pop_output.ensures.ports i)
-    (bare_but c.args.self.now.facts.items c.args.self.now.rows.items c.pop_output.new.rows.items c.push_output.new.rows.items c.args.instance (c.in-Some.ensures.held refl) c.pop_output.ensures.bare c.push_output.ensures.bare)
-    (c.push_output.ensures.size ∙ c.pop_output.ensures.size) refl refl refl refl
+    (bare_but d.facts.items d.rows.items c.pop_output.new.rows.items c.push_output.new.rows.items c.args.instance (c.in-Some.ensures.held refl) c.pop_output.ensures.bare c.push_output.ensures.bare)
+    (c.push_output.ensures.size ∙ c.pop_output.ensures.size) (ap (λ (l : Ledger). l.next) c.in-Err.ensures.unchanged) refl refl refl refl
+
+pub returns-in-Err-clause-reason : goal.returns-in-Err-clause-reason
+returns-in-Err-clause-reason g c sound =
+    subst (λ (f : Fatal). IsReason c.args.self.now.log.history (abandon_cause f)) (sym c.from.ensures)
+    (short_reason c.args.self.now.log.history c.args.self.now.batches.next _ c.in-Err.field-0.cause (c.requires.stands.recorded (record { whole = sound.whole; fed = sound.fed })).next c.in-Err.ensures.cause)
+
+pub spend-requires-clause-stands : goal.spend-requires-clause-stands
+spend-requires-clause-stands g c =
+    let s = c.requires.stands in
+    let d = c.args.self.now in
+    let unmoved = parcel_has c.in-Ok-NoConsumer.field-0 c.in-Ok-NoConsumer.parcel (λ p. c.route.new.batches ≡ d.batches) c.in-Ok-NoConsumer.field-0-is c.in-Ok-NoConsumer.ensures.unmoved in
+    let whole : c.in-Ok-NoConsumer.parcel ≡ c.in-Some.parcel = parcel_has c.in-Ok-NoConsumer.field-0 c.in-Ok-NoConsumer.parcel (λ p. p ≡ c.in-Some.parcel) c.in-Ok-NoConsumer.field-0-is c.in-Ok-NoConsumer.ensures.whole in
+    stands_moved g.P.Port.told d _ [] c.in-Ok-NoConsumer.parcel.finalizers s
+    (unread_balanced d.batches c.route.new.batches d.rows.items c.pop_output.new.rows.items c.in-Some.parcel.finalizers c.in-Ok-NoConsumer.parcel.finalizers s.balanced c.in-Some.ensures.loses unmoved
+    (ap (λ (p : Parcel). p.finalizers) whole))
+    refl c.pop_output.ensures.ports (bare_by d.facts.items d.rows.items c.pop_output.new.rows.items c.pop_output.ensures.bare) c.pop_output.ensures.size (ap (λ (l : Ledger). l.next) unmoved) refl refl refl refl
+
+pub spend-requires-clause-cause : goal.spend-requires-clause-cause
+spend-requires-clause-cause g c = unread_may _ c.args.instance

@@ -1,5 +1,7 @@
 use Rattle.std.proofs.Common.{refl, ◌∙◌, []}
-use Rattle.vx_hub.proofs.StandsLaws.{stands_quiet, stands_moved, moved_balanced, same_balanced, bare_but, bare_by}
+use Rattle.vx_hub.proofs.StandsLaws.{same_next, stands_quiet, stands_moved, moved_balanced, same_balanced, bare_but, bare_by}
+use Rattle.vx_hub.specs.Numbers.{numbers_in}
+use Rattle.vx_record.specs.declared.entry.Entry.TheVariants.{Take}
 use Rattle.vx_hub.proofs.hub.Hub.take.Goals as goal
 
 pub returns-in_default-clause-stands : goal.returns-in_default-clause-stands
@@ -7,7 +9,7 @@ returns-in_default-clause-stands g c =
     stands_moved g.P.Port.told c.args.self.now _ [] [] c.requires.stands
     (same_balanced c.args.self.now.batches c.args.self.now.rows.items c.pop_buffer.new.rows.items [] c.requires.stands.balanced c.in_default.ensures.loses)
     refl c.pop_buffer.ensures.ports (bare_by c.args.self.now.facts.items c.args.self.now.rows.items c.pop_buffer.new.rows.items c.pop_buffer.ensures.bare)
-    c.pop_buffer.ensures.size refl refl refl refl
+    c.pop_buffer.ensures.size refl refl refl refl refl
 
 pub returns-clause-stands : goal.returns-clause-stands
 returns-clause-stands g c =
@@ -15,4 +17,5 @@ returns-clause-stands g c =
     (moved_balanced c.args.self.now.batches c.args.self.now.rows.items c.pop_buffer.new.rows.items c.hold.new.rows.items c.in-Some.parcel.finalizers c.requires.stands.balanced c.in-Some.ensures.loses c.hold.ensures.gains)
     refl (λ i. c.hold.ensures.ports i ∙ c.pop_buffer.ensures.ports i)
     (bare_but c.args.self.now.facts.items c.args.self.now.rows.items c.pop_buffer.new.rows.items c.hold.new.rows.items c.args.instance (c.in-Some.ensures.held refl) c.pop_buffer.ensures.bare c.hold.ensures.bare)
-    (c.hold.ensures.size ∙ c.pop_buffer.ensures.size) c.note_take.ensures.1 tt refl refl refl
+    (c.hold.ensures.size ∙ c.pop_buffer.ensures.size) c.note_take.ensures
+    (record { quiet = tt; next = same_next c.args.self.now.batches c.args.self.now.batches c.args.self.now.log.history (Take c.args.instance 0 (numbers_in c.in-Some.parcel.finalizers)) refl refl; order = λ fine. tt }) refl refl refl

@@ -1,0 +1,196 @@
+-- What is proved of an entry, from what the hub knows.
+use Rattle.std.proofs.Common.{◌≡◌, ℕ, zero, suc, ◌+◌, ◌*◌, ◌<◌, ◌≤◌, List, [], ◌∷◌, length, Option, Some, None, refl, sym, ap, subst, ◌∙◌, arith, false}
+use Rattle.std.specs.Prelude.{◌^◌, Result, Ok, Err, IfOk, IfErr, OnOk, OnErr, IsSome}
+use Rattle.std.specs.Bool.{IsFalse}
+use Rattle.vx_ends.specs.Told.{Told}
+use Rattle.vx_ends.specs.declared.trouble.Reply.{Reply}
+use Rattle.vx_status.specs.declared.outcome.Outcome.{Outcome}
+use Rattle.vx_status.specs.declared.outcome.Outcome.TheVariants.{NoConsumer, Abandoned, Filtered, NewestDropped}
+use Rattle.vx_value.specs.declared.event.Event.{Event}
+use Rattle.vx_value.specs.declared.want_of_memory.WantOfMemory.{WantOfMemory}
+use Rattle.vx_ledger.specs.Copies.{Copy, numbered, renumbered}
+use Rattle.vx_ledger.specs.Copies.{copies_of}
+use Rattle.vx_ledger.specs.Ledger.{Ledger, IsShort, live_count}
+use Rattle.vx_ledger.specs.Routing.{children_for, IfChildren, IfNoConsumer, IsNoConsumer}
+use Rattle.vx_ledger.specs.declared.routed.Routed.{Routed}
+use Rattle.vx_ledger.specs.declared.routed.Routed.TheVariants as routed
+use Rattle.vx_ledger.specs.declared.routed.Routed.TheVariants.{Children}
+use Rattle.vx_hub.specs.declared.row.Row.{Row}
+use Rattle.vx_hub.specs.Rows.{Loses}
+use Rattle.vx_ledger.specs.declared.parcel.Parcel.{Parcel}
+use Rattle.vx_ledger.specs.declared.child.Child.{Child}
+use Rattle.vx_ledger.specs.declared.short.Short.{Short}
+use Rattle.vx_ledger.specs.declared.short.Short.TheVariants as short
+use Rattle.vx_record.specs.Records.{Record}
+use Rattle.vx_record.specs.Copies.{counting, children_of, next_copy}
+use Rattle.vx_record.specs.Noted.{Noted}
+use Rattle.vx_record.specs.declared.log.Log.{Log}
+use Rattle.vx_record.specs.declared.child.Child.{Child as NotedChild}
+use Rattle.vx_record.specs.declared.entry.Entry.{Entry}
+use Rattle.vx_record.specs.declared.entry.Entry.TheVariants.{Split, Spent, Notice, Home}
+use Rattle.vx_record.specs.declared.abandon_cause.AbandonCause.{AbandonCause}
+use Rattle.vx_record.specs.declared.abandon_cause.AbandonCause.TheVariants as cause
+use Rattle.vx_hub.specs.declared.hub.Hub.{Hub}
+use Rattle.vx_hub.specs.declared.fatal.Fatal.{Fatal}
+use Rattle.vx_hub.specs.declared.fatal.Fatal.TheVariants as fatal
+use Rattle.vx_hub.specs.Failures.{fatal_of, abandon_cause, HasReason}
+use Rattle.vx_hub.specs.Numbers.{numbers_in, noted_of}
+use Rattle.vx_hub.specs.Order.{IsBirthOf, IsReadBy, IsGiven, IsSplitOf, IsSpentFor, IsReason, reply_behind}
+use Rattle.vx_hub.specs.Spending.{MaySpend, IsReplied}
+use Rattle.vx_hub.specs.Stands.{Stands, IsSound, IsBalanced}
+use Rattle.vx_hub.proofs.StandsLaws.{unmade}
+
+pub length_numbers : (cs : List Copy) → length (numbers_in cs) ≡ length cs
+length_numbers [] = refl
+length_numbers (c ∷ cs) = ap suc (length_numbers cs)
+
+numbers_numbered : (n batch place first : ℕ) → numbers_in (numbered n batch place first) ≡ counting first n
+numbers_numbered zero batch place first = refl
+numbers_numbered (suc n) batch place first = ap (λ (ns : List ℕ). first ∷ ns) (numbers_numbered n batch place (first + 1))
+
+numbers_renumbered : (first : ℕ) (cs : List Copy) → numbers_in (renumbered first cs) ≡ counting first (length cs)
+numbers_renumbered first [] = refl
+numbers_renumbered first (c ∷ cs) = ap (λ (ns : List ℕ). first ∷ ns) (numbers_renumbered (first + 1) cs)
+
+length_counting : (first n : ℕ) → length (counting first n) ≡ n
+length_counting first zero = refl
+length_counting first (suc n) = ap suc (length_counting (first + 1) n)
+
+-- a batch that the ledger bore is in order
+pub birth_in_order : (h : Record) (i next n batch : ℕ) (copies : List Copy) (events : List Event) → IsReadBy h i → next ≡ next_copy h → batch ≡ next → copies ≡ numbered n next next next → length events ≡ n → 0 < n → next + n ≤ 2 ^ 63 →
+    IsBirthOf h i batch (numbers_in copies) events false
+birth_in_order h i next n batch copies events read now first are each some fits =
+    let counted : numbers_in copies ≡ counting next n = ap numbers_in are ∙ numbers_numbered n next next next in
+    let many : length (numbers_in copies) ≡ n = ap length counted ∙ length_counting next n in
+    record {
+      read = read;
+      unwaiting = refl;
+      some = omega (arith, many, some);
+      one_each = many ∙ sym each;
+      next = counted ∙ ap (λ k. counting k n) now ∙ ap (λ m. counting (next_copy h) m) (sym many);
+      number = first ∙ now;
+      fits = omega (arith, many, now, fits);
+    }
+
+-- the children that a route made, as an entry has them
+noted_children : (targets : List ℕ) (first : ℕ) (parcel : Parcel) → noted_of (children_for targets first parcel) ≡ children_of first (length parcel.finalizers) targets
+noted_children [] first parcel = refl
+noted_children (target ∷ rest) first parcel =
+    ap (λ (ns : List ℕ). record { target = target; copies = ns } ∷ noted_of (children_for rest (first + length parcel.finalizers) parcel)) (numbers_renumbered first parcel.finalizers)
+    ∙ ap (λ (cs : List NotedChild). record { target = target; copies = counting first (length parcel.finalizers) } ∷ cs) (noted_children rest (first + length parcel.finalizers) parcel)
+
+length_children : (next m : ℕ) (targets : List ℕ) → length (children_of next m targets) ≡ length targets
+length_children next m [] = refl
+length_children next m (target ∷ rest) = ap suc (length_children (next + m) m rest)
+
+pub length_noted : (targets : List ℕ) (first : ℕ) (parcel : Parcel) (children : List Child) → children ≡ children_for targets first parcel → length (noted_of children) ≡ length targets
+length_noted targets first parcel children are = ap (λ (cs : List Child). length (noted_of cs)) are ∙ ap length (noted_children targets first parcel) ∙ length_children first (length parcel.finalizers) targets
+
+-- a split that the ledger made is in order
+pub split_in_order : (h : Record) (next : ℕ) (targets : List ℕ) (parcel : Parcel) (children : List Child) → next ≡ next_copy h → children ≡ children_for targets next parcel → 0 < length targets →
+    next + length targets * length parcel.finalizers ≤ 2 ^ 63 → IsSplitOf h (numbers_in parcel.finalizers) (noted_of children)
+split_in_order h next targets parcel children now are some fits =
+    let m = length parcel.finalizers in
+    let many : length (numbers_in parcel.finalizers) ≡ m = length_numbers parcel.finalizers in
+    let count : length (noted_of children) ≡ length targets = length_noted targets next parcel children are in
+    record {
+      some = omega (arith, count, some);
+      made = (targets, ap noted_of are ∙ noted_children targets next parcel ∙ ap (λ k. children_of k m targets) now ∙ ap (λ k. children_of (next_copy h) k targets) (sym many));
+      fits = subst (λ k. k + length (noted_of children) * length (numbers_in parcel.finalizers) ≤ 2 ^ 63) now
+          (subst (λ k. next + k * length (numbers_in parcel.finalizers) ≤ 2 ^ 63) (sym count) (subst (λ k. next + length targets * k ≤ 2 ^ 63) (sym many) fits));
+    }
+
+-- a split is noted, or the log isn't whole
+pub noted_split : (old new : Log) (i : ℕ) (apart : Result (List ℕ × Event) WantOfMemory) (numbers : List ℕ) (event : Event) (children : List NotedChild) → IfOk apart (λ a. a.0 ≡ numbers) →
+    IfOk apart (λ a. Noted old (Split i 1 a.0 a.1 children) new) → OnErr apart (IsFalse new.whole × (new.history ≡ old.history)) → (e : Event) × Noted old (Split i 1 numbers e children) new
+noted_split old new i (Ok a) numbers event children are noted none = (a.1, subst (λ (ns : List ℕ). Noted old (Split i 1 ns a.1 children) new) are noted)
+noted_split old new i (Err e) numbers event children are noted none = (event, unmade old (Split i 1 numbers event children) new none.0 none.1)
+
+-- numbers that the ledger refused are a reason to give up
+pub short_reason : (h : Record) (next wanted : ℕ) (cause : Short) → next ≡ next_copy h → IsShort next wanted cause → IsReason h (abandon_cause (fatal_of cause))
+short_reason h next wanted (short.Numbers n w) now is = (is.0 ∙ now, omega (arith, is.0, is.1, is.2))
+short_reason h next wanted short.WantOfMemory now is = tt
+
+-- what was sound before an entry was noted
+pub sound_before : {P : Type 0} (d e : Hub P) (entry : Entry) → Noted d.log entry e.log → e.starved ≡ d.starved → IsSound e → IsSound d
+sound_before d e entry noted starved sound = record { whole = (noted.whole sound.whole).0; fed = sym starved ∙ sound.fed }
+
+-- a copy may be spent for the same cause behind one that was spent, and behind a notice
+pub spent_on : {P : Type 0} (d e : Hub P) (j copy : ℕ) (spent : Outcome) (i : ℕ) (outcome : Outcome) → Noted d.log (Spent j copy spent) e.log → e.starved ≡ d.starved → MaySpend d i outcome → MaySpend e i outcome
+spent_on d e j copy spent i outcome noted starved may sound =
+    let before = may (sound_before d e (Spent j copy spent) noted starved sound) in
+    subst (λ (h : Record). IsSpentFor h i outcome) (sym (noted.whole sound.whole).1) (record { given = before.given; replied = before.replied; given_up = before.given_up })
+
+pub noticed_on : {P : Type 0} (d e : Hub P) (batch : ℕ) (status : _) (i : ℕ) (outcome : Outcome) → Noted d.log (Notice batch status) e.log → e.starved ≡ d.starved → MaySpend d i outcome → MaySpend e i outcome
+noticed_on d e batch status i outcome noted starved may sound =
+    let before = may (sound_before d e (Notice batch status) noted starved sound) in
+    subst (λ (h : Record). IsSpentFor h i outcome) (sym (noted.whole sound.whole).1) (record { given = before.given; replied = before.replied; given_up = before.given_up })
+
+-- a copy without a consumer needs no other cause
+pub unread_may : {P : Type 0} (hub : Hub P) (i : ℕ) → MaySpend hub i NoConsumer
+unread_may hub i sound = record { given = tt; replied = λ reply behind. cc; given_up = λ is. cc }
+
+-- nor one of a run that was given up
+pub abandoned_may : {P : Type 0} (told_by : P → Told) (hub : Hub P) (hand : List Copy) (i : ℕ) → Stands told_by hub hand hub.log.history → IsSome hub.abandoned → MaySpend hub i Abandoned
+abandoned_may told_by hub hand i s given_up sound = record {
+  given = tt;
+  replied = λ reply behind. cc;
+  given_up = λ is. subst (λ (cause : Option AbandonCause). IsSome cause) (s.recorded sound).cause given_up;
+}
+
+-- what an attempt is answered is the outcome of its copies
+replied_given : (reply : Reply) (outcome : Outcome) → reply_behind outcome ≡ Some reply → IsGiven outcome
+replied_given reply Filtered behind = cc
+replied_given reply NewestDropped behind = cc
+replied_given reply outcome behind = tt
+
+-- nor one that was attempted
+pub replied_may : {P : Type 0} (hub : Hub P) (i : ℕ) (reply : Reply) (outcome : Outcome) → reply_behind outcome ≡ Some reply → IsReplied hub i reply → MaySpend hub i outcome
+replied_may hub i reply outcome behind last sound = record {
+  given = replied_given reply outcome behind;
+  replied = λ answer is. last sound ∙ sym behind ∙ is;
+  given_up = λ is. let none : reply_behind outcome ≡ None = ap reply_behind is in cc;
+}
+
+-- the reason of a landing stays, behind its end
+pub reason_home : (h : Record) (i : ℕ) (cause : AbandonCause) → IsReason h cause → IsReason (Home i ∷ h) cause
+reason_home h i (cause.Grace stopped now limit) is = is
+reason_home h i (cause.Numbers next wanted) is = (omega (arith, is.0), is.1)
+reason_home h i cause.WantOfMemory is = tt
+
+-- the reason of a landing that can't go on
+pub landed_reason : {P X : Type 0} (d e : Hub P) (i : ℕ) (landed result : Result X Fatal) → Noted d.log (Home i) e.log → e.starved ≡ d.starved → IfErr landed (HasReason d) → OnErr landed (result ≡ landed) →
+    OnOk landed (IfErr result (λ cause. cause ≡ fatal.WantOfMemory)) → IfErr result (HasReason e)
+landed_reason {P} {X} d e i (Ok x) (Ok y) noted starved had passed none = tt
+landed_reason {P} {X} d e i (Ok x) (Err f) noted starved had passed none = subst (λ (g : Fatal). HasReason e g) (sym none) (λ sound. tt)
+landed_reason {P} {X} d e i (Err f) result noted starved had passed none = subst (λ (r : Result X Fatal). IfErr r (HasReason e)) (sym passed)
+    (λ sound. subst (λ (h : Record). IsReason h (abandon_cause f)) (sym (noted.whole sound.whole).1) (reason_home d.log.history i (abandon_cause f) (had (sound_before d e (Home i) noted starved sound))))
+
+-- what holds of the children of a route that made some
+pub children_have : (r : Routed) (children : List Child) (F : List Child → Type 0) → r ≡ Children children → IfChildren (Ok r) F → F children
+children_have (Children made) children F is have = let same : made ≡ children = cc in subst F same have
+children_have (routed.NoConsumer parcel) children F is have = cc
+
+-- what holds of the parcel of a route that made none
+pub parcel_has : (r : Routed) (parcel : Parcel) (F : Parcel → Type 0) → r ≡ routed.NoConsumer parcel → IfNoConsumer (Ok r) F → F parcel
+parcel_has (Children made) parcel F is have = cc
+parcel_has (routed.NoConsumer back) parcel F is have = let same : back ≡ parcel = cc in subst F same have
+
+-- a route that made children has targets
+pub targets_some : (r : Routed) (children : List Child) (targets : List ℕ) → r ≡ Children children → (targets ≡ [] → IsNoConsumer (Ok r)) → 0 < length targets
+targets_some (Children made) children [] is none = absurd (none refl)
+targets_some (routed.NoConsumer parcel) children [] is none = cc
+targets_some r children (t ∷ ts) is none = omega arith
+
+-- the next number behind a split
+pub split_next : (h : Record) (old new : ℕ) (targets : List ℕ) (parcel : Parcel) (children : List Child) → children ≡ children_for targets old parcel → new ≡ old + length targets * length parcel.finalizers → old ≡ next_copy h →
+    new ≡ next_copy h + length (noted_of children) * length (numbers_in parcel.finalizers)
+split_next h old new targets parcel children are more now =
+    more ∙ ap (λ n. n + length targets * length parcel.finalizers) now
+    ∙ ap (λ k. next_copy h + k * length parcel.finalizers) (sym (length_noted targets old parcel children are))
+    ∙ ap (λ m. next_copy h + length (noted_of children) * m) (sym (length_numbers parcel.finalizers))
+
+-- a parcel is in the hand, and comes back whole
+pub unread_balanced : {P : Type 0} (old new : Ledger) (before after : List (Row P)) (parcel back : List Copy) → IsBalanced old before [] → Loses before parcel after → new ≡ old → back ≡ parcel → IsBalanced new after back
+unread_balanced old new before after parcel back b l same put batch place =
+    omega (arith, b batch place, l batch place, ap (λ (w : Ledger). live_count batch place w.open_rows) same, ap (copies_of batch place) put)

@@ -1,0 +1,52 @@
+use Rattle.std.proofs.Common.{refl, false, ◌≡◌, ◌<◌, ◌∙◌, [], ap, sym, length, arith}
+use Rattle.vx_record.specs.Confirms.{moved_to}
+use Rattle.vx_hub.specs.Numbers.{numbers_in}
+use Rattle.vx_hub.specs.Stands.{IsShut, IsGone}
+use Rattle.vx_hub.specs.Ending.{AreMovedTo}
+use Rattle.vx_hub.proofs.Dues.{born_more}
+use Rattle.vx_hub.proofs.Ordering.{birth_in_order, length_numbers}
+use Rattle.vx_hub.proofs.Touching.{stands_marked, known_other, facts_surely, facts_get, facts_has, length_numbered}
+use Rattle.vx_hub.proofs.hub.Hub.open_batch.Goals as goal
+
+pub returns-clause-stands : goal.returns-clause-stands
+returns-clause-stands g c =
+    let s = c.requires.stands in
+    let h = c.args.self.now.log.history in
+    let next = c.args.self.now.batches.next in
+    let copies = c.in-Ok.born.1 in
+    let within : c.args.instance < length c.args.self.now.facts.items = omega (arith, s.size, c.requires.open.within) in
+    let many : length copies ≡ c.len-n.result = ap length c.in-Ok.ensures.copies ∙ length_numbered c.len-n.result next next next in
+    let moves : AreMovedTo c.args.position c.args.ends c.index_mut-facts.result.now =
+    facts_surely (AreMovedTo c.args.position c.args.ends) c.args.self.now.facts.items c.args.instance c.index_mut-facts.result.now within c.index_mut-facts.ensures.value c.requires.moved in
+    let more = born_more h c.args.instance c.in-Ok.born.0 c.in-Ok.born.0 (numbers_in copies) c.args.events.now false c.args.position.stream c.args.position.end in
+    stands_marked g.P.Port.told c.args.self.now _ [] copies _ c.args.instance c.index_mut-facts.result.now _ s within c.index_mut-facts.ensures.value
+    refl refl refl (λ batch place. omega (arith, s.balanced batch place, c.in-Ok.ensures.exchange batch place)) refl refl c.note_born.ensures tt
+    (λ now. omega (arith, now, c.in-Ok.ensures.next, length_numbers copies, many))
+    (λ fine. birth_in_order h c.args.instance next c.len-n.result c.in-Ok.born.0 copies c.args.events.now (c.requires.read fine) (s.recorded fine).next c.in-Ok.ensures.number c.in-Ok.ensures.copies (sym c.len-n.ensures)
+    (omega (arith, c.requires.some, c.len-n.ensures)) (omega (arith, c.born.ensures.kept.numbers, c.in-Ok.ensures.next)))
+    refl
+    (λ known. record {
+      taken = known.taken;
+      lost = known.lost;
+      failed_starts = known.failed_starts;
+      ends = moves.ends ∙ ap (λ ps. moved_to c.args.position.stream c.args.position.end ps) known.ends ∙ more;
+      to_confirm = moves.to_confirm ∙ ap (λ ps. moved_to c.args.position.stream c.args.position.end ps) known.ends ∙ more;
+      confirm_failed = known.confirm_failed;
+    })
+    (λ x k other known. known_other x h c.args.instance k _ refl other known)
+    (facts_has (IsShut g.P.Port.told c.args.self.now.rows.items c.args.instance) c.args.self.now.facts.items c.args.instance c.index_mut-facts.result.now within c.index_mut-facts.ensures.value (s.shut c.args.instance))
+    (facts_has (IsGone c.args.self.now.rows.items c.args.instance) c.args.self.now.facts.items c.args.instance c.index_mut-facts.result.now within c.index_mut-facts.ensures.value (s.gone c.args.instance))
+
+pub returns-clause-each : goal.returns-clause-each
+returns-clause-each g c =
+    let next = c.args.self.now.batches.next in
+    omega (arith, ap length c.in-Ok.ensures.copies, length_numbered c.len-n.result next next next, c.len-n.ensures)
+
+pub returns-clause-open : goal.returns-clause-open
+returns-clause-open g c =
+    let within : c.args.instance < length c.args.self.now.facts.items = omega (arith, c.requires.stands.size, c.requires.open.within) in
+    record {
+      within = c.requires.open.within;
+      unclosed = facts_get (λ f. f.closed ≡ false) c.args.self.now.facts.items c.args.instance _ within
+          (facts_surely (λ f. f.closed ≡ false) c.args.self.now.facts.items c.args.instance c.index_mut-facts.result.now within c.index_mut-facts.ensures.value c.requires.open.unclosed);
+    }

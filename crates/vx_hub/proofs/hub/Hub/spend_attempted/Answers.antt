@@ -1,0 +1,5 @@
+use Rattle.vx_hub.proofs.Ordering.{replied_may}
+use Rattle.vx_hub.proofs.hub.Hub.spend_attempted.Goals as goal
+
+pub spend_held-requires-clause-cause : goal.spend_held-requires-clause-cause
+spend_held-requires-clause-cause g c = replied_may c.args.self.now c.args.instance c.args.reply c.outcome_of.result c.outcome_of.ensures c.requires.replied

@@ -1,0 +1,118 @@
+-- What is proved of each entry of a run's record, given the entries before it.
+use Rattle.std.specs.Prelude.{◌≡◌, ℕ, ◌+◌, ◌*◌, ◌<◌, ◌≤◌, ◌^◌, Bool, true, false, List, [], ◌∷◌, length, Option, Some, None, IsSome, if◌then◌else◌, ◌==◌}
+use Rattle.vx_ends.specs.declared.trouble.Reply.{Reply}
+use Rattle.vx_ends.specs.declared.trouble.Reply.TheVariants as reply
+use Rattle.vx_status.specs.declared.outcome.Outcome.{Outcome}
+use Rattle.vx_status.specs.declared.outcome.Outcome.TheVariants.{Delivered, Attempts, Refusal, Abandoned, Filtered, NewestDropped}
+use Rattle.vx_value.specs.declared.event.Event.{Event}
+use Rattle.vx_record.specs.Records.{Record, capped}
+use Rattle.vx_record.specs.Copies.{counting, children_of, next_copy}
+use Rattle.vx_record.specs.Starting.{MayInstall}
+use Rattle.vx_record.specs.declared.child.Child.{Child}
+use Rattle.vx_record.specs.Reads.{bytes_taken}
+use Rattle.vx_record.specs.Confirms.{born_positions, is_unconfirmed}
+use Rattle.vx_record.specs.Sourcing.{failed_starts}
+pub use Rattle.vx_record.specs.Spending.{last_reply}
+use Rattle.vx_record.specs.declared.entry.Entry.{Entry}
+use Rattle.vx_record.specs.declared.entry.Entry.TheVariants.{Install, Read, Idle, SourceLost, Born, Split, Spent, Confirm, Abandon}
+use Rattle.vx_record.specs.declared.abandon_cause.AbandonCause.{AbandonCause}
+use Rattle.vx_record.specs.declared.abandon_cause.AbandonCause.TheVariants.{Grace, Numbers, WantOfMemory}
+
+-- after how many bytes a source was lost
+abbrev pub lost_at : Record → ℕ → Option ℕ
+lost_at [] i = None
+lost_at (SourceLost j at failed ∷ h) i = if j == i then Some at else lost_at h i
+lost_at (e ∷ h) i = lost_at h i
+
+-- why the run was abandoned
+abbrev pub cause_of : Record → Option AbandonCause
+cause_of [] = None
+cause_of (Abandon cause ∷ h) = Some cause
+cause_of (e ∷ h) = cause_of h
+
+-- a source that wasn't lost is read again, and no fifth failed start in a row is passed over
+pub record IsTryOf (h : Record) (j : ℕ) (failed : Bool) : Type 0 where
+  pub unlost : lost_at h j ≡ None
+  pub few : failed ≡ true → failed_starts h j < 4
+
+-- a source is lost once, by a failed take or at its fifth failed start in a row, after as many bytes as it took
+pub record IsLossOf (h : Record) (j at : ℕ) (failed : Bool) : Type 0 where
+  pub first : lost_at h j ≡ None
+  pub after : at ≡ capped (bytes_taken h j)
+  pub many : failed ≡ true → 4 ≤ failed_starts h j
+
+-- whether the newest entry is a read of the instance
+abbrev pub IsReadBy : Record → ℕ → Type 0
+IsReadBy (Read j stream took ∷ h) i = j ≡ i
+IsReadBy h i = ⊥
+
+-- a batch stands directly behind a read of its source, and doesn't wait yet; it has one copy for each of its events,
+-- with the next numbers, and the number of the first of them
+pub record IsBirthOf (h : Record) (i batch : ℕ) (copies : List ℕ) (events : List Event) (waits : Bool) : Type 0 where
+  pub read : IsReadBy h i
+  pub unwaiting : waits ≡ false
+  pub some : 0 < length copies
+  pub one_each : length copies ≡ length events
+  pub next : copies ≡ counting (next_copy h) (length copies)
+  pub number : batch ≡ next_copy h
+  pub fits : next_copy h + length copies ≤ 2 ^ 63
+
+-- a split makes, for each of its targets, one child for each of the copies that it replaces, with the next numbers
+pub record IsSplitOf (h : Record) (copies : List ℕ) (children : List Child) : Type 0 where
+  pub some : 0 < length children
+  pub made : (targets : List ℕ) × (children ≡ children_of (next_copy h) (length copies) targets)
+  pub fits : next_copy h + length children * length copies ≤ 2 ^ 63
+
+-- the answer of a device that an outcome stands for
+abbrev pub reply_behind : Outcome → Option Reply
+reply_behind Delivered = Some reply.Ok
+reply_behind Attempts = Some reply.Failed
+reply_behind Refusal = Some reply.Refused
+reply_behind other = None
+
+-- an outcome that there is: nothing filters, and no buffer drops the newest yet
+abbrev pub IsGiven : Outcome → Type 0
+IsGiven Filtered = ⊥
+IsGiven NewestDropped = ⊥
+IsGiven other = Unit {0}
+
+-- the outcome of a copy of an attempt is what the instance's last attempt was answered, and none is spent as abandoned
+-- before the run was given up; of a copy without a consumer nothing is said
+pub record IsSpentFor (h : Record) (i : ℕ) (outcome : Outcome) : Type 0 where
+  pub given : IsGiven outcome
+  pub replied : (reply : Reply) → reply_behind outcome ≡ Some reply → last_reply h i ≡ Some reply
+  pub given_up : outcome ≡ Abandoned → IsSome (cause_of h)
+
+-- a run is given up where the next numbers would pass 2^63, or for want of memory; nobody asks it to stop yet
+abbrev pub IsReason : Record → AbandonCause → Type 0
+IsReason h (Grace stopped now limit) = ⊥
+IsReason h (Numbers next wanted) = (next ≡ next_copy h) × (2 ^ 63 < next + wanted)
+IsReason h WantOfMemory = Unit {0}
+
+-- a run is given up once, and has a reason
+pub record IsGivenUp (h : Record) (cause : AbandonCause) : Type 0 where
+  pub first : cause_of h ≡ None
+  pub reason : IsReason h cause
+
+-- what is proved of an entry
+abbrev pub IsInOrder : Record → Entry → Type 0
+IsInOrder h (Install version plan once instances now) = MayInstall h version plan instances
+IsInOrder h (Read j stream took) = lost_at h j ≡ None
+IsInOrder h (Idle j failed) = IsTryOf h j failed
+IsInOrder h (SourceLost j at failed) = IsLossOf h j at failed
+IsInOrder h (Born j batch place copies events waits stream end) = IsBirthOf h j batch copies events waits
+IsInOrder h (Split j ports copies event children) = IsSplitOf h copies children
+IsInOrder h (Spent j c outcome) = IsSpentFor h j outcome
+IsInOrder h (Confirm j positions made) = positions ≡ born_positions h j
+IsInOrder h (Abandon cause) = IsGivenUp h cause
+IsInOrder h other = Unit {0}
+
+-- each entry is in order
+abbrev pub IsOrderly : Record → Type 0
+IsOrderly [] = Unit {0}
+IsOrderly (e ∷ h) = IsInOrder h e × IsOrderly h
+
+-- an instance that isn't there: it was never lost, and no confirm of it failed
+pub record IsUnknown (h : Record) (i : ℕ) : Type 0 where
+  pub unlost : lost_at h i ≡ None
+  pub confirmed : is_unconfirmed h i ≡ false

@@ -1,0 +1,74 @@
+-- What was counted, whatever fault is told in the end.
+use Rattle.std.proofs.Common.{◌≡◌, ◌⊎◌, inl, inr, ℕ, List, [], Option, Some, None, sym, subst}
+use Rattle.vx_ends.specs.Told.{Told}
+use Rattle.vx_record.specs.Records.{Record}
+use Rattle.vx_record.specs.TallyLists.{tallies_of}
+use Rattle.vx_record.specs.declared.tally.Tally.{Tally}
+use Rattle.vx_hub.specs.declared.parts.Numbered.{Numbered}
+use Rattle.vx_hub.specs.declared.hub.Hub.{Hub}
+use Rattle.vx_hub.specs.Order.{IsOrderly}
+use Rattle.vx_hub.specs.Remains.{AreTold}
+use Rattle.vx_hub.specs.Stands.{IsSound}
+use Rattle.vx_run.specs.Judging.{IsSure}
+use Rattle.vx_run.specs.Answers.{IsJudged}
+use Rattle.vx_run.specs.Running.{IsTrueTo, IsCounted}
+use Rattle.vx_run.specs.Telling.{IsKept}
+use Rattle.vx_run.specs.declared.fault.Fault.{Fault}
+use Rattle.vx_run.specs.declared.fault.Fault.TheVariants.{Usage, ConfigRead, ConfigRefused, Numbers, TooLong, SourceFailed, ConfirmFailed, WantOfMemory}
+
+-- what is counted of a record is what is counted, whatever the fault
+pub counted_so : (h : Record) (n : ℕ) (tallies : List Tally) (fault : Option Fault) → tallies ≡ tallies_of h n → IsCounted h n tallies fault
+counted_so h n tallies None so = so
+counted_so h n tallies (Some WantOfMemory) so = inl so
+counted_so h n tallies (Some Usage) so = so
+counted_so h n tallies (Some (ConfigRead path)) so = so
+counted_so h n tallies (Some (ConfigRefused f)) so = so
+counted_so h n tallies (Some (Numbers next wanted)) so = so
+counted_so h n tallies (Some TooLong) so = so
+counted_so h n tallies (Some (SourceFailed name at)) so = so
+counted_so h n tallies (Some (ConfirmFailed name)) so = so
+
+-- and for want of memory that is not more
+counted_short : (h : Record) (n : ℕ) (tallies : List Tally) (fault : Option Fault) → IsCounted h n tallies fault → (tallies ≡ tallies_of h n) ⊎ (tallies ≡ [])
+counted_short h n tallies None so = inl so
+counted_short h n tallies (Some WantOfMemory) so = so
+counted_short h n tallies (Some Usage) so = inl so
+counted_short h n tallies (Some (ConfigRead path)) so = inl so
+counted_short h n tallies (Some (ConfigRefused f)) so = inl so
+counted_short h n tallies (Some (Numbers next wanted)) so = inl so
+counted_short h n tallies (Some TooLong) so = inl so
+counted_short h n tallies (Some (SourceFailed name at)) so = inl so
+counted_short h n tallies (Some (ConfirmFailed name)) so = inl so
+
+pub counted_kept : (h : Record) (n : ℕ) (tallies : List Tally) (fault told : Option Fault) → IsKept fault told → IsCounted h n tallies fault → IsCounted h n tallies told
+counted_kept h n tallies fault None kept so = subst (λ (f : Option Fault). IsCounted h n tallies f) kept so
+counted_kept h n tallies fault (Some WantOfMemory) kept so = counted_short h n tallies fault so
+counted_kept h n tallies fault (Some Usage) kept so = subst (λ (f : Option Fault). IsCounted h n tallies f) kept so
+counted_kept h n tallies fault (Some (ConfigRead path)) kept so = subst (λ (f : Option Fault). IsCounted h n tallies f) kept so
+counted_kept h n tallies fault (Some (ConfigRefused f)) kept so = subst (λ (f : Option Fault). IsCounted h n tallies f) kept so
+counted_kept h n tallies fault (Some (Numbers next wanted)) kept so = subst (λ (f : Option Fault). IsCounted h n tallies f) kept so
+counted_kept h n tallies fault (Some TooLong) kept so = subst (λ (f : Option Fault). IsCounted h n tallies f) kept so
+counted_kept h n tallies fault (Some (SourceFailed name at)) kept so = subst (λ (f : Option Fault). IsCounted h n tallies f) kept so
+counted_kept h n tallies fault (Some (ConfirmFailed name)) kept so = subst (λ (f : Option Fault). IsCounted h n tallies f) kept so
+
+-- what holds of a fault holds where want of memory takes its place
+pub judged_short : (h : Record) (fault counted : Option Fault) → (counted ≡ fault) ⊎ (counted ≡ Some WantOfMemory) → IsJudged h fault → IsJudged h counted
+judged_short h fault counted (inl same) judged = subst (λ (f : Option Fault). IsJudged h f) (sym same) judged
+judged_short h fault counted (inr short) judged = subst (λ (f : Option Fault). IsJudged h f) (sym short) tt
+
+pub true_short : {P : Type 0} (told_by : P → Told) (h : Record) (ports : List (Numbered P)) (fault counted : Option Fault) → (counted ≡ fault) ⊎ (counted ≡ Some WantOfMemory) →
+    IsTrueTo told_by h ports fault → IsTrueTo told_by h ports counted
+true_short told_by h ports fault counted (inl same) told = subst (λ (f : Option Fault). IsTrueTo told_by h ports f) (sym same) told
+true_short told_by h ports fault counted (inr short) told = subst (λ (f : Option Fault). IsTrueTo told_by h ports f) (sym short) tt
+
+-- but for want of memory a run that was judged told what happened
+pub true_of : {P : Type 0} (told_by : P → Told) (hub : Hub P) (h : Record) (ports : List (Numbered P)) (fault : Option Fault) → IsSure hub fault → (IsSound hub → AreTold told_by h ports) → (IsSound hub → IsOrderly h) → IsTrueTo told_by h ports fault
+true_of told_by hub h ports None sure told order = (told sure, order sure)
+true_of told_by hub h ports (Some WantOfMemory) sure told order = tt
+true_of told_by hub h ports (Some Usage) sure told order = (told sure, order sure)
+true_of told_by hub h ports (Some (ConfigRead path)) sure told order = (told sure, order sure)
+true_of told_by hub h ports (Some (ConfigRefused f)) sure told order = (told sure, order sure)
+true_of told_by hub h ports (Some (Numbers next wanted)) sure told order = (told sure, order sure)
+true_of told_by hub h ports (Some TooLong) sure told order = (told sure, order sure)
+true_of told_by hub h ports (Some (SourceFailed name at)) sure told order = (told sure, order sure)
+true_of told_by hub h ports (Some (ConfirmFailed name)) sure told order = (told sure, order sure)
