@@ -1,0 +1,125 @@
+-- The texts of conditions.
+use Rattle.std.specs.Prelude.{◌≡◌, ◌⊎◌, ℕ, ◌≤◌, ◌<◌, ◌==◌, ◌&&◌, ◌||◌, ◌++◌, Bool, true, false, ℤ, Option, Some, None, IsTrue, not, option_map, List, [], ◌∷◌, length, codes, FitsSigned, if◌then◌else◌}
+use Rattle.std.specs.List.{list_all, list_any}
+use Rattle.std.specs.Int.{w64}
+use Rattle.std.specs.Fmt.{signed_decimal}
+use Rattle.vx_value.specs.Texts.{Word, is_empty}
+use Rattle.vx_value.specs.Paths.{path_names}
+use Rattle.vx_condition.specs.Trees.{Term, negated, bracketed, stated, Conjunction, no_term, term, Disjunction, no_branch, branch}
+use Rattle.vx_condition.specs.declared.comparison.Comparison.{Comparison}
+use Rattle.vx_condition.specs.declared.comparison.Comparison.TheVariants.{Less, AtMost, Greater, AtLeast}
+use Rattle.vx_condition.specs.declared.literal.Literal.{Literal}
+use Rattle.vx_condition.specs.declared.literal.Literal.TheVariants as literal
+use Rattle.vx_condition.specs.declared.predicate.Predicate.{Predicate}
+use Rattle.vx_condition.specs.declared.predicate.Predicate.TheVariants.{Equal, Different, Compared, Exists, Contains, Matches}
+
+-- whether a byte is a blank: a tab, a line feed, a carriage return or a space
+abbrev pub is_blank : ℕ → Bool
+is_blank b = (b == 9) || (b == 10) || (b == 13) || (b == 32)
+
+-- the text is a token and then more, with any blanks between
+pub record Then (First More : Word → Type 0) (text : Word) : Type 0 where
+  pub front : Word
+  pub blanks : Word
+  pub back : Word
+  pub first : First front
+  pub blank : IsTrue (list_all is_blank blanks)
+  pub more : More back
+  pub whole : text ≡ front ++ (blanks ++ back)
+
+-- the text is that token
+abbrev pub Is : Word → Word → Type 0
+Is token text = text ≡ token
+
+-- the text is a path: its dot, and the names, of which there are 31 at most
+pub record IsPathText (path : List Word) (text : Word) : Type 0 where
+  pub rest : Word
+  pub dot : text ≡ 46 ∷ rest
+  pub names : path_names text ≡ Some path
+  pub few : length path ≤ 31
+
+-- the byte that a letter behind a backslash stands for, if it is an escape of strings
+abbrev pub escaped : ℕ → Option ℕ
+escaped b =
+    if (b == 34) || (b == 92) then Some b
+    else (if b == 110 then Some 10 else (if b == 114 then Some 13 else (if b == 116 then Some 9 else None)))
+
+-- a byte before what is read of the rest
+abbrev pub before_rest : Option ℕ → Option Word → Option Word
+before_rest (Some b) (Some rest) = Some (b ∷ rest)
+before_rest b rest = None
+
+-- what a string holds, by what stands behind its first quote: escapes and other bytes, and then the quote that ends the text
+abbrev pub quoted : Word → Option Word
+quoted [] = None
+quoted (b ∷ []) = if b == 34 then Some [] else None
+quoted (b ∷ c ∷ rest) =
+    if b == 34 then None
+    else (if b == 92 then before_rest (escaped c) (quoted rest) else before_rest (Some b) (quoted (c ∷ rest)))
+
+-- the text is a string that holds a word
+pub record IsString (word text : Word) : Type 0 where
+  pub rest : Word
+  pub opened : text ≡ 34 ∷ rest
+  pub held : quoted rest ≡ Some word
+
+-- the text is a whole number of 64 bits, as it is written
+pub record IsWhole (number : ℤ) (text : Word) : Type 0 where
+  pub fits : FitsSigned w64 number
+  pub written : text ≡ signed_decimal number
+
+-- the text is a pattern in its quotes, of which it has none
+pub record IsPatternText (pattern text : Word) : Type 0 where
+  pub bare : IsTrue (not (list_any (λ b. b == 39) pattern))
+  pub written : text ≡ codes "r'" ++ (pattern ++ 39 ∷ [])
+
+-- the text is a literal
+abbrev pub IsLiteralText : Literal → Word → Type 0
+IsLiteralText literal.Null text = text ≡ codes "null"
+IsLiteralText (literal.Truth true) text = text ≡ codes "true"
+IsLiteralText (literal.Truth false) text = text ≡ codes "false"
+IsLiteralText (literal.Whole number) text = IsWhole number text
+IsLiteralText (literal.Words word) text = IsString word text
+
+-- the sign of a comparison
+abbrev pub sign_of : Comparison → Word
+sign_of Less = codes "<"
+sign_of AtMost = codes "<="
+sign_of Greater = codes ">"
+sign_of AtLeast = codes ">="
+
+-- a path, a comma and an argument in brackets
+abbrev pub Arguments : (Word → Type 0) → (Word → Type 0) → Word → Type 0
+Arguments Path Last = Then (Is (codes "(")) (Then Path (Then (Is (codes ",")) (Then Last (Is (codes ")")))))
+
+-- a name and arguments, with a `!` before these or without
+abbrev pub Call : Word → (Word → Type 0) → Word → Type 0
+Call name Rest text = Then (Is name) Rest text ⊎ Then (Is name) (Then (Is (codes "!")) Rest) text
+
+-- the text is a predicate
+abbrev pub IsPredicateText : Predicate → Word → Type 0
+IsPredicateText (Equal path written) = Then (IsPathText path) (Then (Is (codes "==")) (IsLiteralText written))
+IsPredicateText (Different path written) = Then (IsPathText path) (Then (Is (codes "!=")) (IsLiteralText written))
+IsPredicateText (Compared path comparison number) = Then (IsPathText path) (Then (Is (sign_of comparison)) (IsWhole number))
+IsPredicateText (Exists path) = Then (Is (codes "exists")) (Then (Is (codes "(")) (Then (IsPathText path) (Is (codes ")"))))
+IsPredicateText (Contains path word) = Call (codes "contains") (Arguments (IsPathText path) (IsString word))
+IsPredicateText (Matches path pattern) = Call (codes "match") (Arguments (IsPathText path) (IsPatternText pattern))
+
+abbrev mutual
+  -- the text is a term: a negated one, a condition in brackets or a predicate
+  pub IsTermText : Term → Word → Type 0
+  IsTermText (negated t) = Then (Is (codes "!")) (IsTermText t)
+  IsTermText (bracketed d) = Then (Is (codes "(")) (Then (IsDisjunctionText d) (Is (codes ")")))
+  IsTermText (stated p) = IsPredicateText p
+
+  -- the text is one term, or several with `&&` between them
+  pub IsConjunctionText : Conjunction → Word → Type 0
+  IsConjunctionText no_term = λ text. ⊥
+  IsConjunctionText (term t no_term) = IsTermText t
+  IsConjunctionText (term t (term u ts)) = Then (IsTermText t) (Then (Is (codes "&&")) (IsConjunctionText (term u ts)))
+
+  -- the text is one conjunction, or several with `||` between them
+  pub IsDisjunctionText : Disjunction → Word → Type 0
+  IsDisjunctionText no_branch = λ text. ⊥
+  IsDisjunctionText (branch c no_branch) = IsConjunctionText c
+  IsDisjunctionText (branch c (branch d ds)) = Then (IsConjunctionText c) (Then (Is (codes "||")) (IsDisjunctionText (branch d ds)))

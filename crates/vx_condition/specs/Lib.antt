@@ -1,0 +1,10 @@
+pub mod Patterns
+pub mod Trees
+pub mod PredicateCode
+pub mod TreeCode
+pub mod Sizes
+pub mod Meaning
+pub mod Views
+pub mod Falls
+pub mod Grammar
+pub mod Conditions

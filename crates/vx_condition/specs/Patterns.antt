@@ -1,0 +1,15 @@
+-- Where a pattern has a match in a text, by what `regex` reads and searches.
+use Rattle.std.specs.Prelude.{ℕ, Bool, false, List, Option, Some, None, is_some, chars}
+use Rattle.regex.specs.Patterns.{Re, find_str, default_config}
+use Rattle.regex_syntax.specs.Grammar.{Names, read}
+use Rattle.regex_syntax.specs.Brackets.{Nested}
+use Rattle.vx_value.specs.Texts.{Word}
+
+-- whether what was read, if anything, has a match in a text
+abbrev pub matched_by : Option (Nested Re × Names) → Word → Bool
+matched_by None text = false
+matched_by (Some found) text = is_some (find_str found.0.value text 0)
+
+-- whether a pattern has a match in a text
+unfoldable pub has_match : Word → Word → Bool
+has_match pattern text = matched_by (read default_config (chars pattern)) text
