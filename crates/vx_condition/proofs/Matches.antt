@@ -1,5 +1,5 @@
 -- A compiled pattern has a match where its text has one.
-use Rattle.std.proofs.Common.{◌≡◌, ℕ, ◌<◌, List, Option, Some, None, get_or, refl, sym, ◌∙◌, ap, is_some, true}
+use Rattle.std.proofs.Common.{◌≡◌, ℕ, ◌<◌, List, Option, Some, None, get_or, is_some, true}
 use Rattle.std.specs.Prelude.{chars, IsSomeAnd}
 use Rattle.regex.specs.Patterns.{Re, Reads, find_str, default_config, SameCaptures}
 use Rattle.regex.specs.Strings.{regex_pattern, regex_source, regex_config, IsReadFromSource}

@@ -1,5 +1,5 @@
 -- A term behind several `!`.
-use Rattle.std.proofs.Common.{◌≡◌, ℕ, zero, suc, ◌+◌, ◌%◌, ◌<◌, Bool, true, false, not, List, refl, ap, sym, ◌∙◌, nat_eq, arith}
+use Rattle.std.proofs.Common.{◌≡◌, ℕ, zero, suc, ◌%◌, ◌<◌, Bool, true, false, not, List, refl, ap, sym, ◌∙◌, nat_eq, arith}
 use mathlib.Core.Bool.{beq}
 use Rattle.std.proofs.Math.Nat.{suc-mod}
 use Rattle.vx_value.specs.Datum.{NamedDatum}

@@ -1,5 +1,5 @@
 -- Comparisons of texts.
-use Rattle.std.proofs.Common.{◌≡◌, ℕ, Bool, true, false, ◌==◌, ◌&&◌, ◌||◌, ◌↔◌, List, [], ◌∷◌, ◌++◌, refl, ap, sym, ◌∙◌, nat_eq, eqb-true, eq-eqb, ◌⊎◌, inl, inr, arith}
+use Rattle.std.proofs.Common.{◌≡◌, Bool, true, false, ◌==◌, ◌&&◌, ◌||◌, ◌↔◌, [], ◌∷◌, ◌++◌, refl, ap, sym, ◌∙◌, nat_eq, eqb-true, eq-eqb, inl, inr}
 use Rattle.std.proofs.lemmas.Bool.{and_parts, or_cases, and_from}
 use Rattle.std.specs.Str.Iter.{HasSubslice}
 use lib.Pointwise.{pointwise}

@@ -1,9 +1,7 @@
 -- The texts of conditions.
-use Rattle.std.specs.Prelude.{◌≡◌, ◌⊎◌, ℕ, ◌≤◌, ◌<◌, ◌==◌, ◌&&◌, ◌||◌, ◌++◌, Bool, true, false, ℤ, Option, Some, None, IsTrue, not, option_map, List, [], ◌∷◌, length, codes, FitsSigned, if◌then◌else◌}
+use Rattle.std.specs.Prelude.{◌≡◌, ◌⊎◌, ℕ, ◌≤◌, ◌<◌, ◌==◌, ◌&&◌, ◌||◌, ◌++◌, ◌+◌, ◌-◌, ◌*◌, ◌^◌, nat_le, suc, Bool, true, false, ℤ, pos, negsuc, Option, Some, None, IsTrue, not, List, [], ◌∷◌, length, codes, if◌then◌else◌}
 use Rattle.std.specs.List.{list_all, list_any}
-use Rattle.std.specs.Int.{w64}
-use Rattle.std.specs.Fmt.{signed_decimal}
-use Rattle.vx_value.specs.Texts.{Word, is_empty}
+use Rattle.vx_value.specs.Texts.{Word}
 use Rattle.vx_value.specs.Paths.{path_names}
 use Rattle.vx_condition.specs.Trees.{Term, negated, bracketed, stated, Conjunction, no_term, term, Disjunction, no_branch, branch}
 use Rattle.vx_condition.specs.declared.comparison.Comparison.{Comparison}
@@ -63,10 +61,37 @@ pub record IsString (word text : Word) : Type 0 where
   pub opened : text ≡ 34 ∷ rest
   pub held : quoted rest ≡ Some word
 
+-- whether a byte is a digit
+abbrev pub is_digit : ℕ → Bool
+is_digit b = nat_le 48 b && nat_le b 57
+
+-- whether there are digits, the first of which isn't a needless zero
+abbrev pub begins_well : Word → Bool
+begins_well [] = false
+begins_well (b ∷ []) = true
+begins_well (b ∷ c ∷ digits) = not (b == 48)
+
+-- the number that digits give behind a number
+abbrev pub number_behind : ℕ → Word → ℕ
+number_behind n [] = n
+number_behind n (b ∷ digits) = number_behind (10 * n + (b - 48)) digits
+
+-- the text is the digits of a number
+pub record IsNumber (number : ℕ) (text : Word) : Type 0 where
+  pub digits : IsTrue (list_all is_digit text)
+  pub plain : IsTrue (begins_well text)
+  pub value : number_behind 0 text ≡ number
+
+-- the text is `-` and the digits of a number
+pub record IsMinus (size : ℕ) (text : Word) : Type 0 where
+  pub rest : Word
+  pub sign : text ≡ 45 ∷ rest
+  pub number : IsNumber size rest
+
 -- the text is a whole number of 64 bits, as it is written
-pub record IsWhole (number : ℤ) (text : Word) : Type 0 where
-  pub fits : FitsSigned w64 number
-  pub written : text ≡ signed_decimal number
+abbrev pub IsWhole : ℤ → Word → Type 0
+IsWhole (pos n) text = IsNumber n text × (n < 2 ^ 63)
+IsWhole (negsuc n) text = IsMinus (suc n) text × (n < 2 ^ 63)
 
 -- the text is a pattern in its quotes, of which it has none
 pub record IsPatternText (pattern text : Word) : Type 0 where

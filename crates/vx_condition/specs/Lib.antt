@@ -8,3 +8,8 @@ pub mod Views
 pub mod Falls
 pub mod Grammar
 pub mod Conditions
+pub mod Steps
+pub mod Picking
+pub mod Merging
+pub mod Reducing
+pub mod Examples

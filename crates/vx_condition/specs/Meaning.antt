@@ -1,5 +1,5 @@
 -- What a condition says of an event.
-use Rattle.std.specs.Prelude.{ℕ, ℤ, Bool, true, false, not, ◌&&◌, ◌||◌, ◌==◌, int_lt, int_le, Option, Some, None, is_some, unwrap_or, List, [], ◌∷◌, if◌then◌else◌}
+use Rattle.std.specs.Prelude.{ℤ, Bool, true, false, not, ◌&&◌, ◌||◌, ◌==◌, int_lt, int_le, Option, Some, is_some, unwrap_or, List, [], ◌∷◌, if◌then◌else◌}
 use Rattle.std.specs.Ordering.{int_eq}
 use Rattle.vx_value.specs.Texts.{Word, same_text}
 use Rattle.vx_value.specs.Datum.{Datum, NamedDatum}

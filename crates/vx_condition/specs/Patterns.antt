@@ -1,5 +1,5 @@
 -- Where a pattern has a match in a text, by what `regex` reads and searches.
-use Rattle.std.specs.Prelude.{ℕ, Bool, false, List, Option, Some, None, is_some, chars}
+use Rattle.std.specs.Prelude.{Bool, false, Option, Some, None, is_some, chars}
 use Rattle.regex.specs.Patterns.{Re, find_str, default_config}
 use Rattle.regex_syntax.specs.Grammar.{Names, read}
 use Rattle.regex_syntax.specs.Brackets.{Nested}

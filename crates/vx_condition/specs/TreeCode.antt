@@ -1,5 +1,5 @@
 -- The code of trees, by which a proof tells two of them apart.
-use Rattle.std.specs.Prelude.{◌≡◌, ℕ, refl}
+use Rattle.std.specs.Prelude.{◌≡◌, refl}
 use mathlib.Core.Path.{ap}
 use Rattle.std.specs.Coded.{Coded}
 use base.Stored.{Gv, gnil, gnum, gcons}

@@ -1,5 +1,4 @@
 -- What the types of trees stand for.
-use Rattle.std.specs.Prelude.{ℕ, List}
 use Rattle.vx_condition.specs.Trees as tree
 use Rattle.vx_condition.specs.Trees.{disjunction_of, negated_times}
 use Rattle.vx_condition.specs.declared.term.Atom.{Atom}

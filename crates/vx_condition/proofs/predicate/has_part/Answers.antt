@@ -1,4 +1,3 @@
-use Rattle.std.proofs.Common.{sym, ◌∙◌}
 use Rattle.std.proofs.lemmas.Str.Pattern.{contains_text}
 use Rattle.vx_condition.proofs.Texts.{is_part_is, found_so}
 use Rattle.vx_condition.proofs.predicate.has_part.Goals as goal

@@ -1,4 +1,3 @@
-use Rattle.std.proofs.Common.{sym, ◌∙◌}
 use Rattle.vx_condition.proofs.Texts.{compared_so}
 use Rattle.vx_condition.proofs.literal.Literal.is.Goals as goal
 

@@ -1,4 +1,4 @@
-use Rattle.std.proofs.Common.{sym, ◌∙◌, ap, is_some}
+use Rattle.std.proofs.Common.{◌∙◌, ap, is_some}
 use Rattle.regex.specs.Patterns.{find_str}
 use Rattle.vx_condition.proofs.Matches.{found-as_read}
 use Rattle.vx_condition.proofs.pattern.Pattern.is_in.Goals as goal
