@@ -1,0 +1,4 @@
+pub mod Written
+pub mod Growth
+pub mod Encoding
+pub mod Waits

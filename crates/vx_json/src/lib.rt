@@ -1,0 +1,13 @@
+//! Events and values as JSON, and how sinks write events.
+#![tactic(auto)]
+
+mod codec;
+mod decoding;
+mod encode;
+mod quote;
+mod writer;
+
+pub use codec::Codec;
+pub use decoding::Decoding;
+pub use encode::encode_event;
+pub use writer::{write, write_value};
