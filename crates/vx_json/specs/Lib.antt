@@ -5,3 +5,4 @@ pub mod Waits
 pub mod Numbers
 pub mod Strings
 pub mod Grammar
+pub mod Machine

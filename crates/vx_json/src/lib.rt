@@ -4,7 +4,9 @@
 mod codec;
 mod decoding;
 mod encode;
+mod number_place;
 mod quote;
+mod text_place;
 mod writer;
 
 pub use codec::Codec;
