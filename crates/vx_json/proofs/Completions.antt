@@ -1,0 +1,101 @@
+-- What may come at each place of a JSON text, by its grammar, and that each byte leads there.
+use Rattle.std.proofs.Common.{◌≡◌, ℕ, Bool, true, false, cond, ◌==◌, Option, Some, None, ◌⊎◌, ⊎_elim, inl, inr, List, [], ◌∷◌, ◌++◌, refl, sym, ◌∙◌, ap, subst, append_assoc}
+use Rattle.std.specs.Str.Lossy.{utf8_lossy}
+use Rattle.vx_value.specs.Texts.{Word, is_empty}
+use Rattle.vx_value.specs.Datum.{Datum, Null, Truth, Words, Items, Fields, NamedDatum, data_of, named_of}
+use Rattle.vx_value.specs.Events.{with_field}
+use Rattle.vx_json.specs.Numbers.{is_digit}
+use Rattle.vx_json.specs.Strings.{ArePieces, pieces_bytes, pieces_text, Piece}
+use Rattle.vx_json.specs.Grammar.{is_blank, are_blanks, Syntax, NullWord, TruthWord, String, EmptyArray, Array, EmptyObject, Object, Elements, NoElements, Element, Members, NoMembers, Member, spelling, elements_spelling, members_spelling, IsSyntax, AreElements, AreMembers, value_of, element_values, with_members}
+use Rattle.vx_json.specs.Machine.{Frame, InItems, InFields, Mode, AtValue, AtFirstItem, AtFirstName, AtName, InName, AtColon, AtEnd, InWord, InNumber, InText, State, step, begin_move, end_move, after_move, name_move, words_move, digits_move, word_move, number_datum, may_end}
+use Rattle.vx_json.specs.declared.text_place.TextPlace.{TextPlace}
+use Rattle.vx_json.specs.declared.text_place.TextPlace.TheVariants as place
+use Rattle.vx_json.specs.declared.number_place.NumberPlace.{NumberPlace}
+use Rattle.vx_json.specs.declared.number_place.NumberPlace.TheVariants as number
+use Rattle.vx_json.proofs.Choices.{chosen, and_true, eq_of}
+use Rattle.vx_json.proofs.TextTails.{HasText, TextTail}
+use Rattle.vx_json.proofs.NumberTails.{NumberTail}
+
+-- blanks, a value and more
+pub record HasValue (rest : Word) (next : Datum → Word → Type 0) : Type 0 where
+  pub blanks : Word
+  pub syntax : Syntax
+  pub more : Word
+  pub blank : are_blanks blanks ≡ true
+  pub is : IsSyntax syntax
+  pub spelled : rest ≡ blanks ++ spelling syntax ++ more
+  pub then : next (value_of syntax) more
+
+-- blanks, a byte and more
+pub record HasMark (mark : ℕ) (rest : Word) (next : Word → Type 0) : Type 0 where
+  pub blanks : Word
+  pub more : Word
+  pub blank : are_blanks blanks ≡ true
+  pub spelled : rest ≡ blanks ++ mark ∷ more
+  pub then : next more
+
+-- blanks, the other values of an array, its bracket and more
+pub record HasElements (rest : Word) (next : Elements → Word → Type 0) : Type 0 where
+  pub blanks : Word
+  pub elements : Elements
+  pub more : Word
+  pub blank : are_blanks blanks ≡ true
+  pub are : AreElements elements
+  pub spelled : rest ≡ blanks ++ elements_spelling elements ++ 93 ∷ more
+  pub then : next elements more
+
+-- blanks, the other members of an object, its brace and more
+pub record HasMembers (rest : Word) (next : Members → Word → Type 0) : Type 0 where
+  pub blanks : Word
+  pub members : Members
+  pub more : Word
+  pub blank : are_blanks blanks ≡ true
+  pub are : AreMembers members
+  pub spelled : rest ≡ blanks ++ members_spelling members ++ 125 ∷ more
+  pub then : next members more
+
+-- bytes are the rest of a word and more
+pub record HasWord (word rest : Word) (next : Word → Type 0) : Type 0 where
+  pub more : Word
+  pub spelled : rest ≡ word ++ more
+  pub then : next more
+
+-- bytes are the rest of a number and more
+pub record HasNumber (here : NumberPlace) (rest : Word) (next : Word → Word → Type 0) : Type 0 where
+  pub tail : Word
+  pub more : Word
+  pub is : NumberTail here tail
+  pub spelled : rest ≡ tail ++ more
+  pub then : next tail more
+
+-- what may come behind a value
+abbrev pub Closes : List Frame → Datum → Word → Datum → Type 0
+Closes [] v rest d = (are_blanks rest ≡ true) × (d ≡ v)
+Closes (InItems ds ∷ st) v rest d = HasElements rest (λ es more. Closes st (Items (data_of (ds ++ v ∷ element_values es))) more d)
+Closes (InFields fs name ∷ st) v rest d = HasMembers rest (λ ms more. Closes st (Fields (named_of (with_members (with_field fs name v) ms))) more d)
+
+-- a colon and a value
+abbrev pub ColonTail : List NamedDatum → Word → List Frame → Word → Datum → Type 0
+ColonTail fs name st rest d = HasMark 58 rest (λ more. HasValue more (λ v behind. Closes (InFields fs name ∷ st) v behind d))
+
+-- a name, a colon and a value
+abbrev pub NameTail : List NamedDatum → List Frame → Word → Datum → Type 0
+NameTail fs st rest d = HasMark 34 rest (λ more. HasText more (λ name behind. ColonTail fs name st behind d))
+
+-- the rest of a text of value d, from a place on
+abbrev pub Completes : Mode → List Frame → Word → Datum → Type 0
+Completes AtValue st rest d = HasValue rest (λ v more. Closes st v more d)
+Completes AtFirstItem st rest d = HasMark 93 rest (λ more. Closes st (Items (data_of [])) more d) ⊎ HasValue rest (λ v more. Closes (InItems [] ∷ st) v more d)
+Completes AtFirstName st rest d = HasMark 125 rest (λ more. Closes st (Fields (named_of [])) more d) ⊎ NameTail [] st rest d
+Completes (AtName fs) st rest d = NameTail fs st rest d
+Completes (InName fs here w) st rest d = TextTail here rest (λ t more. ColonTail fs (utf8_lossy (w ++ t)) st more d)
+Completes (AtColon fs name) st rest d = ColonTail fs name st rest d
+Completes (AtEnd v) st rest d = Closes st v rest d
+Completes (InWord word v) st rest d = HasWord word rest (λ more. Closes st v more d)
+Completes (InNumber here w) st rest d = HasNumber here rest (λ t more. Closes st (number_datum (utf8_lossy (w ++ t))) more d)
+Completes (InText here w) st rest d = TextTail here rest (λ t more. Closes st (Words (utf8_lossy (w ++ t))) more d)
+
+-- the same behind a byte, by what it did
+abbrev pub Onward : Option State → Word → Datum → Type 0
+Onward None rest d = ⊥
+Onward (Some s) rest d = Completes s.mode s.stack rest d
