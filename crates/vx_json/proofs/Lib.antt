@@ -6,3 +6,5 @@ pub mod TextTails
 pub mod NumberTails
 pub mod Completions
 pub mod NumberValues
+pub mod PieceTexts
+pub mod Soundness

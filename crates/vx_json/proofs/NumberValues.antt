@@ -23,11 +23,11 @@ digit_ascii b h = grind (arith, nat_tests)
 is_ascii : (a b : ℕ) → a < 128 → (b == a) ≡ true → b < 128
 is_ascii a b l h = let e = eq_of b a h in omega arith
 
-ascii-cons : (b : ℕ) (w : Word) → b < 128 → IsAscii w → IsAscii (b ∷ w)
+pub ascii-cons : (b : ℕ) (w : Word) → b < 128 → IsAscii w → IsAscii (b ∷ w)
 ascii-cons b w h k zero = h
 ascii-cons b w h k (suc i) = k i
 
-ascii-nil : IsAscii []
+pub ascii-nil : IsAscii []
 ascii-nil i = omega arith
 
 ascii-digits : (w : Word) → are_digits w ≡ true → IsAscii w

@@ -220,7 +220,7 @@ last-digit-sound move tail b rest next sound h =
 weaker : (test other : ℕ → Bool) (rest : Word) (next : ℕ → Word → Type 0) → ((b : ℕ) → test b ≡ true → other b ≡ true) → HasByte test rest next → HasByte other rest next
 weaker test other rest next f h = record { byte = h.byte; more = h.more; fits = f h.byte h.fits; spelled = h.spelled; then = h.then }
 
-hex_bound : (b : ℕ) → is_hex b ≡ true → hex_value b ≤ 15
+pub hex_bound : (b : ℕ) → is_hex b ≡ true → hex_value b ≤ 15
 hex_bound b h = grind (arith, nat_tests)
 
 not_low : (n : ℕ) → is_character_code n ≡ true → is_low n ≡ false
