@@ -8,3 +8,5 @@ pub mod Completions
 pub mod NumberValues
 pub mod PieceTexts
 pub mod Soundness
+pub mod TextRuns
+pub mod NumberRuns

@@ -125,7 +125,7 @@ pub record NumberSyntax (w : Word) : Type 0 where
   pub spelled : spelling syntax ≡ w
   pub valued : value_of syntax ≡ number_datum w
 
-false_true : (t : Bool) → t ≡ false → t ≡ true → ⊥
+pub false_true : (t : Bool) → t ≡ false → t ≡ true → ⊥
 false_true t h k = cc
 
 by-test : (w : Word) (t : Bool) → NumberParts w → is_whole_text w ≡ t → NumberSyntax w

@@ -226,7 +226,7 @@ hex_bound b h = grind (arith, nat_tests)
 not_low : (n : ℕ) → is_character_code n ≡ true → is_low n ≡ false
 not_low n h = grind (arith, nat_tests)
 
-is_low_at : (n : ℕ) → 0xDC00 ≤ n → n ≤ 0xDFFF → is_low n ≡ true
+pub is_low_at : (n : ℕ) → 0xDC00 ≤ n → n ≤ 0xDFFF → is_low n ≡ true
 is_low_at n h k = grind (arith, nat_tests)
 
 low_code : (a b c d : ℕ) → hex_value a ≡ 13 → 12 ≤ hex_value b → hex_value b ≤ 15 → hex_value c ≤ 15 → hex_value d ≤ 15 → is_low (code_of (four a b c d)) ≡ true
