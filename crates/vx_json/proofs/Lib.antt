@@ -10,3 +10,5 @@ pub mod PieceTexts
 pub mod Soundness
 pub mod TextRuns
 pub mod NumberRuns
+pub mod WholeNumbers
+pub mod Completeness
