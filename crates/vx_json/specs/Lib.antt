@@ -6,3 +6,4 @@ pub mod Numbers
 pub mod Strings
 pub mod Grammar
 pub mod Machine
+pub mod MoveViews

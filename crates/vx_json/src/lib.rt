@@ -6,6 +6,7 @@ mod decoding;
 mod encode;
 mod number_place;
 mod quote;
+mod text_move;
 mod text_place;
 mod writer;
 
