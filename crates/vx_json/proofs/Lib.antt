@@ -12,3 +12,5 @@ pub mod TextRuns
 pub mod NumberRuns
 pub mod WholeNumbers
 pub mod Completeness
+pub mod Stacks
+pub mod StackRules

@@ -160,3 +160,21 @@ other-at w false e h = rw e refl
 
 pub other-datum : (w : Word) → ((z : ℤ) → FitsSigned w64 z → w ≡ signed_decimal z → ⊥) → number_datum w ≡ Spelled w
 other-datum w h = other-at w (is_whole_text w) refl h
+
+-- ---- what parsing tells
+numeral : (z : ℤ) → FitsSigned w64 z → IsNumeral 10 (without_leading_sign (signed_decimal z))
+numeral (pos n) f = let l : n < 2 ^ 63 = f.sfits in let k = decimal_is_IsNumeral n (omega arith) in subst (IsNumeral 10) (sym (no_sign (decimal n) k.0).1) k.0
+numeral (negsuc n) f = let l : n < 2 ^ 63 = f.sfits in (decimal_is_IsNumeral (suc n) (omega arith)).0
+
+pub parsed : (w : Word) (z : ℤ) (t : Bool) → FitsSigned w64 (signed_digits_value 10 w) → z ≡ signed_digits_value 10 w → same_text (signed_decimal z) w ≡ t → is_whole_text w ≡ t
+parsed w z t f e s = rw (fits-within (signed_digits_value 10 w) f) (ap (λ y. same_text (signed_decimal y) w) (sym e) ∙ s)
+
+unparsed-at : (w : Word) (t : Bool) → is_whole_text w ≡ t → (IsNumeral 10 (without_leading_sign w) × FitsSigned w64 (signed_digits_value 10 w) → ⊥) → t ≡ false
+unparsed-at w false e h = refl
+unparsed-at w true e h =
+    let k = both_true _ _ e in
+    let f = within-fits (signed_digits_value 10 w) k.0 in
+    let same : signed_decimal (signed_digits_value 10 w) ≡ w = same_text-true (signed_decimal (signed_digits_value 10 w)) w k.1 in absurd (h (subst (λ x. IsNumeral 10 (without_leading_sign x)) same (numeral (signed_digits_value 10 w) f), f))
+
+pub unparsed : (w : Word) → (IsNumeral 10 (without_leading_sign w) × FitsSigned w64 (signed_digits_value 10 w) → ⊥) → is_whole_text w ≡ false
+unparsed w h = unparsed-at w (is_whole_text w) refl h

@@ -7,3 +7,5 @@ pub mod Strings
 pub mod Grammar
 pub mod Machine
 pub mod MoveViews
+pub mod WordViews
+pub mod ModeViews

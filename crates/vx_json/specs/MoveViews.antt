@@ -1,5 +1,6 @@
 -- What the moves of the code stand for.
-use Rattle.std.specs.Prelude.{ℕ, Bool, true, false, [], ◌∷◌, encode_utf8}
+use Rattle.std.specs.Prelude.{ℕ, Bool, true, false, Option, Some, None, [], ◌∷◌, encode_utf8}
+use Rattle.vx_value.specs.Texts.{Word}
 use Rattle.vx_json.specs.Machine.{Goes, Ends, Wrong}
 use Rattle.vx_json.specs.Machine as machine
 use Rattle.vx_json.specs.declared.text_place.TextPlace.{TextPlace}
@@ -28,3 +29,21 @@ is_among_digits place.ThreeHigh = false
 is_among_digits place.ThreeLow = false
 is_among_digits place.Escaped = false
 is_among_digits p = true
+
+-- the bytes that a move adds
+abbrev pub move_bytes : machine.TextMove → Word
+move_bytes (Goes q bytes) = bytes
+move_bytes Ends = []
+move_bytes Wrong = []
+
+-- the place to which it leads, if it does
+abbrev pub move_place : machine.TextMove → Option TextPlace
+move_place (Goes q bytes) = Some q
+move_place Ends = None
+move_place Wrong = None
+
+-- whether it ends the text
+abbrev pub move_ends : machine.TextMove → Bool
+move_ends (Goes q bytes) = false
+move_ends Ends = true
+move_ends Wrong = false

@@ -4,10 +4,15 @@
 mod codec;
 mod decoding;
 mod encode;
+mod frame;
+mod mode;
+mod number_move;
 mod number_place;
 mod quote;
+mod step;
 mod text_move;
 mod text_place;
+mod word_place;
 mod writer;
 
 pub use codec::Codec;

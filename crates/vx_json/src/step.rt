@@ -1,0 +1,214 @@
+ghost use Rattle.std.specs.Prelude.{◌≡◌, ℕ, List, ◌++◌, ◌∷◌, [], map, length, IfOk, OnOk, IsTrue, Some, None};
+ghost use Rattle.vx_value.specs.Values.{datum_of};
+ghost use Rattle.vx_value.specs.Datum.{data_of, named_of};
+ghost use Rattle.vx_value.specs.Events.{with_field};
+ghost use Rattle.vx_json.specs.Grammar.{is_blank};
+ghost use Rattle.vx_json.specs.Machine as machine;
+ghost use Rattle.vx_json.specs.Machine.{step, begin_move, end_move, after_move, name_move, words_move, digits_move, word_move, state, AtEnd, AtFirstItem};
+ghost use Rattle.vx_json.specs.MoveViews.{move_view, move_bytes, move_place, move_ends};
+ghost use Rattle.vx_json.specs.ModeViews.{mode_view, stack_view, state_view};
+ghost use Rattle.vx_json.specs.WordViews.{word_rest, word_datum};
+
+use crate::frame::Frame;
+use crate::mode::Mode;
+use crate::number_move::{may_end, number_move, number_value};
+use crate::number_place::NumberPlace;
+use crate::text_move::TextMove;
+use crate::text_place::TextPlace;
+use crate::word_place::WordPlace;
+use std::alloc::Global;
+use vx_value::{Field, FieldList, Text, Value, ValueList, WantOfMemory};
+
+/// Whether a byte is a blank.
+fn is_blank(b: u8) -> bool
+    ensures { result ≡ is_blank b }
+{
+    b == b' ' || (b == b'\t' || (b == b'\n' || b == b'\r'))
+}
+
+/// Where a byte leads that begins a number.
+fn begin_number(alloc: Global, b: u8, place: NumberPlace) -> Result<Option<Mode>, WantOfMemory>
+    ensures { IfOk result (λ next. (st : List machine.Frame) →
+        state_view next st ≡ state (machine.InNumber place (b ∷ [])) st) }
+{
+    let mut text = Vec::new(alloc);
+    text.push(b)?;
+    Ok(Some(Mode::InNumber(place, text)))
+}
+
+/// Where a byte leads that begins a value.
+fn begin(alloc: Global, b: u8) -> Result<Option<Mode>, WantOfMemory>
+    ensures { IfOk result (λ next. (st : List machine.Frame) → state_view next st ≡ begin_move st b) }
+{
+    match b {
+        b'"' => Ok(Some(Mode::InText(TextPlace::Plain, Vec::new(alloc)))),
+        b'-' => begin_number(alloc, b, NumberPlace::Minus),
+        b'0' => begin_number(alloc, b, NumberPlace::Zero),
+        b'1'..=b'9' => begin_number(alloc, b, NumberPlace::Whole),
+        b'[' => Ok(Some(Mode::FirstItem)),
+        b'{' => Ok(Some(Mode::FirstName)),
+        b'n' => Ok(Some(Mode::InWord(WordPlace::N))),
+        b't' => Ok(Some(Mode::InWord(WordPlace::T))),
+        b'f' => Ok(Some(Mode::InWord(WordPlace::F))),
+        _ => Ok(None),
+    }
+}
+
+/// Where a byte leads behind a bracket that opens an array.
+#[tactic(auto, using(crate::proofs::StackRules::stacks))]
+fn first_item(alloc: Global, stack: &mut Vec<Frame>, b: u8) -> Result<Option<Mode>, WantOfMemory>
+    ensures { IfOk result (λ next.
+        state_view next (stack_view stack.new.items) ≡ step machine.AtFirstItem (stack_view stack.old.items) b) }
+{
+    if is_blank(b) {
+        return Ok(Some(Mode::FirstItem));
+    }
+    if b == b']' {
+        return Ok(Some(Mode::Behind(Value::Items(ValueList::new(alloc)))));
+    }
+    stack.push(Frame::Items(ValueList::new(alloc)))?;
+    begin(alloc, b)
+}
+
+/// Where a byte leads behind a brace that opens an object.
+fn first_name(alloc: Global, b: u8) -> Option<Mode>
+    ensures { (st : List machine.Frame) → state_view result st ≡ step machine.AtFirstName st b }
+{
+    if is_blank(b) {
+        return Some(Mode::FirstName);
+    }
+    match b {
+        b'}' => Some(Mode::Behind(Value::Fields(FieldList::new(alloc)))),
+        b'"' => Some(Mode::InName(FieldList::new(alloc), TextPlace::Plain, Vec::new(alloc))),
+        _ => None,
+    }
+}
+
+/// Where a byte leads behind a comma of an object.
+fn next_name(alloc: Global, fields: FieldList, b: u8) -> Option<Mode>
+    ensures { (st : List machine.Frame) → state_view result st ≡ step (machine.AtName fields) st b }
+{
+    if is_blank(b) {
+        return Some(Mode::NextName(fields));
+    }
+    if b == b'"' {
+        return Some(Mode::InName(fields, TextPlace::Plain, Vec::new(alloc)));
+    }
+    None
+}
+
+/// Where a byte leads behind a name.
+#[tactic(auto, using(crate::proofs::StackRules::stacks))]
+fn colon(fields: FieldList, name: Text, stack: &mut Vec<Frame>, b: u8) -> Result<Option<Mode>, WantOfMemory>
+    ensures { IfOk result (λ next.
+        state_view next (stack_view stack.new.items) ≡ step (machine.AtColon fields name) (stack_view stack.old.items) b) }
+{
+    if is_blank(b) {
+        return Ok(Some(Mode::Colon(fields, name)));
+    }
+    if b != b':' {
+        return Ok(None);
+    }
+    stack.push(Frame::Fields(fields, name))?;
+    Ok(Some(Mode::Before))
+}
+
+/// Where a byte leads inside a word.
+fn in_word(word: WordPlace, b: u8) -> Option<Mode>
+    ensures { (st : List machine.Frame) → state_view result st ≡ step (machine.InWord (word_rest word) (word_datum word)) st b }
+{
+    if b != word.expected() {
+        return None;
+    }
+    Some(match word {
+        WordPlace::N => Mode::InWord(WordPlace::Nu),
+        WordPlace::Nu => Mode::InWord(WordPlace::Nul),
+        WordPlace::Nul => Mode::Behind(Value::Null),
+        WordPlace::T => Mode::InWord(WordPlace::Tr),
+        WordPlace::Tr => Mode::InWord(WordPlace::Tru),
+        WordPlace::Tru => Mode::Behind(Value::Truth(true)),
+        WordPlace::F => Mode::InWord(WordPlace::Fa),
+        WordPlace::Fa => Mode::InWord(WordPlace::Fal),
+        WordPlace::Fal => Mode::InWord(WordPlace::Fals),
+        WordPlace::Fals => Mode::Behind(Value::Truth(false)),
+    })
+}
+
+/// Adds what a byte means to the bytes of a text.
+fn add(b: u8, step: TextMove, text: &mut Vec<u8>) -> Result<(), WantOfMemory>
+    ensures { OnOk result (text.new.items ≡ text.old.items ++ move_bytes (move_view step b)) }
+{
+    match step {
+        TextMove::Adds(_) => text.push(b)?,
+        TextMove::Means(c) => text.push(c)?,
+        TextMove::Codes(c) => {
+            let mut buffer = [0u8; 4];
+            text.extend_from_slice(c.encode_utf8(&mut buffer).as_bytes())?;
+        }
+        _ => {}
+    }
+    Ok(())
+}
+
+/// The place to which a byte leads inside a text. `None` where it ends the text or is wrong.
+fn place_of(step: TextMove) -> Option<TextPlace>
+    ensures { (b : ℕ) → result ≡ move_place (move_view step b) }
+{
+    match step {
+        TextMove::Skips(place) | TextMove::Adds(place) => Some(place),
+        TextMove::Means(_) | TextMove::Codes(_) => Some(TextPlace::Plain),
+        _ => None,
+    }
+}
+
+/// Whether a byte ends a text.
+fn ends(step: TextMove) -> bool
+    ensures { (b : ℕ) → result ≡ move_ends (move_view step b) }
+{
+    match step {
+        TextMove::Ends => true,
+        _ => false,
+    }
+}
+
+/// Where a byte leads inside a text.
+fn in_text(alloc: Global, place: TextPlace, text: Vec<u8>, b: u8) -> Result<Option<Mode>, WantOfMemory>
+    ensures { IfOk result (λ next. (st : List machine.Frame) →
+        state_view next st ≡ step (machine.InText place text.items) st b) }
+{
+    let mut text = text;
+    let step = TextMove::of(place, b);
+    if ends(step) {
+        let words = Text::lossy(alloc, text.as_slice())?;
+        return Ok(Some(Mode::Behind(Value::Words(words))));
+    }
+    add(b, step, &mut text)?;
+    match place_of(step) {
+        Some(next) => Ok(Some(Mode::InText(next, text))),
+        None => Ok(None),
+    }
+}
+
+/// Where a byte leads inside a name.
+fn in_name(
+    alloc: Global,
+    fields: FieldList,
+    place: TextPlace,
+    text: Vec<u8>,
+    b: u8,
+) -> Result<Option<Mode>, WantOfMemory>
+    ensures { IfOk result (λ next. (st : List machine.Frame) →
+        state_view next st ≡ step (machine.InName fields place text.items) st b) }
+{
+    let mut text = text;
+    let step = TextMove::of(place, b);
+    if ends(step) {
+        let name = Text::lossy(alloc, text.as_slice())?;
+        return Ok(Some(Mode::Colon(fields, name)));
+    }
+    add(b, step, &mut text)?;
+    match place_of(step) {
+        Some(next) => Ok(Some(Mode::InName(fields, next, text))),
+        None => Ok(None),
+    }
+}
