@@ -14,3 +14,5 @@ pub mod WholeNumbers
 pub mod Completeness
 pub mod Stacks
 pub mod StackRules
+pub mod Reaching
+pub mod Levels

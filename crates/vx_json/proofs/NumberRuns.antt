@@ -152,7 +152,7 @@ no_move number.Exponent b w m h = rw (no_digit b w h) refl
 ended : (p : NumberPlace) (w : Word) (st : List Frame) (b : ℕ) → may_end p ≡ true → digits_move None p w st b ≡ after_move (number_datum (utf8_lossy w)) st b
 ended p w st b m = rw m refl
 
-run-end : (p : NumberPlace) (w : Word) (st : List Frame) (rest : Word) → may_end p ≡ true → follows rest ≡ true → outcome (InNumber p w) st rest ≡ outcome (AtEnd (number_datum (utf8_lossy w))) st rest
+pub run-end : (p : NumberPlace) (w : Word) (st : List Frame) (rest : Word) → may_end p ≡ true → follows rest ≡ true → outcome (InNumber p w) st rest ≡ outcome (AtEnd (number_datum (utf8_lossy w))) st rest
 run-end p w [] [] m h = rw m refl
 run-end p w (f ∷ st) [] m h = refl
 run-end p w st (b ∷ rest) m h =

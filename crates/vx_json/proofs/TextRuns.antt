@@ -121,7 +121,7 @@ second_case : (x y u v : ℕ) (t : Bool) → (x == 13) ≡ t → y ≤ 15 → u 
 second_case x y u v true e hy hu hv l = second_low x y u v (nat_le y 11) e hy hu hv l refl
 second_case x y u v false e hy hu hv l = refl
 
-digit-goes : (t : Bool) (q : TextPlace) → t ≡ true → cond t (Goes q []) Wrong ≡ Goes q []
+pub digit-goes : (t : Bool) (q : TextPlace) → t ≡ true → cond t (Goes q []) Wrong ≡ Goes q []
 digit-goes true q h = refl
 digit-goes false q h = cc
 
@@ -144,16 +144,16 @@ run-digits mode st t f w rest a l =
     (digit-goes (is_hex f.second && cond (hex_value f.first == 13) (nat_le (hex_value f.second) 11) true) (place.Hex3 f.first f.second) (and_true _ _ m.0 (second_case (hex_value f.first) (hex_value f.second) (hex_value f.third) (hex_value f.fourth) (hex_value f.first == 13) refl (hex_bound f.second m.0) (hex_bound f.third n.0) (hex_bound f.fourth n.1) l)))
     ∙ skip mode st t (place.Hex3 f.first f.second) w f.third (place.Hex4 f.first f.second f.third) (f.fourth ∷ rest) (digit-goes (is_hex f.third) (place.Hex4 f.first f.second f.third) n.0)
 
-character_code : (n : ℕ) → n < 0x110000 → is_high n ≡ false → is_low n ≡ false → is_character_code n ≡ true
+pub character_code : (n : ℕ) → n < 0x110000 → is_high n ≡ false → is_low n ≡ false → is_character_code n ≡ true
 character_code n h k l = grind (arith, nat_tests)
 
-code-goes : (n : ℕ) → is_character_code n ≡ true → code_move n ≡ Goes place.Plain (encode_utf8 n)
+pub code-goes : (n : ℕ) → is_character_code n ≡ true → code_move n ≡ Goes place.Plain (encode_utf8 n)
 code-goes n h = rw h refl
 
-first-code-goes : (n : ℕ) → is_high n ≡ false → is_character_code n ≡ true → first_code_move n ≡ Goes place.Plain (encode_utf8 n)
+pub first-code-goes : (n : ℕ) → is_high n ≡ false → is_character_code n ≡ true → first_code_move n ≡ Goes place.Plain (encode_utf8 n)
 first-code-goes n h k = rw h (code-goes n k)
 
-high-goes : (n : ℕ) → is_high n ≡ true → first_code_move n ≡ Goes (place.Backslash n) []
+pub high-goes : (n : ℕ) → is_high n ≡ true → first_code_move n ≡ Goes (place.Backslash n) []
 high-goes n h = rw h refl
 
 fourth_hex : (f : Four) → are_hex f ≡ true → is_hex f.fourth ≡ true
@@ -185,7 +185,7 @@ low_digits : (x y u v : ℕ) → x ≤ 15 → y ≤ 15 → u ≤ 15 → v ≤ 15
 low_digits x y u v hx hy hu hv l =
     let r = low_range (((x * 16 + y) * 16 + u) * 16 + v) l in (eq_test x 13 (omega arith), le_test 12 y (omega arith))
 
-paired_character : (h l : ℕ) → is_high h ≡ true → is_low l ≡ true → is_character_code (paired_code h l) ≡ true
+pub paired_character : (h l : ℕ) → is_high h ≡ true → is_low l ≡ true → is_character_code (paired_code h l) ≡ true
 paired_character h l a b = grind (arith, nat_tests)
 
 run-paired : (mode : TextPlace → Word → Mode) (st : List Frame) → IsTextMode mode st → (f g : Four) (w rest : Word) → IsPiece (Paired f g) → outcome (mode place.Plain w) st (escape_of f ++ escape_of g ++ rest) ≡ outcome (mode place.Plain (w ++ encode_utf8 (paired_code (code_of f) (code_of g)))) st rest

@@ -229,7 +229,7 @@ not_low n h = grind (arith, nat_tests)
 pub is_low_at : (n : ℕ) → 0xDC00 ≤ n → n ≤ 0xDFFF → is_low n ≡ true
 is_low_at n h k = grind (arith, nat_tests)
 
-low_code : (a b c d : ℕ) → hex_value a ≡ 13 → 12 ≤ hex_value b → hex_value b ≤ 15 → hex_value c ≤ 15 → hex_value d ≤ 15 → is_low (code_of (four a b c d)) ≡ true
+pub low_code : (a b c d : ℕ) → hex_value a ≡ 13 → 12 ≤ hex_value b → hex_value b ≤ 15 → hex_value c ≤ 15 → hex_value d ≤ 15 → is_low (code_of (four a b c d)) ≡ true
 low_code a b c d ha hb hb' hc hd = is_low_at (code_of (four a b c d)) (omega arith) (omega arith)
 
 four_hex : (a b c d : ℕ) → is_hex a ≡ true → is_hex b ≡ true → is_hex c ≡ true → is_hex d ≡ true → are_hex (four a b c d) ≡ true

@@ -9,3 +9,4 @@ pub mod Machine
 pub mod MoveViews
 pub mod WordViews
 pub mod ModeViews
+pub mod Faults

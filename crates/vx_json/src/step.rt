@@ -1,10 +1,10 @@
-ghost use Rattle.std.specs.Prelude.{◌≡◌, ℕ, List, ◌++◌, ◌∷◌, [], map, length, IfOk, OnOk, IsTrue, Some, None};
+ghost use Rattle.std.specs.Prelude.{◌≡◌, ℕ, List, ◌++◌, ◌∷◌, [], map, length, IfOk, OnOk, IsTrue, Some, None, option_map};
 ghost use Rattle.vx_value.specs.Values.{datum_of};
 ghost use Rattle.vx_value.specs.Datum.{data_of, named_of};
 ghost use Rattle.vx_value.specs.Events.{with_field};
 ghost use Rattle.vx_json.specs.Grammar.{is_blank};
 ghost use Rattle.vx_json.specs.Machine as machine;
-ghost use Rattle.vx_json.specs.Machine.{step, begin_move, end_move, after_move, name_move, words_move, digits_move, word_move, state, AtEnd, AtFirstItem};
+ghost use Rattle.vx_json.specs.Machine.{step, finish, begin_move, end_move, after_move, name_move, words_move, digits_move, word_move, state, AtEnd, AtFirstItem};
 ghost use Rattle.vx_json.specs.MoveViews.{move_view, move_bytes, move_place, move_ends};
 ghost use Rattle.vx_json.specs.ModeViews.{mode_view, stack_view, state_view};
 ghost use Rattle.vx_json.specs.WordViews.{word_rest, word_datum};
@@ -13,11 +13,12 @@ use crate::frame::Frame;
 use crate::mode::Mode;
 use crate::number_move::{may_end, number_move, number_value};
 use crate::number_place::NumberPlace;
+use crate::put_field::put_field;
 use crate::text_move::TextMove;
 use crate::text_place::TextPlace;
 use crate::word_place::WordPlace;
 use std::alloc::Global;
-use vx_value::{Field, FieldList, Text, Value, ValueList, WantOfMemory};
+use vx_value::{FieldList, Text, Value, ValueList, WantOfMemory};
 
 /// Whether a byte is a blank.
 fn is_blank(b: u8) -> bool
@@ -210,5 +211,130 @@ fn in_name(
     match place_of(step) {
         Some(next) => Ok(Some(Mode::InName(fields, next, text))),
         None => Ok(None),
+    }
+}
+
+/// Where a byte leads behind a value of an array.
+#[tactic(auto, using(crate::proofs::StackRules::stacks))]
+fn behind_item(items: ValueList, value: Value, stack: &mut Vec<Frame>, b: u8) -> Result<Option<Mode>, WantOfMemory>
+    ensures { IfOk result (λ next. state_view next (stack_view stack.new.items)
+        ≡ end_move (datum_of value) (machine.InItems items ∷ stack_view stack.old.items) b) }
+{
+    let mut items = items;
+    match items.push(value) {
+        Ok(()) => {}
+        Err(_) => return Err(WantOfMemory),
+    }
+    match b {
+        b',' => {
+            stack.push(Frame::Items(items))?;
+            Ok(Some(Mode::Before))
+        }
+        b']' => Ok(Some(Mode::Behind(Value::Items(items)))),
+        _ => Ok(None),
+    }
+}
+
+/// Where a byte leads behind a value of an object.
+fn behind_field(
+    alloc: Global,
+    fields: FieldList,
+    name: Text,
+    value: Value,
+    b: u8,
+) -> Result<Option<Mode>, WantOfMemory>
+    ensures { IfOk result (λ next. (st : List machine.Frame) →
+        state_view next st ≡ end_move (datum_of value) (machine.InFields fields name ∷ st) b) }
+{
+    let mut fields = fields;
+    put_field(alloc, &mut fields, name, value)?;
+    match b {
+        b',' => Ok(Some(Mode::NextName(fields))),
+        b'}' => Ok(Some(Mode::Behind(Value::Fields(fields)))),
+        _ => Ok(None),
+    }
+}
+
+/// Where a byte that is no blank leads behind a value.
+#[tactic(auto, using(crate::proofs::StackRules::stacks))]
+fn end(alloc: Global, value: Value, stack: &mut Vec<Frame>, b: u8) -> Result<Option<Mode>, WantOfMemory>
+    ensures { IfOk result (λ next. state_view next (stack_view stack.new.items)
+        ≡ end_move (datum_of value) (stack_view stack.old.items) b) }
+{
+    match stack.pop() {
+        None => Ok(None),
+        Some(Frame::Items(items)) => behind_item(items, value, stack, b),
+        Some(Frame::Fields(fields, name)) => behind_field(alloc, fields, name, value, b),
+    }
+}
+
+/// Where a byte leads behind a value.
+fn behind(alloc: Global, value: Value, stack: &mut Vec<Frame>, b: u8) -> Result<Option<Mode>, WantOfMemory>
+    ensures { IfOk result (λ next. state_view next (stack_view stack.new.items)
+        ≡ after_move (datum_of value) (stack_view stack.old.items) b) }
+{
+    if is_blank(b) {
+        return Ok(Some(Mode::Behind(value)));
+    }
+    end(alloc, value, stack, b)
+}
+
+/// Where a byte leads inside a number, or behind it.
+fn in_number(
+    alloc: Global,
+    place: NumberPlace,
+    text: Vec<u8>,
+    stack: &mut Vec<Frame>,
+    b: u8,
+) -> Result<Option<Mode>, WantOfMemory>
+    ensures { IfOk result (λ next. state_view next (stack_view stack.new.items)
+        ≡ step (machine.InNumber place text.items) (stack_view stack.old.items) b) }
+{
+    if let Some(next) = number_move(place, b) {
+        let mut text = text;
+        text.push(b)?;
+        return Ok(Some(Mode::InNumber(next, text)));
+    }
+    if !may_end(place) {
+        return Ok(None);
+    }
+    let value = number_value(alloc, text.as_slice())?;
+    behind(alloc, value, stack, b)
+}
+
+impl Mode {
+    /// Where a byte leads, and what is open then. `None` exactly where no JSON text goes on so.
+    pub fn step(self, alloc: Global, stack: &mut Vec<Frame>, b: u8) -> Result<Option<Mode>, WantOfMemory>
+        ensures { IfOk result (λ next. state_view next (stack_view stack.new.items)
+            ≡ step (mode_view self) (stack_view stack.old.items) b) }
+    {
+        match self {
+            Mode::Before => {
+                if is_blank(b) {
+                    return Ok(Some(Mode::Before));
+                }
+                begin(alloc, b)
+            }
+            Mode::FirstItem => first_item(alloc, stack, b),
+            Mode::FirstName => Ok(first_name(alloc, b)),
+            Mode::NextName(fields) => Ok(next_name(alloc, fields, b)),
+            Mode::InName(fields, place, text) => in_name(alloc, fields, place, text, b),
+            Mode::Colon(fields, name) => colon(fields, name, stack, b),
+            Mode::Behind(value) => behind(alloc, value, stack, b),
+            Mode::InWord(word) => Ok(in_word(word, b)),
+            Mode::InNumber(place, text) => in_number(alloc, place, text, stack, b),
+            Mode::InText(place, text) => in_text(alloc, place, text, b),
+        }
+    }
+
+    /// The value of a text that ends here with nothing open. `None` where no JSON text ends here.
+    pub fn finish(self, alloc: Global) -> Result<Option<Value>, WantOfMemory>
+        ensures { IfOk result (λ value. option_map datum_of value ≡ finish (mode_view self) []) }
+    {
+        match self {
+            Mode::Behind(value) => Ok(Some(value)),
+            Mode::InNumber(place, text) if may_end(place) => Ok(Some(number_value(alloc, text.as_slice())?)),
+            _ => Ok(None),
+        }
     }
 }

@@ -1,0 +1,82 @@
+-- Why bytes are no event.
+use Rattle.std.specs.Prelude.{◌≡◌, ℕ, ◌+◌, ◌-◌, ◌<◌, ◌≤◌, ◌||◌, ◌==◌, List, [], ◌∷◌, length, take, if◌then◌else◌, ⊤}
+use Rattle.vx_value.specs.Texts.{Word}
+use Rattle.vx_value.specs.Datum.{Datum, Null, Truth, Whole, Spelled, Words, Items, Fields, NamedDatum, named_of}
+use Rattle.vx_json.specs.Grammar.{IsText, BeginsText}
+use Rattle.vx_json.specs.declared.json_fault.JsonFault.{JsonFault}
+use Rattle.vx_json.specs.declared.json_fault.JsonFault.TheVariants.{NotJson, Deep, NotObject, WantOfMemory}
+
+-- whether a place is outside of texts, inside one, or in one behind a backslash
+pub data Inside : Type 0 where
+  Outside : Inside
+  InString : Inside
+  Escaped : Inside
+
+-- where a byte leads, of whatever text it is part
+abbrev pub inside_after : Inside → ℕ → Inside
+inside_after Outside b = if b == 34 then InString else Outside
+inside_after InString b = if b == 34 then Outside else (if b == 92 then Escaped else InString)
+inside_after Escaped b = InString
+
+-- how many brackets and braces are open behind a byte
+abbrev pub count_after : Inside → ℕ → ℕ → ℕ
+count_after Outside n b = if (b == 91) || (b == 123) then n + 1 else (if (b == 93) || (b == 125) then n - 1 else n)
+count_after InString n b = n
+count_after Escaped n b = n
+
+-- the levels that are open behind bytes, those in texts left out
+abbrev pub open_behind : Inside → ℕ → Word → ℕ
+open_behind inside n [] = n
+open_behind inside n (b ∷ w) = open_behind (inside_after inside b) (count_after inside n b) w
+
+abbrev pub open_levels : Word → ℕ
+open_levels w = open_behind Outside 0 w
+
+-- no more than 32 levels are open behind any of the first n bytes
+abbrev pub StaysShallow : Word → ℕ → Type 0
+StaysShallow bytes n = (k : ℕ) → k ≤ n → open_levels (take k bytes) ≤ 32
+
+-- the bytes are no text, and their first ones, that many, are the longest beginning of one
+pub record IsNotJson (bytes : Word) (at : ℕ) : Type 0 where
+  pub no_text : (value : Datum) → IsText bytes value → ⊥
+  pub within : at ≤ length bytes
+  pub begins : BeginsText (take at bytes)
+  pub longest : at < length bytes → BeginsText (take (at + 1) bytes) → ⊥
+  pub shallow : StaysShallow bytes at
+
+-- the bytes up to one begin a text, and that one is the first that opens a level 33
+pub record IsDeep (bytes : Word) (at : ℕ) : Type 0 where
+  pub within : at < length bytes
+  pub begins : BeginsText (take (at + 1) bytes)
+  pub opened : open_levels (take (at + 1) bytes) ≡ 33
+  pub shallow : StaysShallow bytes at
+
+-- a value of another kind than fields
+abbrev pub IsNoObject : Datum → Type 0
+IsNoObject Null = ⊤
+IsNoObject (Truth b) = ⊤
+IsNoObject (Whole z) = ⊤
+IsNoObject (Spelled w) = ⊤
+IsNoObject (Words w) = ⊤
+IsNoObject (Items ds) = ⊤
+IsNoObject (Fields ns) = ⊥
+
+-- the bytes are a text of another value
+pub record IsOther (bytes : Word) : Type 0 where
+  pub value : Datum
+  pub text : IsText bytes value
+  pub no_object : IsNoObject value
+  pub shallow : StaysShallow bytes (length bytes)
+
+-- the bytes are a text of fields, and of nothing else
+pub record IsEvent (bytes : Word) (fields : List NamedDatum) : Type 0 where
+  pub text : IsText bytes (Fields (named_of fields))
+  pub only : (value : Datum) → IsText bytes value → value ≡ Fields (named_of fields)
+  pub shallow : StaysShallow bytes (length bytes)
+
+-- when each fault comes
+abbrev pub IsFault : Word → JsonFault → Type 0
+IsFault bytes (NotJson at) = IsNotJson bytes at
+IsFault bytes (Deep at) = IsDeep bytes at
+IsFault bytes NotObject = IsOther bytes
+IsFault bytes WantOfMemory = ⊤
