@@ -10,14 +10,14 @@ use Rattle.vx_json.specs.Numbers.{is_digit}
 use Rattle.vx_json.specs.Strings.{is_hex, hex_value, is_short, short_byte, is_high, code_of, paired_code, Four}
 use Rattle.vx_json.specs.Grammar.{is_blank}
 use Rattle.vx_json.specs.Faults.{Inside, Outside, InString, Escaped, inside_after, count_after, open_behind, open_levels}
-use Rattle.vx_json.specs.Machine.{TextMove, Goes, Ends, Wrong, text_move, lead_move, code_move, first_code_move, is_character_code, is_mark, after_whole, number_move, may_end, number_datum, Frame, InItems, InFields, Mode, AtValue, AtFirstItem, AtFirstName, AtName, InName, AtColon, AtEnd, InWord, InNumber, InText, State, state, step, begin_move, end_move, after_move, name_move, words_move, digits_move, word_move, carry, reached}
+use Rattle.vx_json.specs.Machine.{TextMove, Goes, Ends, Wrong, text_move, lead_move, code_move, first_code_move, is_character_code, is_mark, after_whole, number_move, may_end, number_datum, Frame, InItems, InFields, Mode, AtValue, AtFirstItem, AtFirstName, AtName, InName, AtColon, AtEnd, InWord, InNumber, InText, State, state, step, begin_move, end_move, after_move, name_move, words_move, digits_move, word_move, carry, reached, height}
 use Rattle.vx_json.specs.declared.text_place.TextPlace.{TextPlace}
 use Rattle.vx_json.specs.declared.text_place.TextPlace.TheVariants as place
 use Rattle.vx_json.specs.declared.number_place.NumberPlace.{NumberPlace}
 use Rattle.vx_json.specs.declared.number_place.NumberPlace.TheVariants as number
 use Rattle.vx_json.proofs.Choices.{both_true, and_true, eq_of, le_of, ge_of}
 use Rattle.vx_json.proofs.TextTails.{four}
-use Rattle.vx_json.proofs.Reaching.{IsLivePlace, IsLive, reached-append}
+use Rattle.vx_json.proofs.Reaching.{IsLivePlace, IsLive, are_letters}
 
 -- a choice has what both of its ways have
 pub choose : {A : Type 0} (P : A → Type 0) (t : Bool) (x y : A) → (t ≡ true → P x) → (t ≡ false → P y) → P (cond t x y)
@@ -38,15 +38,6 @@ abbrev pub inside_of : Mode → Inside
 inside_of (InName fs p w) = inside_place p
 inside_of (InText p w) = inside_place p
 inside_of m = Outside
-
--- how many levels are open
-abbrev pub height : Mode → List Frame → ℕ
-height AtFirstItem st = length st + 1
-height AtFirstName st = length st + 1
-height (AtName fs) st = length st + 1
-height (InName fs p w) st = length st + 1
-height (AtColon fs name) st = length st + 1
-height m st = length st
 
 -- ---- inside texts
 -- where a byte leads
@@ -235,9 +226,9 @@ begin-facts st b =
     choose (StepFacts Outside n b) (is_digit b) (state (InNumber number.Whole (b ∷ [])) st) (begin_array st b) (λ k. stays (InNumber number.Whole (b ∷ [])) st b tt refl (digit_plain b k)) (λ _.
     choose (StepFacts Outside n b) (b == 91) (state AtFirstItem st) (begin_object st b) (λ k. let o = opens b 91 n k refl refl in (tt, o.0, o.1)) (λ _.
     choose (StepFacts Outside n b) (b == 123) (state AtFirstName st) (begin_n st b) (λ k. let o = opens b 123 n k refl refl in (tt, o.0, o.1)) (λ _.
-    choose (StepFacts Outside n b) (b == 110) (state (InWord (codes "ull") Null) st) (begin_t st b) (λ k. stays (InWord (codes "ull") Null) st b refl refl (letter b 110 k refl refl refl)) (λ _.
-    choose (StepFacts Outside n b) (b == 116) (state (InWord (codes "rue") (Truth true)) st) (begin_f st b) (λ k. stays (InWord (codes "rue") (Truth true)) st b refl refl (letter b 116 k refl refl refl)) (λ _.
-    choose (StepFacts Outside n b) (b == 102) (state (InWord (codes "alse") (Truth false)) st) None (λ k. stays (InWord (codes "alse") (Truth false)) st b refl refl (letter b 102 k refl refl refl)) (λ _. tt)))))))))
+    choose (StepFacts Outside n b) (b == 110) (state (InWord (codes "ull") Null) st) (begin_t st b) (λ k. stays (InWord (codes "ull") Null) st b (refl, refl) refl (letter b 110 k refl refl refl)) (λ _.
+    choose (StepFacts Outside n b) (b == 116) (state (InWord (codes "rue") (Truth true)) st) (begin_f st b) (λ k. stays (InWord (codes "rue") (Truth true)) st b (refl, refl) refl (letter b 116 k refl refl refl)) (λ _.
+    choose (StepFacts Outside n b) (b == 102) (state (InWord (codes "alse") (Truth false)) st) None (λ k. stays (InWord (codes "alse") (Truth false)) st b (refl, refl) refl (letter b 102 k refl refl refl)) (λ _. tt)))))))))
 
 -- ---- behind a value
 less_one : (n : ℕ) → n ≡ suc n - 1
@@ -286,3 +277,97 @@ number-facts number.Exponent b = digit-to-facts b number.Exponent None tt
 digits-facts : (o : Option NumberPlace) (p : NumberPlace) (w : Word) (st : List Frame) (b : ℕ) → NumberFacts b o → StepFacts Outside (length st) b (digits_move o p w st b)
 digits-facts (Some q) p w st b h = stays (InNumber q (w ++ b ∷ [])) st b tt refl h
 digits-facts None p w st b h = choose (StepFacts Outside (length st) b) (may_end p) (after_move (number_datum (utf8_lossy w)) st b) None (λ _. after-facts (number_datum (utf8_lossy w)) st b) (λ _. tt)
+
+-- ---- inside words
+letter_plain : (b : ℕ) → nat_le 97 b && nat_le b 122 ≡ true → IsPlain b
+letter_plain b h = plain_of b (grind (arith, nat_tests)) (grind (arith, nat_tests)) (grind (arith, nat_tests))
+
+word-facts : (rest : Word) (d : Datum) (st : List Frame) (b : ℕ) → IsLive (InWord rest d) → StepFacts Outside (length st) b (word_move rest d st b)
+word-facts [] d st b l = tt
+word-facts (a ∷ []) d st b l =
+    choose (StepFacts Outside (length st) b) (a == b) (state (AtEnd d) st) None (λ k. let k' = both_true (nat_le 97 a && nat_le a 122) true l.1 in stays (AtEnd d) st b tt refl (subst IsPlain (eq_of a b k) (letter_plain a k'.0))) (λ _. tt)
+word-facts (a ∷ c ∷ rest) d st b l =
+    choose (StepFacts Outside (length st) b) (a == b) (state (InWord (c ∷ rest) d) st) None
+    (λ k. let k' = both_true (nat_le 97 a && nat_le a 122) (are_letters (c ∷ rest)) l.1 in stays (InWord (c ∷ rest) d) st b (refl, k'.1) refl (subst IsPlain (eq_of a b k) (letter_plain a k'.0))) (λ _. tt)
+
+-- ---- inside texts and names
+count_in_text : (p : TextPlace) (n b : ℕ) → n ≡ count_after (inside_place p) n b
+count_in_text place.Escaped n b = refl
+count_in_text (place.Letter h) n b = refl
+count_in_text p n b = refl
+
+words-facts : (p : TextPlace) (m : TextMove) (w : Word) (st : List Frame) (b : ℕ) → MoveFacts (inside_place p) b m → StepFacts (inside_place p) (length st) b (words_move m w st)
+words-facts p (Goes q bytes) w st b h = (h.0, h.1, count_in_text p (length st) b)
+words-facts p Ends w st b h = (tt, h, count_in_text p (length st) b)
+words-facts p Wrong w st b h = tt
+
+name-facts : (p : TextPlace) (m : TextMove) (fs : List NamedDatum) (w : Word) (st : List Frame) (b : ℕ) → MoveFacts (inside_place p) b m → StepFacts (inside_place p) (length st + 1) b (name_move m fs w st)
+name-facts p (Goes q bytes) fs w st b h = (h.0, h.1, count_in_text p (length st + 1) b)
+name-facts p Ends fs w st b h = (tt, h, count_in_text p (length st + 1) b)
+name-facts p Wrong fs w st b h = tt
+
+-- ---- each byte
+name-opens : (fs : List NamedDatum) (st : List Frame) (b : ℕ) → StepFacts Outside (length st + 1) b (cond (b == 34) (state (InName fs place.Plain []) st) None)
+name-opens fs st b = choose (StepFacts Outside (length st + 1) b) (b == 34) (state (InName fs place.Plain []) st) None (λ k. let q = quotes b (length st + 1) k in (tt, q.0, q.1)) (λ _. tt)
+
+minus_one : (n : ℕ) → n ≡ n + 1 - 1
+minus_one n = omega arith
+
+first-item-facts : (st : List Frame) (b : ℕ) → StepFacts Outside (length st + 1) b (step AtFirstItem st b)
+first-item-facts st b =
+    let n = length st + 1 in
+    choose (StepFacts Outside n b) (is_blank b) (state AtFirstItem st) (cond (b == 93) (state (AtEnd (Items (data_of []))) st) (begin_move (InItems [] ∷ st) b)) (λ k. stays AtFirstItem st b tt refl (blank_plain b k)) (λ _.
+    choose (StepFacts Outside n b) (b == 93) (state (AtEnd (Items (data_of []))) st) (begin_move (InItems [] ∷ st) b) (λ k. let c = closes b 93 n k refl refl refl in (tt, c.0, minus_one (length st) ∙ c.1)) (λ _.
+    subst (λ k. StepFacts Outside k b (begin_move (InItems [] ∷ st) b)) (one_more (length st)) (begin-facts (InItems [] ∷ st) b)))
+  where
+    one_more : (n : ℕ) → suc n ≡ n + 1
+    one_more n = omega arith
+
+first-name-facts : (st : List Frame) (b : ℕ) → StepFacts Outside (length st + 1) b (step AtFirstName st b)
+first-name-facts st b =
+    let n = length st + 1 in
+    choose (StepFacts Outside n b) (is_blank b) (state AtFirstName st) (cond (b == 125) (state (AtEnd (Fields (named_of []))) st) (cond (b == 34) (state (InName [] place.Plain []) st) None)) (λ k. stays AtFirstName st b tt refl (blank_plain b k)) (λ _.
+    choose (StepFacts Outside n b) (b == 125) (state (AtEnd (Fields (named_of []))) st) (cond (b == 34) (state (InName [] place.Plain []) st) None) (λ k. let c = closes b 125 n k refl refl refl in (tt, c.0, minus_one (length st) ∙ c.1)) (λ _. name-opens [] st b))
+
+pub step-facts : (m : Mode) (st : List Frame) (b : ℕ) → IsLive m → StepFacts (inside_of m) (height m st) b (step m st b)
+step-facts AtValue st b l = choose (StepFacts Outside (length st) b) (is_blank b) (state AtValue st) (begin_move st b) (λ k. stays AtValue st b tt refl (blank_plain b k)) (λ _. begin-facts st b)
+step-facts AtFirstItem st b l = first-item-facts st b
+step-facts AtFirstName st b l = first-name-facts st b
+step-facts (AtName fs) st b l =
+    choose (StepFacts Outside (length st + 1) b) (is_blank b) (state (AtName fs) st) (cond (b == 34) (state (InName fs place.Plain []) st) None) (λ k. stays (AtName fs) st b tt refl (blank_plain b k)) (λ _. name-opens fs st b)
+step-facts (InName fs p w) st b l = name-facts p (text_move p b) fs w st b (text-facts p b l)
+step-facts (AtColon fs name) st b l =
+    choose (StepFacts Outside (length st + 1) b) (is_blank b) (state (AtColon fs name) st) (cond (b == 58) (state AtValue (InFields fs name ∷ st)) None) (λ k. stays (AtColon fs name) st b tt refl (blank_plain b k)) (λ _.
+    choose (StepFacts Outside (length st + 1) b) (b == 58) (state AtValue (InFields fs name ∷ st)) None (λ k. let p = letter b 58 k refl refl refl in (tt, p.outside, one_more (length st) ∙ p.count (length st + 1))) (λ _. tt))
+  where
+    one_more : (n : ℕ) → suc n ≡ n + 1
+    one_more n = omega arith
+step-facts (AtEnd v) st b l = after-facts v st b
+step-facts (InWord rest d) st b l = word-facts rest d st b l
+step-facts (InNumber p w) st b l = digits-facts (number_move p b) p w st b (number-facts p b)
+step-facts (InText p w) st b l = words-facts p (text_move p b) w st b (text-facts p b l)
+
+-- ---- what bytes lead to
+pub record Stands (inside : Inside) (n : ℕ) (p : Word) (s : State) : Type 0 where
+  pub live : IsLive s.mode
+  pub count : height s.mode s.stack ≡ open_behind inside n p
+
+stands-at : (p : Word) (m : Mode) (st : List Frame) (s : State) → IsLive m → reached m st p ≡ Some s → Stands (inside_of m) (height m st) p s
+stands-at [] m st s l e =
+    let same : record { mode = m; stack = st } ≡ s = cc e in subst (λ (t : State). Stands (inside_of m) (height m st) [] t) same (record { live = l; count = refl })
+stands-at (b ∷ p) m st s l e = onward (step m st b) (step-facts m st b l) (λ n su k h. stands-at p n su s k h) e
+  where
+    onward : (o : Option State) → StepFacts (inside_of m) (height m st) b o → ((n : Mode) (su : List Frame) → IsLive n → reached n su p ≡ Some s → Stands (inside_of n) (height n su) p s) → carry o (λ n su. reached n su p) ≡ Some s → Stands (inside_of m) (height m st) (b ∷ p) s
+    onward None f ih h = cc
+    onward (Some t) f ih h = let later = ih t.mode t.stack f.0 h in record { live = later.live; count = later.count ∙ (λ k. open_behind (f.1 k) (f.2 k) p) }
+
+pub stands : (p : Word) (s : State) → reached AtValue [] p ≡ Some s → Stands Outside 0 p s
+stands p s e = stands-at p AtValue [] s tt e
+
+-- a byte opens one level at most
+pub count-bound : (inside : Inside) (n b : ℕ) → count_after inside n b ≤ n + 1
+count-bound Outside n b =
+    choose (λ k. k ≤ n + 1) ((b == 91) || (b == 123)) (n + 1) (cond ((b == 93) || (b == 125)) (n - 1) n) (λ _. omega arith) (λ _.
+    choose (λ k. k ≤ n + 1) ((b == 93) || (b == 125)) (n - 1) n (λ _. omega arith) (λ _. omega arith))
+count-bound InString n b = omega arith
+count-bound Escaped n b = omega arith

@@ -16,3 +16,4 @@ pub mod Stacks
 pub mod StackRules
 pub mod Reaching
 pub mod Levels
+pub mod Readings

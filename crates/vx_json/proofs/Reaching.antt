@@ -235,11 +235,16 @@ live-text mode st t plain (place.Low2 h a) w l = live-low2 mode st t plain h a w
 live-text mode st t plain (place.Low3 h a b) w l = live-low3 mode st t plain h a b w l
 live-text mode st t plain (place.Low4 h a b c) w l = live-low4 mode st t plain h a b c w l
 
+-- whether bytes are lower-case letters
+abbrev pub are_letters : Word → Bool
+are_letters [] = true
+are_letters (b ∷ w) = (nat_le 97 b && nat_le b 122) && are_letters w
+
 -- ---- any place that can be reached
 abbrev pub IsLive : Mode → Type 0
 IsLive (InName fs p w) = IsLivePlace p
 IsLive (InText p w) = IsLivePlace p
-IsLive (InWord rest d) = is_empty rest ≡ false
+IsLive (InWord rest d) = (is_empty rest ≡ false) × (are_letters rest ≡ true)
 IsLive m = Unit {0}
 
 plain-words : (st : List Frame) (w : Word) → Lives (InText place.Plain w) st
@@ -256,7 +261,7 @@ lives (AtName fs) st l = live-name fs st
 lives (InName fs p w) st l = live-text (λ q x. InName fs q x) st (in-name fs st) (plain-name fs st) p w l
 lives (AtColon fs name) st l = live-colon fs name st
 lives (AtEnd v) st l = closing st v
-lives (InWord rest d) st l = live-word rest d st l
+lives (InWord rest d) st l = live-word rest d st l.0
 lives (InNumber p w) st l = live-number p w st
 lives (InText p w) st l = live-text (λ q x. InText q x) st (in-text st) (plain-words st) p w l
 

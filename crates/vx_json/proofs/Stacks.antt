@@ -25,3 +25,8 @@ over-length (x ∷ xs) st = let h = over-length xs (frame_view x ∷ st) in omeg
 pub length-stack_view : (xs : List Frame) → length (stack_view xs) ≡ length xs
 unfolding stack_view
 length-stack_view xs = let h = over-length xs [] in omega arith
+
+-- an empty stack
+pub stack_view-empty : (xs : List Frame) → length xs ≡ 0 → stack_view xs ≡ []
+stack_view-empty [] h = stack_view-nil
+stack_view-empty (x ∷ xs) h = absurd (omega arith)

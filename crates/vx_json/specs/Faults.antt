@@ -80,3 +80,16 @@ IsFault bytes (NotJson at) = IsNotJson bytes at
 IsFault bytes (Deep at) = IsDeep bytes at
 IsFault bytes NotObject = IsOther bytes
 IsFault bytes WantOfMemory = ⊤
+
+-- the bytes are a text of that value, and of no other
+pub record IsValue (bytes : Word) (value : Datum) : Type 0 where
+  pub text : IsText bytes value
+  pub only : (other : Datum) → IsText bytes other → other ≡ value
+  pub shallow : StaysShallow bytes (length bytes)
+
+-- when each fault comes where any value will do
+abbrev pub IsTextFault : Word → JsonFault → Type 0
+IsTextFault bytes (NotJson at) = IsNotJson bytes at
+IsTextFault bytes (Deep at) = IsDeep bytes at
+IsTextFault bytes NotObject = ⊥
+IsTextFault bytes WantOfMemory = ⊤

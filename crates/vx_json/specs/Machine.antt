@@ -1,5 +1,5 @@
 -- What a byte does at each place of a JSON text.
-use Rattle.std.specs.Prelude.{◌≡◌, ℕ, ◌+◌, ◌^◌, Bool, true, false, ◌&&◌, ◌||◌, ◌==◌, nat_le, nat_lt, Option, Some, None, ℤ, pos, negsuc, List, [], ◌∷◌, ◌++◌, codes, encode_utf8, if◌then◌else◌}
+use Rattle.std.specs.Prelude.{◌≡◌, ℕ, ◌+◌, ◌^◌, Bool, true, false, ◌&&◌, ◌||◌, ◌==◌, nat_le, nat_lt, Option, Some, None, ℤ, pos, negsuc, List, [], ◌∷◌, ◌++◌, codes, length, encode_utf8, if◌then◌else◌}
 use Rattle.std.specs.Fmt.{signed_decimal}
 use Rattle.std.specs.Str.Lossy.{utf8_lossy}
 use Rattle.std.specs.Str.Parse.{signed_digits_value}
@@ -237,3 +237,12 @@ reached m st (b ∷ w) = carry (step m st b) (λ n su. reached n su w)
 abbrev pub outcome : Mode → List Frame → Word → Option Datum
 outcome m st [] = finish m st
 outcome m st (b ∷ w) = carry (step m st b) (λ n su. outcome n su w)
+
+-- how many levels are open at a place
+abbrev pub height : Mode → List Frame → ℕ
+height AtFirstItem st = length st + 1
+height AtFirstName st = length st + 1
+height (AtName fs) st = length st + 1
+height (InName fs p w) st = length st + 1
+height (AtColon fs name) st = length st + 1
+height m st = length st
