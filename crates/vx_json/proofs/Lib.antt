@@ -17,3 +17,4 @@ pub mod StackRules
 pub mod Reaching
 pub mod Levels
 pub mod Readings
+pub mod Putting

@@ -10,3 +10,4 @@ pub mod MoveViews
 pub mod WordViews
 pub mod ModeViews
 pub mod Faults
+pub mod Puts

@@ -24,3 +24,6 @@ pub use encode::encode_event;
 pub use json_fault::JsonFault;
 pub use reader::read;
 pub use writer::{write, write_value};
+
+#[cfg(test)]
+mod tests;
