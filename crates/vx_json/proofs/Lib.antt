@@ -18,3 +18,4 @@ pub mod Reaching
 pub mod Levels
 pub mod Readings
 pub mod Putting
+pub mod WrittenTexts

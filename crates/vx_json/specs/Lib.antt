@@ -11,3 +11,4 @@ pub mod WordViews
 pub mod ModeViews
 pub mod Faults
 pub mod Puts
+pub mod Writable
