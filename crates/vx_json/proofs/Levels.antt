@@ -49,10 +49,10 @@ MoveFacts inside b Wrong = Unit {0}
 high_in_string : (b : ℕ) → 128 ≤ b → InString ≡ inside_after InString b
 high_in_string b h = grind (arith, nat_tests)
 
-hex_in_string : (b : ℕ) → is_hex b ≡ true → InString ≡ inside_after InString b
+pub hex_in_string : (b : ℕ) → is_hex b ≡ true → InString ≡ inside_after InString b
 hex_in_string b h = grind (arith, nat_tests)
 
-plain_in_string : (b : ℕ) → (b == 34) ≡ false → (b == 92) ≡ false → InString ≡ inside_after InString b
+pub plain_in_string : (b : ℕ) → (b == 34) ≡ false → (b == 92) ≡ false → InString ≡ inside_after InString b
 plain_in_string b h k = rw (h, k) refl
 
 -- what is left of the tests on the first byte of a character

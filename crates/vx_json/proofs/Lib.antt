@@ -19,3 +19,5 @@ pub mod Levels
 pub mod Readings
 pub mod Putting
 pub mod WrittenTexts
+pub mod Shallow
+pub mod WrittenAgain

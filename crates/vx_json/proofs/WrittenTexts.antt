@@ -33,7 +33,7 @@ piece-for a p i t b = record { piece = p; is = i; text = t ∙ sym (append-nil (
 short-for : (a c : ℕ) → is_short c ≡ true → 92 ∷ c ∷ [] ≡ escaped a → short_byte c ≡ a → PieceOf (a ∷ [])
 short-for a c i t b = piece-for a (Short c) i t (ap (λ x. x ∷ []) b)
 
-hex_of : (n : ℕ) → n < 16 → is_hex (hex_digit n) ≡ true
+pub hex_of : (n : ℕ) → n < 16 → is_hex (hex_digit n) ≡ true
 hex_of n h = grind (arith, nat_tests)
 
 value_of_hex : (n : ℕ) → n < 16 → hex_value (hex_digit n) ≡ n
@@ -160,11 +160,11 @@ pub record SyntaxOf (d : Datum) : Type 0 where
   pub value : value_of syntax ≡ d
 
 -- what is written behind the first value
-abbrev items_behind : Data → Word
+abbrev pub items_behind : Data → Word
 items_behind no_data = []
 items_behind (datum d ds) = 44 ∷ items_written (datum d ds)
 
-items-split : (d : Datum) (ds : Data) → items_written (datum d ds) ≡ written d ++ items_behind ds
+pub items-split : (d : Datum) (ds : Data) → items_written (datum d ds) ≡ written d ++ items_behind ds
 items-split d no_data = sym (append-nil (written d))
 items-split d (datum e ds) = refl
 
@@ -179,14 +179,14 @@ data-back no_data = refl
 data-back (datum d ds) = ap (datum d) (data-back ds)
 
 -- what is written of one field, and behind the first
-abbrev field_text : Word → Datum → Word
+abbrev pub field_text : Word → Datum → Word
 field_text n d = quoted n ++ 58 ∷ written d
 
-abbrev fields_behind : NamedData → Word
+abbrev pub fields_behind : NamedData → Word
 fields_behind no_named = []
 fields_behind (named n d ns) = 44 ∷ fields_written (named n d ns)
 
-fields-split : (n : Word) (d : Datum) (ns : NamedData) → fields_written (named n d ns) ≡ field_text n d ++ fields_behind ns
+pub fields-split : (n : Word) (d : Datum) (ns : NamedData) → fields_written (named n d ns) ≡ field_text n d ++ fields_behind ns
 fields-split n d no_named = sym (append-nil (field_text n d))
 fields-split n d (named m e ns) = refl
 

@@ -1,7 +1,8 @@
 -- Why bytes are no event.
-use Rattle.std.specs.Prelude.{◌≡◌, ℕ, ◌+◌, ◌-◌, ◌<◌, ◌≤◌, ◌||◌, ◌==◌, List, [], ◌∷◌, length, take, if◌then◌else◌, ⊤}
+use Rattle.std.specs.Prelude.{◌≡◌, ℕ, ◌+◌, ◌-◌, ◌<◌, ◌≤◌, ◌||◌, ◌==◌, List, [], ◌∷◌, length, take, if◌then◌else◌, Result, Ok, Err, ⊤}
 use Rattle.vx_value.specs.Texts.{Word}
 use Rattle.vx_value.specs.Datum.{Datum, Null, Truth, Whole, Spelled, Words, Items, Fields, NamedDatum, named_of}
+use Rattle.vx_value.specs.declared.event.Event.{Event}
 use Rattle.vx_json.specs.Grammar.{IsText, BeginsText}
 use Rattle.vx_json.specs.declared.json_fault.JsonFault.{JsonFault}
 use Rattle.vx_json.specs.declared.json_fault.JsonFault.TheVariants.{NotJson, Deep, NotObject, WantOfMemory}
@@ -93,3 +94,8 @@ IsTextFault bytes (NotJson at) = IsNotJson bytes at
 IsTextFault bytes (Deep at) = IsDeep bytes at
 IsTextFault bytes NotObject = ⊥
 IsTextFault bytes WantOfMemory = ⊤
+
+-- bytes were read as these fields, or no memory was found
+abbrev pub GivesFields : List NamedDatum → Result Event JsonFault → Type 0
+GivesFields fields (Ok event) = event.fields ≡ fields
+GivesFields fields (Err fault) = fault ≡ WantOfMemory

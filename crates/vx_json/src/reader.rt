@@ -1,9 +1,12 @@
-ghost use Rattle.std.specs.Prelude.{◌≡◌, IfOk, IfErr};
+ghost use Rattle.std.specs.Prelude.{◌≡◌, ◌≤◌, List, IfOk, IfErr};
 ghost use Rattle.vx_value.specs.Values.{datum_of};
-ghost use Rattle.vx_value.specs.Datum.{Fields, named_of};
+ghost use Rattle.vx_value.specs.Datum.{NamedDatum, Fields, named_of};
+ghost use Rattle.vx_value.specs.Events.{fields_depth};
 ghost use Rattle.vx_json.specs.Machine.{height};
 ghost use Rattle.vx_json.specs.ModeViews.{mode_view, stack_view};
-ghost use Rattle.vx_json.specs.Faults.{IsEvent, IsFault, IsValue, IsTextFault, IsNoObject};
+ghost use Rattle.vx_json.specs.Faults.{IsEvent, IsFault, IsValue, IsTextFault, IsNoObject, GivesFields};
+ghost use Rattle.vx_json.specs.Writable.{IsWritable};
+ghost use Rattle.vx_json.specs.Written.{written};
 
 use crate::frame::Frame;
 use crate::json_fault::JsonFault;
@@ -66,6 +69,18 @@ fn value(alloc: Global, bytes: &[u8]) -> Result<Value, JsonFault>
     }
 }
 
+/// The event of a JSON text, or why there is none.
+fn event(alloc: Global, bytes: &[u8]) -> Result<Event, JsonFault>
+    ensures event { IfOk result (λ event. IsEvent bytes.now event.fields) }
+    ensures fault { IfErr result (IsFault bytes.now) }
+{
+    let value = value(alloc, bytes)?;
+    match event_of(value) {
+        Ok(event) => Ok(event),
+        Err(fault) => Err(fault),
+    }
+}
+
 /// The event of a JSON text, which is one object with blanks around it. Of equal names the last counts. A number is
 /// whole exactly where its spelling is the one in which a whole number of 64 bits is written, and else keeps its
 /// spelling.
@@ -77,10 +92,9 @@ fn value(alloc: Global, bytes: &[u8]) -> Result<Value, JsonFault>
 pub fn read(alloc: Global, bytes: &[u8]) -> Result<Event, JsonFault>
     ensures event { IfOk result (λ event. IsEvent bytes.now event.fields) }
     ensures fault { IfErr result (IsFault bytes.now) }
+    // What was written is read again, but for want of memory.
+    ensures written { (fields : List NamedDatum) → IsWritable (Fields (named_of fields)) → fields_depth fields ≤ 32 →
+        bytes.now ≡ written (Fields (named_of fields)) → GivesFields fields result }
 {
-    let value = value(alloc, bytes)?;
-    match event_of(value) {
-        Ok(event) => Ok(event),
-        Err(fault) => Err(fault),
-    }
+    event(alloc, bytes)
 }

@@ -2,6 +2,8 @@ ghost use Rattle.std.specs.Prelude.{◌≡◌, ◌++◌, ◌∷◌, [], map, OnO
 ghost use Rattle.std.specs.Fmt.{signed_decimal};
 ghost use Rattle.vx_value.specs.Datum.{Truth, Items, Fields, data_of, named_of};
 ghost use Rattle.vx_value.specs.Values.{datum_of, named_datum};
+ghost use Rattle.vx_json.specs.Grammar.{IsText};
+ghost use Rattle.vx_json.specs.Writable.{IsWritable};
 ghost use Rattle.vx_json.specs.Growth.{Keeps};
 ghost use Rattle.vx_json.specs.Written.{written, separator, fields_written};
 
@@ -106,6 +108,8 @@ fn push_fields(fields: &[Field], out: &mut Bytes) -> Result<(), WantOfMemory>
 pub fn write_value(value: &Value, out: &mut Bytes) -> Result<(), WantOfMemory>
     ensures ok { OnOk result (out.new ≡ out.old ++ written (datum_of value.now)) }
     ensures err { OnErr result (out.new ≡ out.old) }
+    // It is a JSON text of the value.
+    ensures text { IsWritable (datum_of value.now) → IsText (written (datum_of value.now)) (datum_of value.now) }
 {
     let len = out.len();
     match push_value(value, out) {

@@ -1,7 +1,5 @@
-use Rattle.std.proofs.Common.{refl}
-use Rattle.vx_value.specs.Values.{datum_of}
-use Rattle.vx_json.proofs.Readings.{event-of-value}
+use Rattle.vx_json.proofs.WrittenAgain.{gives-fields}
 use Rattle.vx_json.proofs.reader.read.Goals as goal
 
-pub returns-in-Ok-clause-event : goal.returns-in-Ok-clause-event
-returns-in-Ok-clause-event c = event-of-value c.args.bytes.now (datum_of c.in_ok-value.value) c.in-Ok.event.fields c.in_ok-value.ensures.value c.in-Ok.ensures.ok
+pub returns-clause-written : goal.returns-clause-written
+returns-clause-written c fields h l e = gives-fields c.args.bytes.now fields c.event.result c.event.ensures.event c.event.ensures.fault h l e
