@@ -3,7 +3,7 @@
 use super::{Codec, JsonFault, encode_event, read, write, write_value};
 use std::alloc::Global;
 use std::test::Fail;
-use vx_value::{Bytes, Event};
+use vx_value::{Bytes, Event, Text, Value};
 
 /// What some bytes are read as: the event in its one spelling, or the fault in words.
 fn said(alloc: Global, bytes: &[u8]) -> Result<String, Fail> {
@@ -64,5 +64,79 @@ fn json_in_and_out(rt: HostRuntime) -> Result<(), Fail> {
         let answer = said(alloc, text.as_bytes())?;
         assert_eq!(rt; answer.as_str(), want);
     }
+    Ok(())
+}
+
+// Texts and bytes at the edges of the grammar. The values are those of Python's json; the places were found by cutting
+// each text shorter until Python, given some more bytes, took it.
+#[test]
+fn texts_at_their_edges(rt: HostRuntime) -> Result<(), Fail> {
+    let alloc = rt.alloc();
+    for (text, want) in [
+        ("", "not json at 0"),
+        ("{\"a\":01}", "not json at 6"),
+        ("{\"a\":1.}", "not json at 7"),
+        ("{\"a\":\"\\ud800\\u0041\"}", "not json at 14"),
+        ("{\"a\":\"\\udc00\"}", "not json at 9"),
+        ("{\"a\":\"\t\"}", "not json at 6"),
+        ("{\"a\":1,}", "not json at 7"),
+        ("{\"a\":nul}", "not json at 8"),
+        ("{\"a\":[1 2]}", "not json at 8"),
+        ("\"a\"", "not an object"),
+        ("-12e+3", "not an object"),
+    ] {
+        let answer = said(alloc, text.as_bytes())?;
+        assert_eq!(rt; answer.as_str(), want);
+    }
+    Ok(())
+}
+
+// Bytes that are no UTF-8: the fault is the first byte with which no character goes on.
+#[test]
+fn bytes_that_are_no_text(rt: HostRuntime) -> Result<(), Fail> {
+    let alloc = rt.alloc();
+    let overlong: &[u8] = b"{\"\xC0\xAF";
+    let surrogate: &[u8] = b"{\"\xED\xA0\x80\":1}";
+    let cut: &[u8] = b"{\"\xE2\x82\":1}";
+    for (bytes, want) in [
+        (overlong, "not json at 2"),
+        (surrogate, "not json at 3"),
+        (cut, "not json at 4"),
+    ] {
+        let answer = said(alloc, bytes)?;
+        assert_eq!(rt; answer.as_str(), want);
+    }
+    Ok(())
+}
+
+// What a sink writes of an event under each codec.
+#[test]
+fn events_for_sinks(rt: HostRuntime) -> Result<(), Fail> {
+    let alloc = rt.alloc();
+    for (text, want) in [
+        ("{\"message\":\"a\\n\"}", "{\"message\":\"a\\n\"}\na\n\n"),
+        ("{\"message\":[1]}", "{\"message\":[1]}\n[1]\n"),
+        ("{}", "{}\n\n"),
+    ] {
+        let Ok(event) = read(alloc, text.as_bytes()) else {
+            return Err(Fail::from("an event"));
+        };
+        let mut out = Bytes::new(alloc);
+        encode_event(Codec::Json, &event, &mut out)?;
+        encode_event(Codec::Text, &event, &mut out)?;
+        assert_eq!(rt; out.as_slice(), want.as_bytes());
+    }
+    Ok(())
+}
+
+// A value alone.
+#[test]
+fn values_alone(rt: HostRuntime) -> Result<(), Fail> {
+    let alloc = rt.alloc();
+    let mut out = Bytes::new(alloc);
+    write_value(&Value::Whole(-7), &mut out)?;
+    write_value(&Value::Truth(true), &mut out)?;
+    write_value(&Value::Words(Text::copy_of(alloc, "é\u{7f}\u{1}")?), &mut out)?;
+    assert_eq!(rt; out.as_slice(), "-7true\"é\u{7f}\\u0001\"".as_bytes());
     Ok(())
 }
