@@ -1,22 +1,20 @@
 -- Each JSON text leads to its value.
-use Rattle.std.proofs.Common.{◌≡◌, ℕ, Bool, true, false, cond, ◌&&◌, ◌||◌, ◌==◌, Option, Some, None, List, [], ◌∷◌, ◌++◌, refl, sym, ◌∙◌, ap, subst, append_assoc, codes}
+use Rattle.std.proofs.Common.{◌≡◌, ℕ, Bool, true, false, cond, ◌==◌, Some, List, [], ◌∷◌, ◌++◌, refl, sym, ◌∙◌, ap, append_assoc, codes}
 use Rattle.std.proofs.lemmas.List.{append-nil}
 use Rattle.std.specs.Fmt.{signed_decimal}
-use Rattle.std.specs.Str.Lossy.{utf8_lossy}
 use Rattle.vx_value.specs.Texts.{Word}
-use Rattle.vx_value.specs.Datum.{Datum, Null, Truth, Words, Items, Fields, NamedDatum, data_of, named_of}
+use Rattle.vx_value.specs.Datum.{Datum, Items, Fields, NamedDatum, data_of, named_of}
 use Rattle.vx_value.specs.Events.{with_field}
-use Rattle.vx_json.specs.Numbers.{NumberParts}
-use Rattle.vx_json.specs.Strings.{ArePieces, pieces_bytes, pieces_text, Piece, string_text}
+use Rattle.vx_json.specs.Strings.{pieces_bytes, pieces_text, string_text}
 use Rattle.vx_json.specs.Grammar.{is_blank, are_blanks, Syntax, NullWord, TruthWord, WholeNumber, OtherNumber, String, EmptyArray, Array, EmptyObject, Object, Elements, NoElements, Element, Members, NoMembers, Member, spelling, elements_spelling, members_spelling, IsSyntax, AreElements, AreMembers, value_of, element_values, with_members, IsText}
-use Rattle.vx_json.specs.Machine.{Frame, InItems, InFields, Mode, AtValue, AtFirstItem, AtFirstName, AtName, InName, AtColon, AtEnd, InWord, InNumber, InText, State, state, step, begin_move, carry, outcome, number_datum}
+use Rattle.vx_json.specs.Machine.{Frame, InItems, InFields, Mode, AtValue, AtFirstItem, AtFirstName, AtName, AtColon, AtEnd, InText, state, step, begin_move, carry, outcome, number_datum}
 use Rattle.vx_json.specs.declared.text_place.TextPlace.TheVariants as place
 use Rattle.vx_json.proofs.Choices.{both_true}
 use Rattle.vx_json.proofs.NumberValues.{lossy-number, whole-datum, other-datum}
 use Rattle.vx_json.proofs.NumberRuns.{follows, run-number, Begins, number-begins}
 use Rattle.vx_json.proofs.WholeNumbers.{whole-parts}
 use Rattle.vx_json.proofs.TextRuns.{run-text, run-name}
-use Rattle.vx_json.proofs.Soundness.{join-elements, join-members}
+use Rattle.vx_json.proofs.Soundness.{join-members}
 
 -- ---- blanks change nothing
 pub blanks : (m : Mode) (st : List Frame) → ((b : ℕ) → is_blank b ≡ true → step m st b ≡ state m st) → (bl rest : Word) → are_blanks bl ≡ true → outcome m st (bl ++ rest) ≡ outcome m st rest

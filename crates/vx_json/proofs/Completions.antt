@@ -1,18 +1,12 @@
 -- What may come at each place of a JSON text, by its grammar, and that each byte leads there.
-use Rattle.std.proofs.Common.{◌≡◌, ℕ, Bool, true, false, cond, ◌==◌, Option, Some, None, ◌⊎◌, ⊎_elim, inl, inr, List, [], ◌∷◌, ◌++◌, refl, sym, ◌∙◌, ap, subst, append_assoc}
+use Rattle.std.proofs.Common.{◌≡◌, ℕ, true, Option, Some, None, ◌⊎◌, List, [], ◌∷◌, ◌++◌}
 use Rattle.std.specs.Str.Lossy.{utf8_lossy}
-use Rattle.vx_value.specs.Texts.{Word, is_empty}
-use Rattle.vx_value.specs.Datum.{Datum, Null, Truth, Words, Items, Fields, NamedDatum, data_of, named_of}
+use Rattle.vx_value.specs.Texts.{Word}
+use Rattle.vx_value.specs.Datum.{Datum, Words, Items, Fields, NamedDatum, data_of, named_of}
 use Rattle.vx_value.specs.Events.{with_field}
-use Rattle.vx_json.specs.Numbers.{is_digit}
-use Rattle.vx_json.specs.Strings.{ArePieces, pieces_bytes, pieces_text, Piece}
-use Rattle.vx_json.specs.Grammar.{is_blank, are_blanks, Syntax, NullWord, TruthWord, String, EmptyArray, Array, EmptyObject, Object, Elements, NoElements, Element, Members, NoMembers, Member, spelling, elements_spelling, members_spelling, IsSyntax, AreElements, AreMembers, value_of, element_values, with_members}
-use Rattle.vx_json.specs.Machine.{Frame, InItems, InFields, Mode, AtValue, AtFirstItem, AtFirstName, AtName, InName, AtColon, AtEnd, InWord, InNumber, InText, State, step, begin_move, end_move, after_move, name_move, words_move, digits_move, word_move, number_datum, may_end}
-use Rattle.vx_json.specs.declared.text_place.TextPlace.{TextPlace}
-use Rattle.vx_json.specs.declared.text_place.TextPlace.TheVariants as place
+use Rattle.vx_json.specs.Grammar.{are_blanks, Syntax, Elements, Members, spelling, elements_spelling, members_spelling, IsSyntax, AreElements, AreMembers, value_of, element_values, with_members}
+use Rattle.vx_json.specs.Machine.{Frame, InItems, InFields, Mode, AtValue, AtFirstItem, AtFirstName, AtName, InName, AtColon, AtEnd, InWord, InNumber, InText, State, number_datum}
 use Rattle.vx_json.specs.declared.number_place.NumberPlace.{NumberPlace}
-use Rattle.vx_json.specs.declared.number_place.NumberPlace.TheVariants as number
-use Rattle.vx_json.proofs.Choices.{chosen, and_true, eq_of}
 use Rattle.vx_json.proofs.TextTails.{HasText, TextTail}
 use Rattle.vx_json.proofs.NumberTails.{NumberTail}
 

@@ -1,5 +1,5 @@
 -- Bytes that grew, and grew again.
-use Rattle.std.proofs.Common.{◌≡◌, ℕ, suc, List, [], ◌∷◌, ◌++◌, take, length, arith, refl, sym, ap, ◌∙◌}
+use Rattle.std.proofs.Common.{◌≡◌, [], ◌∷◌, ◌++◌, take, length, refl, ap, ◌∙◌}
 use Rattle.vx_value.specs.Texts.{Word}
 use Rattle.vx_json.specs.Growth.{Keeps}
 

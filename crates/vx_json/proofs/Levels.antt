@@ -1,21 +1,21 @@
 -- What each byte does to the levels that are open, and that it leads to places that can be reached.
-use Rattle.std.proofs.Common.{◌≡◌, ℕ, suc, ◌+◌, ◌-◌, ◌<◌, ◌≤◌, Bool, true, false, cond, ◌&&◌, ◌||◌, ◌==◌, nat_le, nat_lt, Option, Some, None, List, [], ◌∷◌, ◌++◌, length, refl, sym, ◌∙◌, ap, subst, arith, codes}
+use Rattle.std.proofs.Common.{◌≡◌, ℕ, suc, ◌+◌, ◌-◌, ◌≤◌, Bool, true, false, cond, ◌&&◌, ◌||◌, ◌==◌, nat_le, nat_lt, Option, Some, None, List, [], ◌∷◌, ◌++◌, length, refl, sym, ◌∙◌, subst, arith, codes}
 use Rattle.std.proofs.lemmas.Bool.Decides.{nat_tests}
 use Rattle.std.specs.Char.{encode_utf8}
 use Rattle.std.specs.Str.Lossy.{utf8_lossy}
-use Rattle.vx_value.specs.Texts.{Word, is_empty}
+use Rattle.vx_value.specs.Texts.{Word}
 use Rattle.vx_value.specs.Datum.{Datum, Null, Truth, Items, Fields, NamedDatum, data_of, named_of}
 use Rattle.vx_value.specs.Events.{with_field}
 use Rattle.vx_json.specs.Numbers.{is_digit}
-use Rattle.vx_json.specs.Strings.{is_hex, hex_value, is_short, short_byte, is_high, code_of, paired_code, Four}
+use Rattle.vx_json.specs.Strings.{is_hex, hex_value, is_short, short_byte, is_high, code_of, paired_code}
 use Rattle.vx_json.specs.Grammar.{is_blank}
-use Rattle.vx_json.specs.Faults.{Inside, Outside, InString, Escaped, inside_after, count_after, open_behind, open_levels}
+use Rattle.vx_json.specs.Faults.{Inside, Outside, InString, Escaped, inside_after, count_after, open_behind}
 use Rattle.vx_json.specs.Machine.{TextMove, Goes, Ends, Wrong, text_move, lead_move, code_move, first_code_move, is_character_code, is_mark, after_whole, number_move, may_end, number_datum, Frame, InItems, InFields, Mode, AtValue, AtFirstItem, AtFirstName, AtName, InName, AtColon, AtEnd, InWord, InNumber, InText, State, state, step, begin_move, end_move, after_move, name_move, words_move, digits_move, word_move, carry, reached, height}
 use Rattle.vx_json.specs.declared.text_place.TextPlace.{TextPlace}
 use Rattle.vx_json.specs.declared.text_place.TextPlace.TheVariants as place
 use Rattle.vx_json.specs.declared.number_place.NumberPlace.{NumberPlace}
 use Rattle.vx_json.specs.declared.number_place.NumberPlace.TheVariants as number
-use Rattle.vx_json.proofs.Choices.{both_true, and_true, eq_of, le_of, ge_of}
+use Rattle.vx_json.proofs.Choices.{both_true, eq_of, le_of}
 use Rattle.vx_json.proofs.TextTails.{four}
 use Rattle.vx_json.proofs.Reaching.{IsLivePlace, IsLive, are_letters}
 

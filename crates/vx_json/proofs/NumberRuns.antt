@@ -1,16 +1,15 @@
 -- The digits of a number, byte by byte.
-use Rattle.std.proofs.Common.{◌≡◌, ℕ, ◌<◌, ◌≤◌, Bool, true, false, cond, ◌&&◌, ◌||◌, ◌==◌, nat_le, Option, Some, None, List, [], ◌∷◌, ◌++◌, refl, sym, ◌∙◌, ap, arith, append_assoc}
+use Rattle.std.proofs.Common.{◌≡◌, ℕ, ◌<◌, Bool, true, false, cond, ◌&&◌, ◌||◌, ◌==◌, Option, Some, None, List, [], ◌∷◌, ◌++◌, refl, sym, ◌∙◌, ap, arith, append_assoc}
 use Rattle.std.proofs.lemmas.List.{append-nil}
 use Rattle.std.proofs.lemmas.Bool.Decides.{nat_tests}
 use Rattle.std.specs.Str.Lossy.{utf8_lossy}
 use Rattle.vx_value.specs.Texts.{Word, is_empty}
-use Rattle.vx_value.specs.Datum.{Datum}
 use Rattle.vx_json.specs.Numbers.{is_digit, are_digits, some_digits, is_minus, is_whole_part, is_fraction, are_signed_digits, is_exponent, NumberParts}
 use Rattle.vx_json.specs.Grammar.{is_blank}
-use Rattle.vx_json.specs.Machine.{is_mark, after_whole, number_move, may_end, number_datum, Mode, Frame, InNumber, AtValue, AtEnd, State, state, step, carry, outcome, digits_move, after_move, begin_move}
+use Rattle.vx_json.specs.Machine.{is_mark, after_whole, number_move, may_end, number_datum, Frame, InNumber, AtValue, AtEnd, state, carry, outcome, digits_move, after_move, begin_move}
 use Rattle.vx_json.specs.declared.number_place.NumberPlace.{NumberPlace}
 use Rattle.vx_json.specs.declared.number_place.NumberPlace.TheVariants as number
-use Rattle.vx_json.proofs.Choices.{both_true, and_true, eq_of}
+use Rattle.vx_json.proofs.Choices.{both_true, eq_of}
 
 -- whether bytes may follow a value: there are none, or the first is a blank, a comma, or a closing bracket or brace
 abbrev pub follows : Word → Bool

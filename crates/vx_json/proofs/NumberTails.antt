@@ -1,11 +1,11 @@
 -- What may come inside a number, place by place, and that each byte leads there.
-use Rattle.std.proofs.Common.{◌≡◌, ℕ, Bool, true, false, cond, ◌&&◌, ◌||◌, ◌==◌, Option, Some, None, ◌⊎◌, ⊎_elim, inl, inr, List, [], ◌∷◌, ◌++◌, refl, sym, ◌∙◌, ap}
+use Rattle.std.proofs.Common.{◌≡◌, ℕ, Bool, true, false, cond, ◌&&◌, ◌||◌, ◌==◌, Option, Some, None, ⊎_elim, [], ◌∷◌, ◌++◌, refl, ap}
 use Rattle.vx_value.specs.Texts.{Word}
-use Rattle.vx_json.specs.Numbers.{is_digit, are_digits, some_digits, is_minus, is_whole_part, is_fraction, are_signed_digits, is_exponent, NumberParts}
+use Rattle.vx_json.specs.Numbers.{is_digit, are_digits, some_digits, is_whole_part, is_fraction, are_signed_digits, is_exponent, NumberParts}
 use Rattle.vx_json.specs.Machine.{is_mark, after_whole, number_move, may_end}
 use Rattle.vx_json.specs.declared.number_place.NumberPlace.{NumberPlace}
 use Rattle.vx_json.specs.declared.number_place.NumberPlace.TheVariants as number
-use Rattle.vx_json.proofs.Choices.{chosen, and_true, eq_of}
+use Rattle.vx_json.proofs.Choices.{chosen, and_true}
 
 -- a whole part, and what may follow it
 pub record WholeTail (t : Word) : Type 0 where

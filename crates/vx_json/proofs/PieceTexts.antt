@@ -1,6 +1,6 @@
 -- The pieces of a text make UTF-8.
-use Rattle.std.proofs.Common.{◌≡◌, ℕ, ◌<◌, ◌≤◌, true, false, ◌==◌, List, [], ◌∷◌, ◌++◌, refl, sym, subst, arith}
-use Rattle.std.specs.Char.{IsScalar, encode_utf8}
+use Rattle.std.proofs.Common.{◌≡◌, ℕ, ◌<◌, true, false, List, [], ◌∷◌, subst, arith}
+use Rattle.std.specs.Char.{IsScalar}
 use Rattle.std.specs.Str.{IsUtf8}
 use Rattle.std.specs.Str.Lossy.{utf8_lossy}
 use Rattle.std.proofs.lemmas.Bool.Decides.{nat_tests}
@@ -8,8 +8,7 @@ use Rattle.std.proofs.lemmas.Str.{utf8_lossy-IsUtf8, IsUtf8-append, IsUtf8-nil, 
 use Rattle.vx_value.specs.Texts.{Word}
 use Rattle.vx_value.specs.Replacement.{IsCharacter}
 use Rattle.vx_value.proofs.Characters.{code_of as codes-of}
-use Rattle.vx_json.specs.Strings.{Piece, Itself, Short, Coded, Paired, IsPiece, ArePieces, piece_bytes, pieces_bytes, is_short, short_byte, is_high, is_low, code_of, paired_code, hex_value, is_hex, are_hex, Four}
-use Rattle.vx_json.specs.Machine.{is_character_code}
+use Rattle.vx_json.specs.Strings.{Piece, Itself, Short, Coded, Paired, IsPiece, ArePieces, piece_bytes, pieces_bytes, is_short, short_byte, is_high, is_low, code_of, paired_code, are_hex, Four}
 use Rattle.vx_json.proofs.NumberValues.{ascii-cons, ascii-nil}
 use Rattle.vx_json.proofs.TextTails.{hex_bound}
 use Rattle.vx_json.proofs.Choices.{both_true}

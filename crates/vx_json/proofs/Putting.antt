@@ -1,17 +1,16 @@
 -- A field that is put among others whose names rise.
-use Rattle.std.proofs.Common.{◌≡◌, ℕ, zero, suc, ◌+◌, ◌-◌, ◌<◌, Bool, true, false, cond, ◌&&◌, Option, Some, None, List, [], ◌∷◌, ◌++◌, length, refl, sym, ◌∙◌, ap, subst, arith, append_assoc}
+use Rattle.std.proofs.Common.{◌≡◌, ℕ, zero, suc, ◌+◌, Bool, true, false, cond, Some, List, [], ◌∷◌, ◌++◌, length, refl, sym, ◌∙◌, ap, subst, arith}
 use Rattle.std.proofs.lemmas.List.{append-nil}
 use Rattle.std.proofs.lemmas.Bool.Decides.{nat_tests}
 use Rattle.std.specs.List.{slice_get}
 use Rattle.std.specs.Ordering.{is_gt, is_eq}
-use Rattle.std.specs.declared.cmp.Ordering.{Ordering}
 use Rattle.vx_value.specs.Texts.{Word, text_lt, same_text}
 use Rattle.vx_value.specs.Datum.{Datum, NamedDatum}
 use Rattle.vx_value.specs.Events.{with_field, names_rise, last_below}
 use Rattle.vx_value.specs.Orders.{text_cmp}
 use Rattle.vx_value.specs.Values.{named_datum}
 use Rattle.vx_value.specs.declared.field.Field.{Field}
-use Rattle.vx_value.proofs.Order.{less_not_more, less_not_same', text_lt-trans, told_more, told_same, told_less, same_text-true, less_or}
+use Rattle.vx_value.proofs.Order.{less_not_more, less_not_same', text_lt-trans, told_more, told_same, same_text-true, less_or}
 use Rattle.vx_json.specs.Puts.{last_order, taken_before, in_order}
 use Rattle.vx_json.proofs.Choices.{both_true, and_true}
 

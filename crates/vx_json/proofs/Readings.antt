@@ -1,18 +1,18 @@
 -- What a reader knows of the bytes that it has read.
-use Rattle.std.proofs.Common.{◌≡◌, ℕ, zero, suc, ◌+◌, ◌<◌, ◌≤◌, Bool, true, false, cond, Option, Some, None, ◌⊎◌, ⊎_elim, List, [], ◌∷◌, ◌++◌, length, take, drop, get_or, refl, sym, ◌∙◌, ap, subst, arith}
+use Rattle.std.proofs.Common.{◌≡◌, ℕ, zero, suc, ◌+◌, ◌<◌, ◌≤◌, Some, None, ◌⊎◌, ⊎_elim, List, [], ◌∷◌, ◌++◌, length, take, drop, get_or, refl, sym, ◌∙◌, ap, subst, arith}
 use Rattle.std.proofs.lemmas.List.{take_more, take_all, take-append-drop, append-nil}
 use Rattle.std.proofs.str.Laws.{order}
 use Rattle.vx_value.specs.Texts.{Word}
 use Rattle.vx_value.specs.Datum.{Datum, Fields, NamedDatum, named_of}
 use Rattle.vx_json.specs.Grammar.{IsText, BeginsText}
-use Rattle.vx_json.specs.Machine.{Frame, Mode, AtValue, AtEnd, InNumber, State, state, step, finish, carry, reached, outcome, height}
-use Rattle.vx_json.specs.Faults.{Outside, open_levels, open_behind, StaysShallow, IsNotJson, IsDeep, IsValue, IsEvent, IsOther, IsNoObject, IsTextFault, IsFault}
+use Rattle.vx_json.specs.Machine.{Frame, Mode, AtValue, AtEnd, state, step, finish, carry, reached, outcome, height}
+use Rattle.vx_json.specs.Faults.{open_levels, StaysShallow, IsNotJson, IsDeep, IsValue, IsEvent, IsOther, IsNoObject, IsTextFault, IsFault}
 use Rattle.vx_json.specs.declared.json_fault.JsonFault.{JsonFault}
 use Rattle.vx_json.specs.declared.json_fault.JsonFault.TheVariants as fault
 use Rattle.vx_json.proofs.Soundness.{text-of}
 use Rattle.vx_json.proofs.Completeness.{text-outcome}
 use Rattle.vx_json.proofs.Reaching.{reached-append, outcome-append, no-beginning, beginning}
-use Rattle.vx_json.proofs.Levels.{Stands, stands, StepFacts, step-facts, inside_of, count-bound}
+use Rattle.vx_json.proofs.Levels.{stands, StepFacts, step-facts, inside_of, count-bound}
 
 -- the first i bytes lead to a place, and open no more than 32 levels
 pub record HasRead (bytes : Word) (i : ℕ) (m : Mode) (st : List Frame) : Type 0 where

@@ -1,18 +1,17 @@
 -- What is written opens as many levels as the value is deep, and no more.
-use Rattle.std.proofs.Common.{◌≡◌, ℕ, zero, suc, max, ◌+◌, ◌-◌, ◌/◌, ◌%◌, ◌<◌, ◌≤◌, Bool, true, false, cond, ◌&&◌, ◌||◌, ◌==◌, nat_le, nat_lt, List, [], ◌∷◌, ◌++◌, take, refl, sym, ◌∙◌, ap, subst, arith, append_assoc, FitsSigned, w64}
+use Rattle.std.proofs.Common.{◌≡◌, ℕ, zero, suc, ◌+◌, ◌-◌, ◌/◌, ◌%◌, ◌<◌, ◌≤◌, Bool, true, false, cond, ◌&&◌, ◌||◌, ◌==◌, nat_le, nat_lt, [], ◌∷◌, ◌++◌, take, refl, sym, ◌∙◌, ap, subst, arith, append_assoc}
 use Rattle.std.proofs.lemmas.List.{append-nil}
 use Rattle.std.proofs.lemmas.Bool.Decides.{nat_tests}
 use Rattle.vx_value.specs.Texts.{Word, is_empty}
 use Rattle.vx_value.specs.Datum.{Datum, Null, Truth, Whole, Spelled, Words, Items, Fields, Data, no_data, datum, NamedData, no_named, named, depth, data_depth, named_depth}
 use Rattle.vx_json.specs.Numbers.{is_digit, are_digits, some_digits, is_minus, is_whole_part, is_fraction, are_signed_digits, is_exponent, NumberParts}
-use Rattle.vx_json.specs.Strings.{is_hex}
 use Rattle.vx_json.specs.Written.{hex_digit, escaped, escapes, quoted, written, items_written, fields_written}
 use Rattle.vx_json.specs.Writable.{IsWritable, AreWritable, AreWritableFields}
-use Rattle.vx_json.specs.Faults.{Inside, Outside, InString, Escaped, inside_after, count_after, open_behind, open_levels, StaysShallow}
+use Rattle.vx_json.specs.Faults.{Inside, Outside, InString, inside_after, count_after, open_behind, open_levels}
 use Rattle.vx_json.proofs.Choices.{both_true, and_true, eq_of, lt_of}
-use Rattle.vx_json.proofs.Levels.{choose, hex_in_string, plain_in_string}
+use Rattle.vx_json.proofs.Levels.{choose, hex_in_string}
 use Rattle.vx_json.proofs.WholeNumbers.{whole-parts}
-use Rattle.vx_json.proofs.WrittenTexts.{hex_of, items_behind, items-split, fields_behind, fields-split, field_text}
+use Rattle.vx_json.proofs.WrittenTexts.{hex_of, items_behind, items-split, fields_behind, fields-split}
 
 -- no more than m levels are open before, among and behind the bytes
 abbrev pub Low : ℕ → Inside → ℕ → Word → Type 0
@@ -180,12 +179,12 @@ mutual
   value-low (Items ds) h m n rest l r = (
     omega arith,
     subst (Low m Outside (n + 1)) (sym (append_assoc (items_written ds) (93 ∷ []) rest))
-    (items-low ds h m (n + 1) (93 ∷ rest) (omega arith) (omega arith, subst (λ x. Low m Outside x rest) (less_again n) r)),
+        (items-low ds h m (n + 1) (93 ∷ rest) (omega arith) (omega arith, subst (λ x. Low m Outside x rest) (less_again n) r)),
   )
   value-low (Fields ns) h m n rest l r = (
     omega arith,
     subst (Low m Outside (n + 1)) (sym (append_assoc (fields_written ns) (125 ∷ []) rest))
-    (fields-low ns h.1 m (n + 1) (125 ∷ rest) (omega arith) (omega arith, subst (λ x. Low m Outside x rest) (less_again n) r)),
+        (fields-low ns h.1 m (n + 1) (125 ∷ rest) (omega arith) (omega arith, subst (λ x. Low m Outside x rest) (less_again n) r)),
   )
 
   items-low : (ds : Data) → AreWritable ds → (m n : ℕ) (rest : Word) → n + data_depth ds ≤ m → Low m Outside n rest → Low m Outside n (items_written ds ++ rest)
@@ -199,7 +198,7 @@ mutual
   items-behind-low (datum d ds) h m n rest l r = (
     low-head m Outside n rest r,
     subst (Low m Outside n) (sym (ap (λ x. x ++ rest) (items-split d ds) ∙ append_assoc (written d) (items_behind ds) rest))
-    (value-low d h.0 m n (items_behind ds ++ rest) (omega arith) (items-behind-low ds h.1 m n rest (omega arith) r)),
+        (value-low d h.0 m n (items_behind ds ++ rest) (omega arith) (items-behind-low ds h.1 m n rest (omega arith) r)),
   )
 
   fields-low : (ns : NamedData) → AreWritableFields ns → (m n : ℕ) (rest : Word) → n + named_depth ns ≤ m → Low m Outside n rest → Low m Outside n (fields_written ns ++ rest)
@@ -215,7 +214,7 @@ mutual
       let later = fields-behind-low ns h.2 m n rest (omega arith) r in (
         low-head m Outside n rest r,
         subst (Low m Outside n) (sym (ap (λ x. x ++ rest) (fields-split k d ns) ∙ field-joined (quoted k) (58 ∷ []) (written d) (fields_behind ns) rest))
-        (quoted-low m n k (58 ∷ written d ++ (fields_behind ns ++ rest)) (low-head m Outside n (fields_behind ns ++ rest) later, value-low d h.1 m n (fields_behind ns ++ rest) (omega arith) later)),
+            (quoted-low m n k (58 ∷ written d ++ (fields_behind ns ++ rest)) (low-head m Outside n (fields_behind ns ++ rest) later, value-low d h.1 m n (fields_behind ns ++ rest) (omega arith) later)),
       )
 
 -- what is written of a value that is at most 32 deep opens no more levels

@@ -1,24 +1,23 @@
 -- What the bytes of a text do at each place is what the grammar allows.
-use Rattle.std.proofs.Common.{◌≡◌, ℕ, Bool, true, false, cond, ◌&&◌, ◌||◌, ◌==◌, Option, Some, None, ◌⊎◌, ⊎_elim, inl, inr, List, [], ◌∷◌, ◌++◌, refl, sym, ◌∙◌, ap, subst, append_assoc, codes}
+use Rattle.std.proofs.Common.{◌≡◌, ℕ, Bool, true, false, cond, ◌==◌, Option, Some, None, ⊎_elim, inl, inr, List, [], ◌∷◌, ◌++◌, refl, sym, ◌∙◌, ap, subst, append_assoc, codes}
 use Rattle.std.proofs.lemmas.List.{append-nil}
 use Rattle.std.specs.Str.Lossy.{utf8_lossy}
-use Rattle.vx_value.specs.Texts.{Word, is_empty}
-use Rattle.vx_value.specs.Datum.{Datum, Null, Truth, Words, Items, Fields, NamedDatum, data_of, named_of}
+use Rattle.vx_value.specs.Texts.{Word}
+use Rattle.vx_value.specs.Datum.{Datum, Words, Items, Fields, NamedDatum, data_of, named_of}
 use Rattle.vx_value.specs.Events.{with_field}
-use Rattle.vx_json.specs.Numbers.{is_digit, NumberParts}
-use Rattle.vx_json.specs.Strings.{ArePieces, pieces_bytes, pieces_text, Piece}
-use Rattle.vx_json.specs.Grammar.{is_blank, are_blanks, Syntax, NullWord, TruthWord, String, EmptyArray, Array, EmptyObject, Object, Elements, NoElements, Element, Members, NoMembers, Member, spelling, elements_spelling, members_spelling, IsSyntax, AreElements, AreMembers, value_of, element_values, with_members, IsText}
+use Rattle.vx_json.specs.Numbers.{NumberParts}
+use Rattle.vx_json.specs.Strings.{pieces_text}
+use Rattle.vx_json.specs.Grammar.{is_blank, Syntax, NullWord, TruthWord, String, EmptyArray, Array, EmptyObject, Object, NoElements, Element, NoMembers, Member, spelling, elements_spelling, members_spelling, IsSyntax, value_of, element_values, IsText}
 use Rattle.vx_json.specs.Machine.{TextMove, Goes, Ends, Wrong, text_move, number_move, Frame, InItems, InFields, Mode, AtValue, AtFirstItem, AtFirstName, AtName, InName, AtColon, AtEnd, InWord, InNumber, InText, State, step, begin_move, end_move, after_move, name_move, words_move, digits_move, word_move, number_datum, may_end, finish, carry, outcome, state}
-use Rattle.vx_json.specs.declared.text_place.TextPlace.{TextPlace}
 use Rattle.vx_json.specs.declared.text_place.TextPlace.TheVariants as place
 use Rattle.vx_json.specs.declared.number_place.NumberPlace.{NumberPlace}
 use Rattle.vx_json.specs.declared.number_place.NumberPlace.TheVariants as number
 use Rattle.vx_json.proofs.Choices.{chosen, and_true, eq_of}
-use Rattle.vx_json.proofs.TextTails.{HasText, TextTail, Moved, added, text-sound}
+use Rattle.vx_json.proofs.TextTails.{HasText, TextTail, Moved, text-sound}
 use Rattle.vx_json.proofs.NumberTails.{NumberTail, NumberMoved, number-sound, number-ends, begins-minus, begins-zero, begins-digit}
 use Rattle.vx_json.proofs.NumberValues.{lossy-number, number-syntax}
 use Rattle.vx_json.proofs.PieceTexts.{lossy-pieces}
-use Rattle.vx_json.proofs.Completions.{HasValue, HasMark, HasElements, HasMembers, HasWord, HasNumber, Closes, ColonTail, NameTail, Completes, Onward}
+use Rattle.vx_json.proofs.Completions.{HasValue, HasMark, HasWord, HasNumber, Closes, ColonTail, NameTail, Completes, Onward}
 
 -- ---- blanks in front
 blank-value : (b : ℕ) (rest : Word) (next : Datum → Word → Type 0) → is_blank b ≡ true → HasValue rest next → HasValue (b ∷ rest) next

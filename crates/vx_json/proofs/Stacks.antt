@@ -1,5 +1,5 @@
 -- Stacks that grow and shrink at their end.
-use Rattle.std.proofs.Common.{◌≡◌, ℕ, suc, ◌+◌, Option, Some, List, [], ◌∷◌, ◌++◌, length, refl, sym, ◌∙◌, ap, arith}
+use Rattle.std.proofs.Common.{◌≡◌, ◌+◌, List, [], ◌∷◌, ◌++◌, length, refl, arith}
 use Rattle.vx_json.specs.Machine as machine
 use Rattle.vx_json.specs.ModeViews.{frame_view, stack_over, stack_view}
 use Rattle.vx_json.specs.declared.frame.Frame.{Frame}

@@ -1,15 +1,14 @@
 -- The pieces of a text, byte by byte.
-use Rattle.std.proofs.Common.{◌≡◌, ℕ, ◌+◌, ◌-◌, ◌*◌, ◌<◌, ◌≤◌, Bool, true, false, cond, ◌&&◌, ◌||◌, ◌==◌, nat_le, nat_lt, Option, ◌⊎◌, ⊎_elim, inl, inr, List, [], ◌∷◌, ◌++◌, refl, sym, ◌∙◌, ap, subst, arith, append_assoc}
+use Rattle.std.proofs.Common.{◌≡◌, ℕ, ◌+◌, ◌*◌, ◌<◌, ◌≤◌, Bool, true, false, cond, ◌&&◌, ◌==◌, nat_le, ⊎_elim, List, [], ◌∷◌, ◌++◌, refl, sym, ◌∙◌, ap, arith, append_assoc}
 use Rattle.std.proofs.lemmas.List.{append-nil}
 use Rattle.std.proofs.lemmas.Bool.Decides.{nat_tests}
 use Rattle.std.specs.Char.{encode_utf8}
 use Rattle.std.specs.Int.{IsInRange}
-use Rattle.std.specs.Str.Lossy.{utf8_lossy}
 use Rattle.vx_value.specs.Texts.{Word}
-use Rattle.vx_value.specs.Datum.{Datum, Words, NamedDatum}
-use Rattle.vx_value.specs.Replacement.{IsCharacter, BeginThree, BeginFour, GoesOn}
+use Rattle.vx_value.specs.Datum.{Words, NamedDatum}
+use Rattle.vx_value.specs.Replacement.{GoesOn}
 use Rattle.vx_json.specs.Strings.{is_hex, hex_value, is_short, short_byte, is_special, is_high, is_low, paired_code, Four, are_hex, code_of, escape_of, Piece, Itself, Short, Coded, Paired, ArePieces, IsPiece, piece_text, piece_bytes, pieces_text, pieces_bytes}
-use Rattle.vx_json.specs.Machine.{TextMove, Goes, Ends, Wrong, text_move, code_move, first_code_move, is_character_code, Mode, Frame, InText, InName, AtEnd, AtColon, State, state, step, carry, outcome, words_move, name_move}
+use Rattle.vx_json.specs.Machine.{TextMove, Goes, Wrong, text_move, code_move, first_code_move, is_character_code, Mode, Frame, InText, InName, AtEnd, AtColon, state, step, carry, outcome, words_move, name_move}
 use Rattle.vx_json.specs.declared.text_place.TextPlace.{TextPlace}
 use Rattle.vx_json.specs.declared.text_place.TextPlace.TheVariants as place
 use Rattle.vx_json.proofs.Choices.{both_true, and_true, eq_of, gt_of, range_of}

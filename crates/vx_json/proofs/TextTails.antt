@@ -1,5 +1,5 @@
 -- What may come inside a text, place by place, and that each byte leads there.
-use Rattle.std.proofs.Common.{◌≡◌, ℕ, ◌+◌, ◌<◌, ◌≤◌, Bool, true, false, cond, ◌&&◌, ◌||◌, ◌==◌, nat_le, nat_lt, ◌⊎◌, ⊎_elim, inl, inr, List, [], ◌∷◌, ◌++◌, refl, sym, ◌∙◌, ap, subst, arith, append_assoc}
+use Rattle.std.proofs.Common.{◌≡◌, ℕ, ◌<◌, ◌≤◌, Bool, true, false, cond, ◌&&◌, ◌==◌, nat_le, nat_lt, ◌⊎◌, ⊎_elim, inl, inr, List, [], ◌∷◌, ◌++◌, refl, sym, ◌∙◌, ap, subst, arith, append_assoc}
 use Rattle.std.specs.Char.{encode_utf8}
 use Rattle.vx_value.specs.Texts.{Word}
 use Rattle.std.specs.Int.{IsInRange}
@@ -249,9 +249,12 @@ coded-sound a b c d bytes rest next x e (inl k) =
     let es : s.byte ≡ 92 = eq_of _ _ s.fits in
     let et : t.byte ≡ 117 = eq_of _ _ t.fits in
     let l = four u.byte v.byte w.byte y.byte in
-    piece_at (Paired (four a b c d) l) bytes y.more next
-    (x, four_hex u.byte v.byte w.byte y.byte one.0 two.0 w.fits y.fits, k.0,
-    low_code u.byte v.byte w.byte y.byte (eq_of _ _ one.1) (le_of _ _ two.1) (hex_bound v.byte two.0) (hex_bound w.byte w.fits) (hex_bound y.byte y.fits))
+    piece_at (Paired (four a b c d) l) bytes y.more next (
+      x,
+      four_hex u.byte v.byte w.byte y.byte one.0 two.0 w.fits y.fits,
+      k.0,
+      low_code u.byte v.byte w.byte y.byte (eq_of _ _ one.1) (le_of _ _ two.1) (hex_bound v.byte two.0) (hex_bound w.byte w.fits) (hex_bound y.byte y.fits),
+    )
     (e ∙ ap (λ r. escape_of (four a b c d) ++ r)
     (s.spelled ∙ (λ i. es i ∷ t.spelled i) ∙ (λ i. 92 ∷ et i ∷ u.spelled i) ∙ ap (λ r. 92 ∷ 117 ∷ u.byte ∷ r) (v.spelled ∙ ap (λ r. v.byte ∷ r) (w.spelled ∙ ap (λ r. w.byte ∷ r) y.spelled))))
     y.then.1

@@ -1,10 +1,10 @@
 -- A whole number of 64 bits is written as a number of JSON.
-use Rattle.std.proofs.Common.{◌≡◌, ℕ, zero, suc, ◌+◌, ◌/◌, ◌%◌, ◌<◌, ◌≤◌, ◌^◌, Bool, true, false, cond, ◌&&◌, ◌==◌, ℤ, pos, negsuc, List, [], ◌∷◌, ◌++◌, length, get_or, refl, sym, ◌∙◌, ap, subst, arith, FitsSigned, w64}
+use Rattle.std.proofs.Common.{◌≡◌, ℕ, zero, suc, ◌+◌, ◌%◌, ◌<◌, ◌^◌, true, false, ◌==◌, ℤ, pos, negsuc, [], ◌∷◌, ◌++◌, get_or, refl, sym, ◌∙◌, ap, arith, FitsSigned, w64}
 use Rattle.std.specs.Fmt.{decimal, signed_decimal}
 use Rattle.std.proofs.lemmas.Bool.Decides.{nat_tests}
 use Rattle.std.proofs.lemmas.Fmt.{decimal_by_steps, first_decimal, decimal_digit}
 use Rattle.std.proofs.lemmas.List.{append-nil}
-use Rattle.vx_value.specs.Texts.{Word, is_empty}
+use Rattle.vx_value.specs.Texts.{Word}
 use Rattle.vx_json.specs.Numbers.{is_digit, are_digits, is_minus, is_whole_part, NumberParts}
 use Rattle.vx_json.proofs.Choices.{both_true, and_true}
 

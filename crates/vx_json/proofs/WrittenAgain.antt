@@ -1,15 +1,14 @@
 -- What was written is read again.
 use Rattle.std.proofs.Common.{◌≡◌, ℕ, ◌+◌, ◌≤◌, Some, Result, Ok, Err, IfOk, IfErr, List, take, refl, sym, ◌∙◌, ap, subst, arith}
 use Rattle.vx_value.specs.Texts.{Word}
-use Rattle.vx_value.specs.Datum.{Datum, Fields, NamedDatum, NamedData, named_of, named_list}
+use Rattle.vx_value.specs.Datum.{Datum, Fields, NamedDatum, named_of, named_list}
 use Rattle.vx_value.specs.Events.{fields_depth}
 use Rattle.vx_value.proofs.Steps.{named_list-named_of}
 use Rattle.vx_json.specs.Grammar.{IsText}
 use Rattle.vx_json.specs.Written.{written}
 use Rattle.vx_json.specs.Writable.{IsWritable}
-use Rattle.vx_json.specs.Faults.{IsEvent, IsFault, IsNotJson, IsDeep, IsOther, IsNoObject, GivesFields, open_levels}
+use Rattle.vx_json.specs.Faults.{IsEvent, IsFault, IsDeep, IsOther, IsNoObject, GivesFields, open_levels}
 use Rattle.vx_value.specs.declared.event.Event.{Event}
-use Rattle.vx_json.specs.Machine.{outcome, AtValue}
 use Rattle.vx_json.specs.declared.json_fault.JsonFault.{JsonFault}
 use Rattle.vx_json.specs.declared.json_fault.JsonFault.TheVariants as fault
 use Rattle.vx_json.proofs.Completeness.{text-outcome}

@@ -1,5 +1,5 @@
 -- What is written is a text of JSON, of that value.
-use Rattle.std.proofs.Common.{◌≡◌, ℕ, ◌+◌, ◌*◌, ◌/◌, ◌%◌, ◌<◌, ◌≤◌, Bool, true, false, cond, ◌&&◌, ◌||◌, ◌==◌, nat_lt, List, [], ◌∷◌, ◌++◌, refl, sym, ◌∙◌, ap, subst, arith, append_assoc}
+use Rattle.std.proofs.Common.{◌≡◌, ℕ, ◌/◌, ◌%◌, ◌<◌, ◌≤◌, Bool, true, false, ◌||◌, ◌==◌, nat_lt, List, [], ◌∷◌, ◌++◌, refl, sym, ◌∙◌, ap, subst, arith, append_assoc}
 use Rattle.std.proofs.lemmas.List.{append-nil}
 use Rattle.std.proofs.lemmas.Bool.Decides.{nat_tests}
 use Rattle.std.proofs.str.Laws.{one, both}
@@ -13,10 +13,10 @@ use Rattle.vx_value.specs.Replacement.{IsCharacter, BeginThree, BeginFour}
 use Rattle.vx_value.proofs.Characters.{row_of}
 use Rattle.vx_json.specs.Written.{hex_digit, escaped, escapes, quoted, written, items_written, fields_written}
 use Rattle.vx_json.specs.Writable.{IsWritable, AreWritable, AreWritableFields}
-use Rattle.vx_json.specs.Strings.{is_hex, hex_value, is_special, is_high, is_low, is_short, short_byte, Four, are_hex, code_of, Piece, Itself, Short, Coded, Paired, IsPiece, ArePieces, piece_text, piece_bytes, pieces_text, pieces_bytes, string_text}
+use Rattle.vx_json.specs.Strings.{is_hex, hex_value, is_special, is_high, is_low, is_short, short_byte, Four, code_of, Piece, Itself, Short, Coded, IsPiece, ArePieces, piece_text, piece_bytes, pieces_text, pieces_bytes, string_text}
 use Rattle.vx_json.specs.Grammar.{Syntax, NullWord, TruthWord, WholeNumber, OtherNumber, String, EmptyArray, Array, EmptyObject, Object, Elements, NoElements, Element, Members, NoMembers, Member, spelling, elements_spelling, members_spelling, IsSyntax, AreElements, AreMembers, value_of, element_values, with_members, IsText}
 use Rattle.vx_json.proofs.Escaping.{escapes-append}
-use Rattle.vx_json.proofs.Choices.{both_true, and_true, eq_of, lt_of, ge_of}
+use Rattle.vx_json.proofs.Choices.{and_true, eq_of, lt_of}
 use Rattle.vx_json.proofs.TextTails.{four}
 use Rattle.vx_json.proofs.Putting.{field, with-last, last-below-next, rise-front}
 

@@ -1,5 +1,5 @@
 -- What a byte does at each place of a JSON text.
-use Rattle.std.specs.Prelude.{◌≡◌, ℕ, ◌+◌, ◌^◌, Bool, true, false, ◌&&◌, ◌||◌, ◌==◌, nat_le, nat_lt, Option, Some, None, ℤ, pos, negsuc, List, [], ◌∷◌, ◌++◌, codes, length, encode_utf8, if◌then◌else◌}
+use Rattle.std.specs.Prelude.{ℕ, ◌+◌, ◌^◌, Bool, true, false, ◌&&◌, ◌||◌, ◌==◌, nat_le, nat_lt, Option, Some, None, ℤ, pos, negsuc, List, [], ◌∷◌, ◌++◌, codes, length, encode_utf8, if◌then◌else◌}
 use Rattle.std.specs.Fmt.{signed_decimal}
 use Rattle.std.specs.Str.Lossy.{utf8_lossy}
 use Rattle.std.specs.Str.Parse.{signed_digits_value}
@@ -7,7 +7,7 @@ use Rattle.vx_value.specs.Texts.{Word, is_empty, same_text}
 use Rattle.vx_value.specs.Datum.{Datum, Null, Truth, Whole, Spelled, Words, Items, Fields, NamedDatum, data_of, named_of}
 use Rattle.vx_value.specs.Events.{with_field}
 use Rattle.vx_json.specs.Numbers.{is_digit}
-use Rattle.vx_json.specs.Strings.{is_hex, hex_value, is_short, short_byte, is_high, paired_code, Four, code_of}
+use Rattle.vx_json.specs.Strings.{is_hex, hex_value, is_short, short_byte, is_high, paired_code, code_of}
 use Rattle.vx_json.specs.Grammar.{is_blank}
 use Rattle.vx_json.specs.declared.text_place.TextPlace.{TextPlace}
 use Rattle.vx_json.specs.declared.text_place.TextPlace.TheVariants as place

@@ -1,5 +1,5 @@
 -- The spelling of numbers in JSON: a minus or none, a whole part, and perhaps a fraction and an exponent.
-use Rattle.std.specs.Prelude.{◌≡◌, ℕ, Bool, true, false, ◌&&◌, ◌||◌, ◌==◌, nat_le, IsTrue, List, [], ◌∷◌, ◌++◌, if◌then◌else◌}
+use Rattle.std.specs.Prelude.{◌≡◌, ℕ, Bool, true, false, ◌&&◌, ◌||◌, ◌==◌, nat_le, IsTrue, [], ◌∷◌, ◌++◌, if◌then◌else◌}
 use Rattle.vx_value.specs.Texts.{Word, is_empty}
 
 -- whether a byte is a digit

@@ -1,5 +1,5 @@
 -- What the places inside the words of JSON stand for.
-use Rattle.std.specs.Prelude.{ℕ, true, false, List, [], ◌∷◌, codes}
+use Rattle.std.specs.Prelude.{ℕ, true, false, codes}
 use Rattle.vx_value.specs.Texts.{Word}
 use Rattle.vx_value.specs.Datum.{Datum, Null, Truth}
 use Rattle.vx_json.specs.declared.word_place.WordPlace.{WordPlace}

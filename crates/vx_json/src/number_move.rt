@@ -57,7 +57,8 @@ pub fn may_end(place: NumberPlace) -> bool
     ensures { result ≡ may_end place }
 {
     match place {
-        NumberPlace::Zero | NumberPlace::Whole | NumberPlace::Fraction | NumberPlace::Exponent => true,
+        NumberPlace::Zero | NumberPlace::Whole | NumberPlace::Fraction | NumberPlace::Exponent =>
+            true,
         NumberPlace::Minus | NumberPlace::Point | NumberPlace::Mark | NumberPlace::Sign => false,
     }
 }

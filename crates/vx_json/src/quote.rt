@@ -33,7 +33,14 @@ fn push_escaped(b: u8, out: &mut Bytes) -> Result<(), WantOfMemory>
         b'\n' => out.push_slice(b"\\n"),
         b'\r' => out.push_slice(b"\\r"),
         b'\t' => out.push_slice(b"\\t"),
-        0..=31 => out.push_slice(&[b'\\', b'u', b'0', b'0', hex_digit(b / 16), hex_digit(b % 16)]),
+        0..=31 => out.push_slice(&[
+            b'\\',
+            b'u',
+            b'0',
+            b'0',
+            hex_digit(b / 16),
+            hex_digit(b % 16),
+        ]),
         _ => out.push_slice(&[b]),
     }
 }

@@ -100,7 +100,12 @@ fn next_name(alloc: Global, fields: FieldList, b: u8) -> Option<Mode>
 
 /// Where a byte leads behind a name.
 #[tactic(auto, using(crate::proofs::StackRules::stacks))]
-fn colon(fields: FieldList, name: Text, stack: &mut Vec<Frame>, b: u8) -> Result<Option<Mode>, WantOfMemory>
+fn colon(
+    fields: FieldList,
+    name: Text,
+    stack: &mut Vec<Frame>,
+    b: u8,
+) -> Result<Option<Mode>, WantOfMemory>
     ensures { IfOk result (λ next.
         state_view next (stack_view stack.new.items) ≡ step (machine.AtColon fields name) (stack_view stack.old.items) b) }
 {
@@ -173,7 +178,12 @@ fn ends(step: TextMove) -> bool
 }
 
 /// Where a byte leads inside a text.
-fn in_text(alloc: Global, place: TextPlace, text: Vec<u8>, b: u8) -> Result<Option<Mode>, WantOfMemory>
+fn in_text(
+    alloc: Global,
+    place: TextPlace,
+    text: Vec<u8>,
+    b: u8,
+) -> Result<Option<Mode>, WantOfMemory>
     ensures { IfOk result (λ next. (st : List machine.Frame) →
         state_view next st ≡ step (machine.InText place text.items) st b) }
 {
@@ -216,7 +226,12 @@ fn in_name(
 
 /// Where a byte leads behind a value of an array.
 #[tactic(auto, using(crate::proofs::StackRules::stacks))]
-fn behind_item(items: ValueList, value: Value, stack: &mut Vec<Frame>, b: u8) -> Result<Option<Mode>, WantOfMemory>
+fn behind_item(
+    items: ValueList,
+    value: Value,
+    stack: &mut Vec<Frame>,
+    b: u8,
+) -> Result<Option<Mode>, WantOfMemory>
     ensures { IfOk result (λ next. state_view next (stack_view stack.new.items)
         ≡ end_move (datum_of value) (machine.InItems items ∷ stack_view stack.old.items) b) }
 {
@@ -257,7 +272,12 @@ fn behind_field(
 
 /// Where a byte that is no blank leads behind a value.
 #[tactic(auto, using(crate::proofs::StackRules::stacks))]
-fn end(alloc: Global, value: Value, stack: &mut Vec<Frame>, b: u8) -> Result<Option<Mode>, WantOfMemory>
+fn end(
+    alloc: Global,
+    value: Value,
+    stack: &mut Vec<Frame>,
+    b: u8,
+) -> Result<Option<Mode>, WantOfMemory>
     ensures { IfOk result (λ next. state_view next (stack_view stack.new.items)
         ≡ end_move (datum_of value) (stack_view stack.old.items) b) }
 {
@@ -269,7 +289,12 @@ fn end(alloc: Global, value: Value, stack: &mut Vec<Frame>, b: u8) -> Result<Opt
 }
 
 /// Where a byte leads behind a value.
-fn behind(alloc: Global, value: Value, stack: &mut Vec<Frame>, b: u8) -> Result<Option<Mode>, WantOfMemory>
+fn behind(
+    alloc: Global,
+    value: Value,
+    stack: &mut Vec<Frame>,
+    b: u8,
+) -> Result<Option<Mode>, WantOfMemory>
     ensures { IfOk result (λ next. state_view next (stack_view stack.new.items)
         ≡ after_move (datum_of value) (stack_view stack.old.items) b) }
 {
@@ -304,7 +329,12 @@ fn in_number(
 
 impl Mode {
     /// Where a byte leads, and what is open then. `None` exactly where no JSON text goes on so.
-    pub fn step(self, alloc: Global, stack: &mut Vec<Frame>, b: u8) -> Result<Option<Mode>, WantOfMemory>
+    pub fn step(
+        self,
+        alloc: Global,
+        stack: &mut Vec<Frame>,
+        b: u8,
+    ) -> Result<Option<Mode>, WantOfMemory>
         ensures { IfOk result (λ next. state_view next (stack_view stack.new.items)
             ≡ step (mode_view self) (stack_view stack.old.items) b) }
     {
@@ -333,7 +363,10 @@ impl Mode {
     {
         match self {
             Mode::Behind(value) => Ok(Some(value)),
-            Mode::InNumber(place, text) if may_end(place) => Ok(Some(number_value(alloc, text.as_slice())?)),
+            Mode::InNumber(place, text) if may_end(place) => Ok(Some(number_value(
+                alloc,
+                text.as_slice(),
+            )?)),
             _ => Ok(None),
         }
     }

@@ -51,7 +51,10 @@ fn json_in_and_out(rt: HostRuntime) -> Result<(), Fail> {
             "{\"\":\"\",\"a\":[true,false,{},[]]}",
         ),
         ("{\"a\":1,\"b\":2,\"a\":3}", "{\"a\":3,\"b\":2}"),
-        ("{\"c\":1,\"a\":2,\"b\":3,\"a\":4}", "{\"a\":4,\"b\":3,\"c\":1}"),
+        (
+            "{\"c\":1,\"a\":2,\"b\":3,\"a\":4}",
+            "{\"a\":4,\"b\":3,\"c\":1}",
+        ),
         (
             "{\"a\":\"\\u0041\\ud83d\\ude00\\/\\b\\f\\n\\r\\t\\u001f\"}",
             "{\"a\":\"A😀/\\b\\f\\n\\r\\t\\u001f\"}",
@@ -136,7 +139,10 @@ fn values_alone(rt: HostRuntime) -> Result<(), Fail> {
     let mut out = Bytes::new(alloc);
     write_value(&Value::Whole(-7), &mut out)?;
     write_value(&Value::Truth(true), &mut out)?;
-    write_value(&Value::Words(Text::copy_of(alloc, "é\u{7f}\u{1}")?), &mut out)?;
+    write_value(
+        &Value::Words(Text::copy_of(alloc, "é\u{7f}\u{1}")?),
+        &mut out,
+    )?;
     assert_eq!(rt; out.as_slice(), "-7true\"é\u{7f}\\u0001\"".as_bytes());
     Ok(())
 }

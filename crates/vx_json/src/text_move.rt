@@ -174,10 +174,21 @@ impl TextMove {
             TextPlace::Hex4(x, y, z) if is_digit => first_code_move(b, code_of(x, y, z, b)),
             TextPlace::Backslash(high) => digit_move(b, b == b'\\', TextPlace::Letter(high)),
             TextPlace::Letter(high) => digit_move(b, b == b'u', TextPlace::Low1(high)),
-            TextPlace::Low1(high) => digit_move(b, is_digit && value == 13, TextPlace::Low2(high, b)),
-            TextPlace::Low2(high, x) => digit_move(b, is_digit && value >= 12, TextPlace::Low3(high, x, b)),
+            TextPlace::Low1(high) => digit_move(
+                b,
+                is_digit && value == 13,
+                TextPlace::Low2(high, b),
+            ),
+            TextPlace::Low2(high, x) => digit_move(
+                b,
+                is_digit && value >= 12,
+                TextPlace::Low3(high, x, b),
+            ),
             TextPlace::Low3(high, x, y) => digit_move(b, is_digit, TextPlace::Low4(high, x, y, b)),
-            TextPlace::Low4(high, x, y, z) if is_digit => code_move(b, paired_code(high, code_of(x, y, z, b))),
+            TextPlace::Low4(high, x, y, z) if is_digit => code_move(
+                b,
+                paired_code(high, code_of(x, y, z, b)),
+            ),
             _ => TextMove::Wrong,
         }
     }

@@ -1,4 +1,4 @@
-use Rattle.std.proofs.Common.{◌≡◌, ◌++◌, ◌∷◌, [], true, false, arith, sym, ◌∙◌, ap, subst}
+use Rattle.std.proofs.Common.{◌≡◌, ◌++◌, ◌∷◌, [], true, false, sym, ◌∙◌, ap, subst}
 use Rattle.std.specs.Ordering.{is_eq, is_gt}
 use Rattle.vx_value.specs.Events.{with_field, names_rise, last_below}
 use Rattle.vx_value.specs.Values.{named_datum}

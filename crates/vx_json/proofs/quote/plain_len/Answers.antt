@@ -1,4 +1,3 @@
-use Rattle.std.proofs.Common.{◌≡◌}
 use Rattle.vx_json.proofs.Escaping.{plain-more}
 use Rattle.vx_json.proofs.quote.plain_len.Goals as goal
 

@@ -1,6 +1,4 @@
-use Rattle.std.proofs.Common.{rules, ◌∙◌, ap, sym}
 use Rattle.vx_json.proofs.Escaping.{plain-front}
-use Rattle.vx_json.specs.Written.{escapes}
 use Rattle.vx_json.proofs.quote.push_plain.Goals as goal
 
 pub returns-clause-ok : goal.returns-clause-ok

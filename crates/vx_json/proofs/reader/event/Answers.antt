@@ -1,4 +1,3 @@
-use Rattle.std.proofs.Common.{refl}
 use Rattle.vx_value.specs.Values.{datum_of}
 use Rattle.vx_json.proofs.Readings.{event-of-value}
 use Rattle.vx_json.proofs.reader.event.Goals as goal

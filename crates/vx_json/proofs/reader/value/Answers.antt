@@ -1,7 +1,7 @@
-use Rattle.std.proofs.Common.{◌≡◌, ℕ, ◌<◌, Some, None, option_map, [], length, get_or, arith, refl, rules, sym, ◌∙◌, ap, subst}
+use Rattle.std.proofs.Common.{◌≡◌, ◌<◌, length, get_or, arith, refl, sym, ◌∙◌, ap, subst}
 use Rattle.vx_value.specs.Values.{datum_of}
 use Rattle.vx_json.specs.Faults.{IsNotJson}
-use Rattle.vx_json.specs.Machine.{AtValue, finish, step, state}
+use Rattle.vx_json.specs.Machine.{AtValue, finish}
 use Rattle.vx_json.specs.ModeViews.{mode_view, stack_view}
 use Rattle.vx_json.proofs.Stacks.{stack_view-nil, stack_view-empty, length-stack_view}
 use Rattle.vx_json.proofs.Readings.{HasRead, read-none, read-refused, read-more, read-deep, read-unfinished, read-finished, finish-nonempty}

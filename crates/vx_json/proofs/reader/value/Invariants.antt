@@ -1,4 +1,3 @@
-use Rattle.std.proofs.Common.{take}
 use Rattle.vx_json.specs.ModeViews.{mode_view, stack_view}
 use Rattle.vx_json.proofs.Readings.{HasRead}
 use Rattle.vx_json.proofs.reader.value.Given as goal

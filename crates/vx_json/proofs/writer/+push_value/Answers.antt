@@ -1,4 +1,4 @@
-use Rattle.std.proofs.Common.{◌≡◌, ◌+◌, ◌≤◌, ◌++◌, ◌∷◌, [], map, take, arith, ◌∙◌, ap, sym}
+use Rattle.std.proofs.Common.{◌+◌, ◌≤◌, ◌++◌, ◌∷◌, [], map, take, arith, ◌∙◌, ap}
 use Rattle.vx_value.specs.Datum.{data_of, named_of, depth, data_depth, named_depth}
 use Rattle.vx_value.specs.Values.{datum_of, named_datum}
 use Rattle.vx_value.proofs.Depths.{data_depth-bound, named_depth-bound}
