@@ -21,3 +21,4 @@ pub mod Putting
 pub mod WrittenTexts
 pub mod Shallow
 pub mod WrittenAgain
+pub mod Fitting

@@ -3,7 +3,7 @@ use Rattle.std.proofs.Common.{◌≡◌, ℕ, zero, suc, ◌+◌, ◌<◌, ◌�
 use Rattle.std.proofs.lemmas.List.{take_more, take_all, take-append-drop, append-nil}
 use Rattle.std.proofs.str.Laws.{order}
 use Rattle.vx_value.specs.Texts.{Word}
-use Rattle.vx_value.specs.Datum.{Datum, Fields, NamedDatum, named_of}
+use Rattle.vx_value.specs.Datum.{Datum, Fields, NamedDatum, named_of, depth}
 use Rattle.vx_json.specs.Grammar.{IsText, BeginsText}
 use Rattle.vx_json.specs.Machine.{Frame, Mode, AtValue, AtEnd, state, step, finish, carry, reached, outcome, height}
 use Rattle.vx_json.specs.Faults.{open_levels, StaysShallow, IsNotJson, IsDeep, IsValue, IsEvent, IsOther, IsNoObject, IsTextFault, IsFault}
@@ -12,16 +12,19 @@ use Rattle.vx_json.specs.declared.json_fault.JsonFault.TheVariants as fault
 use Rattle.vx_json.proofs.Soundness.{text-of}
 use Rattle.vx_json.proofs.Completeness.{text-outcome}
 use Rattle.vx_json.proofs.Reaching.{reached-append, outcome-append, no-beginning, beginning}
+use Rattle.vx_json.proofs.Fitting.{ModeFits, StackFits, Fits, step-fits, finish-fits}
 use Rattle.vx_json.proofs.Levels.{stands, StepFacts, step-facts, inside_of, count-bound}
 
 -- the first i bytes lead to a place, and open no more than 32 levels
 pub record HasRead (bytes : Word) (i : ℕ) (m : Mode) (st : List Frame) : Type 0 where
   pub leads : reached AtValue [] (take i bytes) ≡ state m st
   pub shallow : StaysShallow bytes i
+  pub mode_fits : ModeFits m (length st)
+  pub stack_fits : StackFits st
 
 -- before the first byte
 pub read-none : (bytes : Word) → HasRead bytes 0 AtValue []
-read-none bytes = record { leads = refl; shallow = λ k h. first k h }
+read-none bytes = record { leads = refl; shallow = λ k h. first k h; mode_fits = tt; stack_fits = tt }
   where
     first : (k : ℕ) → k ≤ 0 → open_levels (take k bytes) ≤ 32
     first zero h = omega arith
@@ -65,7 +68,9 @@ pub read-more : (bytes : Word) (i b : ℕ) (m n : Mode) (st su : List Frame) →
 read-more bytes i b m n st su l e h s low =
     let leads = leads-on bytes i b m n st su l e h s in
     let count : height n su ≡ open_levels (take (i + 1) bytes) = (stands (take (i + 1) bytes) (record { mode = n; stack = su }) leads).count in
-    record { leads = leads; shallow = λ k below. at k below count (order k (i + 1)) }
+    let before : height m st ≤ 32 = omega (arith, height-is bytes i m st h, h.shallow i (omega arith)) in
+    let fits : Fits (state n su) = subst Fits (sym s) (step-fits m st b before h.mode_fits h.stack_fits) in
+    record { leads = leads; shallow = λ k below. at k below count (order k (i + 1)); mode_fits = fits.0; stack_fits = fits.1 }
   where
     at : (k : ℕ) → k ≤ i + 1 → height n su ≡ open_levels (take (i + 1) bytes) → (k < i + 1) ⊎ (i + 1 ≤ k) → open_levels (take k bytes) ≤ 32
     at k below count t = ⊎_elim (λ a. h.shallow k (omega arith)) (λ a. let same : k ≡ i + 1 = omega arith in subst (λ x. open_levels (take x bytes) ≤ 32) (sym same) (omega (arith, count))) t
@@ -113,6 +118,7 @@ finish-open m f st = refl
 pub read-finished : (bytes : Word) (i : ℕ) (m : Mode) (st : List Frame) (v : Datum) → i ≡ length bytes → HasRead bytes i m st → finish m st ≡ Some v → IsValue bytes v
 read-finished bytes i m st v e h n =
     let o = all-outcome bytes i m st e h ∙ n in record {
+      fits = finish-fits m st v h.mode_fits n;
       text = text-of bytes v o;
       only = λ w t. same w (sym (text-outcome bytes w t) ∙ o);
       shallow = subst (StaysShallow bytes) e h.shallow;
@@ -123,7 +129,7 @@ read-finished bytes i m st v e h n =
 
 -- a value that is fields is an event
 pub event-of-value : (bytes : Word) (v : Datum) (fs : List NamedDatum) → IsValue bytes v → v ≡ Fields (named_of fs) → IsEvent bytes fs
-event-of-value bytes v fs h e = record { text = subst (IsText bytes) e h.text; only = λ w t. h.only w t ∙ e; shallow = h.shallow }
+event-of-value bytes v fs h e = record { fits = subst (λ d. depth d ≤ 32) e h.fits; text = subst (IsText bytes) e h.text; only = λ w t. h.only w t ∙ e; shallow = h.shallow }
 
 -- and any other is none
 pub other-value : (bytes : Word) (v : Datum) → IsValue bytes v → IsNoObject v → IsOther bytes

@@ -1,7 +1,7 @@
 -- Why bytes are no event.
 use Rattle.std.specs.Prelude.{◌≡◌, ℕ, ◌+◌, ◌-◌, ◌<◌, ◌≤◌, ◌||◌, ◌==◌, List, [], ◌∷◌, length, take, if◌then◌else◌, Result, Ok, Err, ⊤}
 use Rattle.vx_value.specs.Texts.{Word}
-use Rattle.vx_value.specs.Datum.{Datum, Null, Truth, Whole, Spelled, Words, Items, Fields, NamedDatum, named_of}
+use Rattle.vx_value.specs.Datum.{Datum, Null, Truth, Whole, Spelled, Words, Items, Fields, NamedDatum, named_of, depth}
 use Rattle.vx_value.specs.declared.event.Event.{Event}
 use Rattle.vx_json.specs.Grammar.{IsText, BeginsText}
 use Rattle.vx_json.specs.declared.json_fault.JsonFault.{JsonFault}
@@ -69,8 +69,9 @@ pub record IsOther (bytes : Word) : Type 0 where
   pub no_object : IsNoObject value
   pub shallow : StaysShallow bytes (length bytes)
 
--- the bytes are a text of fields, and of nothing else
+-- the bytes are a text of fields, and of nothing else, and the fields are at most 32 deep
 pub record IsEvent (bytes : Word) (fields : List NamedDatum) : Type 0 where
+  pub fits : depth (Fields (named_of fields)) ≤ 32
   pub text : IsText bytes (Fields (named_of fields))
   pub only : (value : Datum) → IsText bytes value → value ≡ Fields (named_of fields)
   pub shallow : StaysShallow bytes (length bytes)
@@ -82,8 +83,9 @@ IsFault bytes (Deep at) = IsDeep bytes at
 IsFault bytes NotObject = IsOther bytes
 IsFault bytes WantOfMemory = ⊤
 
--- the bytes are a text of that value, and of no other
+-- the bytes are a text of that value, and of no other, and the value is at most 32 deep
 pub record IsValue (bytes : Word) (value : Datum) : Type 0 where
+  pub fits : depth value ≤ 32
   pub text : IsText bytes value
   pub only : (other : Datum) → IsText bytes other → other ≡ value
   pub shallow : StaysShallow bytes (length bytes)
