@@ -12,3 +12,4 @@ pub mod ModeViews
 pub mod Faults
 pub mod Puts
 pub mod Writable
+pub mod LineEvents

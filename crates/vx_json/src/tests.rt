@@ -70,8 +70,8 @@ fn json_in_and_out(rt: HostRuntime) -> Result<(), Fail> {
     Ok(())
 }
 
-// Texts and bytes at the edges of the grammar. The values are those of Python's json; the places were found by cutting
-// each text shorter until Python, given some more bytes, took it.
+// Texts at the edges of the grammar. The verdicts and places are those of Node's `JSON.parse`, but for the two lone
+// surrogates, which it takes.
 #[test]
 fn texts_at_their_edges(rt: HostRuntime) -> Result<(), Fail> {
     let alloc = rt.alloc();

@@ -1,0 +1,27 @@
+-- The event of a line.
+use Rattle.std.specs.Prelude.{◌≡◌, Option, Some, None, is_some, List, [], ◌∷◌, codes, if◌then◌else◌}
+use Rattle.std.specs.Str.Lossy.{utf8_lossy}
+use Rattle.vx_value.specs.Texts.{Word}
+use Rattle.vx_value.specs.Datum.{Words, NamedDatum}
+use Rattle.vx_value.specs.Events.{value_under, with_field}
+use Rattle.vx_json.specs.Faults.{IsEvent}
+use Rattle.vx_json.specs.declared.decoding.Decoding.{Decoding}
+use Rattle.vx_json.specs.declared.decoding.Decoding.TheVariants as decoding
+
+-- the fields that a line gives by itself: under `Bytes` its text as the message, under `Json` those of its object, where it is one
+abbrev pub IsContent : Decoding → Word → List NamedDatum → Type 0
+IsContent decoding.Bytes line fields = fields ≡ record { name = codes "message"; value = Words (utf8_lossy line) } ∷ []
+IsContent decoding.Json line fields = IsEvent line fields
+
+-- fields with a text under a name, unless something stands there
+abbrev pub with_text : List NamedDatum → Word → Word → List NamedDatum
+with_text fields name text = if is_some (value_under fields name) then fields else with_field fields name (Words text)
+
+-- fields with the type of their source and, where it reads a file, that file's path
+abbrev pub from_source : Word → Option Word → List NamedDatum → List NamedDatum
+from_source type None fields = with_text fields (codes "source_type") type
+from_source type (Some path) fields = with_text (with_text fields (codes "source_type") type) (codes "file") path
+
+-- the fields of a line's event, by the codec, the source's type and the path of its file
+abbrev pub IsLineEvent : Decoding → Word → Option Word → Word → List NamedDatum → Type 0
+IsLineEvent d type path line fields = (own : List NamedDatum) × IsContent d line own × (fields ≡ from_source type path own)
