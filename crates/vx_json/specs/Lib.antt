@@ -13,3 +13,4 @@ pub mod Faults
 pub mod Puts
 pub mod Writable
 pub mod LineEvents
+pub mod DemoLines

@@ -3,6 +3,7 @@
 
 mod codec;
 mod decoding;
+mod demo_settings;
 mod encode;
 mod frame;
 mod json_fault;
@@ -20,6 +21,7 @@ mod writer;
 
 pub use codec::Codec;
 pub use decoding::Decoding;
+pub use demo_settings::DemoSettings;
 pub use encode::encode_event;
 pub use json_fault::JsonFault;
 pub use reader::read;

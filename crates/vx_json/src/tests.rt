@@ -1,9 +1,9 @@
 //! The worked rows, and texts whose values and faults another reader told.
 
-use super::{Codec, JsonFault, encode_event, read, write, write_value};
+use super::{Codec, DemoSettings, JsonFault, encode_event, read, write, write_value};
 use std::alloc::Global;
 use std::test::Fail;
-use vx_value::{Bytes, Event, Text, Value};
+use vx_value::{Bytes, Event, ItemList, Text, Value};
 
 /// What some bytes are read as: the event in its one spelling, or the fault in words.
 fn said(alloc: Global, bytes: &[u8]) -> Result<String, Fail> {
@@ -144,5 +144,19 @@ fn values_alone(rt: HostRuntime) -> Result<(), Fail> {
         &mut out,
     )?;
     assert_eq!(rt; out.as_slice(), "-7true\"é\u{7f}\\u0001\"".as_bytes());
+    Ok(())
+}
+
+// The first words of a generator, as a program in Python computes them by the generator's published rule.
+#[test]
+fn words_of_a_seed(rt: HostRuntime) -> Result<(), Fail> {
+    let settings = DemoSettings {
+        lines: ItemList::new(rt.alloc()),
+        sequence: false,
+        count: 0,
+        seed: 7,
+    };
+    assert_eq!(rt; settings.word(0), 2442223337);
+    assert_eq!(rt; settings.word(3), 3524868804);
     Ok(())
 }
