@@ -85,8 +85,8 @@ fn event(alloc: Global, bytes: &[u8]) -> Result<Event, JsonFault>
 /// whole exactly where its spelling is the one in which a whole number of 64 bits is written, and else keeps its
 /// spelling.
 ///
-/// `NotJson` comes exactly where the bytes are no JSON text in UTF-8 and no level 33 is opened before the fault: `at` is
-/// the length of their longest beginning that some JSON text has. `Deep` comes exactly where the byte at `at` opens the
+/// `NotJson` comes exactly where no JSON text in UTF-8 has these bytes, and at most 32 levels are open up to the fault;
+/// `at` says with how many of its first bytes some text begins. `Deep` comes exactly where the byte at `at` opens the
 /// first level 33, and a JSON text may begin so. `NotObject` comes exactly where the text is another value with at most
 /// 32 levels. `WantOfMemory` may come at any bytes.
 pub fn read(alloc: Global, bytes: &[u8]) -> Result<Event, JsonFault>
