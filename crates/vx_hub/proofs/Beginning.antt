@@ -6,7 +6,7 @@ use Rattle.vx_hub.specs.declared.facts.Facts.{Facts}
 use Rattle.vx_hub.specs.declared.row.Row.{Row}
 use Rattle.vx_ledger.specs.Copies.{copies_of}
 use Rattle.vx_hub.specs.Making.{IsUnused, AreUnused, IsUntouched, AreUntouched, AreNew}
-use Rattle.vx_hub.specs.Rows.{row_at, row_copies, copies_in, port_at, task_port, role_parcels, role_copies, parcel_copies}
+use Rattle.vx_hub.specs.Rows.{row_at, row_copies, copies_in, port_at, task_port, task_parcels, role_parcels, role_copies, parcel_copies}
 use Rattle.vx_plan.specs.declared.plan.Plan.{Plan}
 use Rattle.vx_plan.specs.declared.component.Component.{Component}
 use Rattle.vx_record.specs.Wirings.{begun}
@@ -19,6 +19,10 @@ use Rattle.vx_hub.specs.declared.task.Role.TheVariants.{Source, Sink}
 use Rattle.vx_ends.specs.Told.{Told}
 use Rattle.vx_record.specs.Records.{Record}
 use Rattle.vx_ledger.specs.Ledger.{live_count}
+use Rattle.vx_record.specs.Places.{Place, owner}
+use Rattle.vx_record.specs.Places.Place.{Outputs, Waiting, Contents, Held}
+use Rattle.vx_hub.specs.Places.{numbers_at, numbers_here, numbers_if, parcel_numbers, stacked_numbers, waiting_numbers}
+use Rattle.vx_hub.proofs.Placing.{at_rest}
 use Rattle.vx_hub.proofs.StandsLaws.{some_mapped}
 
 pub unused_more : (seats : List Seat) (seat : Seat) → AreUnused seats → IsUnused seat → AreUnused (seats ++ seat ∷ [])
@@ -57,6 +61,24 @@ ports_more G [] new all f (suc i) = tt
 ports_more G (r ∷ rows) new all f zero = all zero
 ports_more G (r ∷ rows) new all f (suc i) = ports_more (λ k. G (suc k)) rows new (λ j. all (suc j)) f i
 
+-- where nothing stands, and nothing at the new instance, nothing stands
+pub places_more : {P : Type 0} (rows : List (Row P)) (new : Row P) → ((p : Place) → numbers_at p rows ≡ []) → ((p : Place) → numbers_here p new ≡ []) → (p : Place) → numbers_at p (rows ++ new ∷ []) ≡ []
+places_more {P} rows new none here p = go rows (owner p) (none p)
+  where
+    go : (rs : List (Row P)) (k : ℕ) → numbers_if p (row_at rs k) ≡ [] → numbers_if p (row_at (rs ++ new ∷ []) k) ≡ []
+    go [] zero e = here p
+    go [] (suc k) e = refl
+    go (r ∷ rs) zero e = e
+    go (r ∷ rs) (suc k) e = go rs k e
+
+-- nothing stands at an unused seat
+pub unused_here : {P : Type 0} (row : Row P) → row.outputs.items ≡ [] → row.waiting.items ≡ [] → row.buffer.items ≡ [] → task_parcels row.task ≡ [] → (p : Place) → numbers_here p row ≡ []
+unused_here row outputs waiting buffer held (Outputs i) = ap stacked_numbers outputs
+unused_here row outputs waiting buffer held (Waiting i t) = ap (waiting_numbers t) waiting
+unused_here row outputs waiting buffer held (Contents i zero) = ap parcel_numbers buffer
+unused_here row outputs waiting buffer held (Contents i (suc s)) = refl
+unused_here row outputs waiting buffer held (Held i) = ap parcel_numbers held
+
 -- a role that holds no parcel has no copy
 pub role_counts : (batch place : ℕ) (role : Role) → role_parcels role ≡ [] → copies_of batch place (role_copies role) ≡ 0
 role_counts batch place (Source core) e = refl
@@ -79,7 +101,7 @@ pub begun_stands : {P : Type 0} (told_by : P → Told) (plan : Plan) (hub : Hub 
 begun_stands told_by plan hub b first none room few = record {
   history = refl;
   balanced = λ batch place. let live : live_count batch place hub.batches.open_rows ≡ 0 = ap (live_count batch place) b.batches in omega (arith, b.copies batch place);
-  recorded = λ sound. subst (λ (h : Record). IsRecorded told_by hub h) (sym first.alone) (record {
+  recorded = λ sound. subst (λ (h : Record). IsRecorded told_by hub [] h) (sym first.alone) (record {
     ports = λ i. some_mapped _ _ (port_at hub.rows.items i) (λ port u. untouched_told (told_by port) plan first.once first.now i u) (b.ports i);
     facts = λ i. some_mapped _ _ (facts_at hub.facts.items i) (λ f n. new_known f plan first.once first.now i n) (b.facts i);
     bytes = b.bytes;
@@ -87,6 +109,7 @@ begun_stands told_by plan hub b first none room few = record {
     order = (record { first = refl; zeroth = refl; all_new = refl }, tt);
     unknown = λ i past. record { unlost = refl; confirmed = refl };
     cause = b.abandoned;
+    places = at_rest hub.rows.items (begun plan first.once first.now) (λ p. sym (b.places p));
   });
   shut = λ i. some_mapped _ _ (facts_at hub.facts.items i) (λ f n closed. let no : f.closed ≡ false = n.closed in cc) (b.facts i);
   gone = λ i. some_mapped _ _ (facts_at hub.facts.items i) (λ f n retired. let no : f.retired ≡ false = n.retired in cc) (b.facts i);

@@ -1,5 +1,7 @@
 pub mod Tellings
 pub mod RowLaws
+mod PlaceLaws
+pub mod Placing
 pub mod Parcels
 pub mod Silence
 pub mod Saying
@@ -11,3 +13,4 @@ pub mod Returning
 pub mod Dues
 mod Ordering
 mod Numbering
+mod Homing

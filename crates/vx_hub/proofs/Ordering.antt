@@ -23,6 +23,8 @@ use Rattle.vx_ledger.specs.declared.short.Short.{Short}
 use Rattle.vx_ledger.specs.declared.short.Short.TheVariants as short
 use Rattle.vx_record.specs.Records.{Record}
 use Rattle.vx_record.specs.Copies.{counting, children_of, next_copy}
+use Rattle.vx_record.specs.Lists.{outputs}
+use Rattle.vx_record.specs.Sending.{IsOldest}
 use Rattle.vx_record.specs.Noted.{Noted}
 use Rattle.vx_record.specs.declared.log.Log.{Log}
 use Rattle.vx_record.specs.declared.child.Child.{Child as NotedChild}
@@ -87,15 +89,15 @@ pub length_noted : (targets : List ℕ) (first : ℕ) (parcel : Parcel) (childre
 length_noted targets first parcel children are = ap (λ (cs : List Child). length (noted_of cs)) are ∙ ap length (noted_children targets first parcel) ∙ length_children first (length parcel.finalizers) targets
 
 -- a split that the ledger made is in order
-pub split_in_order : (h : Record) (next : ℕ) (targets : List ℕ) (parcel : Parcel) (children : List Child) → next ≡ next_copy h → children ≡ children_for targets next parcel → 0 < length targets →
-    next + length targets * length parcel.finalizers ≤ 2 ^ 63 → IsSplitOf h (numbers_in parcel.finalizers) (noted_of children)
-split_in_order h next targets parcel children now are some fits =
+pub split_in_order : (h : Record) (i next : ℕ) (targets : List ℕ) (parcel : Parcel) (children : List Child) → IsOldest (numbers_in parcel.finalizers) (outputs h i) → next ≡ next_copy h → children ≡ children_for targets next parcel → 0 < length targets →
+    next + length targets * length parcel.finalizers ≤ 2 ^ 63 → IsSplitOf h i (numbers_in parcel.finalizers) (noted_of children)
+split_in_order h i next targets parcel children oldest now are some fits =
     let m = length parcel.finalizers in
     let many : length (numbers_in parcel.finalizers) ≡ m = length_numbers parcel.finalizers in
     let count : length (noted_of children) ≡ length targets = length_noted targets next parcel children are in
     record {
+      divides = record { oldest = oldest; made = (targets, ap noted_of are ∙ noted_children targets next parcel ∙ ap (λ k. children_of k m targets) now ∙ ap (λ k. children_of (next_copy h) k targets) (sym many)) };
       some = omega (arith, count, some);
-      made = (targets, ap noted_of are ∙ noted_children targets next parcel ∙ ap (λ k. children_of k m targets) now ∙ ap (λ k. children_of (next_copy h) k targets) (sym many));
       fits = subst (λ k. k + length (noted_of children) * length (numbers_in parcel.finalizers) ≤ 2 ^ 63) now
           (subst (λ k. next + k * length (numbers_in parcel.finalizers) ≤ 2 ^ 63) (sym count) (subst (λ k. next + length targets * k ≤ 2 ^ 63) (sym many) fits));
     }

@@ -1,5 +1,5 @@
 -- A task that was handed out comes home with what was done.
-use Rattle.std.proofs.Common.{◌≡◌, ℕ, ◌+◌, ◌≤◌, ◌++◌, List, Option, Some, None, IfSome, refl, sym, ap, subst, ◌∙◌, arith}
+use Rattle.std.proofs.Common.{◌≡◌, ℕ, ◌+◌, ◌≤◌, ◌++◌, List, [], Option, Some, None, IfSome, refl, sym, ap, subst, ◌∙◌, arith}
 use Rattle.vx_ends.specs.Told.{Told, Grows}
 use Rattle.vx_ledger.specs.Copies.{Copy}
 use Rattle.vx_ends.specs.declared.position.Position.{Position}
@@ -13,7 +13,10 @@ use Rattle.vx_hub.specs.declared.work.Work.{Work}
 use Rattle.vx_hub.specs.declared.work.Landing.{Landing}
 use Rattle.vx_hub.specs.declared.work.Done.{Done}
 use Rattle.vx_hub.specs.declared.work.Done.TheVariants.{Nothing, Read, Attempted, Closed, Starved}
-use Rattle.vx_hub.specs.Rows.{role_copies, IsOutAt}
+use Rattle.vx_record.specs.Lists.{held}
+use Rattle.vx_record.specs.Places.Place.{Outputs}
+use Rattle.vx_hub.specs.Places.{parcel_numbers, numbers_at}
+use Rattle.vx_hub.specs.Rows.{role_copies, role_parcels, IsOutAt}
 use Rattle.vx_hub.specs.declared.confirming.Confirmed.{Confirmed}
 use Rattle.vx_hub.specs.Works.{Did, Reports, Names, NamesBy, IsReading, event_count_of, taken_by, given_by, ended_by, confirmed_by, confirm_faults, faults_by, refusals_by, idles_by}
 use Rattle.vx_ends.specs.declared.port_spec.PortSpec.{PortSpec}
@@ -68,15 +71,17 @@ named_by given (Some c) Closed due names is = named_due given (Some c) due names
 
 -- what was handed out may land
 pub back_of : {P : Type 0} (told_by : P → Told) (hub : Hub P) (work : Work P) (landing : Landing P) → IsLeased told_by hub work → landing.instance ≡ work.instance →
-    role_copies landing.task.role ≡ role_copies work.task.role → Reports (told_by work.task.port) landing.confirmed landing.done (told_by landing.task.port) → NamesBy work.positions landing.confirmed landing.done → event_count_of landing.done ≤ 65536 →
+    role_copies landing.task.role ≡ role_copies work.task.role → role_parcels landing.task.role ≡ role_parcels work.task.role → Reports (told_by work.task.port) landing.confirmed landing.done (told_by landing.task.port) → NamesBy work.positions landing.confirmed landing.done → event_count_of landing.done ≤ 65536 →
     (IsReading landing.done → work.job ≡ job.Read) → IsBack told_by hub landing
-back_of {P} told_by hub work landing leased instance copies reports names events reads = record {
+back_of {P} told_by hub work landing leased instance copies parcels reports names events reads = record {
   stands = subst (λ (cs : List Copy). Stands told_by hub cs hub.log.history) (sym copies) leased.stands;
   open_at = subst (λ (i : ℕ). IsOpenAt hub i) (sym instance) leased.open_at;
   out = subst (λ (i : ℕ). IsOutAt hub.rows.items i) (sym instance) leased.out;
   brings = λ sound. brings_of (told_by work.task.port) (told_by landing.task.port) landing.confirmed landing.done hub.log.history landing.instance reports
       (subst (λ (i : ℕ). IsTold (told_by work.task.port) hub.log.history i) (sym instance) (leased.told sound));
   unlost = λ reading. subst (λ (i : ℕ). IsUnlost hub i) (sym instance) (leased.unlost (reads reading));
+  held = λ sound. subst (λ (i : ℕ). held hub.log.history i ≡ parcel_numbers (role_parcels landing.task.role)) (sym instance) (leased.held sound ∙ ap parcel_numbers (sym parcels));
+  sent = λ reading. subst (λ (i : ℕ). numbers_at (Outputs i) hub.rows.items ≡ []) (sym instance) (leased.sent (reads reading));
   due = λ sound. subst (λ (i : ℕ). IfSome landing.confirmed (λ c. c.positions ≡ born_positions hub.log.history i)) (sym instance) (named_by work.positions landing.confirmed landing.done _ names (leased.due sound));
   events = events;
   closed = λ done. let r : Reports (told_by work.task.port) landing.confirmed Closed (told_by landing.task.port) = subst (λ (d : Done). Reports (told_by work.task.port) landing.confirmed d (told_by landing.task.port)) done reports in

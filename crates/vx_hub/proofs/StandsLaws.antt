@@ -25,7 +25,11 @@ use Rattle.vx_ends.specs.declared.position.Position.{Position}
 use Rattle.vx_record.specs.Confirms.{Birth, births, births_in, born_positions, last_of_each, position_of}
 use Rattle.vx_record.specs.Copies.{next_copy, makes}
 use Rattle.vx_record.specs.Confirms.{is_unconfirmed}
+use Rattle.vx_record.specs.Moving.{IsStill, IsConserved}
+use Rattle.vx_hub.specs.Numbers.{numbers_in}
+use Rattle.vx_hub.specs.Places.{IsPlaced}
 use Rattle.vx_hub.specs.Order.{IsInOrder, IsUnknown, IsReason}
+use Rattle.vx_hub.proofs.Placing.{conserved, placed_still}
 use Rattle.vx_hub.proofs.Silence.{told_silent, silent_mute, other_test}
 
 -- a quiet entry is mute
@@ -102,10 +106,11 @@ pub same_next : (old new : Ledger) (h : Record) (entry : Entry) → makes entry 
 same_next old new h entry none same next = omega (arith, none, same, next)
 
 -- what an entry needs that is noted while parcels move
-pub record Passes {P : Type 0} (d e : Hub P) (entry : Entry) : Type 0 where
+pub record Passes {P : Type 0} (d e : Hub P) (hand after : List Copy) (entry : Entry) : Type 0 where
   pub quiet : IsQuiet entry
   pub next : d.batches.next ≡ next_copy d.log.history → e.batches.next ≡ next_copy (entry ∷ d.log.history)
   pub order : IsSound d → IsInOrder d.log.history entry
+  pub places : IsConserved (entry ∷ d.log.history) → IsPlaced d.rows.items (numbers_in hand) d.log.history → IsPlaced e.rows.items (numbers_in after) (entry ∷ d.log.history)
 
 pub cause_quiet : (h : Record) (e : Entry) → IsQuiet e → cause_of (e ∷ h) ≡ cause_of h
 cause_quiet h (Abandon cause) q = absurd q
@@ -128,7 +133,7 @@ berths_kept old new before after same size b = subst (λ (f : _). HasBerths f af
 pub stands_quiet : {P : Type 0} (told_by : P → Told) (d e : Hub P) (hand after : List Copy) (entry : Entry) →
     Stands told_by d hand d.log.history → IsBalanced e.batches e.rows.items after → e.facts ≡ d.facts → SamePorts d.rows.items e.rows.items →
     ((i : ℕ) → IfSome (facts_at d.facts.items i) (λ f. IsTrue f.retired → IsBareAt d.rows.items i → IsBareAt e.rows.items i)) →
-    length e.rows.items ≡ length d.rows.items → Noted d.log entry e.log → Passes d e entry → e.starved ≡ d.starved → e.bytes ≡ d.bytes → spare_of e ≡ spare_of d →
+    length e.rows.items ≡ length d.rows.items → Noted d.log entry e.log → Passes d e hand after entry → e.starved ≡ d.starved → e.bytes ≡ d.bytes → spare_of e ≡ spare_of d →
     Stands told_by e after e.log.history
 stands_quiet {P} told_by d e hand after entry s balanced facts ports bare size noted passes starved bytes berths =
     let quiet : IsQuiet entry = passes.quiet in
@@ -138,8 +143,8 @@ stands_quiet {P} told_by d e hand after entry s balanced facts ports bare size n
       recorded = λ sound.
           let w = noted.whole sound.whole in
           let fine : IsSound d = record { whole = w.0; fed = sym starved ∙ sound.fed } in
-          let r : IsRecorded told_by d d.log.history = s.recorded fine in
-          subst (λ (h : Record). IsRecorded told_by e h) (sym w.1) (record {
+          let r : IsRecorded told_by d hand d.log.history = s.recorded fine in
+          subst (λ (h : Record). IsRecorded told_by e after h) (sym w.1) (record {
             ports = λ i. subst (λ (p : Option P). IfSome p (λ port. IsTold (told_by port) (entry ∷ d.log.history) i)) (sym (ports i))
                 (some_mapped _ _ (port_at d.rows.items i) (λ port t. told_quiet (told_by port) d.log.history i entry quiet t) (r.ports i));
             facts = λ i. subst (λ (fs : List Facts). IfSome (facts_at fs i) (λ f. IsKnown f (entry ∷ d.log.history) i)) (sym (ap (λ (v : _). v.items) facts))
@@ -149,6 +154,7 @@ stands_quiet {P} told_by d e hand after entry s balanced facts ports bare size n
             order = (passes.order fine, r.order);
             unknown = λ i past. unknown_mute entry d.log.history i (mute_of_quiet entry quiet) (r.unknown i (subst (λ n. n ≤ i) size past));
             cause = ap (λ (t : _). t.1) berths ∙ r.cause ∙ sym (cause_quiet d.log.history entry quiet);
+            places = passes.places (conserved (entry ∷ d.log.history) (passes.order fine, r.order)) r.places;
           });
       shut = λ i. subst (λ (fs : List Facts). IfSome (facts_at fs i) (IsShut told_by e.rows.items i)) (sym (ap (λ (v : _). v.items) facts))
           (some_mapped _ _ (facts_at d.facts.items i) (λ f shut closed. subst (λ (p : Option P). IsSomeAnd p (λ port. (told_by port).started ≡ false)) (sym (ports i)) (shut closed)) (s.shut i));
@@ -189,13 +195,15 @@ pub stands_moved : {P : Type 0} (told_by : P → Told) (d e : Hub P) (hand after
     Stands told_by d hand d.log.history → IsBalanced e.batches e.rows.items after → e.facts ≡ d.facts → SamePorts d.rows.items e.rows.items →
     ((i : ℕ) → IfSome (facts_at d.facts.items i) (λ f. IsTrue f.retired → IsBareAt d.rows.items i → IsBareAt e.rows.items i)) →
     length e.rows.items ≡ length d.rows.items → e.batches.next ≡ d.batches.next → e.log ≡ d.log → e.starved ≡ d.starved → e.bytes ≡ d.bytes → spare_of e ≡ spare_of d →
+    (IsSound d → IsConserved d.log.history → IsPlaced d.rows.items (numbers_in hand) d.log.history → IsPlaced e.rows.items (numbers_in after) d.log.history) →
     Stands told_by e after e.log.history
-stands_moved {P} told_by d e hand after s balanced facts ports bare size next log starved bytes berths = record {
+stands_moved {P} told_by d e hand after s balanced facts ports bare size next log starved bytes berths places = record {
   history = refl;
   balanced = balanced;
   recorded = λ sound.
-      let r : IsRecorded told_by d d.log.history = s.recorded (record { whole = sym (ap (λ (l : Log). l.whole) log) ∙ sound.whole; fed = sym starved ∙ sound.fed }) in
-      subst (λ (h : Record). IsRecorded told_by e h) (sym (ap (λ (l : Log). l.history) log)) (record {
+      let fine : IsSound d = record { whole = sym (ap (λ (l : Log). l.whole) log) ∙ sound.whole; fed = sym starved ∙ sound.fed } in
+      let r : IsRecorded told_by d hand d.log.history = s.recorded fine in
+      subst (λ (h : Record). IsRecorded told_by e after h) (sym (ap (λ (l : Log). l.history) log)) (record {
         ports = λ i. subst (λ (p : Option P). IfSome p (λ port. IsTold (told_by port) d.log.history i)) (sym (ports i)) (r.ports i);
         facts = λ i. subst (λ (fs : List Facts). IfSome (facts_at fs i) (λ f. IsKnown f d.log.history i)) (sym (ap (λ (v : _). v.items) facts)) (r.facts i);
         bytes = bytes ∙ r.bytes;
@@ -203,6 +211,7 @@ stands_moved {P} told_by d e hand after s balanced facts ports bare size next lo
         order = r.order;
         unknown = λ i past. r.unknown i (subst (λ n. n ≤ i) size past);
         cause = ap (λ (t : _). t.1) berths ∙ r.cause;
+        places = places fine (conserved d.log.history r.order) r.places;
       });
   shut = λ i. subst (λ (fs : List Facts). IfSome (facts_at fs i) (IsShut told_by e.rows.items i)) (sym (ap (λ (v : _). v.items) facts))
       (some_mapped _ _ (facts_at d.facts.items i) (λ f shut closed. subst (λ (p : Option P). IsSomeAnd p (λ port. (told_by port).started ≡ false)) (sym (ports i)) (shut closed)) (s.shut i));
@@ -222,12 +231,12 @@ bare_but {P} fs old mid new i had keeps others j = some_all _ (facts_at fs j) (�
     go false e bare = let other : j ≢ i = grind (arith, nat_tests) in others j other (keeps j bare)
 
 -- an instance that hasn't ended gets something; the others keep nothing
-pub bare_running : {P : Type 0} (fs : List Facts) (old mid new : List (Row P)) (i : ℕ) → IfSome (facts_at fs i) (λ f. f.retired ≡ false) → KeepsBare old mid → KeepsOthersBare i mid new → (j : ℕ) →
+pub bare_running : {P : Type 0} (fs : List Facts) (old mid new : List (Row P)) (i : ℕ) → IsSomeAnd (facts_at fs i) (λ f. f.retired ≡ false) → KeepsBare old mid → KeepsOthersBare i mid new → (j : ℕ) →
     IfSome (facts_at fs j) (λ f. IsTrue f.retired → IsBareAt old j → IsBareAt new j)
 bare_running {P} fs old mid new i running keeps others j = go (j == i) refl
   where
-    never : (o : Option Facts) → IfSome o (λ f. f.retired ≡ false) → IfSome o (λ f. IsTrue f.retired → IsBareAt old i → IsBareAt new i)
-    never None r = tt
+    never : (o : Option Facts) → IsSomeAnd o (λ f. f.retired ≡ false) → IfSome o (λ f. IsTrue f.retired → IsBareAt old i → IsBareAt new i)
+    never None r = absurd r
     never (Some f) r = λ retired. cc
 
     go : (b : Bool) → (j == i) ≡ b → IfSome (facts_at fs j) (λ f. IsTrue f.retired → IsBareAt old j → IsBareAt new j)
@@ -283,8 +292,8 @@ stands_abandoned {P} told_by d log cause s once reason noted = record {
   recorded = λ sound.
       let w = noted.whole sound.whole in
       let fine : IsSound d = record { whole = w.0; fed = sound.fed } in
-      let r : IsRecorded told_by d d.log.history = s.recorded fine in
-      subst (λ (h : Record). IsRecorded told_by (record d { abandoned = Some cause; log = log }) h) (sym w.1) (record {
+      let r : IsRecorded told_by d [] d.log.history = s.recorded fine in
+      subst (λ (h : Record). IsRecorded told_by (record d { abandoned = Some cause; log = log }) [] h) (sym w.1) (record {
         ports = λ i. some_mapped _ _ (port_at d.rows.items i) (λ port t. told_mute (told_by port) d.log.history i (Abandon cause) tt t) (r.ports i);
         facts = λ i. some_mapped _ _ (facts_at d.facts.items i) (λ f k. known_abandoned f d.log.history i cause k) (r.facts i);
         bytes = r.bytes;
@@ -292,6 +301,7 @@ stands_abandoned {P} told_by d log cause s once reason noted = record {
         order = (record { first = sym r.cause ∙ once; reason = reason fine }, r.order);
         unknown = λ i past. unknown_mute (Abandon cause) d.log.history i tt (r.unknown i past);
         cause = refl;
+        places = placed_still d.rows.items [] d.log.history (Abandon cause) tt (conserved d.log.history r.order) r.places;
       });
   shut = s.shut;
   gone = s.gone;
@@ -305,8 +315,8 @@ stands_counted {P} told_by d e hand same s = subst (λ (x : Hub P). Stands told_
   history = refl;
   balanced = s.balanced;
   recorded = λ sound.
-      let r : IsRecorded told_by d d.log.history = s.recorded (record { whole = sound.whole; fed = sound.fed }) in
-      record { ports = r.ports; facts = r.facts; bytes = r.bytes; next = r.next; order = r.order; unknown = r.unknown; cause = r.cause };
+      let r : IsRecorded told_by d hand d.log.history = s.recorded (record { whole = sound.whole; fed = sound.fed }) in
+      record { ports = r.ports; facts = r.facts; bytes = r.bytes; next = r.next; order = r.order; unknown = r.unknown; cause = r.cause; places = r.places };
   shut = s.shut;
   gone = s.gone;
   size = s.size;
@@ -314,8 +324,8 @@ stands_counted {P} told_by d e hand same s = subst (λ (x : Hub P). Stands told_
 })
 
 -- an entry that says nothing is noted, and then whether the hub goes on
-pub stands_settled : {P : Type 0} (told_by : P → Told) (d e : Hub P) (log : Log) (entry : Entry) → Stands told_by d [] d.log.history → Noted d.log entry log → IsQuiet entry → makes entry ≡ 0 → IsInOrder d.log.history entry →
+pub stands_settled : {P : Type 0} (told_by : P → Told) (d e : Hub P) (log : Log) (entry : Entry) → Stands told_by d [] d.log.history → Noted d.log entry log → IsQuiet entry → IsStill entry → makes entry ≡ 0 → IsInOrder d.log.history entry →
     e ≡ record d { log = log; fatal = e.fatal } → Stands told_by e [] e.log.history
-stands_settled {P} told_by d e log entry s noted quiet none order same = subst (λ (x : Hub P). Stands told_by x [] x.log.history) (sym same)
+stands_settled {P} told_by d e log entry s noted quiet still none order same = subst (λ (x : Hub P). Stands told_by x [] x.log.history) (sym same)
     (stands_quiet told_by d (record d { log = log; fatal = e.fatal }) [] [] entry s s.balanced refl (λ i. refl) (bare_stays d.facts.items d.rows.items) refl noted
-    (record { quiet = quiet; next = same_next d.batches d.batches d.log.history entry none refl; order = λ sound. order }) refl refl refl)
+    (record { quiet = quiet; next = same_next d.batches d.batches d.log.history entry none refl; order = λ sound. order; places = λ kept. placed_still d.rows.items [] d.log.history entry still kept.1 }) refl refl refl)

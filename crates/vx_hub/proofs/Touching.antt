@@ -27,7 +27,11 @@ use Rattle.vx_hub.specs.declared.task.Task.{Task}
 use Rattle.vx_hub.specs.Stands.{Stands, IsTold, IsKnown, IsRecorded, IsSound, IsShut, IsGone, facts_at, lost_at, spec_at, capped, touched, IsBalanced, IsMute, spare_of, cause_of}
 use Rattle.vx_hub.proofs.StandsLaws.{some_mapped, some_all, berths_kept, ends_on, to_confirm_on, told_mute, bytes_mute, same_next, unknown_on, unknown_mute}
 use Rattle.vx_record.specs.Copies.{next_copy, makes}
+use Rattle.vx_record.specs.Moving.{IsStill, IsConserved}
+use Rattle.vx_hub.specs.Numbers.{numbers_in}
+use Rattle.vx_hub.specs.Places.{IsPlaced, SamePlaces}
 use Rattle.vx_hub.specs.Order.{IsInOrder}
+use Rattle.vx_hub.proofs.Placing.{conserved, placed_still, placed_same}
 use Rattle.vx_hub.proofs.Silence.{told_silent, silent_other, other_test, same_test}
 
 -- a test that fails chooses the other side
@@ -135,7 +139,7 @@ facts_keep Q fs i new l here others j = go (j == i) refl
         subst (λ (r : Option Facts). Q j r) (sym (facts_other fs i j new other)) (others j other)
 
 -- an instance that is out has no port at home
-out_port : {P : Type 0} (r : Option (Row P)) → IfSome r (λ row. row.task ≡ None) → port_of r ≡ None
+pub out_port : {P : Type 0} (r : Option (Row P)) → IfSome r (λ row. row.task ≡ None) → port_of r ≡ None
 out_port None out = refl
 out_port (Some row) out = ap task_port out
 
@@ -169,12 +173,12 @@ cause_touched h e i t = refl
 pub stands_touched : {P : Type 0} (told_by : P → Told) (d e : Hub P) (hand : List Copy) (entry : Entry) (i : ℕ) (f g : Facts) →
     Stands told_by d hand d.log.history → IsOutAt d.rows.items i → i < length d.facts.items → f ≡ get_or d.facts.items i f →
     e.facts.items ≡ slice_set d.facts.items i g → g.closed ≡ f.closed → g.retired ≡ f.retired →
-    e.rows ≡ d.rows → spare_of e ≡ spare_of d → e.batches ≡ d.batches → e.starved ≡ d.starved → Noted d.log entry e.log → touched entry ≡ Some i →
+    e.rows ≡ d.rows → spare_of e ≡ spare_of d → e.batches ≡ d.batches → e.starved ≡ d.starved → Noted d.log entry e.log → touched entry ≡ Some i → IsStill entry →
     (IsKnown f d.log.history i → IsKnown g (entry ∷ d.log.history) i) →
     (d.bytes ≡ capped (bytes_of_all d.log.history) → e.bytes ≡ capped (bytes_of_all (entry ∷ d.log.history))) →
     makes entry ≡ 0 → (IsSound d → IsKnown f d.log.history i → IsInOrder d.log.history entry) →
     Stands told_by e hand e.log.history
-stands_touched {P} told_by d e hand entry i f g s out within at written closed retired rows berths batches starved noted touch known bytes none_made order =
+stands_touched {P} told_by d e hand entry i f g s out within at written closed retired rows berths batches starved noted touch still known bytes none_made order =
     let was : facts_at d.facts.items i ≡ Some f = facts_read d.facts.items i f within at in
     let none : port_at d.rows.items i ≡ None = out_port (row_at d.rows.items i) out in
     let port_gone : (Q : Option P → Type 0) → Q None → Q (port_at d.rows.items i) = λ Q q. subst (λ (p : Option P). Q p) (sym none) q in
@@ -185,9 +189,9 @@ stands_touched {P} told_by d e hand entry i f g s out within at written closed r
       recorded = λ sound.
           let w = noted.whole sound.whole in
           let fine : IsSound d = record { whole = w.0; fed = sym starved ∙ sound.fed } in
-          let r : IsRecorded told_by d d.log.history = s.recorded fine in
+          let r : IsRecorded told_by d hand d.log.history = s.recorded fine in
           let mine : IsKnown f d.log.history i = subst (λ (o : Option Facts). IfSome o (λ x. IsKnown x d.log.history i)) was (r.facts i) in
-          subst (λ (h : Record). IsRecorded told_by e h) (sym w.1) (record {
+          subst (λ (h : Record). IsRecorded told_by e hand h) (sym w.1) (record {
             ports = λ j. subst (λ (v : _). IfSome (port_at v.items j) (λ port. IsTold (told_by port) (entry ∷ d.log.history) j)) (sym rows)
                 (other_port (λ k p. IfSome p (λ port. IsTold (told_by port) (entry ∷ d.log.history) k)) i d.rows.items (port_gone (λ p. IfSome p (λ port. IsTold (told_by port) (entry ∷ d.log.history) i)) tt)
                 (λ k other. some_mapped _ _ (port_at d.rows.items k) (λ port t. told_silent (told_by port) d.log.history k entry (silent_other d.log.history i k entry touch other) t) (r.ports k)) j);
@@ -200,6 +204,8 @@ stands_touched {P} told_by d e hand entry i f g s out within at written closed r
             unknown = λ j past. let beyond : length d.rows.items ≤ j = subst (λ (v : _). length v.items ≤ j) rows past in
                 unknown_on entry d.log.history j (λ t. let same : i ≡ j = cc in omega (arith, within, beyond, s.size, same)) (r.unknown j beyond);
             cause = ap (λ (t : _). t.1) berths ∙ r.cause ∙ sym (cause_touched d.log.history entry i touch);
+            places = subst (λ (v : _). IsPlaced v.items (numbers_in hand) (entry ∷ d.log.history)) (sym rows)
+                (placed_still d.rows.items (numbers_in hand) d.log.history entry still (conserved d.log.history r.order) r.places);
           });
       shut = λ j. subst (λ (v : _). IfSome (facts_at e.facts.items j) (IsShut told_by v.items j)) (sym rows)
           (subst (λ (fs : List Facts). IfSome (facts_at fs j) (IsShut told_by d.rows.items j)) (sym written)
@@ -223,8 +229,9 @@ pub stands_marked : {P : Type 0} (told_by : P → Told) (d e : Hub P) (hand afte
     (IsKnown f d.log.history i → IsKnown g (entry ∷ d.log.history) i) →
     ((x : Facts) (k : ℕ) → k ≢ i → IsKnown x d.log.history k → IsKnown x (entry ∷ d.log.history) k) →
     IsShut told_by d.rows.items i g → IsGone d.rows.items i g →
+    (IsConserved (entry ∷ d.log.history) → IsPlaced d.rows.items (numbers_in hand) d.log.history → IsPlaced d.rows.items (numbers_in after) (entry ∷ d.log.history)) →
     Stands told_by e after e.log.history
-stands_marked {P} told_by d e hand after entry i f g s within at written rows berths balanced starved bytes noted mute next order cause known others shut gone =
+stands_marked {P} told_by d e hand after entry i f g s within at written rows berths balanced starved bytes noted mute next order cause known others shut gone places =
     let was : facts_at d.facts.items i ≡ Some f = facts_read d.facts.items i f within at in
     record {
       history = refl;
@@ -232,9 +239,9 @@ stands_marked {P} told_by d e hand after entry i f g s within at written rows be
       recorded = λ sound.
           let w = noted.whole sound.whole in
           let fine : IsSound d = record { whole = w.0; fed = sym starved ∙ sound.fed } in
-          let r : IsRecorded told_by d d.log.history = s.recorded fine in
+          let r : IsRecorded told_by d hand d.log.history = s.recorded fine in
           let mine : IsKnown f d.log.history i = subst (λ (o : Option Facts). IfSome o (λ x. IsKnown x d.log.history i)) was (r.facts i) in
-          subst (λ (h : Record). IsRecorded told_by e h) (sym w.1) (record {
+          subst (λ (h : Record). IsRecorded told_by e after h) (sym w.1) (record {
             ports = λ j. subst (λ (v : _). IfSome (port_at v.items j) (λ port. IsTold (told_by port) (entry ∷ d.log.history) j)) (sym rows)
                 (some_mapped _ _ (port_at d.rows.items j) (λ port t. told_mute (told_by port) d.log.history j entry mute t) (r.ports j));
             facts = λ j. subst (λ (fs : List Facts). IfSome (facts_at fs j) (λ x. IsKnown x (entry ∷ d.log.history) j)) (sym written)
@@ -246,6 +253,8 @@ stands_marked {P} told_by d e hand after entry i f g s within at written rows be
             order = (order fine, r.order);
             unknown = λ j past. unknown_mute entry d.log.history j mute (r.unknown j (subst (λ (v : _). length v.items ≤ j) rows past));
             cause = ap (λ (t : _). t.1) berths ∙ r.cause ∙ sym cause;
+            places = subst (λ (v : _). IsPlaced v.items (numbers_in after) (entry ∷ d.log.history)) (sym rows)
+                (places (conserved (entry ∷ d.log.history) (order fine, r.order)) r.places);
           });
       shut = λ j. subst (λ (v : _). IfSome (facts_at e.facts.items j) (IsShut told_by v.items j)) (sym rows)
           (subst (λ (fs : List Facts). IfSome (facts_at fs j) (IsShut told_by d.rows.items j)) (sym written)
@@ -263,15 +272,16 @@ pub stands_brought : {P : Type 0} (told_by : P → Told) (d e : Hub P) (copies :
     (IsSound d → IsTold (told_by port) d.log.history i) →
     IsBalanced e.batches e.rows.items [] → port_at e.rows.items i ≡ Some port → SameOtherPorts i d.rows.items e.rows.items → KeepsOthersBare i d.rows.items e.rows.items →
     length e.rows.items ≡ length d.rows.items → e.batches.next ≡ d.batches.next → e.facts ≡ d.facts → e.log ≡ d.log → e.starved ≡ d.starved → e.bytes ≡ d.bytes → spare_of e ≡ spare_of d →
+    (IsSound d → IsConserved d.log.history → IsPlaced d.rows.items (numbers_in copies) d.log.history → IsPlaced e.rows.items [] d.log.history) →
     Stands told_by e [] e.log.history
-stands_brought {P} told_by d e copies port i s unclosed told balanced here ports bare size next facts log starved bytes berths =
+stands_brought {P} told_by d e copies port i s unclosed told balanced here ports bare size next facts log starved bytes berths places =
     record {
       history = refl;
       balanced = balanced;
       recorded = λ sound.
           let fine : IsSound d = record { whole = sym (ap (λ (l : Log). l.whole) log) ∙ sound.whole; fed = sym starved ∙ sound.fed } in
-          let r : IsRecorded told_by d d.log.history = s.recorded fine in
-          subst (λ (h : Record). IsRecorded told_by e h) (sym (ap (λ (l : Log). l.history) log)) (record {
+          let r : IsRecorded told_by d copies d.log.history = s.recorded fine in
+          subst (λ (h : Record). IsRecorded told_by e [] h) (sym (ap (λ (l : Log). l.history) log)) (record {
             ports = other_port (λ k p. IfSome p (λ q. IsTold (told_by q) d.log.history k)) i e.rows.items
                 (subst (λ (p : Option P). IfSome p (λ q. IsTold (told_by q) d.log.history i)) (sym here) (told fine))
                 (λ k other. subst (λ (p : Option P). IfSome p (λ q. IsTold (told_by q) d.log.history k)) (sym (ports k other)) (r.ports k));
@@ -281,6 +291,7 @@ stands_brought {P} told_by d e copies port i s unclosed told balanced here ports
             order = r.order;
             unknown = λ k past. r.unknown k (subst (λ n. n ≤ k) size past);
             cause = ap (λ (t : _). t.1) berths ∙ r.cause;
+            places = places fine (conserved d.log.history r.order) r.places;
           });
       shut = λ k. subst (λ (v : _). IfSome (facts_at v.items k) (IsShut told_by e.rows.items k)) (sym facts)
           (other_number (λ m. IfSome (facts_at d.facts.items m) (IsShut told_by e.rows.items m)) i (unclosed_shut told_by e.rows.items i (facts_at d.facts.items i) unclosed)
@@ -374,17 +385,17 @@ pub stands_shut : {P : Type 0} (told_by : P → Told) (d e : Hub P) (i : ℕ) �
     Stands told_by d [] d.log.history → IsSome (port_at d.rows.items i) →
     IfSome (port_at d.rows.items i) (λ old. IsSomeAnd (port_at e.rows.items i) (λ new. IsClosedBy (told_by old) (told_by new))) →
     Loses d.rows.items [] e.rows.items → SameOtherPorts i d.rows.items e.rows.items → KeepsBare d.rows.items e.rows.items →
-    length e.rows.items ≡ length d.rows.items → e.batches ≡ d.batches → e.facts ≡ d.facts → e.log ≡ d.log → e.starved ≡ d.starved → e.bytes ≡ d.bytes → spare_of e ≡ spare_of d →
+    length e.rows.items ≡ length d.rows.items → e.batches ≡ d.batches → e.facts ≡ d.facts → e.log ≡ d.log → e.starved ≡ d.starved → e.bytes ≡ d.bytes → spare_of e ≡ spare_of d → SamePlaces d.rows.items e.rows.items →
     Stands told_by e [] e.log.history
-stands_shut {P} told_by d e i s home becomes loses ports bare size batches facts log starved bytes berths =
+stands_shut {P} told_by d e i s home becomes loses ports bare size batches facts log starved bytes berths same =
     record {
       history = refl;
       balanced = λ batch place. subst (λ (b : _). live_count batch place b.open_rows ≡ copies_in batch place e.rows.items + 0) (sym batches)
           (let b : live_count batch place d.batches.open_rows ≡ copies_in batch place d.rows.items + 0 = s.balanced batch place in omega (arith, loses batch place));
       recorded = λ sound.
           let fine : IsSound d = record { whole = sym (ap (λ (l : Log). l.whole) log) ∙ sound.whole; fed = sym starved ∙ sound.fed } in
-          let r : IsRecorded told_by d d.log.history = s.recorded fine in
-          subst (λ (h : Record). IsRecorded told_by e h) (sym (ap (λ (l : Log). l.history) log)) (record {
+          let r : IsRecorded told_by d [] d.log.history = s.recorded fine in
+          subst (λ (h : Record). IsRecorded told_by e [] h) (sym (ap (λ (l : Log). l.history) log)) (record {
             ports = other_port (λ k p. IfSome p (λ q. IsTold (told_by q) d.log.history k)) i e.rows.items
                 (port_becomes (λ o n. IsClosedBy (told_by o) (told_by n)) (λ q. IsTold (told_by q) d.log.history i) (λ q. IsTold (told_by q) d.log.history i) (port_at d.rows.items i) (port_at e.rows.items i)
                 becomes home (λ o n c t. told_closed (told_by o) (told_by n) d.log.history i c t) (r.ports i))
@@ -395,6 +406,7 @@ stands_shut {P} told_by d e i s home becomes loses ports bare size batches facts
             order = r.order;
             unknown = λ k past. r.unknown k (subst (λ n. n ≤ k) size past);
             cause = ap (λ (t : _). t.1) berths ∙ r.cause;
+            places = placed_same d.rows.items e.rows.items [] d.log.history same r.places;
           });
       shut = λ k. subst (λ (v : _). IfSome (facts_at v.items k) (IsShut told_by e.rows.items k)) (sym facts)
           (other_number (λ m. IfSome (facts_at d.facts.items m) (IsShut told_by e.rows.items m)) i
@@ -433,8 +445,8 @@ stands_attempted {P} told_by d log hand i copies bytes reply s within out noted 
       balanced = s.balanced;
       recorded = λ sound.
           let w = noted.whole sound.whole in
-          let r : IsRecorded told_by d d.log.history = s.recorded (record { whole = w.0; fed = sound.fed }) in
-          subst (λ (h : Record). IsRecorded told_by (record d { log = log }) h) (sym w.1) (record {
+          let r : IsRecorded told_by d hand d.log.history = s.recorded (record { whole = w.0; fed = sound.fed }) in
+          subst (λ (h : Record). IsRecorded told_by (record d { log = log }) hand h) (sym w.1) (record {
             ports = other_port (λ k p. IfSome p (λ port. IsTold (told_by port) (e ∷ d.log.history) k)) i d.rows.items
                 (subst (λ (p : Option P). IfSome p (λ port. IsTold (told_by port) (e ∷ d.log.history) i)) (sym none) tt)
                 (λ k other. some_mapped _ _ (port_at d.rows.items k) (λ port t. told_silent (told_by port) d.log.history k e (silent_other d.log.history i k e refl other) t) (r.ports k));
@@ -444,6 +456,7 @@ stands_attempted {P} told_by d log hand i copies bytes reply s within out noted 
             order = (tt, r.order);
             unknown = λ k past. unknown_on e d.log.history k (λ t. let same : i ≡ k = cc in omega (arith, within, past, same)) (r.unknown k past);
             cause = r.cause;
+            places = placed_still d.rows.items (numbers_in hand) d.log.history e tt (conserved d.log.history r.order) r.places;
           });
       shut = s.shut;
       gone = s.gone;
@@ -468,3 +481,44 @@ not_false false y = refl
 pub not_both : (b : Bool) → not b ≡ false → b ≡ false → ⊥
 not_both true n f = cc
 not_both false n f = cc
+
+-- a task is taken along
+pub stands_out : {P : Type 0} (told_by : P → Told) (d e : Hub P) (copies : List Copy) (i : ℕ) →
+    Stands told_by d [] d.log.history → IsSomeAnd (facts_at d.facts.items i) (λ f. f.closed ≡ false) →
+    IsBalanced e.batches e.rows.items copies → port_at e.rows.items i ≡ None → SameOtherPorts i d.rows.items e.rows.items → KeepsOthersBare i d.rows.items e.rows.items →
+    length e.rows.items ≡ length d.rows.items → e.batches.next ≡ d.batches.next → e.facts ≡ d.facts → e.log ≡ d.log → e.starved ≡ d.starved → e.bytes ≡ d.bytes → spare_of e ≡ spare_of d →
+    (IsConserved d.log.history → IsPlaced d.rows.items [] d.log.history → IsPlaced e.rows.items (numbers_in copies) d.log.history) →
+    Stands told_by e copies e.log.history
+stands_out {P} told_by d e copies i s unclosed balanced away ports bare size next facts log starved bytes berths places =
+    record {
+      history = refl;
+      balanced = balanced;
+      recorded = λ sound.
+          let fine : IsSound d = record { whole = sym (ap (λ (l : Log). l.whole) log) ∙ sound.whole; fed = sym starved ∙ sound.fed } in
+          let r : IsRecorded told_by d [] d.log.history = s.recorded fine in
+          subst (λ (h : Record). IsRecorded told_by e copies h) (sym (ap (λ (l : Log). l.history) log)) (record {
+            ports = other_port (λ k p. IfSome p (λ q. IsTold (told_by q) d.log.history k)) i e.rows.items
+                (subst (λ (p : Option P). IfSome p (λ q. IsTold (told_by q) d.log.history i)) (sym away) tt)
+                (λ k other. subst (λ (p : Option P). IfSome p (λ q. IsTold (told_by q) d.log.history k)) (sym (ports k other)) (r.ports k));
+            facts = λ k. subst (λ (v : _). IfSome (facts_at v.items k) (λ f. IsKnown f d.log.history k)) (sym facts) (r.facts k);
+            bytes = bytes ∙ r.bytes;
+            next = next ∙ r.next;
+            order = r.order;
+            unknown = λ k past. r.unknown k (subst (λ n. n ≤ k) size past);
+            cause = ap (λ (t : _). t.1) berths ∙ r.cause;
+            places = places (conserved d.log.history r.order) r.places;
+          });
+      shut = λ k. subst (λ (v : _). IfSome (facts_at v.items k) (IsShut told_by e.rows.items k)) (sym facts)
+          (other_number (λ m. IfSome (facts_at d.facts.items m) (IsShut told_by e.rows.items m)) i (unclosed_shut told_by e.rows.items i (facts_at d.facts.items i) unclosed)
+          (λ m other. some_mapped _ _ (facts_at d.facts.items m) (λ f shut c. subst (λ (p : Option P). IsSomeAnd p (λ q. (told_by q).started ≡ false)) (sym (ports m other)) (shut c)) (s.shut m)) k);
+      gone = λ k. subst (λ (v : _). IfSome (facts_at v.items k) (IsGone e.rows.items k)) (sym facts)
+          (other_number (λ m. IfSome (facts_at d.facts.items m) (IsGone e.rows.items m)) i (unclosed_gone d.rows.items e.rows.items i (facts_at d.facts.items i) unclosed (s.gone i))
+          (λ m other. some_mapped _ _ (facts_at d.facts.items m) (λ f gone c. ((gone c).0, bare m other (gone c).1)) (s.gone m)) k);
+      size = ap (λ (v : _). length v.items) facts ∙ s.size ∙ sym size;
+      berths = berths_kept d.ports e.ports d.rows.items e.rows.items (ap (λ (t : _). t.0) berths) size s.berths;
+    }
+
+-- what the port of the task tells that is taken along
+pub taken_told : {P : Type 0} (F : P → Type 0) (o : Option P) (p : P) → o ≡ Some p → IfSome o F → F p
+taken_told F None p is f = cc
+taken_told F (Some q) p is f = let same : q ≡ p = cc in subst F same f

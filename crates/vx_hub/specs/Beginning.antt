@@ -7,6 +7,8 @@ use Rattle.vx_record.specs.Wirings.{begun}
 use Rattle.vx_hub.specs.declared.hub.Hub.{Hub}
 use Rattle.vx_hub.specs.declared.making.Room.{Room}
 use Rattle.vx_hub.specs.Making.{AreNew, IsUntouched}
+use Rattle.vx_record.specs.Places.{Place}
+use Rattle.vx_hub.specs.Places.{numbers_at}
 use Rattle.vx_hub.specs.Rows.{copies_in, port_at}
 use Rattle.vx_hub.specs.Stands.{facts_at, spec_of}
 
@@ -41,6 +43,7 @@ pub record Begins {P : Type 0} (told_by : P → Told) (plan : Plan) (hub : Hub P
   pub batches : hub.batches.open_rows ≡ []
   pub next : hub.batches.next ≡ 0
   pub copies : (batch place : ℕ) → copies_in batch place hub.rows.items ≡ 0
+  pub places : (p : Place) → numbers_at p hub.rows.items ≡ []
   pub ports : (i : ℕ) → IfSome (port_at hub.rows.items i) (λ port. IsUntouched (spec_of (slice_get plan.components i)) (told_by port))
   pub facts : (i : ℕ) → IfSome (facts_at hub.facts.items i) AreNew
   pub bytes : hub.bytes ≡ 0

@@ -1,5 +1,5 @@
 -- What an instance that is out takes along, and what it brings home.
-use Rattle.std.specs.Prelude.{◌≡◌, ◌<◌, ◌≤◌, ◌+◌, ◌++◌, ℕ, true, false, length, Option, Some, IfSome, IsSomeAnd}
+use Rattle.std.specs.Prelude.{◌≡◌, ◌<◌, ◌≤◌, ◌+◌, ◌++◌, ℕ, [], true, false, length, Option, Some, IfSome, IsSomeAnd}
 use Rattle.vx_ends.specs.Told.{Told}
 use Rattle.vx_record.specs.Records.{Record}
 use Rattle.vx_record.specs.Records.{capped}
@@ -12,6 +12,9 @@ use Rattle.vx_hub.specs.declared.work.Work.{Work}
 use Rattle.vx_hub.specs.declared.work.Landing.{Landing}
 use Rattle.vx_hub.specs.declared.work.Done.{Done}
 use Rattle.vx_hub.specs.declared.work.Done.TheVariants.{Closed, Starved}
+use Rattle.vx_record.specs.Places.Place.{Outputs}
+use Rattle.vx_hub.specs.Places.{numbers_at}
+use Rattle.vx_hub.specs.Births.{IsHeldBy}
 use Rattle.vx_hub.specs.Rows.{role_copies, IsOutAt}
 use Rattle.vx_hub.specs.declared.confirming.Confirmed.{Confirmed}
 use Rattle.vx_hub.specs.Turns.{NothingLeft}
@@ -30,7 +33,9 @@ pub record IsLeased {P : Type 0} (told_by : P → Told) (hub : Hub P) (work : Wo
   pub open_at : IsOpenAt hub work.instance
   pub out : IsOutAt hub.rows.items work.instance
   pub told : IsSound hub → IsTold (told_by work.task.port) hub.log.history work.instance
+  pub held : IsHeldBy hub work.instance work.task.role
   pub unlost : work.job ≡ job.Read → IsUnlost hub work.instance
+  pub sent : work.job ≡ job.Read → numbers_at (Outputs work.instance) hub.rows.items ≡ []
   pub due : IsSound hub → IfSome work.positions (λ positions. positions ≡ born_positions hub.log.history work.instance)
 
 -- what the port tells now is what the record has, and behind it what was confirmed and done
@@ -56,7 +61,9 @@ pub record IsBack {P : Type 0} (told_by : P → Told) (hub : Hub P) (landing : L
   pub open_at : IsOpenAt hub landing.instance
   pub out : IsOutAt hub.rows.items landing.instance
   pub brings : IsSound hub → Brings (told_by landing.task.port) hub.log.history landing.instance landing.confirmed landing.done
+  pub held : IsHeldBy hub landing.instance landing.task.role
   pub unlost : IsReading landing.done → IsUnlost hub landing.instance
+  pub sent : IsReading landing.done → numbers_at (Outputs landing.instance) hub.rows.items ≡ []
   pub due : IsSound hub → IfSome landing.confirmed (λ confirmed. confirmed.positions ≡ born_positions hub.log.history landing.instance)
   pub events : event_count_of landing.done ≤ 65536
   pub closed : landing.done ≡ Closed → (told_by landing.task.port).started ≡ false

@@ -1,10 +1,12 @@
 pub mod Turns
 pub mod Attempts
 pub mod Rows
+pub mod Places
 pub mod Order
 pub mod Numbers
 pub mod Works
 pub mod Stands
+pub mod Births
 pub mod Leases
 pub mod Spending
 pub mod Making

@@ -6,7 +6,10 @@ use Rattle.vx_status.specs.declared.outcome.Outcome.{Outcome}
 use Rattle.vx_status.specs.declared.outcome.Outcome.TheVariants.{Delivered, Attempts, Refusal, Abandoned, Filtered, NewestDropped}
 use Rattle.vx_value.specs.declared.event.Event.{Event}
 use Rattle.vx_record.specs.Records.{Record, capped}
-use Rattle.vx_record.specs.Copies.{counting, children_of, next_copy}
+use Rattle.vx_record.specs.Copies.{counting, next_copy, IsLive}
+use Rattle.vx_record.specs.Lists.{waiting, contents}
+use Rattle.vx_record.specs.Sending.{IsOldest}
+use Rattle.vx_record.specs.Moving.{Divides}
 use Rattle.vx_record.specs.Starting.{MayInstall}
 use Rattle.vx_record.specs.declared.child.Child.{Child}
 use Rattle.vx_record.specs.Reads.{bytes_taken}
@@ -14,7 +17,7 @@ use Rattle.vx_record.specs.Confirms.{born_positions, is_unconfirmed}
 use Rattle.vx_record.specs.Sourcing.{failed_starts}
 pub use Rattle.vx_record.specs.Spending.{last_reply}
 use Rattle.vx_record.specs.declared.entry.Entry.{Entry}
-use Rattle.vx_record.specs.declared.entry.Entry.TheVariants.{Install, Read, Idle, SourceLost, Born, Split, Spent, Confirm, Abandon}
+use Rattle.vx_record.specs.declared.entry.Entry.TheVariants.{Install, Read, Idle, SourceLost, Born, Split, Push, Take, Spent, Confirm, Abandon}
 use Rattle.vx_record.specs.declared.abandon_cause.AbandonCause.{AbandonCause}
 use Rattle.vx_record.specs.declared.abandon_cause.AbandonCause.TheVariants.{Grace, Numbers, WantOfMemory}
 
@@ -30,12 +33,12 @@ cause_of [] = None
 cause_of (Abandon cause ∷ h) = Some cause
 cause_of (e ∷ h) = cause_of h
 
--- a source that wasn't lost is read again, and no fifth failed start in a row is passed over
+-- a source that wasn't lost may find nothing, and a failed start is told so only where fewer than four stand before it
 pub record IsTryOf (h : Record) (j : ℕ) (failed : Bool) : Type 0 where
   pub unlost : lost_at h j ≡ None
   pub few : failed ≡ true → failed_starts h j < 4
 
--- a source is lost once, by a failed take or at its fifth failed start in a row, after as many bytes as it took
+-- a source is lost once, after as many bytes as it took, and by a failed start only where four stand before it
 pub record IsLossOf (h : Record) (j at : ℕ) (failed : Bool) : Type 0 where
   pub first : lost_at h j ≡ None
   pub after : at ≡ capped (bytes_taken h j)
@@ -57,10 +60,11 @@ pub record IsBirthOf (h : Record) (i batch : ℕ) (copies : List ℕ) (events : 
   pub number : batch ≡ next_copy h
   pub fits : next_copy h + length copies ≤ 2 ^ 63
 
--- a split makes, for each of its targets, one child for each of the copies that it replaces, with the next numbers
-pub record IsSplitOf (h : Record) (copies : List ℕ) (children : List Child) : Type 0 where
+-- a split replaces the oldest output of its instance, and makes, for each of some targets, one child with a copy for each
+-- of the copies that it replaces, with the next numbers
+pub record IsSplitOf (h : Record) (i : ℕ) (copies : List ℕ) (children : List Child) : Type 0 where
+  pub divides : Divides h i copies children
   pub some : 0 < length children
-  pub made : (targets : List ℕ) × (children ≡ children_of (next_copy h) (length copies) targets)
   pub fits : next_copy h + length children * length copies ≤ 2 ^ 63
 
 -- the answer of a device that an outcome stands for
@@ -83,7 +87,7 @@ pub record IsSpentFor (h : Record) (i : ℕ) (outcome : Outcome) : Type 0 where
   pub replied : (reply : Reply) → reply_behind outcome ≡ Some reply → last_reply h i ≡ Some reply
   pub given_up : outcome ≡ Abandoned → IsSome (cause_of h)
 
--- a run is given up where the next numbers would pass 2^63, or for want of memory; nobody asks it to stop yet
+-- a run is given up where some wanted numbers would pass 2^63, or for want of memory; nobody asks it to stop yet
 abbrev pub IsReason : Record → AbandonCause → Type 0
 IsReason h (Grace stopped now limit) = ⊥
 IsReason h (Numbers next wanted) = (next ≡ next_copy h) × (2 ^ 63 < next + wanted)
@@ -101,8 +105,10 @@ IsInOrder h (Read j stream took) = lost_at h j ≡ None
 IsInOrder h (Idle j failed) = IsTryOf h j failed
 IsInOrder h (SourceLost j at failed) = IsLossOf h j at failed
 IsInOrder h (Born j batch place copies events waits stream end) = IsBirthOf h j batch copies events waits
-IsInOrder h (Split j ports copies event children) = IsSplitOf h copies children
-IsInOrder h (Spent j c outcome) = IsSpentFor h j outcome
+IsInOrder h (Split j ports copies event children) = IsSplitOf h j copies children
+IsInOrder h (Push j t s copies) = IsOldest copies (waiting h j t)
+IsInOrder h (Take j s copies) = IsOldest copies (contents h j s)
+IsInOrder h (Spent j c outcome) = IsLive h c × IsSpentFor h j outcome
 IsInOrder h (Confirm j positions made) = positions ≡ born_positions h j
 IsInOrder h (Abandon cause) = IsGivenUp h cause
 IsInOrder h other = Unit {0}

@@ -19,6 +19,8 @@ use Rattle.vx_hub.specs.declared.hub.Hub.{Hub}
 use Rattle.vx_hub.specs.declared.parts.Numbered.{Numbered}
 use Rattle.vx_value.specs.Filled.{Filled}
 use Rattle.vx_hub.specs.Rows.{copies_in, port_at, IsBareAt, HasRoom}
+use Rattle.vx_hub.specs.Places.{IsPlaced}
+use Rattle.vx_hub.specs.Numbers.{numbers_in}
 use Rattle.vx_hub.specs.Turns.{NothingLeft}
 pub use Rattle.vx_hub.specs.Order.{lost_at, cause_of}
 use Rattle.vx_hub.specs.Order.{IsOrderly, IsUnknown}
@@ -75,8 +77,8 @@ abbrev pub IsBalanced : {P : Type 0} → Ledger → List (Row P) → List Copy �
 IsBalanced ledger rows hand =
     (batch place : ℕ) → live_count batch place ledger.open_rows ≡ copies_in batch place rows + copies_of batch place hand
 
--- what is known and told, where the record has all that happened
-pub record IsRecorded {P : Type 0} (told_by : P → Told) (hub : Hub P) (h : Record) : Type 0 where
+-- what is known, told and stands where, if the record has all that happened
+pub record IsRecorded {P : Type 0} (told_by : P → Told) (hub : Hub P) (hand : List Copy) (h : Record) : Type 0 where
   pub ports : (i : ℕ) → IfSome (port_at hub.rows.items i) (λ port. IsTold (told_by port) h i)
   pub facts : (i : ℕ) → IfSome (facts_at hub.facts.items i) (λ f. IsKnown f h i)
   pub bytes : hub.bytes ≡ capped (bytes_of_all h)
@@ -84,6 +86,7 @@ pub record IsRecorded {P : Type 0} (told_by : P → Told) (hub : Hub P) (h : Rec
   pub order : IsOrderly h
   pub unknown : (i : ℕ) → length hub.rows.items ≤ i → IsUnknown h i
   pub cause : hub.abandoned ≡ cause_of h
+  pub places : IsPlaced hub.rows.items (numbers_in hand) h
 
 -- whether the record has all that happened
 pub record IsSound {P : Type 0} (hub : Hub P) : Type 0 where
@@ -112,7 +115,7 @@ spare_of hub = (hub.ports, hub.abandoned)
 pub record Stands {P : Type 0} (told_by : P → Told) (hub : Hub P) (hand : List Copy) (h : Record) : Type 0 where
   pub history : hub.log.history ≡ h
   pub balanced : IsBalanced hub.batches hub.rows.items hand
-  pub recorded : IsSound hub → IsRecorded told_by hub h
+  pub recorded : IsSound hub → IsRecorded told_by hub hand h
   pub shut : (i : ℕ) → IfSome (facts_at hub.facts.items i) (IsShut told_by hub.rows.items i)
   pub gone : (i : ℕ) → IfSome (facts_at hub.facts.items i) (IsGone hub.rows.items i)
   pub size : length hub.facts.items ≡ length hub.rows.items
@@ -150,7 +153,7 @@ pub record HasEnded {P : Type 0} (hub : Hub P) (i : ℕ) : Type 0 where
 pub record IsOpenTarget {P : Type 0} (hub : Hub P) (target : ℕ) : Type 0 where
   pub within : target < length hub.rows.items
   pub room : HasRoom hub.rows.items target
-  pub running : IfSome (facts_at hub.facts.items target) (λ f. f.retired ≡ false)
+  pub running : IsSomeAnd (facts_at hub.facts.items target) (λ f. f.retired ≡ false)
 
 -- a source that wasn't lost
 abbrev pub IsUnlost : {P : Type 0} → Hub P → ℕ → Type 0

@@ -1,6 +1,9 @@
 ghost use Rattle.std.specs.Prelude.{◌≡◌, ◌<◌, ◌≤◌, ◌+◌, ◌++◌, ℕ, [], length, List, IfOk, IfErr, OnErr, IsSomeAnd};
 ghost use Rattle.vx_ledger.specs.Copies.{Copy};
-ghost use Rattle.vx_hub.specs.Stands.{Stands, facts_at};
+ghost use Rattle.vx_hub.specs.Stands.{Stands, IsSound, facts_at};
+ghost use Rattle.vx_record.specs.Places.Place.{Outputs};
+ghost use Rattle.vx_hub.specs.Places.{numbers_at};
+ghost use Rattle.vx_hub.specs.Births.{IsLinedUp, IsNextOut};
 ghost use Rattle.vx_hub.specs.Ending.{AreMovedTo};
 ghost use Rattle.vx_hub.specs.Failures.{HasReason};
 ghost use Rattle.vx_hub.specs.Leases.{IsOpenAt};
@@ -35,6 +38,7 @@ impl<P: Port> Hub<P> {
         requires open { IsOpenAt self.old instance }
         requires read { HasRead self.old instance }
         requires few { length events ≤ 65536 }
+        requires sent { numbers_at (Outputs instance) self.old.rows.items ≡ [] }
         ensures stands { Stands P.told self.new [] self.new.log.history }
         ensures size { length self.new.rows.items ≡ length self.old.rows.items }
         ensures reason { IfErr result (HasReason self.new) }
@@ -66,6 +70,7 @@ impl<P: Port> Hub<P> {
         requires some { 0 < length events }
         requires few { length events ≤ 65536 }
         requires room { HasOutputRoom self.old.rows.items instance (length events) }
+        requires sent { numbers_at (Outputs instance) self.old.rows.items ≡ [] }
         requires moved { IsSomeAnd (facts_at self.old.facts.items instance) (AreMovedTo position ends) }
         ensures stands { Stands P.told self.new [] self.new.log.history }
         ensures size { length self.new.rows.items ≡ length self.old.rows.items }
@@ -101,9 +106,11 @@ impl<P: Port> Hub<P> {
         requires read { HasRead self.old instance }
         requires some { 0 < length events.now }
         requires few { length events.now ≤ 65536 }
+        requires sent { numbers_at (Outputs instance) self.old.rows.items ≡ [] }
         requires moved { IsSomeAnd (facts_at self.old.facts.items instance) (AreMovedTo position ends) }
         ensures stands { IfOk result (λ finalizers. Stands P.told self.new finalizers self.new.log.history) }
         ensures each { IfOk result (λ finalizers. length events.now ≡ length finalizers) }
+        ensures lined { IfOk result (IsLinedUp self.new instance) }
         ensures open { IsOpenAt self.new instance }
         ensures rows { self.new.rows ≡ self.old.rows }
         ensures same { OnErr result (self.new ≡ self.old) }
@@ -148,6 +155,7 @@ impl<P: Port> Hub<P> {
         requires stands { Stands P.told self.old finalizers self.old.log.history }
         requires open { IsOpenAt self.old instance }
         requires each { length events ≡ length finalizers }
+        requires lined { IsLinedUp self.old instance finalizers }
         requires room { HasOutputRoom self.old.rows.items instance (length events) }
         ensures stands { Stands P.told self.new [] self.new.log.history }
         ensures size { length self.new.rows.items ≡ length self.old.rows.items }
@@ -159,6 +167,7 @@ impl<P: Port> Hub<P> {
                 Ok(Some(copy)) => self.put_one(instance, event, copy),
                 Ok(None) => unreachable!(),
                 Err(WantOfMemory) => {
+                    self.starved = true;
                     self.put_one(instance, event, finalizers);
                     return Err(Fatal::WantOfMemory);
                 }
@@ -168,11 +177,13 @@ impl<P: Port> Hub<P> {
         Ok(())
     }
 
-    /// Puts an event out with some copies.
+    /// Puts an event out with some copies: with one, unless memory was wanting.
     fn put_one(&mut self, instance: u32, event: Event, finalizers: Finalizers)
         requires open { IsOpenAt self.old instance }
         requires room { HasOutputRoom self.old.rows.items instance 1 }
-        ensures stands { (rest : List Copy) → Stands P.told self.old (rest ++ finalizers) self.old.log.history → Stands P.told self.new rest self.new.log.history }
+        ensures stands { (rest : List Copy) → Stands P.told self.old (rest ++ finalizers) self.old.log.history → (IsSound self.old → IsNextOut self.old.log.history instance rest finalizers) → Stands P.told self.new rest self.new.log.history }
+        ensures log { self.new.log ≡ self.old.log }
+        ensures starved { self.new.starved ≡ self.old.starved }
         ensures room { (n : ℕ) → HasOutputRoom self.old.rows.items instance (n + 1) → HasOutputRoom self.new.rows.items instance n }
         ensures facts { self.new.facts ≡ self.old.facts }
         ensures size { length self.new.rows.items ≡ length self.old.rows.items }

@@ -26,7 +26,7 @@ pub struct Hub<P: Port> {
     pub log: Log,
     /// How many bytes all sources took, at most 2^64 - 1.
     pub bytes: u64,
-    /// Whether a landing carried want of memory.
+    /// Whether memory was wanting where the record can't tell what was done.
     pub starved: bool,
     /// Whether a call answered `Fatal`.
     pub fatal: bool,

@@ -8,6 +8,9 @@ ghost use Rattle.vx_hub.specs.Spending.{MaySpend, IsReplied, HasRead};
 ghost use Rattle.vx_hub.specs.Stands.{Stands, IsTold, IsSound, IsUnlost};
 ghost use Rattle.vx_hub.specs.Leases.{IsBack, IsOpenAt, Adds};
 ghost use Rattle.vx_hub.specs.Turns.{event_count};
+ghost use Rattle.vx_record.specs.Places.Place.{Outputs};
+ghost use Rattle.vx_hub.specs.Places.{numbers_at};
+ghost use Rattle.vx_hub.specs.Births.{IsHeldBy};
 ghost use Rattle.vx_hub.specs.Rows.{role_copies, port_at, IsOutAt};
 
 use crate::confirming::Confirmed;
@@ -157,11 +160,13 @@ impl<P: Port> Hub<P> {
         requires open { IsOpenAt self.old instance }
         requires out { IsOutAt self.old.rows.items instance }
         requires told { IsSound self.old → IsTold (P.told task.port) self.old.log.history instance }
+        requires held { IsHeldBy self.old instance task.role }
         ensures stands { Stands P.told self.new [] self.new.log.history }
         ensures port { port_at self.new.rows.items instance ≡ Some task.port }
         ensures facts { self.new.facts ≡ self.old.facts }
         ensures log { self.new.log ≡ self.old.log }
         ensures read { (i : ℕ) → HasRead self.old i → HasRead self.new i }
+        ensures outputs { (i : ℕ) → numbers_at (Outputs i) self.new.rows.items ≡ numbers_at (Outputs i) self.old.rows.items }
         ensures size { length self.new.rows.items ≡ length self.old.rows.items }
     {
         put_task(&mut self.rows, instance as usize, task);
@@ -198,6 +203,7 @@ impl<P: Port> Hub<P> {
         requires open { IsOpenAt self.old instance }
         requires out { IsOutAt self.old.rows.items instance }
         requires brings { IsSound self.old → Adds (P.told task.port) self.old.log.history instance None (Done.Attempted bytes reply) }
+        requires held { IsHeldBy self.old instance task.role }
         ensures stands { Stands P.told self.new [] self.new.log.history }
         ensures replied { IsReplied self.new instance reply }
         ensures facts { self.new.facts ≡ self.old.facts }

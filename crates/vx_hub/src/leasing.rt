@@ -1,8 +1,10 @@
-ghost use Rattle.std.specs.Prelude.{◌≡◌, ◌≢◌, ◌<◌, [], length, IfSome, IfNone, IsTrue, false};
+ghost use Rattle.std.specs.Prelude.{◌≡◌, ◌≢◌, ◌<◌, ℕ, [], length, IfSome, IfNone, IsTrue, false};
 ghost use Rattle.vx_record.specs.Confirms.{born_positions};
 ghost use Rattle.vx_hub.specs.Stands.{Stands, IsSound, IsUnlost};
 ghost use Rattle.vx_hub.specs.Leases.{IsLeased, IsOpenAt};
 ghost use Rattle.vx_hub.specs.Rows.{CanHold};
+ghost use Rattle.vx_record.specs.Places.Place.{Outputs};
+ghost use Rattle.vx_hub.specs.Places.{numbers_at};
 
 use crate::hub::Hub;
 use crate::notes::note_take;
@@ -81,6 +83,7 @@ impl<P: Port> Hub<P> {
         requires stands { Stands P.told self.old [] self.old.log.history }
         requires open { IsOpenAt self.old instance }
         requires unlost { job ≡ Job.Read → IsUnlost self.old instance }
+        requires sent { job ≡ Job.Read → numbers_at (Outputs instance) self.old.rows.items ≡ [] }
         requires due { IsSound self.old → IfSome positions (λ positions. positions ≡ born_positions self.old.log.history instance) }
         ensures leased { IfSome result (IsLeased P.told self.new) }
         ensures none { IfNone result (Stands P.told self.new [] self.new.log.history) }
@@ -100,6 +103,7 @@ impl<P: Port> Hub<P> {
     fn ready(&self, now: u64) -> Option<Ready>
         ensures open { IfSome result (λ ready. IsOpenAt self.now ready.instance) }
         ensures unlost { IfSome result (λ ready. ready.job ≡ Job.Read → IsUnlost self.now ready.instance) }
+        ensures sent { IfSome result (λ ready. ready.job ≡ Job.Read → numbers_at (Outputs ready.instance) self.now.rows.items ≡ []) }
     {
         for i in (0..self.rows.len()).rev() {
             if let Some(job) = self.job(i, now) {
@@ -117,6 +121,7 @@ impl<P: Port> Hub<P> {
         requires { i < length self.now.rows.items }
         ensures open { IfSome result (λ job. IsOpenAt self.now i) }
         ensures unlost { IfSome result (λ job. job ≡ Job.Read → IsUnlost self.now i) }
+        ensures sent { IfSome result (λ job. job ≡ Job.Read → numbers_at (Outputs i) self.now.rows.items ≡ []) }
     {
         if i >= self.facts.len() || self.facts[i].closed || self.rows[i].task.is_none() {
             return None;
@@ -133,7 +138,8 @@ impl<P: Port> Hub<P> {
     fn source_job(&self, i: usize) -> Option<Job>
         requires rows { i < length self.now.rows.items }
         requires facts { i < length self.now.facts.items }
-        ensures { IfSome result (λ job. job ≡ Job.Read → IsUnlost self.now i) }
+        ensures unlost { IfSome result (λ job. job ≡ Job.Read → IsUnlost self.now i) }
+        ensures sent { IfSome result (λ job. job ≡ Job.Read → numbers_at (Outputs i) self.now.rows.items ≡ []) }
     {
         if self.can_read(i) {
             Some(Job::Read)
@@ -150,7 +156,8 @@ impl<P: Port> Hub<P> {
     fn can_read(&self, i: usize) -> bool
         requires rows { i < length self.now.rows.items }
         requires facts { i < length self.now.facts.items }
-        ensures { IsTrue result → IsUnlost self.now i }
+        ensures unlost { IsTrue result → IsUnlost self.now i }
+        ensures sent { IsTrue result → numbers_at (Outputs i) self.now.rows.items ≡ [] }
     {
         if self.is_lost(i) {
             return false;
@@ -189,6 +196,7 @@ impl<P: Port> Hub<P> {
         ensures stands { Stands P.told self.new [] self.new.log.history }
         ensures open { IsOpenAt self.new instance }
         ensures facts { self.new.facts ≡ self.old.facts }
+        ensures outputs { (i : ℕ) → numbers_at (Outputs i) self.new.rows.items ≡ numbers_at (Outputs i) self.old.rows.items }
         ensures size { length self.new.rows.items ≡ length self.old.rows.items }
         ensures fatal { self.new.fatal ≡ self.old.fatal }
     {
@@ -205,6 +213,7 @@ impl<P: Port> Hub<P> {
         requires open { IsOpenAt self.old instance }
         ensures stands { Stands P.told self.new [] self.new.log.history }
         ensures facts { self.new.facts ≡ self.old.facts }
+        ensures outputs { (i : ℕ) → numbers_at (Outputs i) self.new.rows.items ≡ numbers_at (Outputs i) self.old.rows.items }
         ensures size { length self.new.rows.items ≡ length self.old.rows.items }
         ensures fatal { self.new.fatal ≡ self.old.fatal }
     {
@@ -293,6 +302,7 @@ impl<P: Port> Hub<P> {
     /// Whether an instance has no output and no waiting child.
     pub(crate) fn has_sent(&self, i: usize) -> bool
         requires { i < length self.now.rows.items }
+        ensures { IsTrue result → numbers_at (Outputs i) self.now.rows.items ≡ [] }
     {
         self.rows[i].outputs.is_empty() && self.rows[i].waiting.is_empty()
     }

@@ -1,4 +1,4 @@
-ghost use Rattle.std.specs.Prelude.{◌≡◌, ◌<◌, [], length, IfSome, IsTrue, IfOk, IfErr, IfNone, OnErr, true};
+ghost use Rattle.std.specs.Prelude.{◌≡◌, ◌<◌, [], length, IfSome, IsTrue, IfOk, IfErr, IfNone, OnErr, true, false};
 ghost use Rattle.vx_record.specs.Noted.{Noted};
 ghost use Rattle.std.specs.Bool.{IsFalse};
 ghost use Rattle.vx_record.specs.declared.entry.Entry.{Entry};
@@ -6,6 +6,7 @@ ghost use Rattle.vx_hub.specs.Numbers.{numbers_in, noted_of};
 ghost use Rattle.vx_hub.specs.Stands.{Stands, IsOpenTarget};
 ghost use Rattle.vx_hub.specs.Failures.{HasReason};
 ghost use Rattle.vx_hub.specs.Rows.{HasChild, HasRoom, NoneWaits};
+ghost use Rattle.vx_hub.specs.Places.{IsFirstChild};
 
 use crate::fatal::Fatal;
 use crate::hub::Hub;
@@ -85,6 +86,7 @@ impl<P: Port> Hub<P> {
         requires { i < length self.now.rows.items }
         ensures child { IfSome result (λ next. HasChild self.now.rows.items i next.place) }
         ensures target { IfSome result (λ next. IsOpenTarget self.now next.target) }
+        ensures first { IfSome result (λ next. IsFirstChild self.now.rows.items i next.target next.place) }
     {
         let waiting = &self.rows[i].waiting;
         for place in 0..waiting.len() {
@@ -98,7 +100,8 @@ impl<P: Port> Hub<P> {
 
     /// Whether an instance that hasn't ended has room in its buffer.
     fn has_room(&self, target: usize) -> bool
-        ensures { IsTrue result → IsOpenTarget self.now target }
+        ensures is_open { IsTrue result → IsOpenTarget self.now target }
+        ensures full { result ≡ false → IsOpenTarget self.now target → ⊥ }
     {
         if target >= self.rows.len() || target >= self.facts.len() {
             return false;
@@ -113,6 +116,7 @@ impl<P: Port> Hub<P> {
         requires stands { Stands P.told self.old [] self.old.log.history }
         requires within { instance < length self.old.rows.items }
         requires child { HasChild self.old.rows.items instance next.place }
+        requires first { IsFirstChild self.old.rows.items instance next.target next.place }
         requires target { IsOpenTarget self.old next.target }
         ensures stands { Stands P.told self.new [] self.new.log.history }
         ensures size { length self.new.rows.items ≡ length self.old.rows.items }

@@ -4,6 +4,9 @@ ghost use Rattle.vx_record.specs.Noted.{Noted};
 ghost use Rattle.vx_hub.specs.Stands.{Stands, IsTold, IsSound, IsUnlost, facts_at};
 ghost use Rattle.vx_hub.specs.Leases.{IsOpenAt, Adds};
 ghost use Rattle.vx_hub.specs.Spending.{HasRead};
+ghost use Rattle.vx_record.specs.Places.Place.{Outputs};
+ghost use Rattle.vx_hub.specs.Places.{numbers_at};
+ghost use Rattle.vx_hub.specs.Births.{IsHeldBy};
 ghost use Rattle.vx_hub.specs.Turns.{event_count};
 ghost use Rattle.vx_hub.specs.Failures.{IsFailureOf, HasReason};
 ghost use Rattle.vx_hub.specs.declared.work.Done.TheVariants.{Read};
@@ -35,6 +38,8 @@ impl<P: Port> Hub<P> {
         requires brings { IsSound self.old → Adds (P.told task.port) self.old.log.history instance None (Read turned) }
         requires events { event_count turned ≤ 65536 }
         requires unlost { IsUnlost self.old instance }
+        requires held { IsHeldBy self.old instance task.role }
+        requires sent { numbers_at (Outputs instance) self.old.rows.items ≡ [] }
         ensures stands { Stands P.told self.new [] self.new.log.history }
         ensures reason { IfErr result (HasReason self.new) }
         ensures size { length self.new.rows.items ≡ length self.old.rows.items }

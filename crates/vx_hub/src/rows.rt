@@ -1,7 +1,9 @@
 // The places of the instances, one call for each way in which a parcel or a task moves.
-ghost use Rattle.std.specs.Prelude.{◌≡◌, ◌+◌, ◌<◌, ℕ, [], length, OnOk, IfSome, IsSome, IsSomeAnd, Some};
+ghost use Rattle.std.specs.Prelude.{◌≡◌, ◌+◌, ◌<◌, ℕ, [], length, OnOk, IfSome, IfNone, IsSome, IsSomeAnd, Some};
+ghost use Rattle.vx_record.specs.Places.Place.{Outputs, Waiting, Contents, Held};
+ghost use Rattle.vx_hub.specs.Places.{parcel_numbers, numbers_at, SamePlaces, TakesOldest, TakesFrom, PutsLast, Fills, FillsWaiting, IsFirstChild};
 ghost use Rattle.vx_hub.specs.Works.{IsClosedBy};
-ghost use Rattle.vx_hub.specs.Rows.{child_copies, role_copies, option_copies, task_copies, port_at, Loses, Gains, SamePorts, SameOtherPorts, KeepsBare, KeepsOthersBare, HasOutputRoom, HasRoom, NoneWaits, HasChild, IsOutAt, IsBareAt, CanHold};
+ghost use Rattle.vx_hub.specs.Rows.{child_copies, role_copies, role_parcels, option_copies, task_copies, port_at, Loses, Gains, SamePorts, SameOtherPorts, KeepsBare, KeepsOthersBare, HasOutputRoom, HasRoom, NoneWaits, HasChild, IsOutAt, IsBareAt, CanHold};
 
 use crate::row::Row;
 use crate::task::{Role, Task};
@@ -20,6 +22,8 @@ pub(crate) fn pop_output<P>(rows: &mut Vec<Row<P>>, i: usize) -> Option<Parcel>
     ensures waits { (j : ℕ) → NoneWaits rows.old.items j → NoneWaits rows.new.items j }
     ensures held { IsSome result → IsBareAt rows.old.items i → ⊥ }
     ensures size { length rows.new.items ≡ length rows.old.items }
+    ensures oldest { IfSome result (λ parcel. TakesOldest (Outputs i) parcel.finalizers rows.old.items rows.new.items) }
+    ensures none { IfNone result (SamePlaces rows.old.items rows.new.items) }
 {
     rows[i].outputs.pop()
 }
@@ -33,6 +37,7 @@ pub(crate) fn push_output<P>(rows: &mut Vec<Row<P>>, i: usize, parcel: Parcel)
     ensures bare { KeepsOthersBare i rows.old.items rows.new.items }
     ensures room { (n : ℕ) → HasOutputRoom rows.old.items i (n + 1) → HasOutputRoom rows.new.items i n }
     ensures size { length rows.new.items ≡ length rows.old.items }
+    ensures oldest { TakesOldest (Outputs i) parcel.finalizers rows.new.items rows.old.items }
 {
     rows[i].outputs.push(parcel);
 }
@@ -49,6 +54,7 @@ pub(crate) fn reserve_outputs<P>(
     ensures ports { SamePorts rows.old.items rows.new.items }
     ensures bare { KeepsBare rows.old.items rows.new.items }
     ensures size { length rows.new.items ≡ length rows.old.items }
+    ensures places { SamePlaces rows.old.items rows.new.items }
 {
     rows[i].outputs.reserve(n)
 }
@@ -61,6 +67,7 @@ pub(crate) fn put_children<P>(rows: &mut Vec<Row<P>>, i: usize, children: ChildL
     ensures ports { SamePorts rows.old.items rows.new.items }
     ensures bare { KeepsOthersBare i rows.old.items rows.new.items }
     ensures size { length rows.new.items ≡ length rows.old.items }
+    ensures places { FillsWaiting i children rows.old.items rows.new.items }
 {
     let none = mem::replace(&mut rows[i].waiting, children.into_vec());
     none.destroy_empty();
@@ -75,6 +82,7 @@ pub(crate) fn take_child<P>(rows: &mut Vec<Row<P>>, i: usize, k: usize) -> Child
     ensures bare { KeepsBare rows.old.items rows.new.items }
     ensures rooms { (j : ℕ) → HasRoom rows.old.items j → HasRoom rows.new.items j }
     ensures size { length rows.new.items ≡ length rows.old.items }
+    ensures oldest { (t : ℕ) → IsFirstChild rows.old.items i t k → (result.target ≡ t) × TakesOldest (Waiting i t) result.parcel.finalizers rows.old.items rows.new.items }
 {
     rows[i].waiting.remove(k)
 }
@@ -86,6 +94,8 @@ pub(crate) fn take_last_child<P>(rows: &mut Vec<Row<P>>, i: usize) -> Option<Par
     ensures ports { SamePorts rows.old.items rows.new.items }
     ensures bare { KeepsBare rows.old.items rows.new.items }
     ensures size { length rows.new.items ≡ length rows.old.items }
+    ensures from { IfSome result (λ parcel. (t : ℕ) × TakesFrom (Waiting i t) parcel.finalizers rows.old.items rows.new.items) }
+    ensures none { IfNone result (SamePlaces rows.old.items rows.new.items) }
 {
     match rows[i].waiting.pop() {
         Some(Child { target: _, parcel }) => Some(parcel),
@@ -102,6 +112,8 @@ pub(crate) fn pop_buffer<P>(rows: &mut Vec<Row<P>>, i: usize) -> Option<Parcel>
     ensures holds { (j : ℕ) → CanHold rows.old.items j → CanHold rows.new.items j }
     ensures held { IsSome result → IsBareAt rows.old.items i → ⊥ }
     ensures size { length rows.new.items ≡ length rows.old.items }
+    ensures oldest { IfSome result (λ parcel. TakesOldest (Contents i 0) parcel.finalizers rows.old.items rows.new.items) }
+    ensures none { IfNone result (SamePlaces rows.old.items rows.new.items) }
 {
     rows[i].buffer.pop()
 }
@@ -114,6 +126,7 @@ pub(crate) fn push_buffer<P>(rows: &mut Vec<Row<P>>, i: usize, parcel: Parcel)
     ensures ports { SamePorts rows.old.items rows.new.items }
     ensures bare { KeepsOthersBare i rows.old.items rows.new.items }
     ensures size { length rows.new.items ≡ length rows.old.items }
+    ensures last { PutsLast (Contents i 0) parcel.finalizers rows.old.items rows.new.items }
 {
     rows[i].buffer.push(parcel);
 }
@@ -127,6 +140,9 @@ pub(crate) fn take_task<P>(rows: &mut Vec<Row<P>>, i: usize) -> Option<Task<P>>
     ensures ports { SameOtherPorts i rows.old.items rows.new.items }
     ensures bare { KeepsOthersBare i rows.old.items rows.new.items }
     ensures size { length rows.new.items ≡ length rows.old.items }
+    ensures held { IfSome result (λ task. numbers_at (Held i) rows.old.items ≡ parcel_numbers (role_parcels task.role)) }
+    ensures places { Fills (Held i) [] rows.old.items rows.new.items }
+    ensures none { IfNone result (SamePlaces rows.old.items rows.new.items) }
 {
     rows[i].task.take()
 }
@@ -140,6 +156,7 @@ pub(crate) fn put_task<P>(rows: &mut Vec<Row<P>>, i: usize, task: Task<P>)
     ensures ports { SameOtherPorts i rows.old.items rows.new.items }
     ensures bare { KeepsOthersBare i rows.old.items rows.new.items }
     ensures size { length rows.new.items ≡ length rows.old.items }
+    ensures places { Fills (Held i) (parcel_numbers (role_parcels task.role)) rows.old.items rows.new.items }
 {
     match mem::replace(&mut rows[i].task, Some(task)) {
         None => {}
@@ -154,6 +171,8 @@ pub(crate) fn pop_held<P>(rows: &mut Vec<Row<P>>, i: usize) -> Option<Parcel>
     ensures ports { SamePorts rows.old.items rows.new.items }
     ensures bare { KeepsBare rows.old.items rows.new.items }
     ensures size { length rows.new.items ≡ length rows.old.items }
+    ensures oldest { IfSome result (λ parcel. TakesOldest (Held i) parcel.finalizers rows.old.items rows.new.items) }
+    ensures none { IfNone result (SamePlaces rows.old.items rows.new.items) }
 {
     match &mut rows[i].task {
         Some(task) => match &mut task.role {
@@ -172,6 +191,7 @@ pub(crate) fn hold<P>(rows: &mut Vec<Row<P>>, i: usize, parcel: Parcel, now: u64
     ensures ports { SamePorts rows.old.items rows.new.items }
     ensures bare { KeepsOthersBare i rows.old.items rows.new.items }
     ensures size { length rows.new.items ≡ length rows.old.items }
+    ensures last { PutsLast (Held i) parcel.finalizers rows.old.items rows.new.items }
 {
     match &mut rows[i].task {
         Some(task) => match &mut task.role {
@@ -198,6 +218,7 @@ pub(crate) fn close_at<P: Port>(rows: &mut Vec<Row<P>>, i: usize)
     ensures ports { SameOtherPorts i rows.old.items rows.new.items }
     ensures bare { KeepsBare rows.old.items rows.new.items }
     ensures size { length rows.new.items ≡ length rows.old.items }
+    ensures places { SamePlaces rows.old.items rows.new.items }
 {
     match &mut rows[i].task {
         Some(task) => task.port.close(),

@@ -1,5 +1,5 @@
 ghost use Rattle.std.specs.Prelude.{◌≡◌, ◌≤◌, None};
-ghost use Rattle.vx_hub.specs.Rows.{role_copies};
+ghost use Rattle.vx_hub.specs.Rows.{role_copies, role_parcels};
 ghost use Rattle.vx_hub.specs.Works.{Reports, NamesBy, IsReading, event_count_of};
 ghost use Rattle.vx_hub.specs.Leases.{IsLeased, IsBack};
 ghost use Rattle.vx_hub.specs.declared.hub.Hub.{Hub};
@@ -67,6 +67,7 @@ impl<P: Port> Work<P> {
     pub fn work<C: Clock>(self, alloc: Global, _clock: &C) -> Landing<P>
         ensures instance { result.instance ≡ self.instance }
         ensures copies { role_copies result.task.role ≡ role_copies self.task.role }
+        ensures parcels { role_parcels result.task.role ≡ role_parcels self.task.role }
         ensures reports { Reports (P.told self.task.port) result.confirmed result.done (P.told result.task.port) }
         ensures names { NamesBy self.positions result.confirmed result.done }
         ensures reads { IsReading result.done → self.job ≡ Job.Read }
@@ -106,6 +107,7 @@ fn confirm_and_act<P: Port>(
     role: &mut Role,
 ) -> Deeds
     ensures copies { role_copies role.new ≡ role_copies role.old }
+    ensures parcels { role_parcels role.new ≡ role_parcels role.old }
     ensures reports { Reports (P.told port.old) result.confirmed result.done (P.told port.new) }
     ensures names { NamesBy positions result.confirmed result.done }
     ensures reads { IsReading result.done → job ≡ Job.Read }
@@ -126,6 +128,7 @@ fn confirm_and_act<P: Port>(
 /// Does a job with a port.
 fn act<P: Port>(alloc: Global, job: Job, port: &mut P, role: &mut Role) -> Done
     ensures copies { role_copies role.new ≡ role_copies role.old }
+    ensures parcels { role_parcels role.new ≡ role_parcels role.old }
     ensures reports { Reports (P.told port.old) None result (P.told port.new) }
     ensures events { event_count_of result ≤ 65536 }
     ensures reads { IsReading result → job ≡ Job.Read }

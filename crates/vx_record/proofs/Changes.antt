@@ -10,10 +10,10 @@ use Rattle.vx_record.specs.Copies.{count, joined, next_copy}
 use Rattle.vx_record.specs.Places.{Place, Put, Kind, kind, same_place, all_puts, left, puts, leaves}
 use Rattle.vx_record.specs.Places.Kind.{AnOutput, AChild, AStage, AHold}
 use Rattle.vx_record.specs.Places.Place.{Outputs, Waiting, Contents, Held}
-use Rattle.vx_record.specs.Lists.{without, unless_empty, standing, stands, parcels_at, places_in, times_among}
+use Rattle.vx_record.specs.Lists.{without, and_rest, shrunk, unless_empty, standing, stands, parcels_at, places_in, times_among}
 use Rattle.vx_record.specs.Laws.{PlacesMeant}
 use Rattle.vx_record.specs.declared.entry.Entry.TheVariants.{Born, Split, Push, Take}
-use Rattle.vx_record.specs.Legal.{IsLegal}
+use Rattle.vx_record.specs.Moving.{IsConserved}
 use Rattle.vx_record.specs.Sending.{IsOldest}
 use Rattle.vx_record.proofs.Counts.{count-append, count-without, unless-add, only, put_count, stand_count}
 use Rattle.vx_record.proofs.Tracked.{Tracked, Moves, put_in, gone_from, stand_in, stand_cases, born}
@@ -21,17 +21,7 @@ use Rattle.vx_record.proofs.Steps.{moves, put_count-children}
 use Rattle.vx_record.proofs.OnePlace.{tracked}
 use Rattle.vx_record.proofs.Place.{count-parcels_at, count-oldest, one_more, unless-only}
 
--- a parcel in front of others, unless it is empty
-abbrev pub and_rest : List ℕ → List (List ℕ) → List (List ℕ)
-and_rest [] rest = rest
-and_rest (c ∷ cs) rest = (c ∷ cs) ∷ rest
-
--- parcels without the copies that are gone
-abbrev pub shrunk : List ℕ → List (List ℕ) → List (List ℕ)
-shrunk gone [] = []
-shrunk gone (parcel ∷ rest) = and_rest (without gone parcel) (shrunk gone rest)
-
-without-append : (a b xs : List ℕ) → without (a ++ b) xs ≡ without b (without a xs)
+pub without-append : (a b xs : List ℕ) → without (a ++ b) xs ≡ without b (without a xs)
 without-append a b [] = refl
 without-append a b (x ∷ xs) =
     let e = without-append a b xs in
@@ -51,7 +41,7 @@ and_rest-append : (cs : List ℕ) (xs ys : List (List ℕ)) → and_rest cs (xs 
 and_rest-append [] xs ys = refl
 and_rest-append (c ∷ cs) xs ys = refl
 
-shrunk-and_rest : (gone cs : List ℕ) (rest : List (List ℕ)) → shrunk gone (and_rest cs rest) ≡ and_rest (without gone cs) (shrunk gone rest)
+pub shrunk-and_rest : (gone cs : List ℕ) (rest : List (List ℕ)) → shrunk gone (and_rest cs rest) ≡ and_rest (without gone cs) (shrunk gone rest)
 shrunk-and_rest gone [] rest = refl
 shrunk-and_rest gone (c ∷ cs) rest = refl
 
@@ -118,7 +108,7 @@ abbrev pub put_at : Place → List Put → List (List ℕ)
 put_at p [] = []
 put_at p (put ∷ rest) = if same_place put.place p then and_rest put.copies (put_at p rest) else put_at p rest
 
-without-none : (gone xs : List ℕ) → ((c : ℕ) → 0 < count c xs → count c gone ≡ 0) → without gone xs ≡ xs
+pub without-none : (gone xs : List ℕ) → ((c : ℕ) → 0 < count c xs → count c gone ≡ 0) → without gone xs ≡ xs
 without-none gone [] none = refl
 without-none gone (x ∷ xs) none =
     let here : 0 < count x (x ∷ xs) = grind (arith, nat_tests) in
@@ -172,9 +162,9 @@ fresh_puts h e AStage c t m l = let o = stand_cases AChild h c in grind arith
 fresh_puts h e AHold c t m l = let o = stand_cases AStage h c in grind arith
 
 -- the parcels at a place after an entry
-pub parcels_after : (h : Record) (e : Entry) (p : Place) → IsLegal (e ∷ h) →
+pub parcels_after : (h : Record) (e : Entry) (p : Place) → IsConserved (e ∷ h) →
     parcels_at p (stands (e ∷ h)) ≡ shrunk (leaves (kind p) e) (parcels_at p (stands h)) ++ put_at p (puts e)
-parcels_after h e p legal =
+parcels_after h e p kept =
     parcels-append p (left (e ∷ h)) (all_puts h) (puts e)
     ∙ ap (λ ps. ps ++ parcels_at p (standing (left (e ∷ h)) (puts e))) (parcels-more_gone p (left h) (λ k. leaves k e) (all_puts h))
     ∙ ap (λ ps. shrunk (leaves (kind p) e) (parcels_at p (stands h)) ++ ps) (whole p (left (e ∷ h)) (puts e) fresh)
@@ -182,10 +172,10 @@ parcels_after h e p legal =
     fresh : (k : Kind) (c : ℕ) → 0 < put_count k (puts e) c → count c (left (e ∷ h) k) ≡ 0
     fresh k c l =
         let a = apart e k c l in
-        let b = fresh_puts h e k c (tracked h c legal.1) (moves h e c legal.0.row) l in
+        let b = fresh_puts h e k c (tracked h c kept.1) (moves h e c kept.0) l in
         omega (arith, count-append c (left h k) (leaves k e))
 
-without-all : (gone xs : List ℕ) → ((c : ℕ) → 0 < count c xs → 0 < count c gone) → without gone xs ≡ []
+pub without-all : (gone xs : List ℕ) → ((c : ℕ) → 0 < count c xs → 0 < count c gone) → without gone xs ≡ []
 without-all gone [] all = refl
 without-all gone (x ∷ xs) all =
     let here : 0 < count x (x ∷ xs) = grind (arith, nat_tests) in
@@ -210,7 +200,7 @@ none_empty p gone (put ∷ rest) = go (without (gone (kind put.place)) put.copie
         here true = ih
         here false = ih
 
-shrunk-none : (gone : List ℕ) (ps : List (List ℕ)) → NoneEmpty ps → ((c : ℕ) → 0 < count c (joined ps) → count c gone ≡ 0) → shrunk gone ps ≡ ps
+pub shrunk-none : (gone : List ℕ) (ps : List (List ℕ)) → NoneEmpty ps → ((c : ℕ) → 0 < count c (joined ps) → count c gone ≡ 0) → shrunk gone ps ≡ ps
 shrunk-none gone [] full none = refl
 shrunk-none gone ([] ∷ rest) full none = absurd full
 shrunk-none gone ((x ∷ xs) ∷ rest) full none =
@@ -236,7 +226,7 @@ oldest_leaves copies (p ∷ rest) first full once =
     stay = shrunk-none copies rest (full_tail p rest full)
         (λ c l. let e = ap (count c) first in let f = count-append c p (joined rest) in let o = once c in omega arith)
 
-same_place_is : (q p : Place) → same_place q p ≡ true → q ≡ p
+pub same_place_is : (q p : Place) → same_place q p ≡ true → q ≡ p
 same_place_is (Outputs i) (Outputs j) e = ap Outputs (grind (arith, nat_tests))
 same_place_is (Waiting i t) (Waiting j u) e = let a : i ≡ j = grind (arith, nat_tests) in let b : t ≡ u = grind (arith, nat_tests) in cc
 same_place_is (Contents i s) (Contents j r) e = let a : i ≡ j = grind (arith, nat_tests) in let b : s ≡ r = grind (arith, nat_tests) in cc
@@ -249,7 +239,7 @@ same_place_self (Waiting i t) = grind (arith, nat_tests)
 same_place_self (Contents i s) = grind (arith, nat_tests)
 same_place_self (Held i) = grind (arith, nat_tests)
 
-not_both : (r p q : Place) → same_place p q ≡ false → same_place r p ≡ true → same_place r q ≡ false
+pub not_both : (r p q : Place) → same_place p q ≡ false → same_place r p ≡ true → same_place r q ≡ false
 not_both r p q other a = go (same_place r q) refl
   where
     go : (b : Bool) → same_place r q ≡ b → b ≡ false
@@ -305,11 +295,11 @@ count-two_places c p q gone (put ∷ rest) other same =
         let z = stands_more in
         omega arith
 
-stand_count-le : (h : Record) (c : ℕ) (k : Kind) → IsLegal h → stand_in k h c ≤ 1
-stand_count-le h c k legal = go k (stand_cases k h c)
+stand_count-le : (h : Record) (c : ℕ) (k : Kind) → IsConserved h → stand_in k h c ≤ 1
+stand_count-le h c k kept = go k (stand_cases k h c)
   where
     t : Tracked h c
-    t = tracked h c legal
+    t = tracked h c kept
 
     all : born h c + put_in AChild h c ≤ 1
     all = elim (cases_lt c (next_copy h)) [ inl below ↦ let x = t.made below in omega arith | inr above ↦ let x = t.unmade above in omega arith ]
@@ -321,10 +311,10 @@ stand_count-le h c k legal = go k (stand_cases k h c)
     go AStage (inl e) = let z = t.push in let w = all in omega arith
     go AHold (inl e) = let y = t.take in let z = t.push in let w = all in omega arith
 
-pub stands_once : (h : Record) (c : ℕ) (p : Place) → IsLegal h → count c (joined (parcels_at p (stands h))) ≤ 1
-stands_once h c p legal =
+pub stands_once : (h : Record) (c : ℕ) (p : Place) → IsConserved h → count c (joined (parcels_at p (stands h))) ≤ 1
+stands_once h c p kept =
     let e = count-parcels_at c p (left h) (all_puts h) in
-    let f = stand_count-le h c (kind p) legal in
+    let f = stand_count-le h c (kind p) kept in
     omega arith
 
 -- a parcel that stands is not empty
@@ -338,30 +328,30 @@ oldest_full h p copies first = go (parcels_at p (stands h)) (none_empty p (left 
 
 -- THE LAWS FOR THE CODE
 -- the oldest parcel of a place, where an entry takes just it and puts nothing there
-pub place_pops : (h : Record) (e : Entry) (p : Place) (copies : List ℕ) → IsLegal (e ∷ h) → leaves (kind p) e ≡ copies → put_at p (puts e) ≡ [] →
+pub place_pops : (h : Record) (e : Entry) (p : Place) (copies : List ℕ) → IsConserved (e ∷ h) → leaves (kind p) e ≡ copies → put_at p (puts e) ≡ [] →
     IsOldest copies (parcels_at p (stands h)) → parcels_at p (stands h) ≡ copies ∷ parcels_at p (stands (e ∷ h))
-place_pops h e p copies legal takes nothing first =
-    oldest_leaves copies (parcels_at p (stands h)) first (none_empty p (left h) (all_puts h)) (λ c. stands_once h c p legal.1)
+place_pops h e p copies kept takes nothing first =
+    oldest_leaves copies (parcels_at p (stands h)) first (none_empty p (left h) (all_puts h)) (λ c. stands_once h c p kept.1)
     ∙ ap (λ ps. copies ∷ ps)
-    (sym (parcels_after h e p legal ∙ ap (λ ps. shrunk (leaves (kind p) e) (parcels_at p (stands h)) ++ ps) nothing
+    (sym (parcels_after h e p kept ∙ ap (λ ps. shrunk (leaves (kind p) e) (parcels_at p (stands h)) ++ ps) nothing
     ∙ append-nil (shrunk (leaves (kind p) e) (parcels_at p (stands h))) ∙ ap (λ cs. shrunk cs (parcels_at p (stands h))) takes))
 
 -- a place to which an entry only adds
-pub place_grows : (h : Record) (e : Entry) (p : Place) (more : List (List ℕ)) → IsLegal (e ∷ h) → put_at p (puts e) ≡ more →
+pub place_grows : (h : Record) (e : Entry) (p : Place) (more : List (List ℕ)) → IsConserved (e ∷ h) → put_at p (puts e) ≡ more →
     ((c : ℕ) → 0 < count c (joined (parcels_at p (stands h))) → count c (leaves (kind p) e) ≡ 0) →
     parcels_at p (stands (e ∷ h)) ≡ parcels_at p (stands h) ++ more
-place_grows h e p more legal adds stay =
-    parcels_after h e p legal
+place_grows h e p more kept adds stay =
+    parcels_after h e p kept
     ∙ ap (λ ps. ps ++ put_at p (puts e))
     (shrunk-none (leaves (kind p) e) (parcels_at p (stands h)) (none_empty p (left h) (all_puts h)) stay)
     ∙ ap (λ ps. parcels_at p (stands h) ++ ps) adds
 
 -- what leaves one place stood at no other
-pub elsewhere : (h : Record) (p q : Place) (copies : List ℕ) → IsLegal h → same_place p q ≡ false → kind p ≡ kind q →
+pub elsewhere : (h : Record) (p q : Place) (copies : List ℕ) → IsConserved h → same_place p q ≡ false → kind p ≡ kind q →
     IsOldest copies (parcels_at p (stands h)) → (c : ℕ) → 0 < count c (joined (parcels_at q (stands h))) → count c copies ≡ 0
-elsewhere h p q copies legal other same first c l =
+elsewhere h p q copies kept other same first c l =
     let a = count-two_places c p q (left h) (all_puts h) other same in
-    let b = stand_count-le h c (kind p) legal in
+    let b = stand_count-le h c (kind p) kept in
     let d = count-oldest c copies (parcels_at p (stands h)) first in
     omega arith
 

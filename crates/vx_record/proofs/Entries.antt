@@ -1,5 +1,5 @@
 -- How each kind of entry changes the lists: what the code's own steps have to show.
-use Rattle.std.proofs.Common.{◌≡◌, ℕ, ◌<◌, Bool, true, false, ◌&&◌, List, [], ◌∷◌, ◌++◌, refl, ap, ◌∙◌, arith}
+use Rattle.std.proofs.Common.{◌≡◌, ℕ, ◌<◌, Bool, false, ◌&&◌, List, [], ◌∷◌, ◌++◌, refl, ap, ◌∙◌, arith}
 use Rattle.std.specs.Prelude.{if◌then◌else◌, ◌==◌}
 use Rattle.std.proofs.lemmas.List.{append-nil}
 use Rattle.std.proofs.lemmas.Bool.Decides.{nat_tests}
@@ -10,17 +10,17 @@ use Rattle.vx_record.specs.declared.child.Child.{Child}
 use Rattle.vx_status.specs.declared.outcome.Outcome.{Outcome}
 use Rattle.vx_record.specs.declared.entry.Entry.TheVariants.{Born, Split, Push, Take, Spent}
 use Rattle.vx_record.specs.Copies.{count, joined}
-use Rattle.vx_record.specs.Places.{Place, Put, Kind, kind, same_place, one_each, puts, leaves}
+use Rattle.vx_record.specs.Places.{Place, Kind, kind, same_place, one_each, puts, leaves}
 use Rattle.vx_record.specs.Places.Place.{Outputs, Waiting, Contents, Held}
-use Rattle.vx_record.specs.Lists.{stands, parcels_at, parcels_where, is_child_of, outputs, waiting, contents, held}
-use Rattle.vx_record.specs.Legal.{IsLegal}
-use Rattle.vx_record.proofs.Changes.{and_rest, shrunk, put_at, same_place_self, parcels_after, place_pops, place_grows, elsewhere, oldest_full}
+use Rattle.vx_record.specs.Lists.{stands, and_rest, shrunk, parcels_at, is_child_of, outputs, waiting, contents, held}
+use Rattle.vx_record.specs.Moving.{IsConserved, children_for, singles}
+use Rattle.vx_record.proofs.Changes.{put_at, same_place_self, parcels_after, place_pops, place_grows, elsewhere, oldest_full}
 
 -- a place that an entry neither adds to nor takes from
-pub place_stays : (h : Record) (e : Entry) (p : Place) → IsLegal (e ∷ h) → put_at p (puts e) ≡ [] →
+pub place_stays : (h : Record) (e : Entry) (p : Place) → IsConserved (e ∷ h) → put_at p (puts e) ≡ [] →
     ((c : ℕ) → 0 < count c (joined (parcels_at p (stands h))) → count c (leaves (kind p) e) ≡ 0) →
     parcels_at p (stands (e ∷ h)) ≡ parcels_at p (stands h)
-place_stays h e p legal nothing stay = place_grows h e p [] legal nothing stay ∙ append-nil (parcels_at p (stands h))
+place_stays h e p kept nothing stay = place_grows h e p [] kept nothing stay ∙ append-nil (parcels_at p (stands h))
 
 -- one parcel, put at a place, comes to that place and to no other
 one_here : (p : Place) (copies : List ℕ) → put_at p (record { place = p; copies = copies } ∷ []) ≡ and_rest copies []
@@ -30,84 +30,63 @@ one_there : (p q : Place) (copies : List ℕ) → same_place q p ≡ false → p
 one_there p q copies other = ap (λ b. if b then and_rest copies [] else []) other
 
 -- PUSH
-pub push_pops : (h : Record) (i t s : ℕ) (copies : List ℕ) → IsLegal (Push i t s copies ∷ h) →
+pub push_pops : (h : Record) (i t s : ℕ) (copies : List ℕ) → IsConserved (Push i t s copies ∷ h) →
     waiting h i t ≡ copies ∷ waiting (Push i t s copies ∷ h) i t
-push_pops h i t s copies legal = place_pops h (Push i t s copies) (Waiting i t) copies legal refl refl legal.0.row.oldest
+push_pops h i t s copies kept = place_pops h (Push i t s copies) (Waiting i t) copies kept refl refl kept.0
 
-pub push_grows : (h : Record) (i t s : ℕ) (copies : List ℕ) → IsLegal (Push i t s copies ∷ h) →
+pub push_grows : (h : Record) (i t s : ℕ) (copies : List ℕ) → IsConserved (Push i t s copies ∷ h) →
     contents (Push i t s copies ∷ h) t s ≡ contents h t s ++ copies ∷ []
-push_grows h i t s copies legal =
-    place_grows h (Push i t s copies) (Contents t s) (copies ∷ []) legal
-    (one_here (Contents t s) copies ∙ oldest_full h (Waiting i t) copies legal.0.row.oldest)
+push_grows h i t s copies kept =
+    place_grows h (Push i t s copies) (Contents t s) (copies ∷ []) kept
+    (one_here (Contents t s) copies ∙ oldest_full h (Waiting i t) copies kept.0)
     (λ c l. refl)
 
-pub push_stays : (h : Record) (i t s : ℕ) (copies : List ℕ) (p : Place) → IsLegal (Push i t s copies ∷ h) →
+pub push_stays : (h : Record) (i t s : ℕ) (copies : List ℕ) (p : Place) → IsConserved (Push i t s copies ∷ h) →
     same_place (Waiting i t) p ≡ false → same_place (Contents t s) p ≡ false →
     parcels_at p (stands (Push i t s copies ∷ h)) ≡ parcels_at p (stands h)
-push_stays h i t s copies p legal a b = place_stays h (Push i t s copies) p legal (one_there p (Contents t s) copies b) (stay p a)
+push_stays h i t s copies p kept a b = place_stays h (Push i t s copies) p kept (one_there p (Contents t s) copies b) (stay p a)
   where
     stay : (p : Place) → same_place (Waiting i t) p ≡ false → (c : ℕ) → 0 < count c (joined (parcels_at p (stands h))) →
         count c (leaves (kind p) (Push i t s copies)) ≡ 0
-    stay (Waiting j u) a c l = elsewhere h (Waiting i t) (Waiting j u) copies legal.1 a refl legal.0.row.oldest c l
+    stay (Waiting j u) a c l = elsewhere h (Waiting i t) (Waiting j u) copies kept.1 a refl kept.0 c l
     stay p a c l = refl
 
 -- TAKE
-pub take_pops : (h : Record) (i s : ℕ) (copies : List ℕ) → IsLegal (Take i s copies ∷ h) →
+pub take_pops : (h : Record) (i s : ℕ) (copies : List ℕ) → IsConserved (Take i s copies ∷ h) →
     contents h i s ≡ copies ∷ contents (Take i s copies ∷ h) i s
-take_pops h i s copies legal = place_pops h (Take i s copies) (Contents i s) copies legal refl refl legal.0.row.oldest
+take_pops h i s copies kept = place_pops h (Take i s copies) (Contents i s) copies kept refl refl kept.0
 
-pub take_grows : (h : Record) (i s : ℕ) (copies : List ℕ) → IsLegal (Take i s copies ∷ h) →
+pub take_grows : (h : Record) (i s : ℕ) (copies : List ℕ) → IsConserved (Take i s copies ∷ h) →
     held (Take i s copies ∷ h) i ≡ held h i ++ copies ∷ []
-take_grows h i s copies legal =
-    place_grows h (Take i s copies) (Held i) (copies ∷ []) legal
-    (one_here (Held i) copies ∙ oldest_full h (Contents i s) copies legal.0.row.oldest)
+take_grows h i s copies kept =
+    place_grows h (Take i s copies) (Held i) (copies ∷ []) kept
+    (one_here (Held i) copies ∙ oldest_full h (Contents i s) copies kept.0)
     (λ c l. refl)
 
-pub take_stays : (h : Record) (i s : ℕ) (copies : List ℕ) (p : Place) → IsLegal (Take i s copies ∷ h) →
+pub take_stays : (h : Record) (i s : ℕ) (copies : List ℕ) (p : Place) → IsConserved (Take i s copies ∷ h) →
     same_place (Contents i s) p ≡ false → same_place (Held i) p ≡ false →
     parcels_at p (stands (Take i s copies ∷ h)) ≡ parcels_at p (stands h)
-take_stays h i s copies p legal a b = place_stays h (Take i s copies) p legal (one_there p (Held i) copies b) (stay p a)
+take_stays h i s copies p kept a b = place_stays h (Take i s copies) p kept (one_there p (Held i) copies b) (stay p a)
   where
     stay : (p : Place) → same_place (Contents i s) p ≡ false → (c : ℕ) → 0 < count c (joined (parcels_at p (stands h))) →
         count c (leaves (kind p) (Take i s copies)) ≡ 0
-    stay (Contents j u) a c l = elsewhere h (Contents i s) (Contents j u) copies legal.1 a refl legal.0.row.oldest c l
+    stay (Contents j u) a c l = elsewhere h (Contents i s) (Contents j u) copies kept.1 a refl kept.0 c l
     stay p a c l = refl
 
 -- SPLIT
-pub split_pops : (h : Record) (i ports : ℕ) (copies : List ℕ) (event : Event) (children : List Child) → IsLegal (Split i ports copies event children ∷ h) →
+pub split_pops : (h : Record) (i ports : ℕ) (copies : List ℕ) (event : Event) (children : List Child) → IsConserved (Split i ports copies event children ∷ h) →
     outputs h i ≡ copies ∷ outputs (Split i ports copies event children ∷ h) i
-split_pops h i ports copies event children legal =
-    place_pops h (Split i ports copies event children) (Outputs i) copies legal refl (none children) legal.0.row.split.oldest
+split_pops h i ports copies event children kept =
+    place_pops h (Split i ports copies event children) (Outputs i) copies kept refl (none children) kept.0.oldest
   where
     none : (children : List Child) → put_at (Outputs i) (puts (Split i ports copies event children)) ≡ []
     none [] = refl
     none (child ∷ rest) = none rest
 
--- where no child at all waits, none waits for a target
-pub none_waiting : (i t : ℕ) (puts : List Put) → parcels_where (is_child_of i) puts ≡ [] → parcels_at (Waiting i t) puts ≡ []
-none_waiting i t [] none = refl
-none_waiting i t (put ∷ rest) none = go (λ e. none_waiting i t rest e) put.place none
-  where
-    child : (parcels_where (is_child_of i) rest ≡ [] → parcels_at (Waiting i t) rest ≡ []) → (b c : Bool) → (if b then put.copies ∷ parcels_where (is_child_of i) rest else parcels_where (is_child_of i) rest) ≡ [] →
-        (if b && c then put.copies ∷ parcels_at (Waiting i t) rest else parcels_at (Waiting i t) rest) ≡ []
-    child ih true c e = cc
-    child ih false c e = ih e
-
-    go : (parcels_where (is_child_of i) rest ≡ [] → parcels_at (Waiting i t) rest ≡ []) → (q : Place) → (if is_child_of i q then put.copies ∷ parcels_where (is_child_of i) rest else parcels_where (is_child_of i) rest) ≡ [] →
-        (if same_place q (Waiting i t) then put.copies ∷ parcels_at (Waiting i t) rest else parcels_at (Waiting i t) rest) ≡ []
-    go ih (Waiting j u) e = child ih (j == i) (u == t) e
-    go ih q e = ih e
-
--- the children for a target
-abbrev pub children_for : ℕ → List Child → List (List ℕ)
-children_for t [] = []
-children_for t (child ∷ rest) = if child.target == t then and_rest child.copies (children_for t rest) else children_for t rest
-
-pub split_grows : (h : Record) (i ports t : ℕ) (copies : List ℕ) (event : Event) (children : List Child) → IsLegal (Split i ports copies event children ∷ h) →
-    waiting (Split i ports copies event children ∷ h) i t ≡ children_for t children
-split_grows h i ports t copies event children legal =
-    place_grows h (Split i ports copies event children) (Waiting i t) (children_for t children) legal (these children) (λ c l. refl)
-    ∙ ap (λ ps. ps ++ children_for t children) (none_waiting i t (stands h) legal.0.row.split.none_waits)
+pub split_grows : (h : Record) (i ports t : ℕ) (copies : List ℕ) (event : Event) (children : List Child) → IsConserved (Split i ports copies event children ∷ h) →
+    waiting (Split i ports copies event children ∷ h) i t ≡ waiting h i t ++ children_for t children
+split_grows h i ports t copies event children kept =
+    place_grows h (Split i ports copies event children) (Waiting i t) (children_for t children) kept (these children) (λ c l. refl)
   where
     these : (children : List Child) → put_at (Waiting i t) (puts (Split i ports copies event children)) ≡ children_for t children
     these [] = refl
@@ -116,25 +95,21 @@ split_grows h i ports t copies event children legal =
         ∙ ap (λ b. if b then and_rest child.copies (children_for t rest) else children_for t rest) (grind (arith, nat_tests))
 
 -- SPENT: the copy leaves its parcel, wherever that stands
-pub spent_shrinks : (h : Record) (i c : ℕ) (outcome : Outcome) (p : Place) → IsLegal (Spent i c outcome ∷ h) →
+pub spent_shrinks : (h : Record) (i c : ℕ) (outcome : Outcome) (p : Place) → IsConserved (Spent i c outcome ∷ h) →
     parcels_at p (stands (Spent i c outcome ∷ h)) ≡ shrunk (c ∷ []) (parcels_at p (stands h))
-spent_shrinks h i c outcome p legal =
-    parcels_after h (Spent i c outcome) p legal ∙ append-nil (shrunk (leaves (kind p) (Spent i c outcome)) (parcels_at p (stands h)))
+spent_shrinks h i c outcome p kept =
+    parcels_after h (Spent i c outcome) p kept ∙ append-nil (shrunk (leaves (kind p) (Spent i c outcome)) (parcels_at p (stands h)))
     ∙ ap (λ cs. shrunk cs (parcels_at p (stands h))) (takes (kind p))
   where
     takes : (k : Kind) → leaves k (Spent i c outcome) ≡ c ∷ []
     takes k = refl
 
 -- BORN
-abbrev pub singles : List ℕ → List (List ℕ)
-singles [] = []
-singles (c ∷ cs) = (c ∷ []) ∷ singles cs
-
 pub born_grows : (h : Record) (i b place : ℕ) (copies : List ℕ) (events : List Event) (waits : Bool) (stream end : ℕ) →
-    IsLegal (Born i b place copies events waits stream end ∷ h) →
+    IsConserved (Born i b place copies events waits stream end ∷ h) →
     outputs (Born i b place copies events waits stream end ∷ h) i ≡ outputs h i ++ singles copies
-born_grows h i b place copies events waits stream end legal =
-    place_grows h (Born i b place copies events waits stream end) (Outputs i) (singles copies) legal (these copies) (λ c l. refl)
+born_grows h i b place copies events waits stream end kept =
+    place_grows h (Born i b place copies events waits stream end) (Outputs i) (singles copies) kept (these copies) (λ c l. refl)
   where
     these : (copies : List ℕ) → put_at (Outputs i) (one_each (Outputs i) copies) ≡ singles copies
     these [] = refl
@@ -144,10 +119,10 @@ born_grows h i b place copies events waits stream end legal =
         ∙ ap (λ ps. (c ∷ []) ∷ ps) (these cs)
 
 pub born_stays : (h : Record) (i b place : ℕ) (copies : List ℕ) (events : List Event) (waits : Bool) (stream end : ℕ) (p : Place) →
-    IsLegal (Born i b place copies events waits stream end ∷ h) → same_place (Outputs i) p ≡ false →
+    IsConserved (Born i b place copies events waits stream end ∷ h) → same_place (Outputs i) p ≡ false →
     parcels_at p (stands (Born i b place copies events waits stream end ∷ h)) ≡ parcels_at p (stands h)
-born_stays h i b place copies events waits stream end p legal other =
-    place_stays h (Born i b place copies events waits stream end) p legal (none copies) (λ c l. takes c (kind p))
+born_stays h i b place copies events waits stream end p kept other =
+    place_stays h (Born i b place copies events waits stream end) p kept (none copies) (λ c l. takes c (kind p))
   where
     none : (copies : List ℕ) → put_at p (one_each (Outputs i) copies) ≡ []
     none [] = refl
@@ -159,10 +134,10 @@ born_stays h i b place copies events waits stream end p legal other =
 
 -- and the places that a Split neither takes from nor puts into
 pub split_stays : (h : Record) (i ports : ℕ) (copies : List ℕ) (event : Event) (children : List Child) (p : Place) →
-    IsLegal (Split i ports copies event children ∷ h) → same_place (Outputs i) p ≡ false → is_child_of i p ≡ false →
+    IsConserved (Split i ports copies event children ∷ h) → same_place (Outputs i) p ≡ false → is_child_of i p ≡ false →
     parcels_at p (stands (Split i ports copies event children ∷ h)) ≡ parcels_at p (stands h)
-split_stays h i ports copies event children p legal a b =
-    place_stays h (Split i ports copies event children) p legal (none p b children) (stay p a)
+split_stays h i ports copies event children p kept a b =
+    place_stays h (Split i ports copies event children) p kept (none p b children) (stay p a)
   where
     apart : (j u t : ℕ) → (j == i) ≡ false → ((i == j) && (t == u)) ≡ false
     apart j u t e = grind (arith, nat_tests)
@@ -179,5 +154,5 @@ split_stays h i ports copies event children p legal a b =
 
     stay : (p : Place) → same_place (Outputs i) p ≡ false → (c : ℕ) → 0 < count c (joined (parcels_at p (stands h))) →
         count c (leaves (kind p) (Split i ports copies event children)) ≡ 0
-    stay (Outputs j) a c l = elsewhere h (Outputs i) (Outputs j) copies legal.1 a refl legal.0.row.split.oldest c l
+    stay (Outputs j) a c l = elsewhere h (Outputs i) (Outputs j) copies kept.1 a refl kept.0.oldest c l
     stay p a c l = refl

@@ -15,15 +15,15 @@ use Rattle.vx_record.specs.Parcels.{port_list}
 use Rattle.vx_record.specs.Places.{Place, Kind, kind, same_place, one_each, puts, leaves, left, all_puts}
 use Rattle.vx_record.specs.Places.Kind.{AnOutput, AChild, AStage, AHold}
 use Rattle.vx_record.specs.Places.Place.{Outputs, Waiting, Contents, Held}
-use Rattle.vx_record.specs.Lists.{without, stands, parcels_at}
+use Rattle.vx_record.specs.Lists.{and_rest, shrunk, without, stands, parcels_at}
 use Rattle.vx_record.specs.Legal.{IsLegal}
 use Rattle.vx_record.specs.Sending.{IsOldest}
 use Rattle.vx_record.specs.Laws.{HaveOneEvent, EachHasOneEvent, OneEvent}
 use Rattle.vx_record.proofs.Counts.{count-append, count-without, unless-some, unless-none}
 use Rattle.vx_record.proofs.Tracked.{Tracked, stand_in, stand_cases, put_in, gone_from}
-use Rattle.vx_record.proofs.OnePlace.{tracked}
+use Rattle.vx_record.proofs.OnePlace.{conserved, tracked}
 use Rattle.vx_record.proofs.Place.{count-parcels_at}
-use Rattle.vx_record.proofs.Changes.{and_rest, shrunk, put_at, parcels_after}
+use Rattle.vx_record.proofs.Changes.{put_at, parcels_after}
 use Rattle.vx_record.proofs.Steps.{family, children_before}
 
 each-append : (h : Record) (xs ys : List (List ℕ)) → EachHasOneEvent h xs → EachHasOneEvent h ys → EachHasOneEvent h (xs ++ ys)
@@ -67,7 +67,7 @@ stands_made h c p legal l =
     elim (cases_lt c (next_copy h)) [ inl below ↦ below | inr above ↦ go (kind p) (stand_cases (kind p) h c) above (omega arith) ]
   where
     t : Tracked h c
-    t = tracked h c legal
+    t = tracked h c (conserved h legal)
 
     go : (k : Kind) → ((gone_from k h c ≡ 0) × (stand_in k h c ≡ put_in k h c)) ⊎ ((0 < gone_from k h c) × (stand_in k h c ≡ 0)) →
         next_copy h ≤ c → 0 < stand_in k h c → c < next_copy h
@@ -146,7 +146,7 @@ new_ones h e p legal old = tt
 pub one_event : OneEvent
 one_event [] p legal = tt
 one_event (e ∷ h) p legal =
-    subst (EachHasOneEvent (e ∷ h)) (sym (parcels_after h e p legal))
+    subst (EachHasOneEvent (e ∷ h)) (sym (parcels_after h e p (conserved (e ∷ h) legal)))
     (each-append (e ∷ h) (shrunk (leaves (kind p) e) (parcels_at p (stands h))) (put_at p (puts e))
     (each-shrunk h e (leaves (kind p) e) (parcels_at p (stands h)) (λ c l g. keeps_event h e c p legal l g) (one_event h p legal.1))
     (new_ones h e p legal (λ q. one_event h q legal.1)))

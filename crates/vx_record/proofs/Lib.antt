@@ -8,6 +8,7 @@ pub mod Notices
 pub mod Statuses
 pub mod Changes
 pub mod Entries
+pub mod Hands
 pub mod Events
 pub mod Further
 pub mod After

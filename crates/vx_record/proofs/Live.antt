@@ -11,7 +11,7 @@ use Rattle.vx_record.specs.Copies.{count, next_copy, times_split, times_spent, I
 use Rattle.vx_record.specs.Batches.{parent}
 use Rattle.vx_record.specs.Places.Kind.{AnOutput}
 use Rattle.vx_record.specs.Legal.{Allows, IsLegal}
-use Rattle.vx_record.proofs.OnePlace.{tracked}
+use Rattle.vx_record.proofs.OnePlace.{conserves, conserved, tracked}
 use Rattle.vx_record.proofs.Tracked.{Tracked, stand_cases}
 use Rattle.vx_record.proofs.Steps.{moves}
 
@@ -29,7 +29,7 @@ unmade_whole h c t l = let u = t.unmade l in (omega arith, omega arith)
 pub split_live : (h : Record) (c i ports : ℕ) (copies : List ℕ) (event : Event) (children : List Child) → Tracked h c →
     Allows h (Split i ports copies event children) → 0 < count c copies → IsLive h c
 split_live h c i ports copies event children t a l =
-    let m = moves h (Split i ports copies event children) c a in
+    let m = moves h (Split i ports copies event children) c (conserves h (Split i ports copies event children) a) in
     elim (cases_lt c (next_copy h)) [
       | inl below ↦ elim (stand_cases AnOutput h c) [
         | inl none ↦ (below, omega arith, omega arith)
@@ -67,4 +67,4 @@ pub parent_live : (h : Record) (c i ports : ℕ) (copies : List ℕ) (event : Ev
 parent_live h c i ports copies event children legal l u =
     let some : 0 < length copies = grind arith in
     let p = parent (next_copy h) copies c in
-    split_live h p i ports copies event children (tracked h p legal.1) legal.0.row (parent_split (next_copy h) copies c some)
+    split_live h p i ports copies event children (tracked h p (conserved h legal.1)) legal.0.row (parent_split (next_copy h) copies c some)

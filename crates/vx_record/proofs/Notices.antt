@@ -15,7 +15,7 @@ use Rattle.vx_record.specs.Legal.{IsLegal}
 use Rattle.vx_record.specs.Confirms.{is_noticed}
 use Rattle.vx_record.specs.Laws.{times_noticed, OneNoticeAtLast, OneNotice, NoEarlyNotice, NoticeAtOnce}
 use Rattle.vx_record.proofs.Counts.{count-append}
-use Rattle.vx_record.proofs.OnePlace.{tracked, legal_before}
+use Rattle.vx_record.proofs.OnePlace.{conserved, tracked, legal_before}
 use Rattle.vx_record.proofs.Live.{if_lt, if_ge, unmade_whole, split_live, place_of_counted, parent_live}
 
 -- the batch and the root of a copy were born before
@@ -82,12 +82,12 @@ first_child h c i ports copies event children legal l =
     let back : (next_copy h + j) - next_copy h ≡ j = omega arith in
     let remainder : ((next_copy h + j) - next_copy h) % length copies ≡ j = ap (λ n. n % length copies) back ∙ mod-eq_of_lt within in
     let p : parent (next_copy h) copies d ≡ c = ap (slice_index copies) remainder ∙ at in
-    let whole = unmade_whole h d (tracked h d legal.1) (omega arith) in
+    let whole = unmade_whole h d (tracked h d (conserved h legal.1)) (omega arith) in
     let a = legal.0.row in
     let room : length copies ≤ length children * length copies = at_least (length children) (length copies) a.split.some in
     let unsplit : count d copies ≡ 0 =
     elim (cases_lt 0 (count d copies)) [
-      | inl some ↦ let v = split_live h d i ports copies event children (tracked h d legal.1) legal.0.row some in let u = v.0 in absurd (omega arith)
+      | inl some ↦ let v = split_live h d i ports copies event children (tracked h d (conserved h legal.1)) legal.0.row some in let u = v.0 in absurd (omega arith)
       | inr none ↦ omega arith
     ] in (
       d,
@@ -117,7 +117,7 @@ noticed (Born i b' place copies events waits stream end ∷ h) b legal =
       done = λ has none w. elim (cases_eq b' b) [
         | inl new ↦
             let c = next_copy h in
-            let whole = unmade_whole h c (tracked h c legal.1) (omega arith) in
+            let whole = unmade_whole h c (tracked h c (conserved h legal.1)) (omega arith) in
             absurd (none c (if_ge c c (batch_of h c) b' (omega arith) ∙ new) (omega arith, omega (arith, count-append), omega (arith, count-append)))
         | inr other ↦
             let has_old : 0 < count b (batches h) = grind (arith, nat_tests) in

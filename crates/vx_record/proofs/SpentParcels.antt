@@ -23,7 +23,7 @@ use Rattle.vx_record.specs.Sending.{IsOldest}
 use Rattle.vx_record.specs.Routing.{routes}
 use Rattle.vx_record.specs.Parcels.{port_list}
 use Rattle.vx_record.specs.Lists.{times_among}
-use Rattle.vx_record.proofs.OnePlace.{tracked, live_stands}
+use Rattle.vx_record.proofs.OnePlace.{conserved, tracked, live_stands}
 use Rattle.vx_record.proofs.Place.{count-oldest}
 use Rattle.vx_record.proofs.Changes.{places_meant, oldest_full}
 
@@ -68,7 +68,7 @@ not_spent test h c e = ap (λ (o : Option Outcome). elim o [ None ↦ false | So
 -- a copy that is not made yet is not spent
 not_made : (test : Outcome → Bool) (h : Record) (c : ℕ) → IsLegal h → next_copy h ≤ c → was_spent test h c ≡ false
 not_made test h c legal l =
-    let t = tracked h c legal in
+    let t = tracked h c (conserved h legal) in
     let none = t.unmade l in
     let once = t.once in
     not_spent test h c (omega arith)

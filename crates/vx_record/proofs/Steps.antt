@@ -1,4 +1,4 @@
--- What each kind of entry does to a copy, where the entry is legal.
+-- What each kind of entry does to a copy, where the entry conserves copies.
 use Rattle.std.proofs.Common.{◌≡◌, ℕ, Bool, ◌+◌, ◌*◌, ◌<◌, ◌≤◌, List, [], ◌∷◌, ◌++◌, sym, refl, ap, subst, arith, map, length, inl, inr}
 use Rattle.std.specs.Prelude.{if◌then◌else◌, ◌==◌}
 use Rattle.std.proofs.lemmas.Bool.Decides.{nat_tests}
@@ -14,9 +14,7 @@ use Rattle.vx_record.specs.Places.{Place, Kind, kind, one_each, all_puts, left, 
 use Rattle.vx_record.specs.Places.Kind.{AnOutput, AChild, AStage, AHold}
 use Rattle.vx_record.specs.Places.Place.{Outputs, Waiting, Contents}
 use Rattle.vx_record.specs.Lists.{outputs, waiting, contents}
-use Rattle.vx_record.specs.Legal.{Allows}
-use Rattle.vx_record.specs.Parcels.{port_list}
-use Rattle.vx_record.specs.Routing.{routes}
+use Rattle.vx_record.specs.Moving.{Conserves}
 use Rattle.vx_record.proofs.Counts.{count-append, counting_before, counting_within, counting_after, only, only-add, only-zero, put_count}
 use Rattle.vx_record.proofs.Place.{count-parcels_at, count-oldest}
 use Rattle.vx_record.proofs.Tracked.{Moves, births}
@@ -113,13 +111,13 @@ children_after c next m (t ∷ ts) l =
     let f = counting_after c next m (omega arith) in
     omega (arith, count-append c (counting next m) (family (children_of (next + m) m ts)))
 
-born_moves : (h : Record) (c i b place : ℕ) (copies : List ℕ) (events : List Event) (waits : Bool) (stream end : ℕ) → Allows h (Born i b place copies events waits stream end) → Moves h (Born i b place copies events waits stream end) c
+born_moves : (h : Record) (c i b place : ℕ) (copies : List ℕ) (events : List Event) (waits : Bool) (stream end : ℕ) → Conserves h (Born i b place copies events waits stream end) → Moves h (Born i b place copies events waits stream end) c
 born_moves h c i b place copies events waits stream end a =
     let p = put_count-one_each AnOutput (Outputs i) c copies in
     let q = put_count-one_each AChild (Outputs i) c copies in
     let r = put_count-one_each AStage (Outputs i) c copies in
     let s = put_count-one_each AHold (Outputs i) c copies in
-    let f = ap (count c) a.next in
+    let f = ap (count c) a in
     record {
       makes_old = λ l. let x = counting_before c (next_copy h) (length copies) l in omega arith;
       makes_new = λ l u. let x = counting_within c (next_copy h) (length copies) l u in omega arith;
@@ -137,18 +135,18 @@ born_moves h c i b place copies events waits stream end a =
       live = λ l. absurd (omega arith);
     }
 
-split_moves : (h : Record) (c i ports : ℕ) (copies : List ℕ) (event : Event) (children : List Child) → Allows h (Split i ports copies event children) →
+split_moves : (h : Record) (c i ports : ℕ) (copies : List ℕ) (event : Event) (children : List Child) → Conserves h (Split i ports copies event children) →
     Moves h (Split i ports copies event children) c
 split_moves h c i ports copies event children a =
     let p = put_count-children AnOutput i c children in
     let q = put_count-children AChild i c children in
     let r = put_count-children AStage i c children in
     let s = put_count-children AHold i c children in
-    let targets = routes h i (port_list ports) in
-    let f = ap (λ (x : List Child). count c (family x)) a.split.made in
-    let same = ap (λ (x : List Child). length x * length copies) a.split.made in
+    let targets = a.made.0 in
+    let f = ap (λ (x : List Child). count c (family x)) a.made.1 in
+    let same = ap (λ (x : List Child). length x * length copies) a.made.1 in
     let many = ap (λ n. n * length copies) (length-children_of (next_copy h) (length copies) targets) in
-    let e = count-oldest c copies (outputs h i) a.split.oldest in
+    let e = count-oldest c copies (outputs h i) a.oldest in
     let g = count-parcels_at c (Outputs i) (left h) (all_puts h) in
     record {
       makes_old = λ l. let x = children_before c (next_copy h) (length copies) targets l in omega arith;
@@ -167,9 +165,9 @@ split_moves h c i ports copies event children a =
       live = λ l. absurd (omega arith);
     }
 
-push_moves : (h : Record) (c i t s : ℕ) (copies : List ℕ) → Allows h (Push i t s copies) → Moves h (Push i t s copies) c
+push_moves : (h : Record) (c i t s : ℕ) (copies : List ℕ) → Conserves h (Push i t s copies) → Moves h (Push i t s copies) c
 push_moves h c i t s copies a =
-    let e = count-oldest c copies (waiting h i t) a.oldest in
+    let e = count-oldest c copies (waiting h i t) a in
     let f = count-parcels_at c (Waiting i t) (left h) (all_puts h) in
     record {
       makes_old = λ l. refl;
@@ -188,9 +186,9 @@ push_moves h c i t s copies a =
       live = λ l. absurd (omega arith);
     }
 
-take_moves : (h : Record) (c i s : ℕ) (copies : List ℕ) → Allows h (Take i s copies) → Moves h (Take i s copies) c
+take_moves : (h : Record) (c i s : ℕ) (copies : List ℕ) → Conserves h (Take i s copies) → Moves h (Take i s copies) c
 take_moves h c i s copies a =
-    let e = count-oldest c copies (contents h i s) a.oldest in
+    let e = count-oldest c copies (contents h i s) a in
     let f = count-parcels_at c (Contents i s) (left h) (all_puts h) in
     record {
       makes_old = λ l. refl;
@@ -212,7 +210,7 @@ take_moves h c i s copies a =
 same : (d c : ℕ) → 0 < (if d == c then 1 else 0) + 0 → d ≡ c
 same d c l = grind (arith, nat_tests)
 
-spent_moves : (h : Record) (c i d : ℕ) (outcome : Outcome) → Allows h (Spent i d outcome) → Moves h (Spent i d outcome) c
+spent_moves : (h : Record) (c i d : ℕ) (outcome : Outcome) → Conserves h (Spent i d outcome) → Moves h (Spent i d outcome) c
 spent_moves h c i d outcome a =
     record {
       makes_old = λ l. refl;
@@ -228,10 +226,10 @@ spent_moves h c i d outcome a =
       answer = omega arith;
       split = omega arith;
       once = grind (arith, nat_tests);
-      live = λ l. let e = same d c l in let f : IsLive h c = subst (IsLive h) e a.live in (f.0, f.1, f.2, refl);
+      live = λ l. let e = same d c l in let f : IsLive h c = subst (IsLive h) e a in (f.0, f.1, f.2, refl);
     }
 
-pub moves : (h : Record) (e : Entry) (c : ℕ) → Allows h e → Moves h e c
+pub moves : (h : Record) (e : Entry) (c : ℕ) → Conserves h e → Moves h e c
 moves h (Born i b place copies events waits stream end) c a = born_moves h c i b place copies events waits stream end a
 moves h (Split i ports copies event children) c a = split_moves h c i ports copies event children a
 moves h (Push i t s copies) c a = push_moves h c i t s copies a

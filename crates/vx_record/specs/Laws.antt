@@ -16,6 +16,7 @@ use Rattle.vx_record.specs.Batches.{batch_of, batches, NoneLive, AwaitsNotice}
 use Rattle.vx_record.specs.Statuses.{batch_status, running, AllGood}
 use Rattle.vx_record.specs.Lists.{places, stands, parcels_at, times_among}
 use Rattle.vx_record.specs.Places.{Place}
+use Rattle.vx_record.specs.Moving.{IsConserved}
 use Rattle.vx_record.specs.Legal.{IsLegal, IsClosed}
 
 -- Each copy that a record made by then was split once, or was spent once, or stands in one place, once: exactly one
@@ -24,6 +25,20 @@ abbrev pub OnePlace : Type 0
 OnePlace =
     (later earlier : Record) → IsLegal (later ++ earlier) → (c : ℕ) → c < next_copy earlier →
     times_split earlier c + times_spent earlier c + length (places earlier c) ≡ 1
+
+-- a legal record conserves copies
+abbrev pub LegalConserved : Type 0
+LegalConserved = (h : Record) → IsLegal h → IsConserved h
+
+-- each copy is in one place in every record that conserves copies, legal or not
+abbrev pub ConservedPlace : Type 0
+ConservedPlace =
+    (later earlier : Record) → IsConserved (later ++ earlier) → (c : ℕ) → c < next_copy earlier →
+    times_split earlier c + times_spent earlier c + length (places earlier c) ≡ 1
+
+-- and is live exactly where it stands in a place
+abbrev pub ConservedLive : Type 0
+ConservedLive = (h : Record) → IsConserved h → (c : ℕ) → IsLive h c ↔ (0 < length (places h c))
 
 -- how often a batch was noticed
 abbrev pub times_noticed : Record → ℕ → ℕ

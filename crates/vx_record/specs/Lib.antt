@@ -23,6 +23,7 @@ pub mod Abandoning
 pub mod Starting
 pub mod Sourcing
 pub mod Sending
+pub mod Moving
 pub mod Sinking
 pub mod Spending
 pub mod Ending

@@ -1,6 +1,6 @@
 //! The laws of every legal record. A law's function does nothing: what it ensures is proved.
 
-ghost use Rattle.vx_record.specs.Laws.{OnePlace, PlacesMeant, LiveStands, OneNotice, OneNoticeAtLast, NoEarlyNotice, NoticeAtOnce, NoSpentAfterNotice, NoticeTells, BeginningLegal, RunningStatus, DeliveredWhereGood, OneEvent, NumbersBounded, RoutingKept, NoLeaseAfterAbandon, PrefixGrows};
+ghost use Rattle.vx_record.specs.Laws.{OnePlace, PlacesMeant, LiveStands, LegalConserved, ConservedPlace, ConservedLive, OneNotice, OneNoticeAtLast, NoEarlyNotice, NoticeAtOnce, NoSpentAfterNotice, NoticeTells, BeginningLegal, RunningStatus, DeliveredWhereGood, OneEvent, NumbersBounded, RoutingKept, NoLeaseAfterAbandon, PrefixGrows};
 ghost use Rattle.vx_record.specs.Wirings.{WiringStays, StartedStays, ComponentOfFirst, TargetsOfFirst};
 ghost use Rattle.vx_record.specs.Growth.{TakenGrows, GivenGrows, ConfirmedGrows, EndedGrows, SourceRises, SinkRises, SpentRises, TallyStays};
 
@@ -9,6 +9,13 @@ pub fn one_place()
     ensures one { OnePlace }
     ensures meant { PlacesMeant }
     ensures live { LiveStands }
+{}
+
+/// The same of every record that takes copies only from where they stand: a legal one does.
+pub fn conserved()
+    ensures legal { LegalConserved }
+    ensures one { ConservedPlace }
+    ensures live { ConservedLive }
 {}
 
 /// Each batch has one notice, directly after the spend of its last copy, with the status that the tables fold.

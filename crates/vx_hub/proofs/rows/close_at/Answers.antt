@@ -1,10 +1,11 @@
-use Rattle.std.proofs.Common.{arith, refl, ap, ◌∙◌, sym, subst, [], Option, Some}
+use Rattle.std.proofs.Common.{arith, refl, ap, ◌∙◌, sym, subst, [], Option, Some, ◌≡◌, ◌∷◌, ◌++◌, length, ◌<◌, false}
 use Rattle.std.specs.Prelude.{IfSome, IsSomeAnd, slice_set}
 use Rattle.vx_ledger.specs.Copies.{copies_of}
 use Rattle.vx_hub.specs.Rows.{task_copies, task_parcels, task_port, port_of, port_at}
 use Rattle.vx_hub.specs.Works.{IsClosedBy}
 use Rattle.vx_hub.proofs.Parcels.{row_counts}
 use Rattle.vx_hub.proofs.RowLaws.{rows_lose, row_read, row_written, other_ports, bare_kept}
+use Rattle.vx_hub.proofs.PlaceLaws.{places_kept, same_task}
 use Rattle.vx_hub.proofs.rows.close_at.Goals as goal
 
 pub returns-clause-loses : goal.returns-clause-loses
@@ -36,3 +37,6 @@ returns-clause-bare g c = bare_kept c.args.rows.now.items c.args.i c.index_mut.r
   held = sym (ap (λ (t : _). task_parcels t) c.in-Some.is) ∙ b.held;
   home = refl;
 })
+
+pub returns-clause-places : goal.returns-clause-places
+returns-clause-places g c = places_kept c.args.rows.now.items c.args.i c.index_mut.result.now _ c.requires.within c.index_mut.ensures.value (same_task c.index_mut.result.now _ (sym (ap task_parcels c.in-Some.is)))

@@ -1,9 +1,14 @@
-use Rattle.std.proofs.Common.{arith, ap, sym, Some}
+use Rattle.std.proofs.Common.{arith, ap, sym, Some, ◌≡◌, ◌∙◌, ◌∷◌, ◌++◌, [], refl, length, ◌<◌, false}
 use Rattle.vx_ledger.specs.Copies.{copies_of}
 use Rattle.vx_hub.specs.Rows.{task_port, parcel_copies}
 use Rattle.vx_hub.specs.declared.task.Role.TheVariants.{Sink}
 use Rattle.vx_hub.proofs.Parcels.{row_counts, parcels_pushed, held_copies}
 use Rattle.vx_hub.proofs.RowLaws.{rows_gain, ports_kept, others_bare}
+use Rattle.vx_record.specs.Places.{same_place}
+use Rattle.vx_record.specs.Places.Place.{Held}
+use Rattle.vx_hub.specs.Numbers.{numbers_in}
+use Rattle.vx_hub.specs.Places.{parcel_numbers}
+use Rattle.vx_hub.proofs.PlaceLaws.{read_at, written_at, places_but, but_task, numbers-more, task_holds}
 use Rattle.vx_hub.proofs.rows.hold.Goals as goal
 
 pub returns-clause-gains : goal.returns-clause-gains
@@ -23,3 +28,12 @@ returns-clause-ports g c = ports_kept c.args.rows.now.items c.args.i c.index_mut
 
 pub returns-clause-bare : goal.returns-clause-bare
 returns-clause-bare g c = others_bare c.args.rows.now.items c.args.i _
+
+pub returns-clause-last : goal.returns-clause-last
+returns-clause-last g c = record {
+  last = written_at (Held c.args.i) c.args.rows.now.items c.args.i _ c.requires.within refl ∙ ap parcel_numbers c.push.ensures.items
+      ∙ numbers-more c.in-Sink.core.held.items c.args.parcel
+      ∙ ap (λ ns. ns ++ numbers_in c.args.parcel.finalizers ∷ []) (sym (read_at (Held c.args.i) c.args.rows.now.items c.args.i c.index_mut.result.now c.requires.within c.index_mut.ensures.value refl
+      ∙ ap parcel_numbers (task_holds c.index_mut.result.now.task c.in-Some.task c.in-Sink.core c.in-Some.is c.in-Sink.is)));
+  others = places_but (λ p. same_place (Held c.args.i) p ≡ false) c.args.rows.now.items c.args.i c.index_mut.result.now _ c.requires.within c.index_mut.ensures.value (λ p own other. but_task c.args.i c.index_mut.result.now _ p own other);
+}

@@ -1,8 +1,13 @@
-use Rattle.std.proofs.Common.{arith, ap, ◌≡◌, ◌∙◌, None}
+use Rattle.std.proofs.Common.{arith, ap, ◌≡◌, ◌∙◌, None, ◌∷◌, ◌++◌, [], sym, refl, length, ◌<◌, false}
 use Rattle.vx_ledger.specs.Copies.{copies_of}
 use Rattle.vx_hub.specs.Rows.{task_copies, port_of, task_port}
 use Rattle.vx_hub.proofs.Parcels.{row_counts}
 use Rattle.vx_hub.proofs.RowLaws.{rows_gain, row_has, row_written, other_ports, others_bare}
+use Rattle.vx_record.specs.Places.{same_place}
+use Rattle.vx_record.specs.Places.Place.{Held}
+use Rattle.vx_hub.specs.Rows.{task_parcels}
+use Rattle.vx_hub.specs.Places.{parcel_numbers}
+use Rattle.vx_hub.proofs.PlaceLaws.{written_at, places_but, but_task}
 use Rattle.vx_hub.proofs.rows.put_task.Goals as goal
 
 pub returns-clause-gains : goal.returns-clause-gains
@@ -24,3 +29,9 @@ returns-clause-ports g c = other_ports c.args.rows.now.items c.args.i _
 
 pub returns-clause-bare : goal.returns-clause-bare
 returns-clause-bare g c = others_bare c.args.rows.now.items c.args.i _
+
+pub returns-clause-places : goal.returns-clause-places
+returns-clause-places g c = record {
+  now = written_at (Held c.args.i) c.args.rows.now.items c.args.i _ c.requires.within refl ∙ ap (λ (t : _). parcel_numbers (task_parcels t)) c.replace.ensures.after;
+  others = places_but (λ p. same_place (Held c.args.i) p ≡ false) c.args.rows.now.items c.args.i c.index_mut.result.now _ c.requires.within c.index_mut.ensures.value (λ p own other. but_task c.args.i c.index_mut.result.now _ p own other);
+}

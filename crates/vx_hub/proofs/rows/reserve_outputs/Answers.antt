@@ -1,9 +1,10 @@
-use Rattle.std.proofs.Common.{arith, refl, ap, ◌∙◌, ◌+◌, ◌≤◌, [], length}
+use Rattle.std.proofs.Common.{arith, refl, ap, ◌∙◌, ◌+◌, ◌≤◌, [], length, ◌≡◌, ◌∷◌, ◌++◌, sym, ◌<◌, false}
 use Rattle.vx_hub.proofs.Touching.{on_ok}
 use Rattle.vx_ledger.specs.Copies.{copies_of}
 use Rattle.vx_hub.specs.Rows.{parcel_copies}
 use Rattle.vx_hub.proofs.Parcels.{row_counts}
 use Rattle.vx_hub.proofs.RowLaws.{rows_lose, row_gets, ports_kept, bare_kept}
+use Rattle.vx_hub.proofs.PlaceLaws.{places_kept, same_outputs}
 use Rattle.vx_hub.proofs.rows.reserve_outputs.Goals as goal
 
 pub returns-clause-loses : goal.returns-clause-loses
@@ -31,3 +32,6 @@ returns-clause-bare g c = bare_kept c.args.rows.now.items c.args.i c.index_mut.r
 pub returns-clause-room : goal.returns-clause-room
 returns-clause-room g c = on_ok _ _ c.reserve.result (λ room. row_gets (λ row. length row.outputs.items + c.args.n ≤ row.outputs.room) c.args.rows.now.items c.args.i _ c.requires
     (omega (arith, room, ap length c.reserve.ensures.items))) c.reserve.ensures.room
+
+pub returns-clause-places : goal.returns-clause-places
+returns-clause-places g c = places_kept c.args.rows.now.items c.args.i c.index_mut.result.now _ c.requires c.index_mut.ensures.value (same_outputs c.index_mut.result.now c.reserve.new.self c.reserve.ensures.items)

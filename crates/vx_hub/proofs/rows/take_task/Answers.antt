@@ -1,8 +1,13 @@
-use Rattle.std.proofs.Common.{arith, ap, sym, ◌∙◌}
+use Rattle.std.proofs.Common.{arith, ap, sym, ◌∙◌, ◌≡◌, ◌∷◌, ◌++◌, [], refl, length, ◌<◌, false}
 use Rattle.vx_ledger.specs.Copies.{copies_of}
 use Rattle.vx_hub.specs.Rows.{task_copies, port_of, task_port}
 use Rattle.vx_hub.proofs.Parcels.{row_counts, some_port}
 use Rattle.vx_hub.proofs.RowLaws.{rows_lose, row_read, row_gets, other_ports, others_bare}
+use Rattle.vx_record.specs.Places.{same_place}
+use Rattle.vx_record.specs.Places.Place.{Held}
+use Rattle.vx_hub.specs.Rows.{task_parcels}
+use Rattle.vx_hub.specs.Places.{parcel_numbers}
+use Rattle.vx_hub.proofs.PlaceLaws.{written_at, places_but, but_task}
 use Rattle.vx_hub.proofs.rows.take_task.Goals as goal
 
 pub returns-clause-loses : goal.returns-clause-loses
@@ -28,3 +33,9 @@ returns-clause-ports g c = other_ports c.args.rows.now.items c.args.i _
 
 pub returns-clause-bare : goal.returns-clause-bare
 returns-clause-bare g c = others_bare c.args.rows.now.items c.args.i _
+
+pub returns-clause-places : goal.returns-clause-places
+returns-clause-places g c = record {
+  now = written_at (Held c.args.i) c.args.rows.now.items c.args.i _ c.requires refl ∙ ap (λ (t : _). parcel_numbers (task_parcels t)) c.take.ensures.after;
+  others = places_but (λ p. same_place (Held c.args.i) p ≡ false) c.args.rows.now.items c.args.i c.index_mut.result.now _ c.requires c.index_mut.ensures.value (λ p own other. but_task c.args.i c.index_mut.result.now _ p own other);
+}

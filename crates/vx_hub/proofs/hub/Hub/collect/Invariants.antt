@@ -1,4 +1,6 @@
-use Rattle.std.proofs.Common.{◌≡◌, length, []}
+use Rattle.std.proofs.Common.{◌≡◌, ℕ, length, []}
+use Rattle.vx_record.specs.Places.Place.{Outputs}
+use Rattle.vx_hub.specs.Places.{numbers_at}
 use Rattle.vx_hub.specs.Stands.{Stands}
 use Rattle.vx_hub.proofs.hub.Hub.collect.Given as goal
 
@@ -6,6 +8,7 @@ abbrev pub invariant-loop : goal.invariant-loop
 invariant-loop g l = record {
   stands : Stands g.P.Port.told l.self [] l.self.log.history;
   facts : l.self.facts ≡ l.fn.self.facts;
+  outputs : (i : ℕ) → numbers_at (Outputs i) l.self.rows.items ≡ numbers_at (Outputs i) l.fn.self.rows.items;
   fatal : l.self.fatal ≡ l.fn.self.fatal;
   size : length l.self.rows.items ≡ length l.fn.self.rows.items;
 }

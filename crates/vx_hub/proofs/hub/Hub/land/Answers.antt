@@ -7,7 +7,7 @@ use Rattle.vx_hub.proofs.hub.Hub.land.Goals as goal
 
 pub returns-clause-stands : goal.returns-clause-stands
 returns-clause-stands g c =
-    stands_settled g.P.Port.told c.land_done-landed.new.self c.settled.new.self c.note.new.self _ c.land_done-landed.ensures.stands c.note.ensures.noted tt refl tt c.settled.ensures.rest
+    stands_settled g.P.Port.told c.land_done-landed.new.self c.settled.new.self c.note.new.self _ c.land_done-landed.ensures.stands c.note.ensures.noted tt tt refl tt c.settled.ensures.rest
 
 pub returns-clause-reason : goal.returns-clause-reason
 returns-clause-reason g c =

@@ -4,6 +4,10 @@ use Rattle.vx_hub.specs.declared.confirming.Confirmed.{Confirmed}
 use Rattle.vx_hub.specs.Rows.{role_copies, IsOutAt}
 use Rattle.vx_hub.specs.Leases.{Brings}
 use Rattle.vx_hub.proofs.Saying.{brings_confirm}
+use Rattle.std.proofs.Common.{◌≡◌, []}
+use Rattle.vx_record.specs.Places.Place.{Outputs}
+use Rattle.vx_hub.specs.Places.{numbers_at}
+use Rattle.vx_hub.proofs.Homing.{held_on}
 use Rattle.vx_hub.proofs.hub.Hub.land_confirm.Goals as goal
 
 pub returns-in-Some-clause-back : goal.returns-in-Some-clause-back
@@ -21,6 +25,8 @@ returns-in-Some-clause-back g c =
           subst (λ (k : Record). Brings told k i None c.args.landing.done) (sym w.1)
           (brings_confirm told h i c.in-Some.confirmed c.args.landing.done (subst (λ (o : Option Confirmed). Brings told h i o c.args.landing.done) c.in-Some.is before));
       unlost = λ reading. c.note_confirm.ensures.unlost (c.requires.unlost reading);
+      held = held_on g.P.Port.told c.args.self.now c.note_confirm.new.self (role_copies c.args.landing.task.role) i c.args.landing.task.role _ c.requires.stands c.note_confirm.ensures.noted c.note_confirm.ensures.starved tt c.requires.held;
+      sent = λ reading. subst (λ (r : _). numbers_at (Outputs i) r.items ≡ []) (sym c.note_confirm.ensures.rows) (c.requires.sent reading);
       due = λ sound. tt;
       events = c.requires.events;
       closed = c.requires.closed;

@@ -10,7 +10,7 @@ use Rattle.vx_hub.proofs.hub.Hub.note_confirm.Goals as goal
 pub returns-clause-stands : goal.returns-clause-stands
 returns-clause-stands g c hand s =
     stands_touched g.P.Port.told c.args.self.now _ hand _ c.args.instance c.index_mut-facts.result.now _ s c.requires.out c.requires.within c.index_mut-facts.ensures.value
-    refl refl refl refl refl refl refl c.note.ensures.noted refl
+    refl refl refl refl refl refl refl c.note.ensures.noted refl tt
     (λ known. record {
       taken = known.taken;
       lost = known.lost;

@@ -13,7 +13,7 @@ use Rattle.vx_hub.proofs.hub.Hub.note_taken.Goals as goal
 pub returns-clause-stands : goal.returns-clause-stands
 returns-clause-stands g c hand s =
     stands_touched g.P.Port.told c.args.self.now _ hand _ c.args.instance c.index_mut-facts.result.now _ s c.requires.out c.requires.within c.index_mut-facts.ensures.value
-    refl refl refl refl refl refl refl c.note.ensures.noted refl
+    refl refl refl refl refl refl refl c.note.ensures.noted refl tt
     (λ known. record {
       taken = c.saturating_add-facts.ensures ∙ ap (λ n. min (c.index_mut-facts.result.now.taken + n) (2 ^ 64 - 1)) c.len-n.ensures ∙ capped_mine c.args.instance c.index_mut-facts.result.now.taken _ (length c.args.bytes) known.taken;
       lost = known.lost;

@@ -6,6 +6,12 @@ use Rattle.vx_hub.specs.Ending.{AreMovedTo}
 use Rattle.vx_hub.proofs.Dues.{born_more}
 use Rattle.vx_hub.proofs.Ordering.{birth_in_order, length_numbers}
 use Rattle.vx_hub.proofs.Touching.{stands_marked, known_other, facts_surely, facts_get, facts_has, length_numbered}
+use Rattle.std.proofs.Common.{subst, ℕ, List, ◌++◌}
+use Rattle.vx_record.specs.Records.{Record}
+use Rattle.vx_record.specs.Lists.{outputs}
+use Rattle.vx_record.specs.Moving.{singles}
+use Rattle.vx_hub.specs.Stands.{IsSound}
+use Rattle.vx_hub.proofs.Placing.{placed_born, lined_born, conserved}
 use Rattle.vx_hub.proofs.hub.Hub.open_batch.Goals as goal
 
 pub returns-clause-stands : goal.returns-clause-stands
@@ -36,6 +42,7 @@ returns-clause-stands g c =
     (λ x k other known. known_other x h c.args.instance k _ refl other known)
     (facts_has (IsShut g.P.Port.told c.args.self.now.rows.items c.args.instance) c.args.self.now.facts.items c.args.instance c.index_mut-facts.result.now within c.index_mut-facts.ensures.value (s.shut c.args.instance))
     (facts_has (IsGone c.args.self.now.rows.items c.args.instance) c.args.self.now.facts.items c.args.instance c.index_mut-facts.result.now within c.index_mut-facts.ensures.value (s.gone c.args.instance))
+    (λ kept placed. placed_born c.args.self.now.rows.items h c.args.instance c.in-Ok.born.0 c.in-Ok.born.0 (numbers_in copies) c.args.events.now false c.args.position.stream c.args.position.end kept placed)
 
 pub returns-clause-each : goal.returns-clause-each
 returns-clause-each g c =
@@ -50,3 +57,17 @@ returns-clause-open g c =
       unclosed = facts_get (λ f. f.closed ≡ false) c.args.self.now.facts.items c.args.instance _ within
           (facts_surely (λ f. f.closed ≡ false) c.args.self.now.facts.items c.args.instance c.index_mut-facts.result.now within c.index_mut-facts.ensures.value c.requires.open.unclosed);
     }
+
+pub returns-clause-lined : goal.returns-clause-lined
+returns-clause-lined g c sound =
+    let d = c.args.self.now in
+    let h = d.log.history in
+    let s = c.requires.stands in
+    let next = d.batches.next in
+    let copies = c.in-Ok.born.1 in
+    let w = c.note_born.ensures.whole sound.whole in
+    let fine : IsSound d = record { whole = w.0; fed = sound.fed } in
+    let order = birth_in_order h c.args.instance next c.len-n.result c.in-Ok.born.0 copies c.args.events.now (c.requires.read fine) (s.recorded fine).next c.in-Ok.ensures.number c.in-Ok.ensures.copies (sym c.len-n.ensures)
+    (omega (arith, c.requires.some, c.len-n.ensures)) (omega (arith, c.born.ensures.kept.numbers, c.in-Ok.ensures.next)) in
+    subst (λ (k : Record). (done : List ℕ) × (outputs k c.args.instance ≡ singles (numbers_in copies ++ done))) (sym w.1)
+    (lined_born d.rows.items h c.args.instance c.in-Ok.born.0 c.in-Ok.born.0 (numbers_in copies) c.args.events.now false c.args.position.stream c.args.position.end (order.next, conserved h (s.recorded fine).order) (s.recorded fine).places c.requires.sent)

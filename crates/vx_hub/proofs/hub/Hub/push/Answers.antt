@@ -1,4 +1,8 @@
-use Rattle.std.proofs.Common.{refl, ◌∙◌, []}
+use Rattle.std.proofs.Common.{refl, ◌∙◌, [], sym, subst}
+use Rattle.vx_record.specs.Places.Place.{Waiting, Contents}
+use Rattle.vx_hub.specs.Places.{TakesOldest, PutsLast}
+use Rattle.vx_hub.proofs.Placing.{oldest_is, placed_pushed}
+use Rattle.vx_hub.proofs.Homing.{is_oldest}
 use Rattle.vx_record.specs.declared.entry.Entry.TheVariants.{Push}
 use Rattle.vx_hub.specs.Numbers.{numbers_in}
 use Rattle.vx_hub.proofs.StandsLaws.{stands_quiet, moved_balanced, bare_running, same_next}
@@ -8,10 +12,21 @@ pub returns-clause-stands : goal.returns-clause-stands
 returns-clause-stands g c =
     let s = c.requires.stands in
     let d = c.args.self.now in
+    let target = c.take_child-target.result.target in
+    let copies = c.take_child-target.result.parcel.finalizers in
+    let first = c.take_child-target.ensures.oldest c.args.next.target c.requires.first in
+    let takes : TakesOldest (Waiting c.args.instance target) copies d.rows.items c.take_child-target.new.rows.items =
+    subst (λ t. TakesOldest (Waiting c.args.instance t) copies d.rows.items c.take_child-target.new.rows.items) (sym first.0) first.1 in
     stands_quiet g.P.Port.told d _ [] [] (Push c.args.instance c.take_child-target.result.target 0 (numbers_in c.take_child-target.result.parcel.finalizers)) s
     (moved_balanced d.batches d.rows.items c.take_child-target.new.rows.items c.push_buffer.new.rows.items c.take_child-target.result.parcel.finalizers s.balanced c.take_child-target.ensures.loses c.push_buffer.ensures.gains)
     refl (λ i. c.push_buffer.ensures.ports i ∙ c.take_child-target.ensures.ports i)
     (bare_running d.facts.items d.rows.items c.take_child-target.new.rows.items c.push_buffer.new.rows.items c.args.next.target c.requires.target.running c.take_child-target.ensures.bare c.push_buffer.ensures.bare)
     (c.push_buffer.ensures.size ∙ c.take_child-target.ensures.size) c.note_push.ensures
-    (record { quiet = tt; next = same_next d.batches d.batches d.log.history (Push c.args.instance c.take_child-target.result.target 0 (numbers_in c.take_child-target.result.parcel.finalizers)) refl refl; order = λ fine. tt })
+    (record {
+      quiet = tt;
+      next = same_next d.batches d.batches d.log.history (Push c.args.instance c.take_child-target.result.target 0 (numbers_in copies)) refl refl;
+      order = λ fine. is_oldest (numbers_in copies) _ _ (oldest_is (Waiting c.args.instance target) copies d.rows.items c.take_child-target.new.rows.items d.log.history (s.recorded fine).places takes);
+      places = λ kept placed. placed_pushed d.rows.items c.take_child-target.new.rows.items c.push_buffer.new.rows.items d.log.history c.args.instance target copies kept placed takes
+          (subst (λ t. PutsLast (Contents t 0) copies c.take_child-target.new.rows.items c.push_buffer.new.rows.items) (sym first.0) c.push_buffer.ensures.last);
+    })
     refl refl refl

@@ -11,6 +11,12 @@ use Rattle.vx_hub.specs.Failures.{abandon_cause}
 use Rattle.vx_hub.specs.Order.{IsReason}
 use Rattle.vx_hub.proofs.Ordering.{children_have, parcel_has, targets_some, split_next, split_in_order, noted_split, short_reason, unread_balanced, unread_may}
 use Rattle.vx_hub.proofs.StandsLaws.{stands_quiet, stands_moved, split_balanced, back_balanced, bare_but, bare_by}
+use Rattle.std.proofs.Common.{List}
+use Rattle.vx_ledger.specs.declared.child.Child.{Child}
+use Rattle.vx_record.specs.Places.Place.{Outputs}
+use Rattle.vx_hub.specs.Places.{IsPlaced, FillsWaiting}
+use Rattle.vx_hub.proofs.Placing.{oldest_is, placed_split, placed_same, placed_taken, from_oldest}
+use Rattle.vx_hub.proofs.Homing.{is_oldest, oldest_some, none_wait, put_back}
 use Rattle.vx_hub.proofs.hub.Hub.split.Goals as goal
 
 pub returns-in-Ok-Children-clause-stands : goal.returns-in-Ok-Children-clause-stands
@@ -36,9 +42,15 @@ returns-in-Ok-Children-clause-stands g c =
     (record {
       quiet = tt;
       next = split_next d.log.history d.batches.next c.route.new.batches.next targets parcel cs are more;
-      order = λ fine. split_in_order d.log.history d.batches.next targets parcel cs (s.recorded fine).next are
+      order = λ fine. split_in_order d.log.history c.args.instance d.batches.next targets parcel cs
+          (is_oldest (numbers_in parcel.finalizers) _ _ (oldest_is (Outputs c.args.instance) parcel.finalizers d.rows.items c.pop_output.new.rows.items d.log.history (s.recorded fine).places c.in-Some.ensures.oldest))
+          (s.recorded fine).next are
           (targets_some c.in-Ok-Children.field-0 made targets c.in-Ok-Children.field-0-is c.in-Ok-Children.ensures.no_consumer.1)
           (subst (λ n. n ≤ 2 ^ 63) more c.in-Ok-Children.ensures.kept.numbers);
+      places = λ kept placed. placed_split d.rows.items c.pop_output.new.rows.items c.put_children.new.rows.items d.log.history c.args.instance 1 parcel.finalizers noted.0 cs
+          (oldest_some d.log.history (Outputs c.args.instance) (numbers_in parcel.finalizers) _ (oldest_is (Outputs c.args.instance) parcel.finalizers d.rows.items c.pop_output.new.rows.items d.log.history placed c.in-Some.ensures.oldest))
+          kept placed c.in-Some.ensures.oldest (λ t. none_wait d.rows.items c.args.instance t c.requires.none)
+          (subst (λ (ch : List Child). FillsWaiting c.args.instance ch c.pop_output.new.rows.items c.put_children.new.rows.items) (sym c.as_slice.ensures) c.put_children.ensures.places);
     })
     refl refl refl
 
@@ -52,6 +64,9 @@ returns-in-Err-clause-stands g c =
     refl (λ i. c.push_output.ensures.ports i ∙ c.pop_output.ensures.ports i)
     (bare_but d.facts.items d.rows.items c.pop_output.new.rows.items c.push_output.new.rows.items c.args.instance (c.in-Some.ensures.held refl) c.pop_output.ensures.bare c.push_output.ensures.bare)
     (c.push_output.ensures.size ∙ c.pop_output.ensures.size) (ap (λ (l : Ledger). l.next) c.in-Err.ensures.unchanged) refl refl refl refl
+    (λ fine kept placed. placed_same d.rows.items c.push_output.new.rows.items [] d.log.history
+    (put_back (Outputs c.args.instance) c.in-Some.parcel.finalizers c.in-Err.field-0.parcel.finalizers d.rows.items c.pop_output.new.rows.items c.push_output.new.rows.items c.in-Some.ensures.oldest c.push_output.ensures.oldest
+    (ap (λ (p : Parcel). p.finalizers) c.in-Err.ensures.back)) placed)
 
 pub returns-in-Err-clause-reason : goal.returns-in-Err-clause-reason
 returns-in-Err-clause-reason g c sound =
@@ -68,6 +83,9 @@ spend-requires-clause-stands g c =
     (unread_balanced d.batches c.route.new.batches d.rows.items c.pop_output.new.rows.items c.in-Some.parcel.finalizers c.in-Ok-NoConsumer.parcel.finalizers s.balanced c.in-Some.ensures.loses unmoved
     (ap (λ (p : Parcel). p.finalizers) whole))
     refl c.pop_output.ensures.ports (bare_by d.facts.items d.rows.items c.pop_output.new.rows.items c.pop_output.ensures.bare) c.pop_output.ensures.size (ap (λ (l : Ledger). l.next) unmoved) refl refl refl refl
+    (λ fine kept placed. subst (λ (p : Parcel). IsPlaced c.pop_output.new.rows.items (numbers_in p.finalizers) d.log.history) (sym whole)
+    (placed_taken (Outputs c.args.instance) c.in-Some.parcel.finalizers d.rows.items c.pop_output.new.rows.items d.log.history kept placed
+    (from_oldest (Outputs c.args.instance) c.in-Some.parcel.finalizers d.rows.items c.pop_output.new.rows.items c.in-Some.ensures.oldest)))
 
 pub spend-requires-clause-cause : goal.spend-requires-clause-cause
 spend-requires-clause-cause g c = unread_may _ c.args.instance

@@ -2,6 +2,9 @@ use Rattle.std.proofs.Common.{refl, ◌∙◌, []}
 use Rattle.vx_hub.proofs.StandsLaws.{same_next, stands_quiet, stands_moved, moved_balanced, same_balanced, bare_but, bare_by}
 use Rattle.vx_hub.specs.Numbers.{numbers_in}
 use Rattle.vx_record.specs.declared.entry.Entry.TheVariants.{Take}
+use Rattle.vx_record.specs.Places.Place.{Contents, Outputs}
+use Rattle.vx_hub.proofs.Placing.{oldest_is, placed_held, placed_same}
+use Rattle.vx_hub.proofs.Homing.{is_oldest}
 use Rattle.vx_hub.proofs.hub.Hub.take.Goals as goal
 
 pub returns-in_default-clause-stands : goal.returns-in_default-clause-stands
@@ -10,6 +13,7 @@ returns-in_default-clause-stands g c =
     (same_balanced c.args.self.now.batches c.args.self.now.rows.items c.pop_buffer.new.rows.items [] c.requires.stands.balanced c.in_default.ensures.loses)
     refl c.pop_buffer.ensures.ports (bare_by c.args.self.now.facts.items c.args.self.now.rows.items c.pop_buffer.new.rows.items c.pop_buffer.ensures.bare)
     c.pop_buffer.ensures.size refl refl refl refl refl
+    (λ fine kept placed. placed_same c.args.self.now.rows.items c.pop_buffer.new.rows.items [] c.args.self.now.log.history c.in_default.ensures.none placed)
 
 pub returns-clause-stands : goal.returns-clause-stands
 returns-clause-stands g c =
@@ -18,4 +22,13 @@ returns-clause-stands g c =
     refl (λ i. c.hold.ensures.ports i ∙ c.pop_buffer.ensures.ports i)
     (bare_but c.args.self.now.facts.items c.args.self.now.rows.items c.pop_buffer.new.rows.items c.hold.new.rows.items c.args.instance (c.in-Some.ensures.held refl) c.pop_buffer.ensures.bare c.hold.ensures.bare)
     (c.hold.ensures.size ∙ c.pop_buffer.ensures.size) c.note_take.ensures
-    (record { quiet = tt; next = same_next c.args.self.now.batches c.args.self.now.batches c.args.self.now.log.history (Take c.args.instance 0 (numbers_in c.in-Some.parcel.finalizers)) refl refl; order = λ fine. tt }) refl refl refl
+    (record { quiet = tt; next = same_next c.args.self.now.batches c.args.self.now.batches c.args.self.now.log.history (Take c.args.instance 0 (numbers_in c.in-Some.parcel.finalizers)) refl refl;
+      order = λ fine. is_oldest (numbers_in c.in-Some.parcel.finalizers) _ _ (oldest_is (Contents c.args.instance 0) c.in-Some.parcel.finalizers c.args.self.now.rows.items c.pop_buffer.new.rows.items c.args.self.now.log.history (c.requires.stands.recorded fine).places c.in-Some.ensures.oldest);
+      places = λ kept placed. placed_held c.args.self.now.rows.items c.pop_buffer.new.rows.items c.hold.new.rows.items c.args.self.now.log.history c.args.instance c.in-Some.parcel.finalizers kept placed c.in-Some.ensures.oldest c.hold.ensures.last;
+    }) refl refl refl
+
+pub returns-in_default-clause-outputs : goal.returns-in_default-clause-outputs
+returns-in_default-clause-outputs g c i = c.in_default.ensures.none (Outputs i)
+
+pub returns-clause-outputs : goal.returns-clause-outputs
+returns-clause-outputs g c i = c.hold.ensures.last.others (Outputs i) refl ∙ c.in-Some.ensures.oldest.others (Outputs i) refl

@@ -1,0 +1,38 @@
+use Rattle.std.proofs.Common.{refl, []}
+use Rattle.vx_record.specs.Places.Place.{Outputs, Contents, Held}
+use Rattle.vx_hub.specs.Rows.{option_copies}
+use Rattle.vx_hub.proofs.StandsLaws.{stands_moved, hand_balanced, bare_by}
+use Rattle.vx_hub.proofs.Placing.{placed_if, placed_child_if, some_from_oldest}
+use Rattle.vx_hub.proofs.hub.Hub.next_parcel.Goals as goal
+
+pub returns-then-not-is_empty-clause-stands : goal.returns-then-not-is_empty-clause-stands
+returns-then-not-is_empty-clause-stands g c =
+    let d = c.args.self.now in
+    stands_moved g.P.Port.told d _ [] (option_copies c.pop_output.result) c.requires.stands
+    (hand_balanced d.batches d.rows.items c.pop_output.new.rows.items (option_copies c.pop_output.result) c.requires.stands.balanced c.pop_output.ensures.loses)
+    refl c.pop_output.ensures.ports (bare_by d.facts.items d.rows.items c.pop_output.new.rows.items c.pop_output.ensures.bare) c.pop_output.ensures.size refl refl refl refl refl
+    (λ fine kept placed. placed_if (Outputs c.args.i) c.pop_output.result d.rows.items c.pop_output.new.rows.items d.log.history kept placed (some_from_oldest (Outputs c.args.i) c.pop_output.result d.rows.items c.pop_output.new.rows.items c.pop_output.ensures.oldest) c.pop_output.ensures.none)
+
+pub returns-then-not-is_empty-2-clause-stands : goal.returns-then-not-is_empty-2-clause-stands
+returns-then-not-is_empty-2-clause-stands g c =
+    let d = c.args.self.now in
+    stands_moved g.P.Port.told d _ [] (option_copies c.take_last_child.result) c.requires.stands
+    (hand_balanced d.batches d.rows.items c.take_last_child.new.rows.items (option_copies c.take_last_child.result) c.requires.stands.balanced c.take_last_child.ensures.loses)
+    refl c.take_last_child.ensures.ports (bare_by d.facts.items d.rows.items c.take_last_child.new.rows.items c.take_last_child.ensures.bare) c.take_last_child.ensures.size refl refl refl refl refl
+    (λ fine kept placed. placed_child_if c.args.i c.take_last_child.result d.rows.items c.take_last_child.new.rows.items d.log.history kept placed c.take_last_child.ensures.from c.take_last_child.ensures.none)
+
+pub returns-then-not-is_empty-3-clause-stands : goal.returns-then-not-is_empty-3-clause-stands
+returns-then-not-is_empty-3-clause-stands g c =
+    let d = c.args.self.now in
+    stands_moved g.P.Port.told d _ [] (option_copies c.pop_buffer.result) c.requires.stands
+    (hand_balanced d.batches d.rows.items c.pop_buffer.new.rows.items (option_copies c.pop_buffer.result) c.requires.stands.balanced c.pop_buffer.ensures.loses)
+    refl c.pop_buffer.ensures.ports (bare_by d.facts.items d.rows.items c.pop_buffer.new.rows.items c.pop_buffer.ensures.bare) c.pop_buffer.ensures.size refl refl refl refl refl
+    (λ fine kept placed. placed_if (Contents c.args.i 0) c.pop_buffer.result d.rows.items c.pop_buffer.new.rows.items d.log.history kept placed (some_from_oldest (Contents c.args.i 0) c.pop_buffer.result d.rows.items c.pop_buffer.new.rows.items c.pop_buffer.ensures.oldest) c.pop_buffer.ensures.none)
+
+pub returns-else-not-is_empty-3-clause-stands : goal.returns-else-not-is_empty-3-clause-stands
+returns-else-not-is_empty-3-clause-stands g c =
+    let d = c.args.self.now in
+    stands_moved g.P.Port.told d _ [] (option_copies c.pop_held.result) c.requires.stands
+    (hand_balanced d.batches d.rows.items c.pop_held.new.rows.items (option_copies c.pop_held.result) c.requires.stands.balanced c.pop_held.ensures.loses)
+    refl c.pop_held.ensures.ports (bare_by d.facts.items d.rows.items c.pop_held.new.rows.items c.pop_held.ensures.bare) c.pop_held.ensures.size refl refl refl refl refl
+    (λ fine kept placed. placed_if (Held c.args.i) c.pop_held.result d.rows.items c.pop_held.new.rows.items d.log.history kept placed (some_from_oldest (Held c.args.i) c.pop_held.result d.rows.items c.pop_held.new.rows.items c.pop_held.ensures.oldest) c.pop_held.ensures.none)

@@ -1,0 +1,14 @@
+use Rattle.std.proofs.Common.{refl, []}
+use Rattle.vx_record.specs.Places.Place.{Held}
+use Rattle.vx_hub.proofs.StandsLaws.{stands_moved, hand_balanced, bare_by}
+use Rattle.vx_hub.proofs.Placing.{placed_taken, from_oldest}
+use Rattle.vx_hub.proofs.hub.Hub.spend_first.Goals as goal
+
+pub spend-requires-clause-stands : goal.spend-requires-clause-stands
+spend-requires-clause-stands g c =
+    let d = c.args.self.now in
+    let copies = c.in-Some.parcel.finalizers in
+    stands_moved g.P.Port.told d _ [] copies c.requires.stands
+    (hand_balanced d.batches d.rows.items c.pop_held.new.rows.items copies c.requires.stands.balanced c.in-Some.ensures.loses)
+    refl c.pop_held.ensures.ports (bare_by d.facts.items d.rows.items c.pop_held.new.rows.items c.pop_held.ensures.bare) c.pop_held.ensures.size refl refl refl refl refl
+    (λ fine kept placed. placed_taken (Held c.args.instance) copies d.rows.items c.pop_held.new.rows.items d.log.history kept placed (from_oldest (Held c.args.instance) copies d.rows.items c.pop_held.new.rows.items c.in-Some.ensures.oldest))

@@ -1,0 +1,27 @@
+-- Where the copies of a batch stand that is put out, and the parcels of a task that is out.
+use Rattle.std.specs.Prelude.{◌≡◌, ℕ, List, [], ◌∷◌, ◌++◌}
+use Rattle.vx_ledger.specs.Copies.{Copy}
+use Rattle.vx_record.specs.Records.{Record}
+use Rattle.vx_record.specs.Lists.{outputs, held}
+use Rattle.vx_record.specs.Moving.{singles}
+use Rattle.vx_hub.specs.declared.hub.Hub.{Hub}
+use Rattle.vx_hub.specs.declared.task.Role.{Role}
+use Rattle.vx_hub.specs.Numbers.{numbers_in}
+use Rattle.vx_hub.specs.Places.{parcel_numbers}
+use Rattle.vx_hub.specs.Rows.{role_parcels}
+use Rattle.vx_hub.specs.Stands.{IsSound}
+
+-- where the record has all that happened, the instance's outputs there are one for each copy, those of the hand first
+abbrev pub IsLinedUp : {P : Type 0} → Hub P → ℕ → List Copy → Type 0
+IsLinedUp hub i hand = IsSound hub → (done : List ℕ) × (outputs hub.log.history i ≡ singles (numbers_in hand ++ done))
+
+-- one copy is put out next, behind which those stand that were put out before
+pub record IsNextOut (h : Record) (i : ℕ) (rest copy : List Copy) : Type 0 where
+  pub number : ℕ
+  pub single : numbers_in copy ≡ number ∷ []
+  pub done : List ℕ
+  pub lined : outputs h i ≡ singles (numbers_in rest ++ number ∷ done)
+
+-- where the record has all that happened, it has of an instance the parcels that a task holds
+abbrev pub IsHeldBy : {P : Type 0} → Hub P → ℕ → Role → Type 0
+IsHeldBy hub i role = IsSound hub → held hub.log.history i ≡ parcel_numbers (role_parcels role)
