@@ -1,5 +1,5 @@
 -- What is left when each instance ended.
-use Rattle.std.proofs.Common.{◌≡◌, ℕ, suc, ◌+◌, List, [], ◌∷◌, ◌++◌, length, Option, Some, None, IfSome, IsSome, IsSomeAnd, true, false, refl, sym, ap, subst, ◌∙◌, arith}
+use Rattle.std.proofs.Common.{◌≡◌, ℕ, zero, suc, ◌+◌, List, [], ◌∷◌, ◌++◌, length, Option, Some, None, IfSome, IsSome, IsSomeAnd, true, false, refl, sym, ap, subst, ◌∙◌, arith}
 use Rattle.std.specs.Prelude.{All}
 use Rattle.std.proofs.lemmas.List.Elements.{All-head, All-tail}
 use Rattle.vx_ends.specs.Told.{Told}
@@ -8,9 +8,17 @@ use Rattle.vx_hub.specs.declared.facts.Facts.{Facts}
 use Rattle.vx_hub.specs.declared.row.Row.{Row}
 use Rattle.vx_hub.specs.declared.task.Task.{Task}
 use Rattle.vx_hub.specs.declared.parts.Numbered.{Numbered}
-use Rattle.vx_hub.specs.Rows.{IsBare, task_port, port_at}
+use Rattle.vx_hub.specs.Rows.{IsBare, row_at, task_port, port_at}
 use Rattle.vx_hub.specs.Stands.{IsGone, IsShut, IsTold, facts_at}
-use Rattle.vx_hub.specs.Remains.{AreBare, numbered_port, ports_in, AreNumbered, AreClosed, AreTold}
+use Rattle.vx_record.specs.Places.{Place, owner}
+use Rattle.vx_record.specs.Moving.{IsConserved}
+use Rattle.vx_record.proofs.OnePlace.{conserved_place}
+use Rattle.vx_record.proofs.Hands.{nowhere}
+use Rattle.vx_hub.specs.Order.{IsOrderly}
+use Rattle.vx_hub.specs.Places.{numbers_at, numbers_if, IsPlaced}
+use Rattle.vx_hub.proofs.Beginning.{unused_here}
+use Rattle.vx_hub.proofs.Placing.{conserved, places_all}
+use Rattle.vx_hub.specs.Remains.{AreBare, numbered_port, ports_in, AreNumbered, AreClosed, AreTold, HasOnePlace, AllSpent}
 
 -- where all instances ended, nothing stands at any
 pub all_bare : {P : Type 0} (fs : List Facts) (rows : List (Row P)) → length fs ≡ length rows → All (λ f. f.retired ≡ true) fs →
@@ -98,3 +106,22 @@ ports_told {P} told_by h rows told = all_told told_by h rows 0 (λ i. from_zero 
   where
     from_zero : (i : ℕ) → IfSome (port_at rows i) (λ port. IsTold (told_by port) h i) → IfSome (port_at rows i) (λ port. IsTold (told_by port) h (0 + i))
     from_zero i t = let same : i ≡ 0 + i = omega arith in subst (λ (n : ℕ). IfSome (port_at rows i) (λ port. IsTold (told_by port) h n)) same t
+
+-- where nothing stands at any instance, nothing stands at any place
+pub bare_nowhere : {P : Type 0} (rows : List (Row P)) → AreBare rows → (p : Place) → numbers_at p rows ≡ []
+bare_nowhere {P} rows bare p = go rows (owner p) bare
+  where
+    go : (rs : List (Row P)) (k : ℕ) → AreBare rs → numbers_if p (row_at rs k) ≡ []
+    go [] k b = refl
+    go (r ∷ rs) zero b = unused_here r b.0.outputs b.0.waiting b.0.buffer b.0.held p
+    go (r ∷ rs) (suc k) b = go rs k b.1
+
+-- what stands in no place was split or spent
+pub all_spent : {P : Type 0} (rows : List (Row P)) (h : Record) → IsOrderly h → IsPlaced rows [] h → AreBare rows → AllSpent h
+all_spent rows h order placed bare c l =
+    let none = nowhere h (λ p. places_all rows h placed p ∙ bare_nowhere rows bare p) c in
+    let one = conserved_place [] h (conserved h order) c l in
+    omega arith
+
+pub one_place : (h : Record) → IsOrderly h → HasOnePlace h
+one_place h order later earlier is c l = conserved_place later earlier (subst IsConserved (sym is) (conserved h order)) c l

@@ -1,11 +1,23 @@
 -- What a hub leaves behind.
-use Rattle.std.specs.Prelude.{◌≡◌, ℕ, ◌+◌, List, [], ◌∷◌, ◌++◌, Option, Some, None, false}
+use Rattle.std.specs.Prelude.{◌≡◌, ℕ, ◌+◌, ◌<◌, List, [], ◌∷◌, ◌++◌, length, Option, Some, None, false}
 use Rattle.vx_ends.specs.Told.{Told}
 use Rattle.vx_record.specs.Records.{Record}
+use Rattle.vx_record.specs.Copies.{next_copy, times_split, times_spent}
+use Rattle.vx_record.specs.Lists.{places}
 use Rattle.vx_hub.specs.declared.row.Row.{Row}
 use Rattle.vx_hub.specs.declared.parts.Numbered.{Numbered}
 use Rattle.vx_hub.specs.Rows.{IsBare, task_port}
 use Rattle.vx_hub.specs.Stands.{IsTold}
+
+-- each copy that was made by then was split once, or was spent once, or stands in one place, once, at any time of the record
+abbrev pub HasOnePlace : Record → Type 0
+HasOnePlace h =
+    (later earlier : Record) → later ++ earlier ≡ h → (c : ℕ) → c < next_copy earlier →
+    times_split earlier c + times_spent earlier c + length (places earlier c) ≡ 1
+
+-- each copy that was made was split once or spent once
+abbrev pub AllSpent : Record → Type 0
+AllSpent h = (c : ℕ) → c < next_copy h → times_split h c + times_spent h c ≡ 1
 
 -- nothing stands at any instance, and each is at home
 abbrev pub AreBare : {P : Type 0} → List (Row P) → Type 0

@@ -1,7 +1,8 @@
 ghost use Rattle.std.specs.Prelude.{◌≡◌, [], length, All, Some, true};
 ghost use Rattle.vx_hub.specs.Rows.{IsBare, task_port};
 ghost use Rattle.vx_hub.specs.Stands.{Stands, IsSound, HasBerths};
-ghost use Rattle.vx_hub.specs.Remains.{AreBare, ports_in, AreNumbered, AreClosed, AreTold};
+ghost use Rattle.vx_hub.specs.Remains.{AreBare, ports_in, AreNumbered, AreClosed, AreTold, HasOnePlace, AllSpent};
+ghost use Rattle.vx_hub.specs.Order.{IsOrderly};
 
 use crate::hub::Hub;
 use crate::parts::{Numbered, NumberedList};
@@ -31,6 +32,9 @@ impl<P: Port> Hub<P> {
         ensures count { length result.ports ≡ length self.rows.items }
         ensures closed { AreClosed P.told result.ports }
         ensures told { IsSound self → AreTold P.told result.history result.ports }
+        ensures order { IsSound self → IsOrderly result.history }
+        ensures one_place { IsSound self → HasOnePlace result.history }
+        ensures spent { IsSound self → AllSpent result.history }
     {
         let Hub {
             alloc: _,

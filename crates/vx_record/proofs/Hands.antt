@@ -19,7 +19,7 @@ use Rattle.vx_record.proofs.Tracked.{places_one, unmade_nowhere}
 use Rattle.vx_record.proofs.Live.{unmade_whole}
 use Rattle.vx_record.proofs.OnePlace.{tracked, conserved_live}
 use Rattle.vx_record.proofs.Steps.{MovesNothing}
-use Rattle.vx_record.proofs.Changes.{NoneEmpty, none_empty, without-none, without-all, without-append, shrunk-none, shrunk-and_rest, put_at, same_place_is, parcels_after, places_meant, stands_once, not_both}
+use Rattle.vx_record.proofs.Changes.{NoneEmpty, none_empty, without-none, without-all, without-append, shrunk-none, shrunk-and_rest, put_at, same_place_is, same_place_self, parcels_after, places_meant, stands_once, not_both}
 use Rattle.vx_record.proofs.Entries.{spent_shrinks, born_grows, born_stays}
 
 -- ENTRIES THAT MOVE NOTHING
@@ -341,3 +341,16 @@ singles_left rest done once = go [] rest (λ c. once c)
         ∙ ap (λ gone. shrunk gone (singles (xs ++ done))) (sym (append_assoc before (x ∷ []) xs))
         ∙ go (before ++ x ∷ []) xs (λ c. let a = all c in
         let b = ap (λ gone. count c (gone ++ done)) (append_assoc before (x ∷ []) xs) in omega arith)
+
+-- a copy of which no place has anything is in no place
+pub nowhere : (h : Record) → ((p : Place) → parcels_at p (stands h) ≡ []) → (c : ℕ) → length (places h c) ≡ 0
+nowhere h none c = go (places h c) (λ p. sym (places_meant h c p) ∙ ap (λ ps. count c (joined ps)) (none p))
+  where
+    go : (ps : List Place) → ((p : Place) → times_among p ps ≡ 0) → length ps ≡ 0
+    go [] all = refl
+    go (q ∷ rest) all =
+        absurd (some (same_place q q) (same_place_self q) (times_among q rest) (all q))
+      where
+        some : (b : Bool) → b ≡ true → (n : ℕ) → (if b then 1 else 0) + n ≡ 0 → ⊥
+        some true e n none = omega arith
+        some false e n none = cc

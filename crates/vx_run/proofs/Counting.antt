@@ -1,5 +1,5 @@
 -- What was counted, whatever fault is told in the end.
-use Rattle.std.proofs.Common.{◌≡◌, ◌⊎◌, inl, inr, ℕ, List, [], Option, Some, None, sym, subst}
+use Rattle.std.proofs.Common.{◌≡◌, ◌⊎◌, inl, inr, ℕ, List, [], ◌∷◌, Option, Some, None, sym, subst, arith}
 use Rattle.vx_ends.specs.Told.{Told}
 use Rattle.vx_record.specs.Records.{Record}
 use Rattle.vx_record.specs.TallyLists.{tallies_of}
@@ -7,11 +7,11 @@ use Rattle.vx_record.specs.declared.tally.Tally.{Tally}
 use Rattle.vx_hub.specs.declared.parts.Numbered.{Numbered}
 use Rattle.vx_hub.specs.declared.hub.Hub.{Hub}
 use Rattle.vx_hub.specs.Order.{IsOrderly}
-use Rattle.vx_hub.specs.Remains.{AreTold}
+use Rattle.vx_hub.specs.Remains.{AreTold, HasOnePlace, AllSpent}
 use Rattle.vx_hub.specs.Stands.{IsSound}
 use Rattle.vx_run.specs.Judging.{IsSure}
 use Rattle.vx_run.specs.Answers.{IsJudged}
-use Rattle.vx_run.specs.Running.{IsTrueTo, IsCounted}
+use Rattle.vx_run.specs.Running.{IsTrueTo, AreKept, IsCounted}
 use Rattle.vx_run.specs.Telling.{IsKept}
 use Rattle.vx_run.specs.declared.fault.Fault.{Fault}
 use Rattle.vx_run.specs.declared.fault.Fault.TheVariants.{Usage, ConfigRead, ConfigRefused, Numbers, TooLong, SourceFailed, ConfirmFailed, WantOfMemory}
@@ -72,3 +72,50 @@ true_of told_by hub h ports (Some (Numbers next wanted)) sure told order = (told
 true_of told_by hub h ports (Some TooLong) sure told order = (told sure, order sure)
 true_of told_by hub h ports (Some (SourceFailed name at)) sure told order = (told sure, order sure)
 true_of told_by hub h ports (Some (ConfirmFailed name)) sure told order = (told sure, order sure)
+
+-- but for want of memory each copy was kept
+pub kept_of : {P : Type 0} (hub : Hub P) (h : Record) (fault : Option Fault) → IsSure hub fault → (IsSound hub → HasOnePlace h) → (IsSound hub → AllSpent h) → AreKept h fault
+kept_of hub h None sure one spent = (one sure, spent sure)
+kept_of hub h (Some WantOfMemory) sure one spent = tt
+kept_of hub h (Some Usage) sure one spent = (one sure, spent sure)
+kept_of hub h (Some (ConfigRead path)) sure one spent = (one sure, spent sure)
+kept_of hub h (Some (ConfigRefused f)) sure one spent = (one sure, spent sure)
+kept_of hub h (Some (Numbers next wanted)) sure one spent = (one sure, spent sure)
+kept_of hub h (Some TooLong) sure one spent = (one sure, spent sure)
+kept_of hub h (Some (SourceFailed name at)) sure one spent = (one sure, spent sure)
+kept_of hub h (Some (ConfirmFailed name)) sure one spent = (one sure, spent sure)
+
+pub kept_short : (h : Record) (fault counted : Option Fault) → (counted ≡ fault) ⊎ (counted ≡ Some WantOfMemory) → AreKept h fault → AreKept h counted
+kept_short h fault counted (inl same) kept = subst (λ (f : Option Fault). AreKept h f) (sym same) kept
+kept_short h fault counted (inr short) kept = subst (λ (f : Option Fault). AreKept h f) (sym short) tt
+
+-- of an empty record there is no copy
+none_placed : HasOnePlace []
+none_placed [] [] is c l = absurd (omega arith)
+none_placed [] (e ∷ earlier) is c l = cc
+none_placed (e ∷ later) earlier is c l = cc
+
+none_spent : AllSpent []
+none_spent c l = absurd (omega arith)
+
+pub kept_none : (h : Record) (fault : Option Fault) → h ≡ [] → AreKept h fault
+kept_none h None none = (subst HasOnePlace (sym none) none_placed, subst AllSpent (sym none) none_spent)
+kept_none h (Some WantOfMemory) none = tt
+kept_none h (Some Usage) none = (subst HasOnePlace (sym none) none_placed, subst AllSpent (sym none) none_spent)
+kept_none h (Some (ConfigRead path)) none = (subst HasOnePlace (sym none) none_placed, subst AllSpent (sym none) none_spent)
+kept_none h (Some (ConfigRefused f)) none = (subst HasOnePlace (sym none) none_placed, subst AllSpent (sym none) none_spent)
+kept_none h (Some (Numbers next wanted)) none = (subst HasOnePlace (sym none) none_placed, subst AllSpent (sym none) none_spent)
+kept_none h (Some TooLong) none = (subst HasOnePlace (sym none) none_placed, subst AllSpent (sym none) none_spent)
+kept_none h (Some (SourceFailed name at)) none = (subst HasOnePlace (sym none) none_placed, subst AllSpent (sym none) none_spent)
+kept_none h (Some (ConfirmFailed name)) none = (subst HasOnePlace (sym none) none_placed, subst AllSpent (sym none) none_spent)
+
+pub kept_told : (h : Record) (fault told : Option Fault) → IsKept fault told → AreKept h fault → AreKept h told
+kept_told h fault None same kept = subst (λ (f : Option Fault). AreKept h f) same kept
+kept_told h fault (Some WantOfMemory) same kept = tt
+kept_told h fault (Some Usage) same kept = subst (λ (f : Option Fault). AreKept h f) same kept
+kept_told h fault (Some (ConfigRead path)) same kept = subst (λ (f : Option Fault). AreKept h f) same kept
+kept_told h fault (Some (ConfigRefused f)) same kept = subst (λ (f : Option Fault). AreKept h f) same kept
+kept_told h fault (Some (Numbers next wanted)) same kept = subst (λ (f : Option Fault). AreKept h f) same kept
+kept_told h fault (Some TooLong) same kept = subst (λ (f : Option Fault). AreKept h f) same kept
+kept_told h fault (Some (SourceFailed name at)) same kept = subst (λ (f : Option Fault). AreKept h f) same kept
+kept_told h fault (Some (ConfirmFailed name)) same kept = subst (λ (f : Option Fault). AreKept h f) same kept

@@ -7,7 +7,7 @@ use Rattle.vx_record.specs.TallyLists.{tallies_of}
 use Rattle.vx_record.specs.declared.tally.Tally.{Tally}
 use Rattle.vx_hub.specs.declared.parts.Numbered.{Numbered}
 use Rattle.vx_hub.specs.Order.{IsOrderly}
-use Rattle.vx_hub.specs.Remains.{AreTold}
+use Rattle.vx_hub.specs.Remains.{AreTold, HasOnePlace, AllSpent}
 use Rattle.vx_run.specs.declared.fault.Fault.{Fault}
 use Rattle.vx_run.specs.declared.fault.Fault.TheVariants.{Usage, ConfigRead, ConfigRefused, WantOfMemory}
 
@@ -15,6 +15,11 @@ use Rattle.vx_run.specs.declared.fault.Fault.TheVariants.{Usage, ConfigRead, Con
 abbrev pub IsTrueTo : {P : Type 0} → (P → Told) → Record → List (Numbered P) → Option Fault → Type 0
 IsTrueTo told_by h ports (Some WantOfMemory) = Unit {0}
 IsTrueTo told_by h ports fault = AreTold told_by h ports × IsOrderly h
+
+-- but for want of memory, each copy is in one place at any time, and in the end it was split or spent
+abbrev pub AreKept : Record → Option Fault → Type 0
+AreKept h (Some WantOfMemory) = Unit {0}
+AreKept h fault = HasOnePlace h × AllSpent h
 
 -- a run that didn't begin has no record and no port
 abbrev pub IsUnbegun : {P : Type 0} → Record → List (Numbered P) → Type 0

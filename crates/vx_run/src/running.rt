@@ -4,7 +4,7 @@ ghost use Rattle.vx_hub.specs.Making.{AreUntouched};
 ghost use Rattle.vx_hub.specs.Stands.{Stands};
 ghost use Rattle.vx_hub.specs.Remains.{AreNumbered, AreClosed};
 ghost use Rattle.vx_run.specs.Answers.{IsAnswer, IsJudged};
-ghost use Rattle.vx_run.specs.Running.{IsTrueTo, IsCounted, NoneMissing};
+ghost use Rattle.vx_run.specs.Running.{IsTrueTo, AreKept, IsCounted, NoneMissing};
 
 use crate::driver::drive;
 use crate::fault::Fault;
@@ -38,6 +38,7 @@ pub(crate) fn run<R: Wait, W: World, C: Clock>(
 ) -> Outcome<W::Port>
     ensures answer { IsAnswer words.now (W.texts world.old) (W.faults world.old) (W.faults world.new) result.history result.fault }
     ensures told { IsTrueTo W.Port.told result.history result.ports result.fault }
+    ensures copies { AreKept result.history result.fault }
     ensures counted { IsCounted result.history (length result.ports) result.tallies result.fault }
     ensures closed { AreClosed W.Port.told result.ports }
     ensures numbers { AreNumbered 0 result.ports }
@@ -56,6 +57,7 @@ fn unbegun<P>(alloc: Global, fault: Fault) -> Outcome<P>
     ensures history { result.history ≡ [] }
     ensures tallies { result.tallies ≡ [] }
     ensures ports { result.ports ≡ [] }
+    ensures copies { AreKept result.history result.fault }
     ensures counted { IsCounted result.history (length result.ports) result.tallies result.fault }
 {
     Outcome {
@@ -78,6 +80,7 @@ fn begin<R: Wait, P: Port, C: Clock>(
     requires untouched { AreUntouched P.told parts.plan.components parts.ports }
     ensures judged { IsJudged result.history result.fault }
     ensures told { IsTrueTo P.told result.history result.ports result.fault }
+    ensures copies { AreKept result.history result.fault }
     ensures counted { IsCounted result.history (length result.ports) result.tallies result.fault }
     ensures closed { AreClosed P.told result.ports }
     ensures numbers { AreNumbered 0 result.ports }
@@ -105,6 +108,7 @@ fn finish<R: Wait, P: Port, C: Clock>(
     requires size { length hub.rows.items ≡ length first_plan.components }
     ensures judged { IsJudged result.history result.fault }
     ensures told { IsTrueTo P.told result.history result.ports result.fault }
+    ensures copies { AreKept result.history result.fault }
     ensures counted { IsCounted result.history (length result.ports) result.tallies result.fault }
     ensures closed { AreClosed P.told result.ports }
     ensures numbers { AreNumbered 0 result.ports }

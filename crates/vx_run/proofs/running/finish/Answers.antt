@@ -3,7 +3,7 @@ use Rattle.vx_record.specs.Records.{Record}
 use Rattle.vx_hub.specs.Order.{IsOrderly}
 use Rattle.vx_run.specs.Answers.{IsJudged}
 use Rattle.vx_run.specs.Running.{IsCounted}
-use Rattle.vx_run.proofs.Counting.{judged_short, true_short, true_of}
+use Rattle.vx_run.proofs.Counting.{judged_short, true_short, true_of, kept_short, kept_of}
 use Rattle.vx_run.proofs.running.finish.Goals as goal
 
 pub returns-clause-judged : goal.returns-clause-judged
@@ -19,3 +19,7 @@ pub returns-clause-counted : goal.returns-clause-counted
 returns-clause-counted g c =
     let same : c.instances-instances.result ≡ length c.end-ports.result.ports = omega (arith, c.instances-instances.ensures, c.end-ports.ensures.count, c.drive.ensures.stands.berths.few) in
     subst (λ n. IsCounted c.end-ports.result.history n c.count-tallies.result.tallies c.count-tallies.result.fault) same c.count-tallies.ensures.counted
+
+pub returns-clause-copies : goal.returns-clause-copies
+returns-clause-copies g c = kept_short c.end-ports.result.history c.judge-fault.result c.count-tallies.result.fault c.count-tallies.ensures.kept
+    (kept_of c.drive.new.hub c.end-ports.result.history c.judge-fault.result c.judge-fault.ensures.sure c.end-ports.ensures.one_place c.end-ports.ensures.spent)

@@ -1,7 +1,7 @@
 use Rattle.std.proofs.Common.{ap, ◌∙◌, subst, sym, List, length}
 use Rattle.vx_hub.specs.declared.parts.Numbered.{Numbered}
 use Rattle.vx_hub.specs.Remains.{AreNumbered, AreClosed, AreTold}
-use Rattle.vx_hub.proofs.Remaining.{all_bare, all_shut, ports_told, all_numbered, all_counted}
+use Rattle.vx_hub.proofs.Remaining.{all_bare, all_shut, ports_told, all_numbered, all_counted, one_place, all_spent}
 use Rattle.vx_hub.proofs.hub.Hub.end.Goals as goal
 
 pub ports_of-requires-clause-bare : goal.ports_of-requires-clause-bare
@@ -21,3 +21,14 @@ returns-clause-closed g c = subst (λ (ns : List (Numbered _)). AreClosed g.P.Po
 pub returns-clause-told : goal.returns-clause-told
 returns-clause-told g c sound = subst (λ (ns : List (Numbered _)). AreTold g.P.Port.told c.args.self.log.history ns) (sym c.ports_of.ensures)
     (ports_told g.P.Port.told c.args.self.log.history c.args.self.rows.items (c.requires.stands.recorded sound).ports)
+
+pub returns-clause-order : goal.returns-clause-order
+returns-clause-order g c sound = (c.requires.stands.recorded sound).order
+
+pub returns-clause-one_place : goal.returns-clause-one_place
+returns-clause-one_place g c sound = one_place c.args.self.log.history (c.requires.stands.recorded sound).order
+
+pub returns-clause-spent : goal.returns-clause-spent
+returns-clause-spent g c sound =
+    let r = c.requires.stands.recorded sound in
+    all_spent c.args.self.rows.items c.args.self.log.history r.order r.places (all_bare c.args.self.facts.items c.args.self.rows.items c.requires.stands.size c.requires.over c.requires.stands.gone)
