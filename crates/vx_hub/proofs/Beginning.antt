@@ -1,5 +1,5 @@
 -- Seats come and go at the end of a list.
-use Rattle.std.proofs.Common.{◌≡◌, ℕ, zero, suc, ◌+◌, ◌<◌, ◌≤◌, false, List, [], ◌∷◌, ◌++◌, length, IfSome, refl, sym, ap, subst, arith, get_or}
+use Rattle.std.proofs.Common.{◌≡◌, ℕ, zero, suc, ◌+◌, ◌<◌, ◌≤◌, false, List, [], ◌∷◌, ◌++◌, length, Some, IfSome, refl, sym, ap, subst, arith, get_or}
 use Rattle.std.specs.Prelude.{remove, ◌^◌, drop, slice_get, Bool}
 use Rattle.vx_hub.specs.declared.seat.Seat.{Seat}
 use Rattle.vx_hub.specs.declared.facts.Facts.{Facts}
@@ -96,9 +96,9 @@ new_known : (f : Facts) (plan : Plan) (once : Bool) (now i : ℕ) → AreNew f �
 new_known f plan once now i n = record { taken = n.taken; lost = n.lost; failed_starts = n.failed_starts; ends = n.ends; to_confirm = subst (λ (o : _). IfSome o (λ positions. positions ≡ [])) (sym n.to_confirm) tt; confirm_failed = n.confirm_failed }
 
 -- a hub whose instances were all seated stands for the record of their install
-pub begun_stands : {P : Type 0} (told_by : P → Told) (plan : Plan) (hub : Hub P) → Begins told_by plan hub → HasFirst plan hub.log.history → hub.ports.items ≡ [] → length hub.rows.items ≤ hub.ports.room → length hub.rows.items < 2 ^ 32 →
+pub begun_stands : {P : Type 0} (told_by : P → Told) (plan : Plan) (hub : Hub P) → Begins told_by plan hub → hub.plan ≡ plan → HasFirst plan hub.log.history → hub.ports.items ≡ [] → length hub.rows.items ≤ hub.ports.room → length hub.rows.items < 2 ^ 32 →
     Stands told_by hub [] hub.log.history
-begun_stands told_by plan hub b first none room few = record {
+begun_stands told_by plan hub b mine first none room few = record {
   history = refl;
   balanced = λ batch place. let live : live_count batch place hub.batches.open_rows ≡ 0 = ap (live_count batch place) b.batches in omega (arith, b.copies batch place);
   recorded = λ sound. subst (λ (h : Record). IsRecorded told_by hub [] h) (sym first.alone) (record {
@@ -109,6 +109,7 @@ begun_stands told_by plan hub b first none room few = record {
     order = (record { first = refl; zeroth = refl; all_new = refl }, tt);
     unknown = λ i past. record { unlost = refl; confirmed = refl };
     cause = b.abandoned;
+    installed = ap Some (sym mine);
     places = at_rest hub.rows.items (begun plan first.once first.now) (λ p. sym (b.places p));
   });
   shut = λ i. some_mapped _ _ (facts_at hub.facts.items i) (λ f n closed. let no : f.closed ≡ false = n.closed in cc) (b.facts i);

@@ -20,6 +20,7 @@ use Rattle.vx_hub.specs.Stands.{Stands, IsTold, IsKnown, IsRecorded, IsShut, IsG
 use Rattle.vx_hub.specs.declared.parts.Numbered.{Numbered}
 use Rattle.vx_value.specs.Filled.{Filled}
 use Rattle.std.proofs.lemmas.List.{append-nil}
+use Rattle.vx_record.specs.Installs.{in_force}
 use Rattle.vx_record.specs.Reads.{bytes_of_all}
 use Rattle.vx_ends.specs.declared.position.Position.{Position}
 use Rattle.vx_record.specs.Confirms.{Birth, births, births_in, born_positions, last_of_each, position_of}
@@ -112,6 +113,14 @@ pub record Passes {P : Type 0} (d e : Hub P) (hand after : List Copy) (entry : E
   pub order : IsSound d → IsInOrder d.log.history entry
   pub places : IsConserved (entry ∷ d.log.history) → IsPlaced d.rows.items (numbers_in hand) d.log.history → IsPlaced e.rows.items (numbers_in after) (entry ∷ d.log.history)
 
+-- only an install changes the plan that is in force
+pub force_mute : (h : Record) (e : Entry) → IsMute e → in_force (e ∷ h) ≡ in_force h
+force_mute h (Install version plan once instances now) m = absurd m
+force_mute h e m = refl
+
+pub force_quiet : (h : Record) (e : Entry) → IsQuiet e → in_force (e ∷ h) ≡ in_force h
+force_quiet h e q = force_mute h e (mute_of_quiet e q)
+
 pub cause_quiet : (h : Record) (e : Entry) → IsQuiet e → cause_of (e ∷ h) ≡ cause_of h
 cause_quiet h (Abandon cause) q = absurd q
 cause_quiet h e q = refl
@@ -154,6 +163,7 @@ stands_quiet {P} told_by d e hand after entry s balanced facts ports bare size n
             order = (passes.order fine, r.order);
             unknown = λ i past. unknown_mute entry d.log.history i (mute_of_quiet entry quiet) (r.unknown i (subst (λ n. n ≤ i) size past));
             cause = ap (λ (t : _). t.1) berths ∙ r.cause ∙ sym (cause_quiet d.log.history entry quiet);
+            installed = force_quiet d.log.history entry quiet ∙ r.installed ∙ ap Some (sym (ap (λ (t : _). t.2) berths));
             places = passes.places (conserved (entry ∷ d.log.history) (passes.order fine, r.order)) r.places;
           });
       shut = λ i. subst (λ (fs : List Facts). IfSome (facts_at fs i) (IsShut told_by e.rows.items i)) (sym (ap (λ (v : _). v.items) facts))
@@ -211,6 +221,7 @@ stands_moved {P} told_by d e hand after s balanced facts ports bare size next lo
         order = r.order;
         unknown = λ i past. r.unknown i (subst (λ n. n ≤ i) size past);
         cause = ap (λ (t : _). t.1) berths ∙ r.cause;
+        installed = r.installed ∙ ap Some (sym (ap (λ (t : _). t.2) berths));
         places = places fine (conserved d.log.history r.order) r.places;
       });
   shut = λ i. subst (λ (fs : List Facts). IfSome (facts_at fs i) (IsShut told_by e.rows.items i)) (sym (ap (λ (v : _). v.items) facts))
@@ -301,6 +312,7 @@ stands_abandoned {P} told_by d log cause s once reason noted = record {
         order = (record { first = sym r.cause ∙ once; reason = reason fine }, r.order);
         unknown = λ i past. unknown_mute (Abandon cause) d.log.history i tt (r.unknown i past);
         cause = refl;
+        installed = r.installed;
         places = placed_still d.rows.items [] d.log.history (Abandon cause) tt (conserved d.log.history r.order) r.places;
       });
   shut = s.shut;
@@ -316,7 +328,7 @@ stands_counted {P} told_by d e hand same s = subst (λ (x : Hub P). Stands told_
   balanced = s.balanced;
   recorded = λ sound.
       let r : IsRecorded told_by d hand d.log.history = s.recorded (record { whole = sound.whole; fed = sound.fed }) in
-      record { ports = r.ports; facts = r.facts; bytes = r.bytes; next = r.next; order = r.order; unknown = r.unknown; cause = r.cause; places = r.places };
+      record { ports = r.ports; facts = r.facts; bytes = r.bytes; next = r.next; order = r.order; unknown = r.unknown; cause = r.cause; installed = r.installed; places = r.places };
   shut = s.shut;
   gone = s.gone;
   size = s.size;

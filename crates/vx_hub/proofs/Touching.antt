@@ -10,6 +10,7 @@ use Rattle.vx_ledger.proofs.CopyLaws.{copies_of-append}
 use Rattle.vx_record.specs.Records.{Record}
 use Rattle.vx_ends.specs.declared.trouble.Reply.{Reply}
 use Rattle.vx_record.specs.Reads.{taken, bytes_of_all}
+use Rattle.vx_record.specs.Installs.{in_force}
 use Rattle.vx_record.specs.Encoding.{given}
 use Rattle.vx_record.specs.Confirms.{confirmed, is_unconfirmed}
 use Rattle.vx_record.specs.Sourcing.{failed_starts}
@@ -17,7 +18,7 @@ use Rattle.vx_record.specs.PortCounts.{fault_count, refusal_count, idle_count}
 use Rattle.vx_record.specs.Noted.{Noted}
 use Rattle.vx_record.specs.declared.log.Log.{Log}
 use Rattle.vx_record.specs.declared.entry.Entry.{Entry}
-use Rattle.vx_record.specs.declared.entry.Entry.TheVariants.{Read, Idle, SourceLost, Born, Attempt, Confirm, Abandon}
+use Rattle.vx_record.specs.declared.entry.Entry.TheVariants.{Install, Read, Idle, SourceLost, Born, Attempt, Confirm, Abandon}
 use Rattle.vx_hub.specs.declared.facts.Facts.{Facts}
 use Rattle.vx_hub.specs.declared.row.Row.{Row}
 use Rattle.vx_hub.specs.declared.hub.Hub.{Hub}
@@ -25,7 +26,7 @@ use Rattle.vx_hub.specs.Rows.{port_at, port_of, task_port, row_at, copies_in, Is
 use Rattle.vx_hub.specs.Works.{IsClosedBy}
 use Rattle.vx_hub.specs.declared.task.Task.{Task}
 use Rattle.vx_hub.specs.Stands.{Stands, IsTold, IsKnown, IsRecorded, IsSound, IsShut, IsGone, facts_at, lost_at, spec_at, capped, touched, IsBalanced, IsMute, spare_of, cause_of}
-use Rattle.vx_hub.proofs.StandsLaws.{some_mapped, some_all, berths_kept, ends_on, to_confirm_on, told_mute, bytes_mute, same_next, unknown_on, unknown_mute}
+use Rattle.vx_hub.proofs.StandsLaws.{some_mapped, some_all, berths_kept, ends_on, to_confirm_on, told_mute, bytes_mute, force_mute, same_next, unknown_on, unknown_mute}
 use Rattle.vx_record.specs.Copies.{next_copy, makes}
 use Rattle.vx_record.specs.Moving.{IsStill, IsConserved}
 use Rattle.vx_hub.specs.Numbers.{numbers_in}
@@ -169,6 +170,11 @@ cause_touched : (h : Record) (e : Entry) (i : ℕ) → touched e ≡ Some i → 
 cause_touched h (Abandon cause) i t = cc
 cause_touched h e i t = refl
 
+-- nor the plan that is in force
+force_touched : (h : Record) (e : Entry) (i : ℕ) → touched e ≡ Some i → in_force (e ∷ h) ≡ in_force h
+force_touched h (Install version plan once instances now) i t = cc
+force_touched h e i t = refl
+
 -- bytes or the loss of an instance that is out are told
 pub stands_touched : {P : Type 0} (told_by : P → Told) (d e : Hub P) (hand : List Copy) (entry : Entry) (i : ℕ) (f g : Facts) →
     Stands told_by d hand d.log.history → IsOutAt d.rows.items i → i < length d.facts.items → f ≡ get_or d.facts.items i f →
@@ -204,6 +210,7 @@ stands_touched {P} told_by d e hand entry i f g s out within at written closed r
             unknown = λ j past. let beyond : length d.rows.items ≤ j = subst (λ (v : _). length v.items ≤ j) rows past in
                 unknown_on entry d.log.history j (λ t. let same : i ≡ j = cc in omega (arith, within, beyond, s.size, same)) (r.unknown j beyond);
             cause = ap (λ (t : _). t.1) berths ∙ r.cause ∙ sym (cause_touched d.log.history entry i touch);
+            installed = force_touched d.log.history entry i touch ∙ r.installed ∙ ap Some (sym (ap (λ (t : _). t.2) berths));
             places = subst (λ (v : _). IsPlaced v.items (numbers_in hand) (entry ∷ d.log.history)) (sym rows)
                 (placed_still d.rows.items (numbers_in hand) d.log.history entry still (conserved d.log.history r.order) r.places);
           });
@@ -253,6 +260,7 @@ stands_marked {P} told_by d e hand after entry i f g s within at written rows be
             order = (order fine, r.order);
             unknown = λ j past. unknown_mute entry d.log.history j mute (r.unknown j (subst (λ (v : _). length v.items ≤ j) rows past));
             cause = ap (λ (t : _). t.1) berths ∙ r.cause ∙ sym cause;
+            installed = force_mute d.log.history entry mute ∙ r.installed ∙ ap Some (sym (ap (λ (t : _). t.2) berths));
             places = subst (λ (v : _). IsPlaced v.items (numbers_in after) (entry ∷ d.log.history)) (sym rows)
                 (places (conserved (entry ∷ d.log.history) (order fine, r.order)) r.places);
           });
@@ -291,6 +299,7 @@ stands_brought {P} told_by d e copies port i s unclosed told balanced here ports
             order = r.order;
             unknown = λ k past. r.unknown k (subst (λ n. n ≤ k) size past);
             cause = ap (λ (t : _). t.1) berths ∙ r.cause;
+            installed = r.installed ∙ ap Some (sym (ap (λ (t : _). t.2) berths));
             places = places fine (conserved d.log.history r.order) r.places;
           });
       shut = λ k. subst (λ (v : _). IfSome (facts_at v.items k) (IsShut told_by e.rows.items k)) (sym facts)
@@ -406,6 +415,7 @@ stands_shut {P} told_by d e i s home becomes loses ports bare size batches facts
             order = r.order;
             unknown = λ k past. r.unknown k (subst (λ n. n ≤ k) size past);
             cause = ap (λ (t : _). t.1) berths ∙ r.cause;
+            installed = r.installed ∙ ap Some (sym (ap (λ (t : _). t.2) berths));
             places = placed_same d.rows.items e.rows.items [] d.log.history same r.places;
           });
       shut = λ k. subst (λ (v : _). IfSome (facts_at v.items k) (IsShut told_by e.rows.items k)) (sym facts)
@@ -456,6 +466,7 @@ stands_attempted {P} told_by d log hand i copies bytes reply s within out noted 
             order = (tt, r.order);
             unknown = λ k past. unknown_on e d.log.history k (λ t. let same : i ≡ k = cc in omega (arith, within, past, same)) (r.unknown k past);
             cause = r.cause;
+            installed = r.installed;
             places = placed_still d.rows.items (numbers_in hand) d.log.history e tt (conserved d.log.history r.order) r.places;
           });
       shut = s.shut;
@@ -506,6 +517,7 @@ stands_out {P} told_by d e copies i s unclosed balanced away ports bare size nex
             order = r.order;
             unknown = λ k past. r.unknown k (subst (λ n. n ≤ k) size past);
             cause = ap (λ (t : _). t.1) berths ∙ r.cause;
+            installed = r.installed ∙ ap Some (sym (ap (λ (t : _). t.2) berths));
             places = places (conserved d.log.history r.order) r.places;
           });
       shut = λ k. subst (λ (v : _). IfSome (facts_at v.items k) (IsShut told_by e.rows.items k)) (sym facts)

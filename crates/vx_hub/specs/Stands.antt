@@ -86,6 +86,7 @@ pub record IsRecorded {P : Type 0} (told_by : P → Told) (hub : Hub P) (hand : 
   pub order : IsOrderly h
   pub unknown : (i : ℕ) → length hub.rows.items ≤ i → IsUnknown h i
   pub cause : hub.abandoned ≡ cause_of h
+  pub installed : in_force h ≡ Some hub.plan
   pub places : IsPlaced hub.rows.items (numbers_in hand) h
 
 -- whether the record has all that happened
@@ -108,8 +109,8 @@ pub record HasBerths {P : Type 0} (ports : Filled (Numbered P)) (rows : List (Ro
   pub few : length rows < 2 ^ 32
 
 -- what only the beginning, the end and an abandonment change
-abbrev pub spare_of : {P : Type 0} → Hub P → Filled (Numbered P) × Option AbandonCause
-spare_of hub = (hub.ports, hub.abandoned)
+abbrev pub spare_of : {P : Type 0} → Hub P → Filled (Numbered P) × Option AbandonCause × Plan
+spare_of hub = (hub.ports, hub.abandoned, hub.plan)
 
 -- the hub stands for a record, while the copies in the hand are neither at an instance nor spent
 pub record Stands {P : Type 0} (told_by : P → Told) (hub : Hub P) (hand : List Copy) (h : Record) : Type 0 where

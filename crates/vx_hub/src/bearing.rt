@@ -41,6 +41,7 @@ impl<P: Port> Hub<P> {
         requires sent { numbers_at (Outputs instance) self.old.rows.items ≡ [] }
         ensures stands { Stands P.told self.new [] self.new.log.history }
         ensures size { length self.new.rows.items ≡ length self.old.rows.items }
+        ensures plan { self.new.plan ≡ self.old.plan }
         ensures reason { IfErr result (HasReason self.new) }
     {
         if events.is_empty() {
@@ -74,6 +75,7 @@ impl<P: Port> Hub<P> {
         requires moved { IsSomeAnd (facts_at self.old.facts.items instance) (AreMovedTo position ends) }
         ensures stands { Stands P.told self.new [] self.new.log.history }
         ensures size { length self.new.rows.items ≡ length self.old.rows.items }
+        ensures plan { self.new.plan ≡ self.old.plan }
         ensures reason { IfErr result (HasReason self.new) }
     {
         let finalizers = self.open_batch(instance, &events, position, ends)?;
@@ -113,6 +115,7 @@ impl<P: Port> Hub<P> {
         ensures lined { IfOk result (IsLinedUp self.new instance) }
         ensures open { IsOpenAt self.new instance }
         ensures rows { self.new.rows ≡ self.old.rows }
+        ensures plan { self.new.plan ≡ self.old.plan }
         ensures same { OnErr result (self.new ≡ self.old) }
         ensures reason { IfErr result (HasReason self.new) }
     {
@@ -159,6 +162,7 @@ impl<P: Port> Hub<P> {
         requires room { HasOutputRoom self.old.rows.items instance (length events) }
         ensures stands { Stands P.told self.new [] self.new.log.history }
         ensures size { length self.new.rows.items ≡ length self.old.rows.items }
+        ensures plan { self.new.plan ≡ self.old.plan }
         ensures reason { IfErr result (HasReason self.new) }
     {
         let (mut events, mut finalizers) = (events, finalizers);
@@ -187,6 +191,7 @@ impl<P: Port> Hub<P> {
         ensures room { (n : ℕ) → HasOutputRoom self.old.rows.items instance (n + 1) → HasOutputRoom self.new.rows.items instance n }
         ensures facts { self.new.facts ≡ self.old.facts }
         ensures size { length self.new.rows.items ≡ length self.old.rows.items }
+        ensures plan { self.new.plan ≡ self.old.plan }
     {
         push_output(
             &mut self.rows,

@@ -18,6 +18,7 @@ impl<P: Port> Hub<P> {
         ensures some { IfSome result (λ i. HasEnded self.old i × IsSomeAnd (facts_at self.new.facts.items i) (λ f. f.retired ≡ true)) }
         ensures none { IfNone result ((i : ℕ) → i < length self.old.rows.items → HasEnded self.old i → ⊥) }
         ensures size { length self.new.rows.items ≡ length self.old.rows.items }
+        ensures plan { self.new.plan ≡ self.old.plan }
     {
         for i in 0..self.rows.len() {
             if self.can_retire(i) {
@@ -74,6 +75,7 @@ impl<P: Port> Hub<P> {
         requires bare { IsBareAt self.old.rows.items instance }
         ensures stands { Stands P.told self.new [] self.new.log.history }
         ensures rows { self.new.rows ≡ self.old.rows }
+        ensures plan { self.new.plan ≡ self.old.plan }
         ensures retired { IsSomeAnd (facts_at self.new.facts.items instance) (λ f. f.retired ≡ true) }
     {
         self.log.note(Ok(Entry::Retired { instance }));
@@ -95,6 +97,7 @@ impl<P: Port> Hub<P> {
         requires reason { IsSound self.old → IsReason self.old.log.history cause }
         ensures stands { Stands P.told self.new [] self.new.log.history }
         ensures size { length self.new.rows.items ≡ length self.old.rows.items }
+        ensures plan { self.new.plan ≡ self.old.plan }
         ensures cause { self.new.abandoned ≡ Some cause }
     {
         self.note_abandoned(cause);
@@ -112,6 +115,7 @@ impl<P: Port> Hub<P> {
         requires reason { IsSound self.old → IsReason self.old.log.history cause }
         ensures stands { Stands P.told self.new [] self.new.log.history }
         ensures size { length self.new.rows.items ≡ length self.old.rows.items }
+        ensures plan { self.new.plan ≡ self.old.plan }
         ensures cause { self.new.abandoned ≡ Some cause }
     {
         self.abandoned = Some(cause);
@@ -125,6 +129,7 @@ impl<P: Port> Hub<P> {
         requires within { instance < length self.old.rows.items }
         ensures stands { Stands P.told self.new [] self.new.log.history }
         ensures size { length self.new.rows.items ≡ length self.old.rows.items }
+        ensures plan { self.new.plan ≡ self.old.plan }
         ensures abandoned { self.new.abandoned ≡ self.old.abandoned }
     {
         for _ in 0..u64::MAX {
@@ -160,6 +165,7 @@ impl<P: Port> Hub<P> {
         requires within { instance < length self.old.rows.items }
         ensures stands { Stands P.told self.new [] self.new.log.history }
         ensures size { length self.new.rows.items ≡ length self.old.rows.items }
+        ensures plan { self.new.plan ≡ self.old.plan }
         ensures abandoned { self.new.abandoned ≡ self.old.abandoned }
     {
         match self.next_parcel(instance as usize) {
@@ -177,6 +183,7 @@ impl<P: Port> Hub<P> {
         requires given_up { IsSome self.old.abandoned }
         ensures stands { Stands P.told self.new [] self.new.log.history }
         ensures rows { self.new.rows ≡ self.old.rows }
+        ensures plan { self.new.plan ≡ self.old.plan }
         ensures abandoned { self.new.abandoned ≡ self.old.abandoned }
     {
         self.spend(instance, parcel, Outcome::Abandoned);
@@ -188,6 +195,7 @@ impl<P: Port> Hub<P> {
         requires within { i < length self.old.rows.items }
         ensures stands { Stands P.told self.new (option_copies result) self.new.log.history }
         ensures size { length self.new.rows.items ≡ length self.old.rows.items }
+        ensures plan { self.new.plan ≡ self.old.plan }
         ensures abandoned { self.new.abandoned ≡ self.old.abandoned }
     {
         if !self.rows[i].outputs.is_empty() {
@@ -208,6 +216,7 @@ impl<P: Port> Hub<P> {
         requires home { IsSome (port_at self.old.rows.items instance) }
         ensures stands { Stands P.told self.new [] self.new.log.history }
         ensures size { length self.new.rows.items ≡ length self.old.rows.items }
+        ensures plan { self.new.plan ≡ self.old.plan }
         ensures abandoned { self.new.abandoned ≡ self.old.abandoned }
     {
         self.close_port(instance as usize);
@@ -222,6 +231,7 @@ impl<P: Port> Hub<P> {
         ensures stands { Stands P.told self.new [] self.new.log.history }
         ensures shut { IsSomeAnd (port_at self.new.rows.items i) (λ port. (P.told port).started ≡ false) }
         ensures size { length self.new.rows.items ≡ length self.old.rows.items }
+        ensures plan { self.new.plan ≡ self.old.plan }
         ensures abandoned { self.new.abandoned ≡ self.old.abandoned }
     {
         close_at(&mut self.rows, i);

@@ -5,6 +5,7 @@ use crate::stack::Stack;
 use std::alloc::Global;
 use vx_ends::Port;
 use vx_ledger::Batches;
+use vx_plan::Plan;
 use vx_record::{AbandonCause, Log};
 
 /// The engine of a run: the instances, their places, the open batches, and the record of all that happened.
@@ -12,6 +13,8 @@ use vx_record::{AbandonCause, Log};
 /// It can't be dropped: `end` ends it once each instance is retired.
 pub struct Hub<P: Port> {
     pub alloc: Global,
+    /// The plan that is in force.
+    pub plan: Plan,
     /// The open batches.
     pub batches: Batches,
     /// What is known of each instance, by its number.

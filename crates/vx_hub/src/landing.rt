@@ -37,6 +37,7 @@ impl<P: Port> Hub<P> {
         ensures whole { OnOk result (IsTrue self.new.log.whole) }
         ensures reason { IfErr result (HasReason self.new) }
         ensures size { length self.new.rows.items ≡ length self.old.rows.items }
+        ensures plan { self.new.plan ≡ self.old.plan }
     {
         let instance = landing.instance;
         let landing = self.land_confirm(landing);
@@ -52,6 +53,7 @@ impl<P: Port> Hub<P> {
         ensures stands { Stands P.told self.new [] self.new.log.history }
         ensures reason { IfErr result (HasReason self.new) }
         ensures size { length self.new.rows.items ≡ length self.old.rows.items }
+        ensures plan { self.new.plan ≡ self.old.plan }
     {
         let Landing {
             instance,
@@ -88,6 +90,7 @@ impl<P: Port> Hub<P> {
         ensures back { IsBack P.told self.new result }
         ensures none { result.confirmed ≡ None }
         ensures size { length self.new.rows.items ≡ length self.old.rows.items }
+        ensures plan { self.new.plan ≡ self.old.plan }
     {
         let Landing {
             instance,
@@ -122,6 +125,7 @@ impl<P: Port> Hub<P> {
         ensures stands { (hand : List Copy) → Stands P.told self.old hand self.old.log.history → Stands P.told self.new hand self.new.log.history }
         ensures noted { Noted self.old.log (Entry.Confirm instance confirmed.positions confirmed.made) self.new.log }
         ensures rows { self.new.rows ≡ self.old.rows }
+        ensures plan { self.new.plan ≡ self.old.plan }
         ensures starved { self.new.starved ≡ self.old.starved }
         ensures open { IsOpenAt self.old instance → IsOpenAt self.new instance }
         ensures unlost { IsUnlost self.old instance → IsUnlost self.new instance }
@@ -168,6 +172,7 @@ impl<P: Port> Hub<P> {
         ensures read { (i : ℕ) → HasRead self.old i → HasRead self.new i }
         ensures outputs { (i : ℕ) → numbers_at (Outputs i) self.new.rows.items ≡ numbers_at (Outputs i) self.old.rows.items }
         ensures size { length self.new.rows.items ≡ length self.old.rows.items }
+        ensures plan { self.new.plan ≡ self.old.plan }
     {
         put_task(&mut self.rows, instance as usize, task);
     }
@@ -179,6 +184,7 @@ impl<P: Port> Hub<P> {
         requires out { IsOutAt self.old.rows.items instance }
         ensures stands { Stands P.told self.new [] self.new.log.history }
         ensures size { length self.new.rows.items ≡ length self.old.rows.items }
+        ensures plan { self.new.plan ≡ self.old.plan }
     {
         self.starved = true;
         put_task(&mut self.rows, instance as usize, task);
@@ -191,6 +197,7 @@ impl<P: Port> Hub<P> {
         requires shut { IsSomeAnd (port_at self.old.rows.items instance) (λ port. (P.told port).started ≡ false) }
         ensures stands { Stands P.told self.new [] self.new.log.history }
         ensures rows { self.new.rows ≡ self.old.rows }
+        ensures plan { self.new.plan ≡ self.old.plan }
         ensures abandoned { self.new.abandoned ≡ self.old.abandoned }
     {
         self.log.note(Ok(Entry::Closed { instance }));
@@ -208,6 +215,7 @@ impl<P: Port> Hub<P> {
         ensures replied { IsReplied self.new instance reply }
         ensures facts { self.new.facts ≡ self.old.facts }
         ensures size { length self.new.rows.items ≡ length self.old.rows.items }
+        ensures plan { self.new.plan ≡ self.old.plan }
     {
         note_attempt(
             self.alloc,
@@ -227,6 +235,7 @@ impl<P: Port> Hub<P> {
         requires within { instance < length self.old.rows.items }
         ensures stands { Stands P.told self.new [] self.new.log.history }
         ensures size { length self.new.rows.items ≡ length self.old.rows.items }
+        ensures plan { self.new.plan ≡ self.old.plan }
     {
         self.spend_held(instance, outcome_of(reply));
     }
@@ -239,6 +248,7 @@ impl<P: Port> Hub<P> {
         ensures stands { Stands P.told self.new [] self.new.log.history }
         ensures facts { self.new.facts ≡ self.old.facts }
         ensures size { length self.new.rows.items ≡ length self.old.rows.items }
+        ensures plan { self.new.plan ≡ self.old.plan }
     {
         for _ in 0..u64::MAX {
             if !self.spend_first(instance, outcome) {
@@ -256,6 +266,7 @@ impl<P: Port> Hub<P> {
         ensures cause { MaySpend self.new instance outcome }
         ensures facts { self.new.facts ≡ self.old.facts }
         ensures size { length self.new.rows.items ≡ length self.old.rows.items }
+        ensures plan { self.new.plan ≡ self.old.plan }
     {
         match pop_held(&mut self.rows, instance as usize) {
             Some(parcel) => {

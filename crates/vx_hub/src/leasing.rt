@@ -36,6 +36,7 @@ impl<P: Port> Hub<P> {
         ensures leased { IfSome result (IsLeased P.told self.new) }
         ensures none { IfNone result (Stands P.told self.new [] self.new.log.history) }
         ensures size { length self.new.rows.items ≡ length self.old.rows.items }
+        ensures plan { self.new.plan ≡ self.old.plan }
         ensures fatal { self.new.fatal ≡ self.old.fatal }
     {
         if self.fatal || self.abandoned.is_some() || !self.log.whole {
@@ -61,6 +62,7 @@ impl<P: Port> Hub<P> {
         ensures unlost { IsUnlost self.old instance → IsUnlost self.new instance }
         ensures due { IsSound self.new → IfSome result (λ positions. positions ≡ born_positions self.new.log.history instance) }
         ensures rows { self.new.rows ≡ self.old.rows }
+        ensures plan { self.new.plan ≡ self.old.plan }
         ensures fatal { self.new.fatal ≡ self.old.fatal }
     {
         self.log.note(Ok(Entry::Lease {
@@ -88,6 +90,7 @@ impl<P: Port> Hub<P> {
         ensures leased { IfSome result (IsLeased P.told self.new) }
         ensures none { IfNone result (Stands P.told self.new [] self.new.log.history) }
         ensures size { length self.new.rows.items ≡ length self.old.rows.items }
+        ensures plan { self.new.plan ≡ self.old.plan }
         ensures fatal { self.new.fatal ≡ self.old.fatal }
     {
         let task = take_task(&mut self.rows, instance as usize)?;
@@ -198,6 +201,7 @@ impl<P: Port> Hub<P> {
         ensures facts { self.new.facts ≡ self.old.facts }
         ensures outputs { (i : ℕ) → numbers_at (Outputs i) self.new.rows.items ≡ numbers_at (Outputs i) self.old.rows.items }
         ensures size { length self.new.rows.items ≡ length self.old.rows.items }
+        ensures plan { self.new.plan ≡ self.old.plan }
         ensures fatal { self.new.fatal ≡ self.old.fatal }
     {
         for _ in 0..TAKES {
@@ -215,6 +219,7 @@ impl<P: Port> Hub<P> {
         ensures facts { self.new.facts ≡ self.old.facts }
         ensures outputs { (i : ℕ) → numbers_at (Outputs i) self.new.rows.items ≡ numbers_at (Outputs i) self.old.rows.items }
         ensures size { length self.new.rows.items ≡ length self.old.rows.items }
+        ensures plan { self.new.plan ≡ self.old.plan }
         ensures fatal { self.new.fatal ≡ self.old.fatal }
     {
         if !self.can_hold(instance as usize) {

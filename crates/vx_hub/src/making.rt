@@ -42,6 +42,7 @@ impl<P: Port> Hub<P> {
         ensures stands { IfOk result (λ hub. Stands P.told hub [] hub.log.history) }
         ensures size { IfOk result (λ hub. length hub.rows.items ≡ length parts.plan.components) }
         ensures installed { IfOk result (λ hub. in_force hub.log.history ≡ Some parts.plan) }
+        ensures plan { IfOk result (λ hub. hub.plan ≡ parts.plan) }
     {
         let Ok(seats) = seats(alloc, &parts.plan) else {
             return Err(NewRefused { parts });
@@ -53,7 +54,7 @@ impl<P: Port> Hub<P> {
                     once: _,
                     ports,
                 } = parts;
-                Ok(seated(alloc, &plan, room, seats, ports.into_vec()))
+                Ok(seated(alloc, plan, room, seats, ports.into_vec()))
             }
             Err(WantOfMemory) => {
                 end_seats(seats);
@@ -135,18 +136,19 @@ fn instances(alloc: Global, plan: &Plan) -> Result<InstanceList, WantOfMemory>
 /// The hub whose instances have these seats and ports.
 fn seated<P: Port>(
     alloc: Global,
-    plan: &Plan,
+    plan: Plan,
     room: Room<P>,
     seats: Vec<Seat>,
     ports: Vec<Named<P>>,
 ) -> Hub<P>
-    requires room { HasRoomFor plan.now (length seats.items) room }
+    requires room { HasRoomFor plan (length seats.items) room }
     requires unused { AreUnused seats.items }
     requires ports { length ports.items ≡ length seats.items }
     requires few { length seats.items < 2 ^ 32 }
-    requires untouched { AreUntouched P.told plan.now.components ports.items }
+    requires untouched { AreUntouched P.told plan.components ports.items }
     ensures stands { Stands P.told result [] result.log.history }
-    ensures installed { in_force result.log.history ≡ Some plan.now }
+    ensures installed { in_force result.log.history ≡ Some plan }
+    ensures plan { result.plan ≡ plan }
     ensures size { length result.rows.items ≡ length seats.items }
 {
     let Room {
@@ -159,6 +161,7 @@ fn seated<P: Port>(
     } = room;
     let mut hub = Hub {
         alloc,
+        plan,
         batches,
         facts,
         progress,
@@ -189,6 +192,7 @@ impl<P: Port> Hub<P> {
         ensures room { (n : ℕ) → HasSeats self.old (n + 1) → HasSeats self.new n }
         ensures size { length self.new.rows.items ≡ length self.old.rows.items + 1 }
         ensures rest { (self.new.log ≡ self.old.log) × (self.new.ports ≡ self.old.ports) }
+        ensures plan { self.new.plan ≡ self.old.plan }
     {
         let Seat {
             facts,

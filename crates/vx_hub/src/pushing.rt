@@ -56,6 +56,7 @@ impl<P: Port> Hub<P> {
         requires within { instance < length self.old.rows.items }
         ensures stands { Stands P.told self.new [] self.new.log.history }
         ensures size { length self.new.rows.items ≡ length self.old.rows.items }
+        ensures plan { self.new.plan ≡ self.old.plan }
         ensures fatal { OnErr result (self.new.fatal ≡ true) }
         ensures reason { IfErr result (HasReason self.new) }
     {
@@ -120,6 +121,7 @@ impl<P: Port> Hub<P> {
         requires target { IsOpenTarget self.old next.target }
         ensures stands { Stands P.told self.new [] self.new.log.history }
         ensures size { length self.new.rows.items ≡ length self.old.rows.items }
+        ensures plan { self.new.plan ≡ self.old.plan }
     {
         let Child { target, parcel } = take_child(&mut self.rows, instance as usize, next.place);
         note_push(
@@ -140,6 +142,7 @@ impl<P: Port> Hub<P> {
         requires none { NoneWaits self.old.rows.items instance }
         ensures stands { Stands P.told self.new [] self.new.log.history }
         ensures size { length self.new.rows.items ≡ length self.old.rows.items }
+        ensures plan { self.new.plan ≡ self.old.plan }
         ensures fatal { OnErr result (self.new.fatal ≡ true) }
         ensures reason { IfErr result (HasReason self.new) }
     {

@@ -43,6 +43,7 @@ impl<P: Port> Hub<P> {
         ensures stands { Stands P.told self.new [] self.new.log.history }
         ensures reason { IfErr result (HasReason self.new) }
         ensures size { length self.new.rows.items ≡ length self.old.rows.items }
+        ensures plan { self.new.plan ≡ self.old.plan }
     {
         match turned {
             Turned::Lines {
@@ -96,6 +97,7 @@ impl<P: Port> Hub<P> {
         ensures noted { Noted self.old.log (Entry.Read instance stream (Taken.Bytes bytes)) self.new.log }
         ensures read { HasRead self.new instance }
         ensures rows { self.new.rows ≡ self.old.rows }
+        ensures plan { self.new.plan ≡ self.old.plan }
         ensures starved { self.new.starved ≡ self.old.starved }
         ensures open { IsOpenAt self.old instance → IsOpenAt self.new instance }
     {
@@ -121,6 +123,7 @@ impl<P: Port> Hub<P> {
         ensures noted { Noted self.old.log (Entry.Read instance stream taken) self.new.log }
         ensures read { HasRead self.new instance }
         ensures rows { self.new.rows ≡ self.old.rows }
+        ensures plan { self.new.plan ≡ self.old.plan }
         ensures starved { self.new.starved ≡ self.old.starved }
         ensures open { IsOpenAt self.old instance → IsOpenAt self.new instance }
     {
@@ -141,6 +144,7 @@ impl<P: Port> Hub<P> {
         ensures stands { (hand : List Copy) → Stands P.told self.old hand self.old.log.history → Stands P.told self.new hand self.new.log.history }
         ensures noted { IsFailureOf instance at_start self.old.log self.new.log }
         ensures rows { self.new.rows ≡ self.old.rows }
+        ensures plan { self.new.plan ≡ self.old.plan }
         ensures starved { self.new.starved ≡ self.old.starved }
         ensures open { IsOpenAt self.old instance → IsOpenAt self.new instance }
     {
@@ -160,6 +164,7 @@ impl<P: Port> Hub<P> {
         ensures stands { (hand : List Copy) → Stands P.told self.old hand self.old.log.history → Stands P.told self.new hand self.new.log.history }
         ensures noted { Noted self.old.log (Entry.Idle instance start_failed) self.new.log }
         ensures rows { self.new.rows ≡ self.old.rows }
+        ensures plan { self.new.plan ≡ self.old.plan }
         ensures starved { self.new.starved ≡ self.old.starved }
         ensures open { IsOpenAt self.old instance → IsOpenAt self.new instance }
     {
@@ -180,6 +185,7 @@ impl<P: Port> Hub<P> {
         ensures stands { (hand : List Copy) → Stands P.told self.old hand self.old.log.history → Stands P.told self.new hand self.new.log.history }
         ensures noted { (at : ℕ) × Noted self.old.log (Entry.SourceLost instance at start_failed) self.new.log }
         ensures rows { self.new.rows ≡ self.old.rows }
+        ensures plan { self.new.plan ≡ self.old.plan }
         ensures starved { self.new.starved ≡ self.old.starved }
         ensures open { IsOpenAt self.old instance → IsOpenAt self.new instance }
     {

@@ -3,6 +3,7 @@ ghost use Rattle.vx_hub.specs.Rows.{IsBare, task_port};
 ghost use Rattle.vx_hub.specs.Stands.{Stands, IsSound, HasBerths};
 ghost use Rattle.vx_hub.specs.Remains.{AreBare, ports_in, AreNumbered, AreClosed, AreTold, HasOnePlace, AllSpent};
 ghost use Rattle.vx_hub.specs.Order.{IsOrderly};
+ghost use Rattle.vx_record.specs.Installs.{in_force};
 
 use crate::hub::Hub;
 use crate::parts::{Numbered, NumberedList};
@@ -32,12 +33,14 @@ impl<P: Port> Hub<P> {
         ensures count { length result.ports ≡ length self.rows.items }
         ensures closed { AreClosed P.told result.ports }
         ensures told { IsSound self → AreTold P.told result.history result.ports }
+        ensures installed { IsSound self → in_force result.history ≡ Some self.plan }
         ensures order { IsSound self → IsOrderly result.history }
         ensures one_place { IsSound self → HasOnePlace result.history }
         ensures spent { IsSound self → AllSpent result.history }
     {
         let Hub {
             alloc: _,
+            plan: _,
             batches: _,
             facts: _,
             progress: _,

@@ -19,6 +19,7 @@ impl<P: Port> Hub<P> {
         ensures stands { Stands P.told self.new [] self.new.log.history }
         ensures cause { MaySpend self.new instance outcome }
         ensures rows { self.new.rows ≡ self.old.rows }
+        ensures plan { self.new.plan ≡ self.old.plan }
         ensures facts { self.new.facts ≡ self.old.facts }
         ensures abandoned { self.new.abandoned ≡ self.old.abandoned }
     {
@@ -39,6 +40,7 @@ impl<P: Port> Hub<P> {
         ensures cause { MaySpend self.new instance outcome }
         ensures stands { (rest : List Copy) → Stands P.told self.old (rest ++ finalizer ∷ []) self.old.log.history → Stands P.told self.new rest self.new.log.history }
         ensures rows { self.new.rows ≡ self.old.rows }
+        ensures plan { self.new.plan ≡ self.old.plan }
         ensures facts { self.new.facts ≡ self.old.facts }
         ensures abandoned { self.new.abandoned ≡ self.old.abandoned }
     {
@@ -59,6 +61,7 @@ impl<P: Port> Hub<P> {
         ensures cause { (instance : ℕ) (outcome : Outcome) → MaySpend self.old instance outcome → MaySpend self.new instance outcome }
         ensures stands { (hand : List Copy) → Stands P.told self.old hand self.old.log.history → Stands P.told self.new hand self.new.log.history }
         ensures rows { self.new.rows ≡ self.old.rows }
+        ensures plan { self.new.plan ≡ self.old.plan }
         ensures facts { self.new.facts ≡ self.old.facts }
         ensures abandoned { self.new.abandoned ≡ self.old.abandoned }
     {

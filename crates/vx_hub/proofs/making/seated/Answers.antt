@@ -13,18 +13,19 @@ loop-seats-preserved g c =
     let shorter : length c.loop-seats.seats.items ≡ length c.remove-seat.new.self.items + 1 = omega (arith, c.remove-seat.ensures.len) in
     let some : 0 < length c.loop-seats.seats.items = omega arith in
     let ports_some : 0 < length c.loop-seats.ports.items = omega (arith, inv.ports) in
-    let first = untouched_first g.P.Port.told c.args.plan.now.components (length c.loop-seats.hub.rows.items) c.remove-port.result _
-    (subst (λ (s : List (Named _)). AreUntouched g.P.Port.told (drop (length c.loop-seats.hub.rows.items) c.args.plan.now.components) s) (front_of c.loop-seats.ports.items c.remove-port.result ports_some c.remove-port.ensures.value) inv.untouched) in
+    let first = untouched_first g.P.Port.told c.args.plan.components (length c.loop-seats.hub.rows.items) c.remove-port.result _
+    (subst (λ (s : List (Named _)). AreUntouched g.P.Port.told (drop (length c.loop-seats.hub.rows.items) c.args.plan.components) s) (front_of c.loop-seats.ports.items c.remove-port.result ports_some c.remove-port.ensures.value) inv.untouched) in
     record {
-      begins = c.seat.ensures.begins c.args.plan.now inv.begins first.0;
+      begins = c.seat.ensures.begins c.args.plan inv.begins first.0;
       unused = subst (λ (s : List Seat). AreUnused s) (sym c.remove-seat.ensures.items)
           (subst (λ (s : List Seat). AreUnused s) (front_of c.loop-seats.seats.items c.remove-seat.result some c.remove-seat.ensures.value) inv.unused).1;
       ports = omega (arith, inv.ports, c.remove-port.ensures.len);
-      untouched = subst (λ (n : ℕ). AreUntouched g.P.Port.told (drop n c.args.plan.now.components) c.remove-port.new.self.items) (sym c.seat.ensures.size)
-          (subst (λ (s : List (Named _)). AreUntouched g.P.Port.told (drop (length c.loop-seats.hub.rows.items + 1) c.args.plan.now.components) s) (sym c.remove-port.ensures.items) first.1);
+      untouched = subst (λ (n : ℕ). AreUntouched g.P.Port.told (drop n c.args.plan.components) c.remove-port.new.self.items) (sym c.seat.ensures.size)
+          (subst (λ (s : List (Named _)). AreUntouched g.P.Port.told (drop (length c.loop-seats.hub.rows.items + 1) c.args.plan.components) s) (sym c.remove-port.ensures.items) first.1);
       room = c.seat.ensures.room (length c.remove-seat.new.self.items) (subst (λ n. HasSeats c.loop-seats.hub n) shorter inv.room);
       size = omega (arith, inv.size, c.seat.ensures.size);
-      first = subst (λ (l : _). HasFirst c.args.plan.now l.history) (sym c.seat.ensures.rest.0) inv.first;
+      first = subst (λ (l : _). HasFirst c.args.plan l.history) (sym c.seat.ensures.rest.0) inv.first;
+      plan = c.seat.ensures.plan ∙ inv.plan;
       none = ap (λ (p : _). p.items) c.seat.ensures.rest.1 ∙ inv.none;
       berths = omega (arith, inv.berths, ap (λ (p : _). p.room) c.seat.ensures.rest.1);
     }
@@ -32,4 +33,4 @@ loop-seats-preserved g c =
 pub returns-clause-stands : goal.returns-clause-stands
 returns-clause-stands g c =
     let inv = c.loop-seats.invariant in
-    begun_stands g.P.Port.told c.args.plan.now c.loop-seats.hub inv.begins inv.first inv.none (omega (arith, inv.size, inv.berths)) (omega (arith, inv.size, c.requires.few))
+    begun_stands g.P.Port.told c.args.plan c.loop-seats.hub inv.begins inv.plan inv.first inv.none (omega (arith, inv.size, inv.berths)) (omega (arith, inv.size, c.requires.few))

@@ -11,6 +11,7 @@ invariant-loop-seats g l = record {
   untouched : AreUntouched g.P.Port.told (drop (length l.hub.rows.items) l.fn.plan.components) l.ports.items;
   room : HasSeats l.hub (length l.seats.items);
   size : length l.hub.rows.items + length l.seats.items ≡ length l.fn.seats.items;
+  plan : l.hub.plan ≡ l.fn.plan;
   first : HasFirst l.fn.plan l.hub.log.history;
   none : l.hub.ports.items ≡ [];
   berths : length l.fn.seats.items ≤ l.hub.ports.room;

@@ -11,4 +11,5 @@ invariant-loop g l = record {
   outputs : (i : ℕ) → numbers_at (Outputs i) l.self.rows.items ≡ numbers_at (Outputs i) l.fn.self.rows.items;
   fatal : l.self.fatal ≡ l.fn.self.fatal;
   size : length l.self.rows.items ≡ length l.fn.self.rows.items;
+  plan : l.self.plan ≡ l.fn.self.plan;
 }

@@ -32,3 +32,6 @@ pub returns-clause-spent : goal.returns-clause-spent
 returns-clause-spent g c sound =
     let r = c.requires.stands.recorded sound in
     all_spent c.args.self.rows.items c.args.self.log.history r.order r.places (all_bare c.args.self.facts.items c.args.self.rows.items c.requires.stands.size c.requires.over c.requires.stands.gone)
+
+pub returns-clause-installed : goal.returns-clause-installed
+returns-clause-installed g c sound = (c.requires.stands.recorded sound).installed

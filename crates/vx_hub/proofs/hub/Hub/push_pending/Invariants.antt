@@ -6,4 +6,5 @@ abbrev pub invariant-loop : goal.invariant-loop
 invariant-loop g l = record {
   stands : Stands g.P.Port.told l.self [] l.self.log.history;
   size : length l.self.rows.items ≡ length l.fn.self.rows.items;
+  plan : l.self.plan ≡ l.fn.self.plan;
 }

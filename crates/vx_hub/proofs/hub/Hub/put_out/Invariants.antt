@@ -13,6 +13,7 @@ invariant-loop-event g l = record {
   lined : IsLinedUp l.self l.instance l.finalizers;
   room : HasOutputRoom l.self.rows.items l.instance (length l.events);
   size : length l.self.rows.items ≡ length l.fn.self.rows.items;
+  plan : l.self.plan ≡ l.fn.self.plan;
 }
 
 abbrev pub decreases-loop-event : goal.decreases-loop-event

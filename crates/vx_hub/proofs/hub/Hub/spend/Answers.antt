@@ -16,6 +16,7 @@ loop-finalizer-preserved g c = record {
       (subst (λ (fs : List Copy). Stands g.P.Port.told c.loop-finalizer.self fs c.loop-finalizer.self.log.history) c.in-Some.ensures.some c.loop-finalizer.invariant.stands);
   cause = c.spend_one.ensures.cause;
   rows = c.spend_one.ensures.rows ∙ c.loop-finalizer.invariant.rows;
+  plan = c.spend_one.ensures.plan ∙ c.loop-finalizer.invariant.plan;
   facts = c.spend_one.ensures.facts ∙ c.loop-finalizer.invariant.facts;
   abandoned = c.spend_one.ensures.abandoned ∙ c.loop-finalizer.invariant.abandoned;
 }

@@ -8,6 +8,7 @@ invariant-loop-finalizer g l = record {
   stands : Stands g.P.Port.told l.self l.finalizers l.self.log.history;
   cause : MaySpend l.self l.instance l.outcome;
   rows : l.self.rows ≡ l.fn.self.rows;
+  plan : l.self.plan ≡ l.fn.self.plan;
   facts : l.self.facts ≡ l.fn.self.facts;
   abandoned : l.self.abandoned ≡ l.fn.self.abandoned;
 }

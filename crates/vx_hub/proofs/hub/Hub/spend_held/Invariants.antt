@@ -9,4 +9,5 @@ invariant-loop g l = record {
   cause : MaySpend l.self l.instance l.outcome;
   facts : l.self.facts ≡ l.fn.self.facts;
   size : length l.self.rows.items ≡ length l.fn.self.rows.items;
+  plan : l.self.plan ≡ l.fn.self.plan;
 }
