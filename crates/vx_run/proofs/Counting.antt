@@ -1,7 +1,9 @@
 -- What was counted, whatever fault is told in the end.
 use Rattle.std.proofs.Common.{◌≡◌, ◌⊎◌, inl, inr, ℕ, List, [], ◌∷◌, Option, Some, None, sym, subst, arith}
 use Rattle.vx_ends.specs.Told.{Told}
+use Rattle.vx_plan.specs.First.{first_plan}
 use Rattle.vx_record.specs.Records.{Record}
+use Rattle.vx_record.specs.Installs.{in_force}
 use Rattle.vx_record.specs.TallyLists.{tallies_of}
 use Rattle.vx_record.specs.declared.tally.Tally.{Tally}
 use Rattle.vx_hub.specs.declared.parts.Numbered.{Numbered}
@@ -11,7 +13,7 @@ use Rattle.vx_hub.specs.Remains.{AreTold, HasOnePlace, AllSpent}
 use Rattle.vx_hub.specs.Stands.{IsSound}
 use Rattle.vx_run.specs.Judging.{IsSure}
 use Rattle.vx_run.specs.Answers.{IsJudged}
-use Rattle.vx_run.specs.Running.{IsTrueTo, AreKept, IsCounted}
+use Rattle.vx_run.specs.Running.{IsTrueTo, HasInstalled, AreKept, IsCounted}
 use Rattle.vx_run.specs.Telling.{IsKept}
 use Rattle.vx_run.specs.declared.fault.Fault.{Fault}
 use Rattle.vx_run.specs.declared.fault.Fault.TheVariants.{Usage, ConfigRead, ConfigRefused, Numbers, TooLong, SourceFailed, ConfirmFailed, WantOfMemory}
@@ -119,3 +121,19 @@ kept_told h fault (Some (Numbers next wanted)) same kept = subst (λ (f : Option
 kept_told h fault (Some TooLong) same kept = subst (λ (f : Option Fault). AreKept h f) same kept
 kept_told h fault (Some (SourceFailed name at)) same kept = subst (λ (f : Option Fault). AreKept h f) same kept
 kept_told h fault (Some (ConfirmFailed name)) same kept = subst (λ (f : Option Fault). AreKept h f) same kept
+
+-- but for want of memory a run that began has its plan in force
+pub installed_of : {P : Type 0} (hub : Hub P) (h : Record) (fault : Option Fault) → IsSure hub fault → (IsSound hub → in_force h ≡ Some first_plan) → HasInstalled h fault
+installed_of hub h None sure is = is sure
+installed_of hub h (Some WantOfMemory) sure is = tt
+installed_of hub h (Some Usage) sure is = tt
+installed_of hub h (Some (ConfigRead path)) sure is = tt
+installed_of hub h (Some (ConfigRefused f)) sure is = tt
+installed_of hub h (Some (Numbers next wanted)) sure is = is sure
+installed_of hub h (Some TooLong) sure is = is sure
+installed_of hub h (Some (SourceFailed name at)) sure is = is sure
+installed_of hub h (Some (ConfirmFailed name)) sure is = is sure
+
+pub installed_short : (h : Record) (fault counted : Option Fault) → (counted ≡ fault) ⊎ (counted ≡ Some WantOfMemory) → HasInstalled h fault → HasInstalled h counted
+installed_short h fault counted (inl same) is = subst (λ (f : Option Fault). HasInstalled h f) (sym same) is
+installed_short h fault counted (inr short) is = subst (λ (f : Option Fault). HasInstalled h f) (sym short) tt

@@ -3,6 +3,7 @@ use Rattle.std.specs.Prelude.{◌≡◌, ◌⊎◌, ℕ, List, [], length, Optio
 use Rattle.vx_ends.specs.Told.{Told}
 use Rattle.vx_plan.specs.First.{first_plan}
 use Rattle.vx_record.specs.Records.{Record}
+use Rattle.vx_record.specs.Installs.{in_force}
 use Rattle.vx_record.specs.TallyLists.{tallies_of}
 use Rattle.vx_record.specs.declared.tally.Tally.{Tally}
 use Rattle.vx_hub.specs.declared.parts.Numbered.{Numbered}
@@ -20,6 +21,14 @@ IsTrueTo told_by h ports fault = AreTold told_by h ports × IsOrderly h
 abbrev pub AreKept : Record → Option Fault → Type 0
 AreKept h (Some WantOfMemory) = Unit {0}
 AreKept h fault = HasOnePlace h × AllSpent h
+
+-- a run that began has the first plan in force, but for want of memory
+abbrev pub HasInstalled : Record → Option Fault → Type 0
+HasInstalled h (Some Usage) = Unit {0}
+HasInstalled h (Some (ConfigRead path)) = Unit {0}
+HasInstalled h (Some (ConfigRefused fault)) = Unit {0}
+HasInstalled h (Some WantOfMemory) = Unit {0}
+HasInstalled h other = in_force h ≡ Some first_plan
 
 -- a run that didn't begin has no record and no port
 abbrev pub IsUnbegun : {P : Type 0} → Record → List (Numbered P) → Type 0

@@ -18,6 +18,7 @@ pub(crate) fn drive<R: Wait, P: Port, C: Clock>(rt: &R, alloc: Global, hub: &mut
     ensures stands { Stands P.told hub.new [] hub.new.log.history }
     ensures over { All (λ f. f.retired ≡ true) hub.new.facts.items }
     ensures size { length hub.new.rows.items ≡ length hub.old.rows.items }
+    ensures plan { hub.new.plan ≡ hub.old.plan }
 {
     for _ in rt.forever() {
         if hub.over() {
@@ -32,6 +33,7 @@ fn turn<P: Port, C: Clock>(alloc: Global, hub: &mut Hub<P>, clock: &C)
     requires { Stands P.told hub.old [] hub.old.log.history }
     ensures stands { Stands P.told hub.new [] hub.new.log.history }
     ensures size { length hub.new.rows.items ≡ length hub.old.rows.items }
+    ensures plan { hub.new.plan ≡ hub.old.plan }
 {
     if !hub.whole() && hub.abandoned().is_none() {
         hub.abandon(AbandonCause::WantOfMemory);
@@ -51,6 +53,7 @@ fn push<P: Port>(hub: &mut Hub<P>, instance: u32)
     requires within { instance < length hub.old.rows.items }
     ensures stands { Stands P.told hub.new [] hub.new.log.history }
     ensures size { length hub.new.rows.items ≡ length hub.old.rows.items }
+    ensures plan { hub.new.plan ≡ hub.old.plan }
 {
     if let Err(fatal) = hub.push_pending(instance) {
         give_up(hub, fatal);
@@ -62,6 +65,7 @@ fn lease<P: Port, C: Clock>(alloc: Global, hub: &mut Hub<P>, clock: &C)
     requires { Stands P.told hub.old [] hub.old.log.history }
     ensures stands { Stands P.told hub.new [] hub.new.log.history }
     ensures size { length hub.new.rows.items ≡ length hub.old.rows.items }
+    ensures plan { hub.new.plan ≡ hub.old.plan }
 {
     if let Some(work) = hub.lease(WORKER, clock.now()) {
         land(alloc, hub, work, clock);
@@ -73,6 +77,7 @@ fn land<P: Port, C: Clock>(alloc: Global, hub: &mut Hub<P>, work: Work<P>, clock
     requires { IsLeased P.told hub.old work }
     ensures stands { Stands P.told hub.new [] hub.new.log.history }
     ensures size { length hub.new.rows.items ≡ length hub.old.rows.items }
+    ensures plan { hub.new.plan ≡ hub.old.plan }
 {
     let landing = work.work(alloc, clock);
     if let Err(fatal) = hub.land(landing) {
@@ -86,6 +91,7 @@ fn give_up<P: Port>(hub: &mut Hub<P>, fatal: Fatal)
     requires reason { HasReason hub.old fatal }
     ensures stands { Stands P.told hub.new [] hub.new.log.history }
     ensures size { length hub.new.rows.items ≡ length hub.old.rows.items }
+    ensures plan { hub.new.plan ≡ hub.old.plan }
 {
     if hub.abandoned().is_none() {
         hub.abandon(cause_of(fatal));

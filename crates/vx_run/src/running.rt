@@ -4,7 +4,7 @@ ghost use Rattle.vx_hub.specs.Making.{AreUntouched};
 ghost use Rattle.vx_hub.specs.Stands.{Stands};
 ghost use Rattle.vx_hub.specs.Remains.{AreNumbered, AreClosed};
 ghost use Rattle.vx_run.specs.Answers.{IsAnswer, IsJudged};
-ghost use Rattle.vx_run.specs.Running.{IsTrueTo, AreKept, IsCounted, NoneMissing};
+ghost use Rattle.vx_run.specs.Running.{IsTrueTo, HasInstalled, AreKept, IsCounted, NoneMissing};
 
 use crate::driver::drive;
 use crate::fault::Fault;
@@ -38,6 +38,7 @@ pub(crate) fn run<R: Wait, W: World, C: Clock>(
 ) -> Outcome<W::Port>
     ensures answer { IsAnswer words.now (W.texts world.old) (W.faults world.old) (W.faults world.new) result.history result.fault }
     ensures told { IsTrueTo W.Port.told result.history result.ports result.fault }
+    ensures installed { HasInstalled result.history result.fault }
     ensures copies { AreKept result.history result.fault }
     ensures counted { IsCounted result.history (length result.ports) result.tallies result.fault }
     ensures closed { AreClosed W.Port.told result.ports }
@@ -80,6 +81,7 @@ fn begin<R: Wait, P: Port, C: Clock>(
     requires untouched { AreUntouched P.told parts.plan.components parts.ports }
     ensures judged { IsJudged result.history result.fault }
     ensures told { IsTrueTo P.told result.history result.ports result.fault }
+    ensures installed { HasInstalled result.history result.fault }
     ensures copies { AreKept result.history result.fault }
     ensures counted { IsCounted result.history (length result.ports) result.tallies result.fault }
     ensures closed { AreClosed P.told result.ports }
@@ -106,8 +108,10 @@ fn finish<R: Wait, P: Port, C: Clock>(
     requires plan { plan.now ≡ first_plan }
     requires stands { Stands P.told hub [] hub.log.history }
     requires size { length hub.rows.items ≡ length first_plan.components }
+    requires installed { hub.plan ≡ first_plan }
     ensures judged { IsJudged result.history result.fault }
     ensures told { IsTrueTo P.told result.history result.ports result.fault }
+    ensures installed { HasInstalled result.history result.fault }
     ensures copies { AreKept result.history result.fault }
     ensures counted { IsCounted result.history (length result.ports) result.tallies result.fault }
     ensures closed { AreClosed P.told result.ports }

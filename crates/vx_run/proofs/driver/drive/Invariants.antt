@@ -6,4 +6,5 @@ abbrev pub invariant-loop : goal.invariant-loop
 invariant-loop g l = record {
   stands : Stands g.P.Port.told l.hub [] l.hub.log.history;
   size : length l.hub.rows.items ≡ length l.fn.hub.rows.items;
+  plan : l.hub.plan ≡ l.fn.hub.plan;
 }

@@ -1,9 +1,9 @@
-use Rattle.std.proofs.Common.{◌≡◌, length, sym, subst, arith}
+use Rattle.std.proofs.Common.{◌≡◌, ◌∙◌, Some, length, ap, sym, subst, arith}
 use Rattle.vx_record.specs.Records.{Record}
 use Rattle.vx_hub.specs.Order.{IsOrderly}
 use Rattle.vx_run.specs.Answers.{IsJudged}
 use Rattle.vx_run.specs.Running.{IsCounted}
-use Rattle.vx_run.proofs.Counting.{judged_short, true_short, true_of, kept_short, kept_of}
+use Rattle.vx_run.proofs.Counting.{judged_short, true_short, true_of, kept_short, kept_of, installed_short, installed_of}
 use Rattle.vx_run.proofs.running.finish.Goals as goal
 
 pub returns-clause-judged : goal.returns-clause-judged
@@ -23,3 +23,8 @@ returns-clause-counted g c =
 pub returns-clause-copies : goal.returns-clause-copies
 returns-clause-copies g c = kept_short c.end-ports.result.history c.judge-fault.result c.count-tallies.result.fault c.count-tallies.ensures.kept
     (kept_of c.drive.new.hub c.end-ports.result.history c.judge-fault.result c.judge-fault.ensures.sure c.end-ports.ensures.one_place c.end-ports.ensures.spent)
+
+pub returns-clause-installed : goal.returns-clause-installed
+returns-clause-installed g c = installed_short c.end-ports.result.history c.judge-fault.result c.count-tallies.result.fault c.count-tallies.ensures.kept
+    (installed_of c.drive.new.hub c.end-ports.result.history c.judge-fault.result c.judge-fault.ensures.sure
+    (λ sound. c.end-ports.ensures.installed sound ∙ ap Some (c.drive.ensures.plan ∙ c.requires.installed)))
