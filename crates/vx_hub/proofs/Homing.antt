@@ -6,10 +6,9 @@ use Rattle.vx_ledger.specs.Copies.{Copy}
 use Rattle.vx_ledger.specs.declared.child.Child.{Child}
 use Rattle.vx_record.specs.Records.{Record}
 use Rattle.vx_record.specs.Noted.{Noted}
-use Rattle.vx_record.specs.declared.log.Log.{Log}
 use Rattle.vx_record.specs.declared.entry.Entry.{Entry}
 use Rattle.vx_record.specs.declared.entry.Entry.TheVariants.{Idle, SourceLost}
-use Rattle.vx_record.specs.Places.Place.{Outputs, Waiting, Held}
+use Rattle.vx_record.specs.Places.Place.{Waiting, Held}
 use Rattle.std.proofs.lemmas.List.{append_assoc}
 use Rattle.vx_record.specs.Lists.{stands, parcels_at, outputs, held}
 use Rattle.vx_record.specs.Sending.{IsOldest}
@@ -26,7 +25,7 @@ use Rattle.vx_hub.specs.Places.{parcel_numbers, waiting_numbers, numbers_if, num
 use Rattle.vx_hub.specs.Births.{IsHeldBy, IsNextOut}
 use Rattle.vx_hub.specs.Failures.{IsFailureOf}
 use Rattle.vx_hub.specs.Numbers.{numbers_in}
-use Rattle.vx_hub.specs.Stands.{Stands, IsSound}
+use Rattle.vx_hub.specs.Stands.{Stands}
 use Rattle.vx_hub.proofs.Ordering.{sound_before}
 use Rattle.vx_hub.proofs.Placing.{conserved, numbers-append}
 

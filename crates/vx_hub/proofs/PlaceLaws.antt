@@ -1,11 +1,9 @@
 -- What stands at each place, when one row of the table is written.
-use Rattle.std.proofs.Common.{◌≡◌, ℕ, zero, suc, ◌+◌, ◌<◌, Bool, true, false, List, [], ◌∷◌, ◌++◌, length, get_or, refl, sym, ap, ◌∙◌, subst, arith, Option, Some, None, IfSome, IfNone}
+use Rattle.std.proofs.Common.{◌≡◌, ℕ, zero, suc, ◌<◌, Bool, true, false, List, [], ◌∷◌, ◌++◌, length, get_or, refl, sym, ap, ◌∙◌, arith, Option, Some, None, IfSome, IfNone}
 use Rattle.std.specs.Prelude.{slice_set, ◌≢◌, ◌==◌, remove, if◌then◌else◌, IsNone, ◌↔◌}
 use Rattle.std.proofs.lemmas.Bool.Decides.{nat_tests}
-use Rattle.std.proofs.lemmas.List.{append-nil}
 use Rattle.std.specs.Global.{Vec}
 use Rattle.vx_value.specs.Filled.{Filled}
-use Rattle.vx_ledger.specs.Copies.{Copy}
 use Rattle.vx_ledger.specs.declared.parcel.Parcel.{Parcel}
 use Rattle.vx_ledger.specs.declared.child.Child.{Child}
 use Rattle.vx_record.specs.Places.{Place, owner, same_place}
@@ -17,7 +15,7 @@ use Rattle.vx_hub.specs.declared.task.SinkCore.{SinkCore}
 use Rattle.vx_hub.specs.declared.task.Role.TheVariants.{Sink}
 use Rattle.vx_hub.specs.Rows.{row_at, task_parcels, role_parcels}
 use Rattle.vx_hub.specs.Numbers.{numbers_in}
-use Rattle.vx_hub.specs.Places.{parcel_numbers, stacked_numbers, waiting_numbers, numbers_here, numbers_if, numbers_at, SamePlaces, SameOtherPlaces, TakesOldest, TakesFrom, PutsLast, Fills, FillsWaiting, NoneBefore}
+use Rattle.vx_hub.specs.Places.{parcel_numbers, stacked_numbers, waiting_numbers, numbers_here, numbers_if, numbers_at, SamePlaces, NoneBefore}
 use Rattle.vx_hub.proofs.RowLaws.{row_read, row_written, rows_other}
 use Rattle.vx_hub.proofs.Silence.{other_test, same_test}
 
@@ -148,14 +146,18 @@ pub first_removed : (t k : ℕ) (cs : List Child) (c : Child) → NoneBefore t k
     (c.target ≡ t) × (waiting_numbers t cs ≡ numbers_in c.parcel.finalizers ∷ waiting_numbers t (remove cs k))
 first_removed t k [] c first at = absurd first
 first_removed t zero (d ∷ cs) c first at =
-    let same : c ≡ d = at in
-    (ap (λ (x : Child). x.target) same ∙ first, ap (λ b. if b then numbers_in d.parcel.finalizers ∷ waiting_numbers t cs else waiting_numbers t cs) (ap (λ x. x == t) first ∙ same_test t)
-    ∙ ap (λ (x : Child). numbers_in x.parcel.finalizers ∷ waiting_numbers t cs) (sym same))
+    let same : c ≡ d = at in (
+      ap (λ (x : Child). x.target) same ∙ first,
+      ap (λ b. if b then numbers_in d.parcel.finalizers ∷ waiting_numbers t cs else waiting_numbers t cs) (ap (λ x. x == t) first ∙ same_test t)
+          ∙ ap (λ (x : Child). numbers_in x.parcel.finalizers ∷ waiting_numbers t cs) (sym same),
+    )
 first_removed t (suc k) (d ∷ cs) c first at =
     let tail = first_removed t k cs c first.1 at in
-    let off : (d.target == t) ≡ false = other_test d.target t (λ e. first.0 (sym e)) in
-    (tail.0, ap (λ b. if b then numbers_in d.parcel.finalizers ∷ waiting_numbers t cs else waiting_numbers t cs) off ∙ tail.1
-    ∙ ap (λ b. numbers_in c.parcel.finalizers ∷ (if b then numbers_in d.parcel.finalizers ∷ waiting_numbers t (remove cs k) else waiting_numbers t (remove cs k))) (sym off))
+    let off : (d.target == t) ≡ false = other_test d.target t (λ e. first.0 (sym e)) in (
+      tail.0,
+      ap (λ b. if b then numbers_in d.parcel.finalizers ∷ waiting_numbers t cs else waiting_numbers t cs) off ∙ tail.1
+          ∙ ap (λ b. numbers_in c.parcel.finalizers ∷ (if b then numbers_in d.parcel.finalizers ∷ waiting_numbers t (remove cs k) else waiting_numbers t (remove cs k))) (sym off),
+    )
 
 -- and of another target none is missed
 pub other_removed : (t u k : ℕ) (cs : List Child) (c : Child) → k < length cs → c ≡ get_or cs k c → c.target ≡ t → (t == u) ≡ false →

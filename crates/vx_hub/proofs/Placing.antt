@@ -18,7 +18,7 @@ use Rattle.vx_record.specs.Places.Place.{Outputs, Waiting, Contents, Held}
 use Rattle.vx_record.specs.Lists.{stands, and_rest, shrunk, parcels_at, is_child_of, outputs, held}
 use Rattle.vx_record.specs.Moving.{IsStill, Conserves, IsConserved, singles, children_for}
 use Rattle.vx_record.proofs.Counts.{count-append}
-use Rattle.vx_record.proofs.Changes.{same_place_is, same_place_self, stands_once}
+use Rattle.vx_record.proofs.Changes.{same_place_is, stands_once}
 use Rattle.vx_record.proofs.Hands.{AreAt, shrunk_by_none, stands_still, live_still, others_stay, hand_is_live, parcel_is_at, parcel_taken, parcel_once, all_taken, spent_from_hand, rest_live, born_in_hand, born_once, born_live, singles_left}
 use Rattle.vx_record.proofs.Entries.{push_pops, push_grows, push_stays, take_pops, take_grows, take_stays, split_pops, split_grows, split_stays, born_grows}
 use Rattle.vx_hub.specs.declared.row.Row.{Row}
@@ -324,6 +324,8 @@ placed_child_if i (Some parcel) old new h kept placed some none = placed_taken (
 pub lined_born : {P : Type 0} (rows : List (Row P)) (h : Record) (i b place : ℕ) (copies : List ℕ) (events : List Event) (waits : Bool) (stream end : ℕ) →
     IsConserved (Born i b place copies events waits stream end ∷ h) → IsPlaced rows [] h → numbers_at (Outputs i) rows ≡ [] →
     (done : List ℕ) × (outputs (Born i b place copies events waits stream end ∷ h) i ≡ singles (copies ++ done))
-lined_born rows h i b place copies events waits stream end kept placed none =
-    ([], born_grows h i b place copies events waits stream end kept ∙ ap (λ ps. ps ++ singles copies) (places_all rows h placed (Outputs i) ∙ none)
-    ∙ ap singles (sym (append-nil copies)))
+lined_born rows h i b place copies events waits stream end kept placed none = (
+  [],
+  born_grows h i b place copies events waits stream end kept ∙ ap (λ ps. ps ++ singles copies) (places_all rows h placed (Outputs i) ∙ none)
+      ∙ ap singles (sym (append-nil copies)),
+)

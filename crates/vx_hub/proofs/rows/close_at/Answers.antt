@@ -1,4 +1,4 @@
-use Rattle.std.proofs.Common.{arith, refl, ap, ◌∙◌, sym, subst, [], Option, Some, ◌≡◌, ◌∷◌, ◌++◌, length, ◌<◌, false}
+use Rattle.std.proofs.Common.{arith, refl, ap, ◌∙◌, sym, subst, [], Option, Some}
 use Rattle.std.specs.Prelude.{IfSome, IsSomeAnd, slice_set}
 use Rattle.vx_ledger.specs.Copies.{copies_of}
 use Rattle.vx_hub.specs.Rows.{task_copies, task_parcels, task_port, port_of, port_at}

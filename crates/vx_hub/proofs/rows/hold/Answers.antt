@@ -1,4 +1,4 @@
-use Rattle.std.proofs.Common.{arith, ap, sym, Some, ◌≡◌, ◌∙◌, ◌∷◌, ◌++◌, [], refl, length, ◌<◌, false}
+use Rattle.std.proofs.Common.{arith, ap, sym, Some, ◌≡◌, ◌∙◌, ◌∷◌, ◌++◌, [], refl, false}
 use Rattle.vx_ledger.specs.Copies.{copies_of}
 use Rattle.vx_hub.specs.Rows.{task_port, parcel_copies}
 use Rattle.vx_hub.specs.declared.task.Role.TheVariants.{Sink}

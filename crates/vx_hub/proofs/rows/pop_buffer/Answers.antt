@@ -1,4 +1,4 @@
-use Rattle.std.proofs.Common.{arith, refl, ◌≡◌, ◌∙◌, ◌∷◌, ◌++◌, [], ap, sym, length, ◌<◌, false}
+use Rattle.std.proofs.Common.{arith, refl, ◌≡◌, ◌∙◌, ◌∷◌, ap, sym, false}
 use Rattle.vx_hub.specs.Rows.{HoldsMore, IsBare}
 use Rattle.vx_hub.proofs.Parcels.{row_counts, popped_first, none_first, first_held}
 use Rattle.vx_hub.proofs.RowLaws.{rows_lose, row_has, each_keeps, ports_kept, bare_kept}

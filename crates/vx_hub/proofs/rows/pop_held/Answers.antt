@@ -1,4 +1,4 @@
-use Rattle.std.proofs.Common.{arith, refl, ap, sym, Some, ◌≡◌, ◌∙◌, ◌∷◌, ◌++◌, [], length, ◌<◌, false}
+use Rattle.std.proofs.Common.{arith, refl, ap, sym, Some, ◌≡◌, ◌∙◌, ◌∷◌, false}
 use Rattle.vx_hub.specs.Rows.{task_port}
 use Rattle.vx_hub.specs.declared.task.Role.TheVariants.{Sink}
 use Rattle.vx_hub.proofs.Parcels.{row_counts, popped_first, held_copies, none_held, none_first}

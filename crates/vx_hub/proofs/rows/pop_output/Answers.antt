@@ -1,4 +1,4 @@
-use Rattle.std.proofs.Common.{arith, refl, ◌≡◌, [], ◌∙◌, ◌∷◌, ◌++◌, ap, sym, length, ◌<◌, false}
+use Rattle.std.proofs.Common.{arith, refl, ◌≡◌, [], ◌∙◌, ◌∷◌, ap, sym, false}
 use Rattle.vx_hub.specs.Rows.{IsBare}
 use Rattle.vx_hub.proofs.Parcels.{row_counts, popped_last, none_last, popped_room, some_held}
 use Rattle.vx_hub.proofs.RowLaws.{rows_lose, row_gets, row_has, each_keeps, ports_kept, bare_kept}

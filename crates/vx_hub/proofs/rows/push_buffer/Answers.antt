@@ -1,4 +1,4 @@
-use Rattle.std.proofs.Common.{arith, refl, ap, ◌≡◌, ◌∙◌, ◌∷◌, ◌++◌, [], sym, length, ◌<◌, false}
+use Rattle.std.proofs.Common.{arith, refl, ap, ◌≡◌, ◌∙◌, ◌∷◌, ◌++◌, [], sym, false}
 use Rattle.vx_ledger.specs.Copies.{copies_of}
 use Rattle.vx_hub.specs.Rows.{parcel_copies}
 use Rattle.vx_hub.proofs.Parcels.{row_counts, parcels_pushed}

@@ -1,4 +1,4 @@
-use Rattle.std.proofs.Common.{arith, refl, ap, ◌+◌, ◌≤◌, ◌∷◌, [], length, ◌≡◌, ◌∙◌, ◌++◌, sym, ◌<◌, false}
+use Rattle.std.proofs.Common.{arith, refl, ap, ◌+◌, ◌≤◌, ◌∷◌, [], length, ◌≡◌, ◌∙◌, sym, false}
 use Rattle.std.proofs.lemmas.List.{length-append}
 use Rattle.vx_ledger.specs.Copies.{copies_of}
 use Rattle.vx_hub.specs.Rows.{parcel_copies}

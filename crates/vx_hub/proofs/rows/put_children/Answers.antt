@@ -1,9 +1,8 @@
-use Rattle.std.proofs.Common.{arith, refl, ap, ◌≡◌, [], ◌∙◌, ◌∷◌, ◌++◌, sym, length, ◌<◌, false}
+use Rattle.std.proofs.Common.{arith, refl, ap, ◌≡◌, [], ◌∙◌, false}
 use Rattle.vx_ledger.specs.Copies.{copies_of}
 use Rattle.vx_hub.specs.Rows.{child_copies}
 use Rattle.vx_hub.proofs.Parcels.{row_counts}
 use Rattle.vx_hub.proofs.RowLaws.{rows_gain, row_has, ports_kept, others_bare}
-use Rattle.vx_record.specs.Places.{same_place}
 use Rattle.vx_record.specs.Places.Place.{Waiting}
 use Rattle.vx_record.specs.Lists.{is_child_of}
 use Rattle.vx_hub.specs.Places.{waiting_numbers}

@@ -1,4 +1,4 @@
-use Rattle.std.proofs.Common.{arith, ap, ◌≡◌, ◌∙◌, None, ◌∷◌, ◌++◌, [], sym, refl, length, ◌<◌, false}
+use Rattle.std.proofs.Common.{arith, ap, ◌≡◌, ◌∙◌, None, refl, false}
 use Rattle.vx_ledger.specs.Copies.{copies_of}
 use Rattle.vx_hub.specs.Rows.{task_copies, port_of, task_port}
 use Rattle.vx_hub.proofs.Parcels.{row_counts}

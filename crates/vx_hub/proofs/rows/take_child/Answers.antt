@@ -1,4 +1,4 @@
-use Rattle.std.proofs.Common.{arith, refl, ap, ◌<◌, length, ◌≡◌, ◌∙◌, ◌∷◌, ◌++◌, [], sym, false}
+use Rattle.std.proofs.Common.{arith, refl, ap, ◌<◌, length, ◌≡◌, ◌∙◌, ◌∷◌, sym, false}
 use Rattle.vx_ledger.specs.Copies.{copies_of}
 use Rattle.vx_hub.specs.Rows.{child_copies}
 use Rattle.vx_hub.proofs.Parcels.{row_counts, child_removed}
@@ -41,10 +41,12 @@ returns-clause-oldest g c t first =
     let row = c.index_mut.result.now in
     let none : NoneBefore t c.args.k row.waiting.items = row_has (λ r. NoneBefore t c.args.k r.waiting.items) c.args.rows.now.items c.args.i row c.requires.within c.index_mut.ensures.value first in
     let l : c.args.k < length row.waiting.items = row_has (λ r. c.args.k < length r.waiting.items) c.args.rows.now.items c.args.i row c.requires.within c.index_mut.ensures.value c.requires.child in
-    let r = first_removed t c.args.k row.waiting.items c.remove.result none c.remove.ensures.value in
-    (r.0, record {
-      oldest = read_at (Waiting c.args.i t) c.args.rows.now.items c.args.i row c.requires.within c.index_mut.ensures.value refl ∙ r.1
-          ∙ ap (λ ns. numbers_in c.remove.result.parcel.finalizers ∷ ns) (sym (written_at (Waiting c.args.i t) c.args.rows.now.items c.args.i _ c.requires.within refl ∙ ap (waiting_numbers t) c.remove.ensures.items));
-      others = places_but (λ p. same_place (Waiting c.args.i t) p ≡ false) c.args.rows.now.items c.args.i c.index_mut.result.now _ c.requires.within c.index_mut.ensures.value (λ p own other. but_target c.args.i t row c.remove.new.self p own other
-          (λ u off. ap (waiting_numbers u) c.remove.ensures.items ∙ other_removed t u c.args.k row.waiting.items c.remove.result l c.remove.ensures.value r.0 off));
-    })
+    let r = first_removed t c.args.k row.waiting.items c.remove.result none c.remove.ensures.value in (
+      r.0,
+      record {
+        oldest = read_at (Waiting c.args.i t) c.args.rows.now.items c.args.i row c.requires.within c.index_mut.ensures.value refl ∙ r.1
+            ∙ ap (λ ns. numbers_in c.remove.result.parcel.finalizers ∷ ns) (sym (written_at (Waiting c.args.i t) c.args.rows.now.items c.args.i _ c.requires.within refl ∙ ap (waiting_numbers t) c.remove.ensures.items));
+        others = places_but (λ p. same_place (Waiting c.args.i t) p ≡ false) c.args.rows.now.items c.args.i c.index_mut.result.now _ c.requires.within c.index_mut.ensures.value (λ p own other. but_target c.args.i t row c.remove.new.self p own other
+            (λ u off. ap (waiting_numbers u) c.remove.ensures.items ∙ other_removed t u c.args.k row.waiting.items c.remove.result l c.remove.ensures.value r.0 off));
+      },
+    )

@@ -1,4 +1,4 @@
-use Rattle.std.proofs.Common.{arith, refl, ap, ◌∙◌, ◌∷◌, [], sym, length, ◌≡◌, ◌++◌, ◌<◌, false}
+use Rattle.std.proofs.Common.{arith, refl, ap, ◌∙◌, ◌∷◌, [], sym, length, ◌≡◌, ◌++◌, false}
 use Rattle.std.specs.Prelude.{if◌then◌else◌}
 use Rattle.std.proofs.lemmas.List.{length-append, append-nil}
 use Rattle.vx_ledger.specs.Copies.{copies_of}
@@ -64,18 +64,20 @@ returns-in-Some-clause-from g c =
     let child = c.in-Some.field-0 in
     let t = child.target in
     let left = c.pop.new.self.items in
-    let ns = numbers_in child.parcel.finalizers in
-    (t, record {
-      before = waiting_numbers t left;
-      after = [];
-      was = read_at (Waiting c.args.i t) c.args.rows.now.items c.args.i row c.requires c.index_mut.ensures.value refl
-          ∙ ap (waiting_numbers t) c.in-Some.ensures.items ∙ waiting-more t left child
-          ∙ ap (λ b. waiting_numbers t left ++ (if b then ns ∷ [] else [])) (same_test t);
-      left = written_at (Waiting c.args.i t) c.args.rows.now.items c.args.i _ c.requires refl ∙ sym (append-nil (waiting_numbers t left));
-      others = places_but (λ p. same_place (Waiting c.args.i t) p ≡ false) c.args.rows.now.items c.args.i c.index_mut.result.now _ c.requires c.index_mut.ensures.value (λ p own other. but_target c.args.i t row c.pop.new.self p own other
-          (λ u off. sym (ap (waiting_numbers u) c.in-Some.ensures.items ∙ waiting-more u left child
-          ∙ ap (λ b. waiting_numbers u left ++ (if b then ns ∷ [] else [])) off ∙ append-nil (waiting_numbers u left))));
-    })
+    let ns = numbers_in child.parcel.finalizers in (
+      t,
+      record {
+        before = waiting_numbers t left;
+        after = [];
+        was = read_at (Waiting c.args.i t) c.args.rows.now.items c.args.i row c.requires c.index_mut.ensures.value refl
+            ∙ ap (waiting_numbers t) c.in-Some.ensures.items ∙ waiting-more t left child
+            ∙ ap (λ b. waiting_numbers t left ++ (if b then ns ∷ [] else [])) (same_test t);
+        left = written_at (Waiting c.args.i t) c.args.rows.now.items c.args.i _ c.requires refl ∙ sym (append-nil (waiting_numbers t left));
+        others = places_but (λ p. same_place (Waiting c.args.i t) p ≡ false) c.args.rows.now.items c.args.i c.index_mut.result.now _ c.requires c.index_mut.ensures.value (λ p own other. but_target c.args.i t row c.pop.new.self p own other
+            (λ u off. sym (ap (waiting_numbers u) c.in-Some.ensures.items ∙ waiting-more u left child
+            ∙ ap (λ b. waiting_numbers u left ++ (if b then ns ∷ [] else [])) off ∙ append-nil (waiting_numbers u left))));
+      },
+    )
 
 pub returns-in-None-clause-none : goal.returns-in-None-clause-none
 returns-in-None-clause-none g c = places_kept c.args.rows.now.items c.args.i c.index_mut.result.now _ c.requires c.index_mut.ensures.value (same_waiting c.index_mut.result.now _ (sym (c.in-None.ensures.items ∙ append-nil c.pop.new.self.items)))

@@ -2,7 +2,7 @@ use Rattle.std.proofs.Common.{arith, refl, inl, inr, ℕ, ◌≡◌, ◌<◌, �
 use Rattle.std.specs.Prelude.{not}
 use Rattle.std.proofs.lemmas.Bool.{cases_eq}
 use Rattle.vx_hub.proofs.RowLaws.{row_says, row_has}
-use Rattle.vx_hub.proofs.Touching.{facts_says, facts_past, facts_surely, not_false, not_both}
+use Rattle.vx_hub.proofs.Touching.{facts_says, facts_past, facts_surely, not_both}
 use Rattle.vx_hub.proofs.hub.Hub.has_room.Goals.{then-target-len-via-then-target-len, then-target-len-via-else-target-len+then-target-len-2}
 use Rattle.vx_hub.proofs.hub.Hub.has_room.Goals as goal
 

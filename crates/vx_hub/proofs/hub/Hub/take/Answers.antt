@@ -22,7 +22,9 @@ returns-clause-stands g c =
     refl (λ i. c.hold.ensures.ports i ∙ c.pop_buffer.ensures.ports i)
     (bare_but c.args.self.now.facts.items c.args.self.now.rows.items c.pop_buffer.new.rows.items c.hold.new.rows.items c.args.instance (c.in-Some.ensures.held refl) c.pop_buffer.ensures.bare c.hold.ensures.bare)
     (c.hold.ensures.size ∙ c.pop_buffer.ensures.size) c.note_take.ensures
-    (record { quiet = tt; next = same_next c.args.self.now.batches c.args.self.now.batches c.args.self.now.log.history (Take c.args.instance 0 (numbers_in c.in-Some.parcel.finalizers)) refl refl;
+    (record {
+      quiet = tt;
+      next = same_next c.args.self.now.batches c.args.self.now.batches c.args.self.now.log.history (Take c.args.instance 0 (numbers_in c.in-Some.parcel.finalizers)) refl refl;
       order = λ fine. is_oldest (numbers_in c.in-Some.parcel.finalizers) _ _ (oldest_is (Contents c.args.instance 0) c.in-Some.parcel.finalizers c.args.self.now.rows.items c.pop_buffer.new.rows.items c.args.self.now.log.history (c.requires.stands.recorded fine).places c.in-Some.ensures.oldest);
       places = λ kept placed. placed_held c.args.self.now.rows.items c.pop_buffer.new.rows.items c.hold.new.rows.items c.args.self.now.log.history c.args.instance c.in-Some.parcel.finalizers kept placed c.in-Some.ensures.oldest c.hold.ensures.last;
     }) refl refl refl
