@@ -10,7 +10,7 @@ use Rattle.vx_record.specs.Legal.{IsLegal}
 use Rattle.vx_record.specs.Laws.{times_noticed, NoSpentAfterNotice, NoticeTells, BeginningLegal}
 use Rattle.vx_record.proofs.OnePlace.{legal_before}
 use Rattle.vx_record.proofs.Notices.{noticed}
-use Rattle.vx_record.proofs.Statuses.{delivered_where_good}
+use Rattle.vx_record.proofs.Accounted.{accounted, delivered_where_good}
 
 pub beginning_legal : BeginningLegal
 beginning_legal later earlier legal = legal_before later earlier legal
@@ -18,7 +18,7 @@ beginning_legal later earlier legal = legal_before later earlier legal
 pub no_spent_after_notice : NoSpentAfterNotice
 no_spent_after_notice later earlier i c outcome legal =
     let (follows, before) = legal_before later (Spent i c outcome ∷ earlier) legal in
-    (noticed earlier (batch_of earlier c) before).early c refl follows.row.live
+    (noticed earlier (batch_of earlier c) (accounted earlier before)).early c refl follows.row.live
 
 -- a record with a Notice of the batch has one at least
 has_notice : (later earlier : Record) (b : ℕ) (status : BatchStatus) → 0 < times_noticed (later ++ Notice b status ∷ earlier) b
@@ -32,7 +32,7 @@ good_after : (later earlier : Record) (b : ℕ) (status : BatchStatus) → IsLeg
 good_after [] earlier b status legal good = good
 good_after (Spent i c outcome ∷ later) earlier b status legal good = (
   λ same.
-      let none = (noticed (later ++ Notice b status ∷ earlier) b legal.1).early c same legal.0.row.live in
+      let none = (noticed (later ++ Notice b status ∷ earlier) b (accounted (later ++ Notice b status ∷ earlier) legal.1)).early c same legal.0.row.live in
       let some = has_notice later earlier b status in
       absurd (omega arith),
   good_after later earlier b status legal.1 good,

@@ -10,8 +10,8 @@ use Rattle.vx_record.specs.declared.entry.Entry.TheVariants.{Split}
 use Rattle.vx_record.specs.Copies.{count, next_copy, times_split, times_spent, IsLive}
 use Rattle.vx_record.specs.Batches.{parent}
 use Rattle.vx_record.specs.Places.Kind.{AnOutput}
-use Rattle.vx_record.specs.Legal.{Allows, IsLegal}
-use Rattle.vx_record.proofs.OnePlace.{conserves, conserved, tracked}
+use Rattle.vx_record.specs.Moving.{Conserves, IsConserved}
+use Rattle.vx_record.proofs.OnePlace.{tracked}
 use Rattle.vx_record.proofs.Tracked.{Tracked, stand_cases}
 use Rattle.vx_record.proofs.Steps.{moves}
 
@@ -25,11 +25,11 @@ if_ge m n x y l = grind (arith, nat_tests)
 pub unmade_whole : (h : Record) (c : ℕ) → Tracked h c → next_copy h ≤ c → (times_split h c ≡ 0) × (times_spent h c ≡ 0)
 unmade_whole h c t l = let u = t.unmade l in (omega arith, omega arith)
 
--- what a legal Split replaces is live
+-- what a Split replaces is live
 pub split_live : (h : Record) (c i ports : ℕ) (copies : List ℕ) (event : Event) (children : List Child) → Tracked h c →
-    Allows h (Split i ports copies event children) → 0 < count c copies → IsLive h c
+    Conserves h (Split i ports copies event children) → 0 < count c copies → IsLive h c
 split_live h c i ports copies event children t a l =
-    let m = moves h (Split i ports copies event children) c (conserves h (Split i ports copies event children) a) in
+    let m = moves h (Split i ports copies event children) c a in
     elim (cases_lt c (next_copy h)) [
       | inl below ↦ elim (stand_cases AnOutput h c) [
         | inl none ↦ (below, omega arith, omega arith)
@@ -62,9 +62,9 @@ pub parent_split : (next : ℕ) (copies : List ℕ) (c : ℕ) → 0 < length cop
 parent_split next copies c l = count-at copies ((c - next) % length copies) (omega arith)
 
 -- and it is live until then
-pub parent_live : (h : Record) (c i ports : ℕ) (copies : List ℕ) (event : Event) (children : List Child) → IsLegal (Split i ports copies event children ∷ h) →
+pub parent_live : (h : Record) (c i ports : ℕ) (copies : List ℕ) (event : Event) (children : List Child) → IsConserved (Split i ports copies event children ∷ h) →
     next_copy h ≤ c → c < next_copy (Split i ports copies event children ∷ h) → IsLive h (parent (next_copy h) copies c)
-parent_live h c i ports copies event children legal l u =
+parent_live h c i ports copies event children kept l u =
     let some : 0 < length copies = grind arith in
     let p = parent (next_copy h) copies c in
-    split_live h p i ports copies event children (tracked h p (conserved h legal.1)) legal.0.row (parent_split (next_copy h) copies c some)
+    split_live h p i ports copies event children (tracked h p kept.1) kept.0 (parent_split (next_copy h) copies c some)

@@ -1,6 +1,6 @@
 -- One running status of a batch is what the two tables fold, in whatever order its copies are spent.
 use Rattle.std.proofs.Common.{◌≡◌, ℕ, Bool, ◌+◌, ◌<◌, ◌≤◌, max, List, [], ◌∷◌, ◌++◌, sym, refl, ap, ◌∙◌, arith, length, inl, inr, ◌⊎◌}
-use Rattle.std.specs.Prelude.{if◌then◌else◌, ◌==◌}
+use Rattle.std.specs.Prelude.{if◌then◌else◌, ◌==◌, ◌↔◌}
 use Rattle.std.proofs.lemmas.Bool.Decides.{nat_tests}
 use Rattle.std.proofs.lemmas.Bool.{cases_lt, cases_eq}
 use Rattle.vx_value.specs.declared.event.Event.{Event}
@@ -15,12 +15,11 @@ use Rattle.vx_status.specs.Tables.{status_of, event_update, batch_update, IsGood
 use Rattle.vx_record.specs.Copies.{count, next_copy}
 use Rattle.vx_record.specs.Batches.{parent, batch_of, root_of, roots}
 use Rattle.vx_record.specs.Statuses.{outcomes, event_fold, event_status, batch_fold, batch_status, running, AllGood}
-use Rattle.vx_record.specs.Legal.{IsLegal}
-use Rattle.vx_record.specs.Laws.{RunningStatus, DeliveredWhereGood}
+use Rattle.vx_record.specs.Accounting.{IsAccounted}
 use Rattle.vx_status.specs.declared.outcome.Outcome.TheVariants.{Delivered, Filtered, NewestDropped, NoConsumer}
 use Rattle.vx_record.proofs.Counts.{counting_before, counting_within, counting_after}
 use Rattle.vx_record.proofs.Live.{if_lt, if_ge, parent_live}
-use Rattle.vx_record.proofs.Notices.{batch_made}
+use Rattle.vx_record.proofs.Notices.{kept, batch_made}
 
 -- the statuses in order: both tables give the greater of two
 abbrev pub rank : EventStatus → ℕ
@@ -114,86 +113,86 @@ if_other : {A : Type 0} (m n : ℕ) (x y : A) → (m ≡ n → ⊥) → (if m ==
 if_other m n x y e = grind (arith, nat_tests)
 
 -- nothing is known yet of a root or a batch to come
-outcomes_future : (h : Record) (r : ℕ) → IsLegal h → next_copy h ≤ r → outcomes h r ≡ []
-outcomes_future [] r legal l = refl
-outcomes_future (Spent i c o ∷ h) r legal l =
-    let m = batch_made h c legal.1 legal.0.row.live.0 in
-    if_other (root_of h c) r (outcomes h r ++ o ∷ []) (outcomes h r) (λ e. absurd (omega arith)) ∙ outcomes_future h r legal.1 (omega arith)
-outcomes_future (e ∷ h) r legal l = outcomes_future h r legal.1 (omega arith)
+outcomes_future : (h : Record) (r : ℕ) → IsAccounted h → next_copy h ≤ r → outcomes h r ≡ []
+outcomes_future [] r sound l = refl
+outcomes_future (Spent i c o ∷ h) r sound l =
+    let m = batch_made h c sound.1 sound.0.conserves.0 in
+    if_other (root_of h c) r (outcomes h r ++ o ∷ []) (outcomes h r) (λ e. absurd (omega arith)) ∙ outcomes_future h r sound.1 (omega arith)
+outcomes_future (e ∷ h) r sound l = outcomes_future h r sound.1 (omega arith)
 
-running_future : (h : Record) (b : ℕ) → IsLegal h → next_copy h ≤ b → running h b ≡ batch.Delivered
-running_future [] b legal l = refl
-running_future (Spent i c o ∷ h) b legal l =
-    let m = batch_made h c legal.1 legal.0.row.live.0 in
-    if_other (batch_of h c) b (batch_update (running h b) (status_of o)) (running h b) (λ e. absurd (omega arith)) ∙ running_future h b legal.1 (omega arith)
-running_future (e ∷ h) b legal l = running_future h b legal.1 (omega arith)
+running_future : (h : Record) (b : ℕ) → IsAccounted h → next_copy h ≤ b → running h b ≡ batch.Delivered
+running_future [] b sound l = refl
+running_future (Spent i c o ∷ h) b sound l =
+    let m = batch_made h c sound.1 sound.0.conserves.0 in
+    if_other (batch_of h c) b (batch_update (running h b) (status_of o)) (running h b) (λ e. absurd (omega arith)) ∙ running_future h b sound.1 (omega arith)
+running_future (e ∷ h) b sound l = running_future h b sound.1 (omega arith)
 
-roots_future : (h : Record) (b r : ℕ) → IsLegal h → 0 < count r (roots h b) → r < next_copy h
-roots_future [] b r legal l = absurd (omega arith)
-roots_future (Born i b' place copies events waits stream end ∷ h) b r legal l =
+roots_future : (h : Record) (b r : ℕ) → IsAccounted h → 0 < count r (roots h b) → r < next_copy h
+roots_future [] b r sound l = absurd (omega arith)
+roots_future (Born i b' place copies events waits stream end ∷ h) b r sound l =
     elim (cases_eq b' b) [
       | inl same ↦
           let x = ap (count r) (if_same b' b copies (roots h b) same) in
-          let y = ap (count r) legal.0.row.next in
+          let y = ap (count r) sound.0.conserves in
           elim (cases_lt r (next_copy h + length copies)) [
             | inl below ↦ below
             | inr above ↦ let z = counting_after r (next_copy h) (length copies) above in absurd (omega arith)
           ]
       | inr other ↦
           let x = ap (count r) (if_other b' b copies (roots h b) other) in
-          let y = roots_future h b r legal.1 (omega arith) in
+          let y = roots_future h b r sound.1 (omega arith) in
           omega arith
     ]
-roots_future (e ∷ h) b r legal l = let x = roots_future h b r legal.1 l in omega arith
+roots_future (e ∷ h) b r sound l = let x = roots_future h b r sound.1 l in omega arith
 
 -- the root of a copy is among the roots of its batch, and of no other
-root_in : (h : Record) (c : ℕ) → IsLegal h → c < next_copy h → 0 < count (root_of h c) (roots h (batch_of h c))
-root_in [] c legal l = absurd (omega arith)
-root_in (Born i b place copies events waits stream end ∷ h) c legal l =
+root_in : (h : Record) (c : ℕ) → IsAccounted h → c < next_copy h → 0 < count (root_of h c) (roots h (batch_of h c))
+root_in [] c sound l = absurd (omega arith)
+root_in (Born i b place copies events waits stream end ∷ h) c sound l =
     elim (cases_lt c (next_copy h)) [
       | inl below ↦
-          let m = batch_made h c legal.1 below in
-          let born = legal.0.row.number in
+          let m = batch_made h c sound.1 below in
+          let born = sound.0.accounts.number in
           rw (
             if_lt c (next_copy h) (root_of h c) c below,
             if_lt c (next_copy h) (batch_of h c) b below,
             if_other b (batch_of h c) copies (roots h (batch_of h c)) (λ e. absurd (omega arith)),
           )
-          (root_in h c legal.1 below)
+          (root_in h c sound.1 below)
       | inr above ↦
-          let x = ap (count c) legal.0.row.next in
+          let x = ap (count c) sound.0.conserves in
           let y = counting_within c (next_copy h) (length copies) above l in
           rw (if_ge c (next_copy h) (root_of h c) c above, if_ge c (next_copy h) (batch_of h c) b above, if_same b b copies (roots h b) refl)
           (omega arith)
     ]
-root_in (Split i ports copies event children ∷ h) c legal l =
+root_in (Split i ports copies event children ∷ h) c sound l =
     let p = parent (next_copy h) copies c in
     elim (cases_lt c (next_copy h)) [
       | inl below ↦
           rw (if_lt c (next_copy h) (root_of h c) (root_of h p) below, if_lt c (next_copy h) (batch_of h c) (batch_of h p) below)
-          (root_in h c legal.1 below)
+          (root_in h c sound.1 below)
       | inr above ↦
           rw (if_ge c (next_copy h) (root_of h c) (root_of h p) above, if_ge c (next_copy h) (batch_of h c) (batch_of h p) above)
-          (root_in h p legal.1 (parent_live h c i ports copies event children legal above l).0)
+          (root_in h p sound.1 (parent_live h c i ports copies event children (kept (Split i ports copies event children ∷ h) sound) above l).0)
     ]
-root_in (e ∷ h) c legal l = root_in h c legal.1 (omega arith)
+root_in (e ∷ h) c sound l = root_in h c sound.1 (omega arith)
 
-root_out : (h : Record) (c b : ℕ) → IsLegal h → c < next_copy h → 0 < count (root_of h c) (roots h b) → b ≡ batch_of h c
-root_out [] c b legal l r = absurd (omega arith)
-root_out (Born i b' place copies events waits stream end ∷ h) c b legal l r =
+root_out : (h : Record) (c b : ℕ) → IsAccounted h → c < next_copy h → 0 < count (root_of h c) (roots h b) → b ≡ batch_of h c
+root_out [] c b sound l r = absurd (omega arith)
+root_out (Born i b' place copies events waits stream end ∷ h) c b sound l r =
     elim (cases_lt c (next_copy h)) [
       | inl below ↦
           let r₁ = rw (if_lt c (next_copy h) (root_of h c) c below) at r in
           elim (cases_eq b' b) [
             | inl same ↦
-                let m = batch_made h c legal.1 below in
+                let m = batch_made h c sound.1 below in
                 let x = ap (count (root_of h c)) (if_same b' b copies (roots h b) same) in
-                let y = ap (count (root_of h c)) legal.0.row.next in
+                let y = ap (count (root_of h c)) sound.0.conserves in
                 let z = counting_before (root_of h c) (next_copy h) (length copies) m.1 in
                 absurd (omega arith)
             | inr other ↦
                 let r₂ = rw (if_other b' b copies (roots h b) other) at r₁ in
-                root_out h c b legal.1 below r₂ ∙ sym (if_lt c (next_copy h) (batch_of h c) b' below)
+                root_out h c b sound.1 below r₂ ∙ sym (if_lt c (next_copy h) (batch_of h c) b' below)
           ]
       | inr above ↦
           let r₁ = rw (if_ge c (next_copy h) (root_of h c) c above) at r in
@@ -201,46 +200,46 @@ root_out (Born i b' place copies events waits stream end ∷ h) c b legal l r =
             | inl same ↦ sym same ∙ sym (if_ge c (next_copy h) (batch_of h c) b' above)
             | inr other ↦
                 let r₂ = rw (if_other b' b copies (roots h b) other) at r₁ in
-                let x = roots_future h b c legal.1 r₂ in
+                let x = roots_future h b c sound.1 r₂ in
                 absurd (omega arith)
           ]
     ]
-root_out (Split i ports copies event children ∷ h) c b legal l r =
+root_out (Split i ports copies event children ∷ h) c b sound l r =
     let p = parent (next_copy h) copies c in
     elim (cases_lt c (next_copy h)) [
       | inl below ↦
           let r₁ = rw (if_lt c (next_copy h) (root_of h c) (root_of h p) below) at r in
-          root_out h c b legal.1 below r₁ ∙ sym (if_lt c (next_copy h) (batch_of h c) (batch_of h p) below)
+          root_out h c b sound.1 below r₁ ∙ sym (if_lt c (next_copy h) (batch_of h c) (batch_of h p) below)
       | inr above ↦
           let r₁ = rw (if_ge c (next_copy h) (root_of h c) (root_of h p) above) at r in
-          root_out h p b legal.1 (parent_live h c i ports copies event children legal above l).0 r₁
+          root_out h p b sound.1 (parent_live h c i ports copies event children (kept (Split i ports copies event children ∷ h) sound) above l).0 r₁
           ∙ sym (if_ge c (next_copy h) (batch_of h c) (batch_of h p) above)
     ]
-root_out (e ∷ h) c b legal l r = root_out h c b legal.1 (omega arith) r
+root_out (e ∷ h) c b sound l r = root_out h c b sound.1 (omega arith) r
 
-new_root : (h : Record) (r i b place : ℕ) (copies : List ℕ) (events : List Event) (waits : Bool) (stream end : ℕ) → IsLegal (Born i b place copies events waits stream end ∷ h) → 0 < count r copies → next_copy h ≤ r
-new_root h r i b place copies events waits stream end legal l =
-    let x = ap (count r) legal.0.row.next in
+new_root : (h : Record) (r i b place : ℕ) (copies : List ℕ) (events : List Event) (waits : Bool) (stream end : ℕ) → IsAccounted (Born i b place copies events waits stream end ∷ h) → 0 < count r copies → next_copy h ≤ r
+new_root h r i b place copies events waits stream end sound l =
+    let x = ap (count r) sound.0.conserves in
     elim (cases_lt r (next_copy h)) [
       | inl below ↦ let y = counting_before r (next_copy h) (length copies) below in absurd (omega arith)
       | inr above ↦ above
     ]
 
-status_rank : (h : Record) (b : ℕ) → IsLegal h → batch_rank (running h b) ≡ max 1 (peak (event_status h) (roots h b))
-status_rank [] b legal = refl
-status_rank (Born i b' place copies events waits stream end ∷ h) b legal =
+status_rank : (h : Record) (b : ℕ) → IsAccounted h → batch_rank (running h b) ≡ max 1 (peak (event_status h) (roots h b))
+status_rank [] b sound = refl
+status_rank (Born i b' place copies events waits stream end ∷ h) b sound =
     elim (cases_eq b' b) [
       | inl same ↦
-          let born = legal.0.row.number in
-          let x = ap batch_rank (running_future h b legal.1 (omega arith)) in
+          let born = sound.0.accounts.number in
+          let x = ap batch_rank (running_future h b sound.1 (omega arith)) in
           let y = peak_none (event_status h) copies (λ r l. ap (λ os. rank (event_fold event.Dropped os))
-          (outcomes_future h r legal.1 (new_root h r i b' place copies events waits stream end legal l))) in
+          (outcomes_future h r sound.1 (new_root h r i b' place copies events waits stream end sound l))) in
           rw (if_same b' b copies (roots h b) same) (omega arith)
-      | inr other ↦ rw (if_other b' b copies (roots h b) other) (status_rank h b legal.1)
+      | inr other ↦ rw (if_other b' b copies (roots h b) other) (status_rank h b sound.1)
     ]
-status_rank (Spent i c o ∷ h) b legal =
-    let old = status_rank h b legal.1 in
-    let made = legal.0.row.live.0 in
+status_rank (Spent i c o ∷ h) b sound =
+    let old = status_rank h b sound.1 in
+    let made = sound.0.conserves.0 in
     let root = root_of h c in
     let before = outcomes h root in
     let e₁ = ap (λ os. rank (event_fold event.Dropped os)) (if_same root root (before ++ o ∷ []) before refl) in
@@ -252,18 +251,18 @@ status_rank (Spent i c o ∷ h) b legal =
     let u = rank-batch_update (running h b) (status_of o) in
     elim (cases_eq (batch_of h c) b) [
       | inl same ↦
-          let x = root_in h c legal.1 made in
+          let x = root_in h c sound.1 made in
           let y = ap (λ q. count root (roots h q)) same in
           let z = ap batch_rank (if_same (batch_of h c) b (batch_update (running h b) (status_of o)) (running h b) same) in
           elim raised [ inl a ↦ absurd (omega arith) | inr a ↦ omega arith ]
       | inr other ↦
           let z = ap batch_rank (if_other (batch_of h c) b (batch_update (running h b) (status_of o)) (running h b) other) in
-          elim raised [ inl a ↦ omega arith | inr a ↦ absurd (other (sym (root_out h c b legal.1 made a.0))) ]
+          elim raised [ inl a ↦ omega arith | inr a ↦ absurd (other (sym (root_out h c b sound.1 made a.0))) ]
     ]
-status_rank (e ∷ h) b legal = status_rank h b legal.1
+status_rank (e ∷ h) b sound = status_rank h b sound.1
 
-pub running_status : RunningStatus
-running_status h b legal = same_rank (running h b) (batch_status h b) (status_rank h b legal ∙ sym (rank-batch_fold (event_status h) batch.Delivered (roots h b)))
+pub running_so : (h : Record) (b : ℕ) → IsAccounted h → running h b ≡ batch_status h b
+running_so h b sound = same_rank (running h b) (batch_status h b) (status_rank h b sound ∙ sym (rank-batch_fold (event_status h) batch.Delivered (roots h b)))
 
 good_rank : (o : Outcome) → IsGood o → rank (status_of o) ≤ 1
 good_rank Delivered g = omega arith
@@ -309,9 +308,9 @@ good_all (Spent i c o ∷ h) b g =
     ]
 good_all (e ∷ h) b g = good_all h b g
 
-pub delivered_where_good : DeliveredWhereGood
-delivered_where_good h b legal =
-    let same = running_status h b legal in (
+pub delivered_so : (h : Record) (b : ℕ) → IsAccounted h → (batch_status h b ≡ batch.Delivered) ↔ AllGood h b
+delivered_so h b sound =
+    let same = running_so h b sound in (
       (λ e. let r = ap batch_rank (same ∙ e) in all_good h b (omega arith)),
       (λ g. sym same ∙ same_rank (running h b) batch.Delivered (good_all h b g)),
     )

@@ -17,6 +17,7 @@ use Rattle.vx_record.specs.Statuses.{batch_status, running, AllGood}
 use Rattle.vx_record.specs.Lists.{places, stands, parcels_at, times_among}
 use Rattle.vx_record.specs.Places.{Place}
 use Rattle.vx_record.specs.Moving.{IsConserved}
+use Rattle.vx_record.specs.Accounting.{IsAccounted}
 use Rattle.vx_record.specs.Legal.{IsLegal, IsClosed}
 
 -- Each copy that a record made by then was split once, or was spent once, or stands in one place, once: exactly one
@@ -77,6 +78,27 @@ abbrev pub NoticeTells : Type 0
 NoticeTells =
     (later earlier : Record) (b : ℕ) (status : BatchStatus) → IsLegal (later ++ Notice b status ∷ earlier) →
     (status ≡ Delivered) ↔ AllGood (later ++ Notice b status ∷ earlier) b
+
+-- a legal record gives each batch its notice
+abbrev pub LegalAccounted : Type 0
+LegalAccounted = (h : Record) → IsLegal h → IsAccounted h
+
+-- the same laws of every record that does, legal or not: each batch of which no copy is live has exactly one Notice,
+-- unless the record ends where that Notice is due
+abbrev pub AccountedOnce : Type 0
+AccountedOnce =
+    (h : Record) → IsAccounted h → (b : ℕ) → 0 < count b (batches h) → NoneLive h b → (AwaitsNotice h b → ⊥) → times_noticed h b ≡ 1
+
+-- none comes before
+abbrev pub AccountedLate : Type 0
+AccountedLate =
+    (h : Record) → IsAccounted h → (b c : ℕ) → batch_of h c ≡ b → IsLive h c → times_noticed h b ≡ 0
+
+-- and each has the status that the tables fold
+abbrev pub AccountedSo : Type 0
+AccountedSo =
+    (later earlier : Record) (b : ℕ) (status : BatchStatus) → IsAccounted (later ++ Notice b status ∷ earlier) →
+    AwaitsNotice earlier b × (status ≡ batch_status earlier b)
 
 -- what stood there before some entries of a legal record is legal
 abbrev pub BeginningLegal : Type 0

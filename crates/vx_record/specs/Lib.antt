@@ -24,6 +24,7 @@ pub mod Starting
 pub mod Sourcing
 pub mod Sending
 pub mod Moving
+pub mod Accounting
 pub mod Sinking
 pub mod Spending
 pub mod Ending

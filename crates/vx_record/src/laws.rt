@@ -1,6 +1,6 @@
 //! The laws of every legal record. A law's function does nothing: what it ensures is proved.
 
-ghost use Rattle.vx_record.specs.Laws.{OnePlace, PlacesMeant, LiveStands, LegalConserved, ConservedPlace, ConservedLive, OneNotice, OneNoticeAtLast, NoEarlyNotice, NoticeAtOnce, NoSpentAfterNotice, NoticeTells, BeginningLegal, RunningStatus, DeliveredWhereGood, OneEvent, NumbersBounded, RoutingKept, NoLeaseAfterAbandon, PrefixGrows};
+ghost use Rattle.vx_record.specs.Laws.{OnePlace, PlacesMeant, LiveStands, LegalConserved, ConservedPlace, ConservedLive, LegalAccounted, AccountedOnce, AccountedLate, AccountedSo, OneNotice, OneNoticeAtLast, NoEarlyNotice, NoticeAtOnce, NoSpentAfterNotice, NoticeTells, BeginningLegal, RunningStatus, DeliveredWhereGood, OneEvent, NumbersBounded, RoutingKept, NoLeaseAfterAbandon, PrefixGrows};
 ghost use Rattle.vx_record.specs.Wirings.{WiringStays, StartedStays, ComponentOfFirst, TargetsOfFirst};
 ghost use Rattle.vx_record.specs.Growth.{TakenGrows, GivenGrows, ConfirmedGrows, EndedGrows, SourceRises, SinkRises, SpentRises, TallyStays};
 
@@ -26,6 +26,14 @@ pub fn one_notice()
     ensures at_once { NoticeAtOnce }
     ensures at_last_spent { NoSpentAfterNotice }
     ensures tells { NoticeTells }
+{}
+
+/// The same of every record in which each batch gets its notice: a legal one does.
+pub fn accounted()
+    ensures legal { LegalAccounted }
+    ensures once { AccountedOnce }
+    ensures late { AccountedLate }
+    ensures so { AccountedSo }
 {}
 
 /// One status for each batch, into which each spend is folded as it comes, is the status that the tables fold.
