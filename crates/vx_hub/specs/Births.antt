@@ -22,6 +22,6 @@ pub record IsNextOut (h : Record) (i : ℕ) (rest copy : List Copy) : Type 0 whe
   pub done : List ℕ
   pub lined : outputs h i ≡ singles (numbers_in rest ++ number ∷ done)
 
--- where the record has all that happened, it has of an instance the parcels that a task holds
+-- where the record has all that happened, it has of an instance the parcels that a task holds, by their numbers
 abbrev pub IsHeldBy : {P : Type 0} → Hub P → ℕ → Role → Type 0
 IsHeldBy hub i role = IsSound hub → held hub.log.history i ≡ parcel_numbers (role_parcels role)

@@ -80,8 +80,8 @@ IsGiven Filtered = ⊥
 IsGiven NewestDropped = ⊥
 IsGiven other = Unit {0}
 
--- the outcome of a copy of an attempt is what the instance's last attempt was answered, and none is spent as abandoned
--- before the run was given up; of a copy without a consumer nothing is said
+-- an outcome that an attempt gives is what the instance's last attempt was answered, whichever copies that had; none is
+-- spent as abandoned before the run was given up; of a copy without a consumer nothing is said
 pub record IsSpentFor (h : Record) (i : ℕ) (outcome : Outcome) : Type 0 where
   pub given : IsGiven outcome
   pub replied : (reply : Reply) → reply_behind outcome ≡ Some reply → last_reply h i ≡ Some reply

@@ -55,7 +55,8 @@ NoneBefore t (suc k) (c ∷ cs) = (c.target ≢ t) × NoneBefore t k cs
 abbrev pub IsFirstChild : {P : Type 0} → List (Row P) → ℕ → ℕ → ℕ → Type 0
 IsFirstChild rows i t k = IfSome (row_at rows i) (λ row. NoneBefore t k row.waiting.items)
 
--- the instances have what the record has, but for copies in the hand, which are live, each once
+-- the instances have the parcels that the record has, by the numbers of their copies, but for copies in the hand, which
+-- are live, each once
 pub record IsPlaced {P : Type 0} (rows : List (Row P)) (hand : List ℕ) (h : Record) : Type 0 where
   pub there : (p : Place) → shrunk hand (parcels_at p (stands h)) ≡ numbers_at p rows
   pub once : (c : ℕ) → count c hand ≤ 1

@@ -57,7 +57,7 @@ impl<P: Port> Hub<P> {
         self.abandoned.is_none() && !self.batches.is_settled()
     }
 
-    /// Whether a landing carried want of memory.
+    /// Whether memory was wanting where the record can't tell what was done.
     pub fn starved(&self) -> bool
         ensures { result ≡ self.now.starved }
     {

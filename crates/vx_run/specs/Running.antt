@@ -17,7 +17,8 @@ abbrev pub IsTrueTo : {P : Type 0} → (P → Told) → Record → List (Numbere
 IsTrueTo told_by h ports (Some WantOfMemory) = Unit {0}
 IsTrueTo told_by h ports fault = AreTold told_by h ports × IsOrderly h
 
--- but for want of memory, each copy is in one place at any time, and in the end it was split or spent
+-- but for want of memory, each copy is at any time in one place, or was split, or was spent; in the end it was one of the
+-- last two
 abbrev pub AreKept : Record → Option Fault → Type 0
 AreKept h (Some WantOfMemory) = Unit {0}
 AreKept h fault = HasOnePlace h × AllSpent h
