@@ -19,10 +19,12 @@ use Rattle.vx_hub.specs.declared.task.Role.TheVariants.{Source, Sink}
 use Rattle.vx_ends.specs.Told.{Told}
 use Rattle.vx_record.specs.Records.{Record}
 use Rattle.vx_ledger.specs.Ledger.{live_count}
+use Rattle.vx_ledger.specs.declared.open_batch.OpenBatch.{OpenBatch}
+use Rattle.vx_hub.specs.Batching.{AreRunning}
 use Rattle.vx_record.specs.Places.{Place, owner}
 use Rattle.vx_record.specs.Places.Place.{Outputs, Waiting, Contents, Held}
-use Rattle.vx_hub.specs.Places.{numbers_at, numbers_here, numbers_if, parcel_numbers, stacked_numbers, waiting_numbers}
-use Rattle.vx_hub.proofs.Placing.{at_rest}
+use Rattle.vx_hub.specs.Places.{copies_at, copies_here, copies_if, parcel_lists, stacked_lists, waiting_lists}
+use Rattle.vx_hub.proofs.Owning.{placed_none}
 use Rattle.vx_hub.proofs.StandsLaws.{some_mapped}
 
 pub unused_more : (seats : List Seat) (seat : Seat) → AreUnused seats → IsUnused seat → AreUnused (seats ++ seat ∷ [])
@@ -62,22 +64,22 @@ ports_more G (r ∷ rows) new all f zero = all zero
 ports_more G (r ∷ rows) new all f (suc i) = ports_more (λ k. G (suc k)) rows new (λ j. all (suc j)) f i
 
 -- where nothing stands, and nothing at the new instance, nothing stands
-pub places_more : {P : Type 0} (rows : List (Row P)) (new : Row P) → ((p : Place) → numbers_at p rows ≡ []) → ((p : Place) → numbers_here p new ≡ []) → (p : Place) → numbers_at p (rows ++ new ∷ []) ≡ []
+pub places_more : {P : Type 0} (rows : List (Row P)) (new : Row P) → ((p : Place) → copies_at p rows ≡ []) → ((p : Place) → copies_here p new ≡ []) → (p : Place) → copies_at p (rows ++ new ∷ []) ≡ []
 places_more {P} rows new none here p = go rows (owner p) (none p)
   where
-    go : (rs : List (Row P)) (k : ℕ) → numbers_if p (row_at rs k) ≡ [] → numbers_if p (row_at (rs ++ new ∷ []) k) ≡ []
+    go : (rs : List (Row P)) (k : ℕ) → copies_if p (row_at rs k) ≡ [] → copies_if p (row_at (rs ++ new ∷ []) k) ≡ []
     go [] zero e = here p
     go [] (suc k) e = refl
     go (r ∷ rs) zero e = e
     go (r ∷ rs) (suc k) e = go rs k e
 
 -- nothing stands at an unused seat
-pub unused_here : {P : Type 0} (row : Row P) → row.outputs.items ≡ [] → row.waiting.items ≡ [] → row.buffer.items ≡ [] → task_parcels row.task ≡ [] → (p : Place) → numbers_here p row ≡ []
-unused_here row outputs waiting buffer held (Outputs i) = ap stacked_numbers outputs
-unused_here row outputs waiting buffer held (Waiting i t) = ap (waiting_numbers t) waiting
-unused_here row outputs waiting buffer held (Contents i zero) = ap parcel_numbers buffer
+pub unused_here : {P : Type 0} (row : Row P) → row.outputs.items ≡ [] → row.waiting.items ≡ [] → row.buffer.items ≡ [] → task_parcels row.task ≡ [] → (p : Place) → copies_here p row ≡ []
+unused_here row outputs waiting buffer held (Outputs i) = ap stacked_lists outputs
+unused_here row outputs waiting buffer held (Waiting i t) = ap (waiting_lists t) waiting
+unused_here row outputs waiting buffer held (Contents i zero) = ap parcel_lists buffer
 unused_here row outputs waiting buffer held (Contents i (suc s)) = refl
-unused_here row outputs waiting buffer held (Held i) = ap parcel_numbers held
+unused_here row outputs waiting buffer held (Held i) = ap parcel_lists held
 
 -- a role that holds no parcel has no copy
 pub role_counts : (batch place : ℕ) (role : Role) → role_parcels role ≡ [] → copies_of batch place (role_copies role) ≡ 0
@@ -106,11 +108,14 @@ begun_stands told_by plan hub b mine first none room few = record {
     facts = λ i. some_mapped _ _ (facts_at hub.facts.items i) (λ f n. new_known f plan first.once first.now i n) (b.facts i);
     bytes = b.bytes;
     next = b.next;
-    order = (record { first = refl; zeroth = refl; all_new = refl }, tt);
+    order = ((record { first = refl; zeroth = refl; all_new = refl }, λ b w. w), tt);
+    noticeless = λ b w. w;
+    statuses = subst (λ (rs : List OpenBatch). AreRunning (begun plan first.once first.now) rs) (sym b.batches) tt;
+    ledger = b.kept;
     unknown = λ i past. record { unlost = refl; confirmed = refl };
     cause = b.abandoned;
     installed = ap Some (sym mine);
-    places = at_rest hub.rows.items (begun plan first.once first.now) (λ p. sym (b.places p));
+    places = placed_none hub.rows.items (begun plan first.once first.now) (λ p. refl) b.places;
   });
   shut = λ i. some_mapped _ _ (facts_at hub.facts.items i) (λ f n closed. let no : f.closed ≡ false = n.closed in cc) (b.facts i);
   gone = λ i. some_mapped _ _ (facts_at hub.facts.items i) (λ f n retired. let no : f.retired ≡ false = n.retired in cc) (b.facts i);

@@ -21,7 +21,7 @@ use Rattle.vx_hub.specs.declared.row.Row.{Row}
 use Rattle.vx_hub.specs.declared.task.Role.{Role}
 use Rattle.vx_hub.specs.declared.task.Role.TheVariants.{Source, Sink}
 use Rattle.vx_hub.specs.Rows.{role_copies, role_parcels, parcel_copies, row_at, NoneWaits}
-use Rattle.vx_hub.specs.Places.{parcel_numbers, waiting_numbers, numbers_if, numbers_at, NoneBefore, SamePlaces, TakesOldest}
+use Rattle.vx_hub.specs.Places.{parcel_numbers, waiting_lists, copies_if, copies_at, all_numbers, numbers_at, NoneBefore, SamePlaces, TakesOldest}
 use Rattle.vx_hub.specs.Births.{IsHeldBy, IsNextOut}
 use Rattle.vx_hub.specs.Failures.{IsFailureOf}
 use Rattle.vx_hub.specs.Numbers.{numbers_in}
@@ -63,17 +63,17 @@ oldest_some h q copies rest is = go copies (subst NoneEmpty is (none_empty q (le
 pub none_wait : {P : Type 0} (rows : List (Row P)) (i t : ℕ) → NoneWaits rows i → numbers_at (Waiting i t) rows ≡ []
 none_wait {P} rows i t none = go (row_at rows i) none
   where
-    go : (r : Option (Row P)) → IfSome r (λ row. row.waiting.items ≡ []) → numbers_if (Waiting i t) r ≡ []
+    go : (r : Option (Row P)) → IfSome r (λ row. row.waiting.items ≡ []) → all_numbers (copies_if (Waiting i t) r) ≡ []
     go None e = refl
-    go (Some row) e = ap (waiting_numbers t) e
+    go (Some row) e = ap (λ cs. all_numbers (waiting_lists t cs)) e
 
 -- a parcel that is put back where it was taken from
 pub put_back : {P : Type 0} (q : Place) (taken back : List Copy) (old mid new : List (Row P)) → TakesOldest q taken old mid → TakesOldest q back new mid → back ≡ taken → SamePlaces old new
 put_back q taken back old mid new takes puts same p = go (same_place q p) refl
   where
-    go : (b : Bool) → same_place q p ≡ b → numbers_at p new ≡ numbers_at p old
-    go true e = subst (λ r. numbers_at r new ≡ numbers_at r old) (same_place_is q p e)
-        (puts.oldest ∙ ap (λ cs. numbers_in cs ∷ numbers_at q mid) same ∙ sym takes.oldest)
+    go : (b : Bool) → same_place q p ≡ b → copies_at p new ≡ copies_at p old
+    go true e = subst (λ r. copies_at r new ≡ copies_at r old) (same_place_is q p e)
+        (puts.oldest ∙ ap (λ cs. cs ∷ copies_at q mid) same ∙ sym takes.oldest)
     go false e = sym (puts.others p e) ∙ takes.others p e
 
 -- the first child for its target, where those before it go to other targets

@@ -2,6 +2,9 @@ pub mod Tellings
 pub mod RowLaws
 mod PlaceLaws
 pub mod Placing
+pub mod Owning
+mod Finding
+mod Noticing
 pub mod Parcels
 pub mod Silence
 pub mod Saying

@@ -15,7 +15,7 @@ use Rattle.vx_record.specs.Moving.{IsConserved}
 use Rattle.vx_record.proofs.OnePlace.{conserved_place}
 use Rattle.vx_record.proofs.Hands.{nowhere}
 use Rattle.vx_hub.specs.Order.{IsOrderly}
-use Rattle.vx_hub.specs.Places.{numbers_at, numbers_if, IsPlaced}
+use Rattle.vx_hub.specs.Places.{copies_at, copies_if, all_numbers, IsPlaced}
 use Rattle.vx_hub.proofs.Beginning.{unused_here}
 use Rattle.vx_hub.proofs.Placing.{conserved, places_all}
 use Rattle.vx_hub.specs.Remains.{AreBare, numbered_port, ports_in, AreNumbered, AreClosed, AreTold, HasOnePlace, AllSpent}
@@ -108,10 +108,10 @@ ports_told {P} told_by h rows told = all_told told_by h rows 0 (λ i. from_zero 
     from_zero i t = let same : i ≡ 0 + i = omega arith in subst (λ (n : ℕ). IfSome (port_at rows i) (λ port. IsTold (told_by port) h n)) same t
 
 -- where nothing stands at any instance, nothing stands at any place
-pub bare_nowhere : {P : Type 0} (rows : List (Row P)) → AreBare rows → (p : Place) → numbers_at p rows ≡ []
+pub bare_nowhere : {P : Type 0} (rows : List (Row P)) → AreBare rows → (p : Place) → copies_at p rows ≡ []
 bare_nowhere {P} rows bare p = go rows (owner p) bare
   where
-    go : (rs : List (Row P)) (k : ℕ) → AreBare rs → numbers_if p (row_at rs k) ≡ []
+    go : (rs : List (Row P)) (k : ℕ) → AreBare rs → copies_if p (row_at rs k) ≡ []
     go [] k b = refl
     go (r ∷ rs) zero b = unused_here r b.0.outputs b.0.waiting b.0.buffer b.0.held p
     go (r ∷ rs) (suc k) b = go rs k b.1
@@ -119,7 +119,7 @@ bare_nowhere {P} rows bare p = go rows (owner p) bare
 -- what stands in no place was split or spent
 pub all_spent : {P : Type 0} (rows : List (Row P)) (h : Record) → IsOrderly h → IsPlaced rows [] h → AreBare rows → AllSpent h
 all_spent rows h order placed bare c l =
-    let none = nowhere h (λ p. places_all rows h placed p ∙ bare_nowhere rows bare p) c in
+    let none = nowhere h (λ p. places_all rows h placed.standing p ∙ ap all_numbers (bare_nowhere rows bare p)) c in
     let one = conserved_place [] h (conserved h order) c l in
     omega arith
 

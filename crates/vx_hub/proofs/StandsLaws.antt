@@ -10,7 +10,7 @@ use Rattle.vx_record.specs.Records.{Record}
 use Rattle.vx_record.specs.Noted.{Noted}
 use Rattle.vx_record.specs.declared.log.Log.{Log}
 use Rattle.vx_record.specs.declared.entry.Entry.{Entry}
-use Rattle.vx_record.specs.declared.entry.Entry.TheVariants.{Install, Read, Idle, SourceLost, Born, Attempt, Confirm, Abandon}
+use Rattle.vx_record.specs.declared.entry.Entry.TheVariants.{Install, Read, Idle, SourceLost, Born, Attempt, Spent, Notice, Confirm, Abandon}
 use Rattle.vx_record.specs.declared.abandon_cause.AbandonCause.{AbandonCause}
 use Rattle.vx_hub.specs.declared.facts.Facts.{Facts}
 use Rattle.vx_hub.specs.declared.row.Row.{Row}
@@ -29,8 +29,16 @@ use Rattle.vx_record.specs.Confirms.{is_unconfirmed}
 use Rattle.vx_record.specs.Moving.{IsStill, IsConserved}
 use Rattle.vx_hub.specs.Numbers.{numbers_in}
 use Rattle.vx_hub.specs.Places.{IsPlaced}
-use Rattle.vx_hub.specs.Order.{IsInOrder, IsUnknown, IsReason}
-use Rattle.vx_hub.proofs.Placing.{conserved, placed_still}
+use Rattle.vx_hub.specs.Order.{IsInOrder, IsOrderly, IsUnknown, IsReason}
+use Rattle.vx_ledger.specs.Ledger.{IsKept}
+use Rattle.vx_status.specs.declared.outcome.Outcome.{Outcome}
+use Rattle.vx_status.specs.declared.batch_status.BatchStatus.{BatchStatus}
+use Rattle.vx_record.specs.Accounting.{IsNoticedSo}
+use Rattle.vx_record.specs.Batches.{NoNoticeDue}
+use Rattle.vx_hub.specs.Batching.{AreRunning}
+use Rattle.vx_hub.proofs.Placing.{conserved}
+use Rattle.vx_hub.proofs.Noticing.{in_turn, still_quiet, running_still}
+use Rattle.vx_hub.proofs.Owning.{placed_still}
 use Rattle.vx_hub.proofs.Silence.{told_silent, silent_mute, other_test}
 
 -- a quiet entry is mute
@@ -111,7 +119,10 @@ pub record Passes {P : Type 0} (d e : Hub P) (hand after : List Copy) (entry : E
   pub quiet : IsQuiet entry
   pub next : d.batches.next ≡ next_copy d.log.history → e.batches.next ≡ next_copy (entry ∷ d.log.history)
   pub order : IsSound d → IsInOrder d.log.history entry
-  pub places : IsConserved (entry ∷ d.log.history) → IsPlaced d.rows.items (numbers_in hand) d.log.history → IsPlaced e.rows.items (numbers_in after) (entry ∷ d.log.history)
+  pub places : IsSound d → IsConserved (entry ∷ d.log.history) → IsPlaced d.rows.items hand d.log.history → IsPlaced e.rows.items after (entry ∷ d.log.history)
+  pub due : IsSound d → NoNoticeDue (entry ∷ d.log.history)
+  pub statuses : IsSound d → AreRunning d.log.history d.batches.open_rows → AreRunning (entry ∷ d.log.history) e.batches.open_rows
+  pub ledger : IsKept d.batches → IsKept e.batches
 
 -- only an install changes the plan that is in force
 pub force_mute : (h : Record) (e : Entry) → IsMute e → in_force (e ∷ h) ≡ in_force h
@@ -160,11 +171,14 @@ stands_quiet {P} told_by d e hand after entry s balanced facts ports bare size n
                 (some_mapped _ _ (facts_at d.facts.items i) (λ f k. known_quiet f d.log.history i entry quiet k) (r.facts i));
             bytes = bytes ∙ r.bytes ∙ ap capped (sym (bytes_quiet d.log.history entry quiet));
             next = passes.next r.next;
-            order = (passes.order fine, r.order);
+            order = ((passes.order fine, in_turn d.log.history entry r.noticeless), r.order);
+            noticeless = passes.due fine;
+            statuses = passes.statuses fine r.statuses;
+            ledger = passes.ledger r.ledger;
             unknown = λ i past. unknown_mute entry d.log.history i (mute_of_quiet entry quiet) (r.unknown i (subst (λ n. n ≤ i) size past));
             cause = ap (λ (t : _). t.1) berths ∙ r.cause ∙ sym (cause_quiet d.log.history entry quiet);
             installed = force_quiet d.log.history entry quiet ∙ r.installed ∙ ap Some (sym (ap (λ (t : _). t.2) berths));
-            places = passes.places (conserved (entry ∷ d.log.history) (passes.order fine, r.order)) r.places;
+            places = passes.places fine (conserved (entry ∷ d.log.history) ((passes.order fine, in_turn d.log.history entry r.noticeless), r.order)) r.places;
           });
       shut = λ i. subst (λ (fs : List Facts). IfSome (facts_at fs i) (IsShut told_by e.rows.items i)) (sym (ap (λ (v : _). v.items) facts))
           (some_mapped _ _ (facts_at d.facts.items i) (λ f shut closed. subst (λ (p : Option P). IsSomeAnd p (λ port. (told_by port).started ≡ false)) (sym (ports i)) (shut closed)) (s.shut i));
@@ -204,10 +218,10 @@ unmade old entry new whole same = record { whole = λ w. cc; other = inr same }
 pub stands_moved : {P : Type 0} (told_by : P → Told) (d e : Hub P) (hand after : List Copy) →
     Stands told_by d hand d.log.history → IsBalanced e.batches e.rows.items after → e.facts ≡ d.facts → SamePorts d.rows.items e.rows.items →
     ((i : ℕ) → IfSome (facts_at d.facts.items i) (λ f. IsTrue f.retired → IsBareAt d.rows.items i → IsBareAt e.rows.items i)) →
-    length e.rows.items ≡ length d.rows.items → e.batches.next ≡ d.batches.next → e.log ≡ d.log → e.starved ≡ d.starved → e.bytes ≡ d.bytes → spare_of e ≡ spare_of d →
-    (IsSound d → IsConserved d.log.history → IsPlaced d.rows.items (numbers_in hand) d.log.history → IsPlaced e.rows.items (numbers_in after) d.log.history) →
+    length e.rows.items ≡ length d.rows.items → e.batches ≡ d.batches → e.log ≡ d.log → e.starved ≡ d.starved → e.bytes ≡ d.bytes → spare_of e ≡ spare_of d →
+    (IsSound d → IsConserved d.log.history → IsPlaced d.rows.items hand d.log.history → IsPlaced e.rows.items after d.log.history) →
     Stands told_by e after e.log.history
-stands_moved {P} told_by d e hand after s balanced facts ports bare size next log starved bytes berths places = record {
+stands_moved {P} told_by d e hand after s balanced facts ports bare size batches log starved bytes berths places = record {
   history = refl;
   balanced = balanced;
   recorded = λ sound.
@@ -217,8 +231,11 @@ stands_moved {P} told_by d e hand after s balanced facts ports bare size next lo
         ports = λ i. subst (λ (p : Option P). IfSome p (λ port. IsTold (told_by port) d.log.history i)) (sym (ports i)) (r.ports i);
         facts = λ i. subst (λ (fs : List Facts). IfSome (facts_at fs i) (λ f. IsKnown f d.log.history i)) (sym (ap (λ (v : _). v.items) facts)) (r.facts i);
         bytes = bytes ∙ r.bytes;
-        next = next ∙ r.next;
+        next = ap (λ (l : Ledger). l.next) batches ∙ r.next;
         order = r.order;
+        noticeless = r.noticeless;
+        statuses = subst (λ (l : Ledger). AreRunning d.log.history l.open_rows) (sym batches) r.statuses;
+        ledger = subst IsKept (sym batches) r.ledger;
         unknown = λ i past. r.unknown i (subst (λ n. n ≤ i) size past);
         cause = ap (λ (t : _). t.1) berths ∙ r.cause;
         installed = r.installed ∙ ap Some (sym (ap (λ (t : _). t.2) berths));
@@ -309,7 +326,10 @@ stands_abandoned {P} told_by d log cause s once reason noted = record {
         facts = λ i. some_mapped _ _ (facts_at d.facts.items i) (λ f k. known_abandoned f d.log.history i cause k) (r.facts i);
         bytes = r.bytes;
         next = same_next d.batches d.batches d.log.history (Abandon cause) refl refl r.next;
-        order = (record { first = sym r.cause ∙ once; reason = reason fine }, r.order);
+        order = ((record { first = sym r.cause ∙ once; reason = reason fine }, r.noticeless), r.order);
+        noticeless = λ b w. w;
+        statuses = running_still d.log.history (Abandon cause) d.batches.open_rows tt r.statuses;
+        ledger = r.ledger;
         unknown = λ i past. unknown_mute (Abandon cause) d.log.history i tt (r.unknown i past);
         cause = refl;
         installed = r.installed;
@@ -328,7 +348,7 @@ stands_counted {P} told_by d e hand same s = subst (λ (x : Hub P). Stands told_
   balanced = s.balanced;
   recorded = λ sound.
       let r : IsRecorded told_by d hand d.log.history = s.recorded (record { whole = sound.whole; fed = sound.fed }) in
-      record { ports = r.ports; facts = r.facts; bytes = r.bytes; next = r.next; order = r.order; unknown = r.unknown; cause = r.cause; installed = r.installed; places = r.places };
+      record { ports = r.ports; facts = r.facts; bytes = r.bytes; next = r.next; order = r.order; unknown = r.unknown; cause = r.cause; installed = r.installed; noticeless = r.noticeless; statuses = r.statuses; ledger = r.ledger; places = r.places };
   shut = s.shut;
   gone = s.gone;
   size = s.size;
@@ -340,4 +360,45 @@ pub stands_settled : {P : Type 0} (told_by : P → Told) (d e : Hub P) (log : Lo
     e ≡ record d { log = log; fatal = e.fatal } → Stands told_by e [] e.log.history
 stands_settled {P} told_by d e log entry s noted quiet still none order same = subst (λ (x : Hub P). Stands told_by x [] x.log.history) (sym same)
     (stands_quiet told_by d (record d { log = log; fatal = e.fatal }) [] [] entry s s.balanced refl (λ i. refl) (bare_stays d.facts.items d.rows.items) refl noted
-    (record { quiet = quiet; next = same_next d.batches d.batches d.log.history entry none refl; order = λ sound. order; places = λ kept. placed_still d.rows.items [] d.log.history entry still kept.1 }) refl refl refl)
+    (record { quiet = quiet; next = same_next d.batches d.batches d.log.history entry none refl; order = λ sound. order; places = λ fine kept. placed_still d.rows.items [] d.log.history entry still kept.1; due = λ fine. still_quiet d.log.history entry still; statuses = λ fine. running_still d.log.history entry d.batches.open_rows still; ledger = λ kept. kept }) refl refl refl)
+
+-- a copy is spent, and its batch gets its notice
+pub stands_noticed : {P : Type 0} (told_by : P → Told) (d e : Hub P) (hand after : List Copy) (i c : ℕ) (outcome : Outcome) (batch : ℕ) (status : BatchStatus) (mid : Log) →
+    Stands told_by d hand d.log.history → IsBalanced e.batches e.rows.items after → e.facts ≡ d.facts → e.rows ≡ d.rows → Noted d.log (Spent i c outcome) mid → Noted mid (Notice batch status) e.log →
+    e.batches.next ≡ d.batches.next → (IsSound d → IsInOrder d.log.history (Spent i c outcome)) → (IsSound d → IsPlaced d.rows.items after (Spent i c outcome ∷ d.log.history)) →
+    (IsSound d → IsNoticedSo (Spent i c outcome ∷ d.log.history) batch status) → (IsSound d → AreRunning (Spent i c outcome ∷ d.log.history) e.batches.open_rows) → IsKept e.batches →
+    e.starved ≡ d.starved → e.bytes ≡ d.bytes → spare_of e ≡ spare_of d → Stands told_by e after e.log.history
+stands_noticed {P} told_by d e hand after i c outcome batch status mid s balanced facts rows spent noticed next order places so statuses ledger starved bytes berths =
+    let first : Entry = Spent i c outcome in
+    let second : Entry = Notice batch status in
+    let h = d.log.history in
+    record {
+      history = refl;
+      balanced = balanced;
+      recorded = λ sound.
+          let w₂ = noticed.whole sound.whole in
+          let w₁ = spent.whole w₂.0 in
+          let fine : IsSound d = record { whole = w₁.0; fed = sym starved ∙ sound.fed } in
+          let r : IsRecorded told_by d hand h = s.recorded fine in
+          let ordered : IsOrderly (first ∷ h) = ((order fine, in_turn h first r.noticeless), r.order) in
+          subst (λ (k : Record). IsRecorded told_by e after k) (sym (w₂.1 ∙ ap (λ (k : Record). second ∷ k) w₁.1)) (record {
+            ports = λ j. subst (λ (v : _). IfSome (port_at v.items j) (λ port. IsTold (told_by port) (second ∷ first ∷ h) j)) (sym rows)
+                (some_mapped _ _ (port_at d.rows.items j) (λ port t. told_quiet (told_by port) (first ∷ h) j second tt (told_quiet (told_by port) h j first tt t)) (r.ports j));
+            facts = λ j. subst (λ (v : _). IfSome (facts_at v.items j) (λ f. IsKnown f (second ∷ first ∷ h) j)) (sym facts)
+                (some_mapped _ _ (facts_at d.facts.items j) (λ f k. known_quiet f (first ∷ h) j second tt (known_quiet f h j first tt k)) (r.facts j));
+            bytes = bytes ∙ r.bytes;
+            next = same_next d.batches e.batches (first ∷ h) second refl next (same_next d.batches d.batches h first refl refl r.next);
+            order = ((so fine, tt), ordered);
+            noticeless = λ b w. w;
+            statuses = running_still (first ∷ h) second e.batches.open_rows tt (statuses fine);
+            ledger = ledger;
+            unknown = λ j past. let p = subst (λ (v : _). length v.items ≤ j) rows past in unknown_mute second (first ∷ h) j tt (unknown_mute first h j tt (r.unknown j p));
+            cause = ap (λ (t : _). t.1) berths ∙ r.cause;
+            installed = r.installed ∙ ap Some (sym (ap (λ (t : _). t.2) berths));
+            places = subst (λ (v : _). IsPlaced v.items after (second ∷ first ∷ h)) (sym rows) (placed_still d.rows.items after (first ∷ h) second tt (conserved (first ∷ h) ordered) (places fine));
+          });
+      shut = λ j. subst (λ (v : _). IfSome (facts_at e.facts.items j) (IsShut told_by v.items j)) (sym rows) (subst (λ (v : _). IfSome (facts_at v.items j) (IsShut told_by d.rows.items j)) (sym facts) (s.shut j));
+      gone = λ j. subst (λ (v : _). IfSome (facts_at e.facts.items j) (IsGone v.items j)) (sym rows) (subst (λ (v : _). IfSome (facts_at v.items j) (IsGone d.rows.items j)) (sym facts) (s.gone j));
+      size = ap (λ (v : _). length v.items) facts ∙ s.size ∙ sym (ap (λ (v : _). length v.items) rows);
+      berths = berths_kept d.ports e.ports d.rows.items e.rows.items (ap (λ (t : _). t.0) berths) (ap (λ (v : _). length v.items) rows) s.berths;
+    }

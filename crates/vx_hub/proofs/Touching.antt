@@ -32,7 +32,13 @@ use Rattle.vx_record.specs.Moving.{IsStill, IsConserved}
 use Rattle.vx_hub.specs.Numbers.{numbers_in}
 use Rattle.vx_hub.specs.Places.{IsPlaced, SamePlaces}
 use Rattle.vx_hub.specs.Order.{IsInOrder}
-use Rattle.vx_hub.proofs.Placing.{conserved, placed_still, placed_same}
+use Rattle.vx_ledger.specs.Ledger.{IsKept}
+use Rattle.vx_record.specs.Batches.{NoNoticeDue}
+use Rattle.vx_record.specs.Accounting.{IsAccounted}
+use Rattle.vx_hub.specs.Batching.{AreRunning}
+use Rattle.vx_hub.proofs.Placing.{conserved}
+use Rattle.vx_hub.proofs.Noticing.{accounted, in_turn, still_quiet, running_still}
+use Rattle.vx_hub.proofs.Owning.{placed_still, placed_same}
 use Rattle.vx_hub.proofs.Silence.{told_silent, silent_other, other_test, same_test}
 
 -- a test that fails chooses the other side
@@ -206,13 +212,16 @@ stands_touched {P} told_by d e hand entry i f g s out within at written closed r
                 (λ k other. some_mapped _ _ (facts_at d.facts.items k) (λ x t. known_other x d.log.history i k entry touch other t) (r.facts k)) j);
             bytes = bytes r.bytes;
             next = same_next d.batches e.batches d.log.history entry none_made (ap (λ (l : Ledger). l.next) batches) r.next;
-            order = (order fine mine, r.order);
+            order = ((order fine mine, in_turn d.log.history entry r.noticeless), r.order);
+            noticeless = still_quiet d.log.history entry still;
+            statuses = subst (λ (l : Ledger). AreRunning (entry ∷ d.log.history) l.open_rows) (sym batches) (running_still d.log.history entry d.batches.open_rows still r.statuses);
+            ledger = subst IsKept (sym batches) r.ledger;
             unknown = λ j past. let beyond : length d.rows.items ≤ j = subst (λ (v : _). length v.items ≤ j) rows past in
                 unknown_on entry d.log.history j (λ t. let same : i ≡ j = cc in omega (arith, within, beyond, s.size, same)) (r.unknown j beyond);
             cause = ap (λ (t : _). t.1) berths ∙ r.cause ∙ sym (cause_touched d.log.history entry i touch);
             installed = force_touched d.log.history entry i touch ∙ r.installed ∙ ap Some (sym (ap (λ (t : _). t.2) berths));
-            places = subst (λ (v : _). IsPlaced v.items (numbers_in hand) (entry ∷ d.log.history)) (sym rows)
-                (placed_still d.rows.items (numbers_in hand) d.log.history entry still (conserved d.log.history r.order) r.places);
+            places = subst (λ (v : _). IsPlaced v.items hand (entry ∷ d.log.history)) (sym rows)
+                (placed_still d.rows.items hand d.log.history entry still (conserved d.log.history r.order) r.places);
           });
       shut = λ j. subst (λ (v : _). IfSome (facts_at e.facts.items j) (IsShut told_by v.items j)) (sym rows)
           (subst (λ (fs : List Facts). IfSome (facts_at fs j) (IsShut told_by d.rows.items j)) (sym written)
@@ -236,9 +245,10 @@ pub stands_marked : {P : Type 0} (told_by : P → Told) (d e : Hub P) (hand afte
     (IsKnown f d.log.history i → IsKnown g (entry ∷ d.log.history) i) →
     ((x : Facts) (k : ℕ) → k ≢ i → IsKnown x d.log.history k → IsKnown x (entry ∷ d.log.history) k) →
     IsShut told_by d.rows.items i g → IsGone d.rows.items i g →
-    (IsConserved (entry ∷ d.log.history) → IsPlaced d.rows.items (numbers_in hand) d.log.history → IsPlaced d.rows.items (numbers_in after) (entry ∷ d.log.history)) →
+    (IsSound d → IsConserved (entry ∷ d.log.history) → IsPlaced d.rows.items hand d.log.history → IsPlaced d.rows.items after (entry ∷ d.log.history)) →
+    NoNoticeDue (entry ∷ d.log.history) → (IsSound d → IsAccounted d.log.history → AreRunning d.log.history d.batches.open_rows → AreRunning (entry ∷ d.log.history) e.batches.open_rows) → (IsKept d.batches → IsKept e.batches) →
     Stands told_by e after e.log.history
-stands_marked {P} told_by d e hand after entry i f g s within at written rows berths balanced starved bytes noted mute next order cause known others shut gone places =
+stands_marked {P} told_by d e hand after entry i f g s within at written rows berths balanced starved bytes noted mute next order cause known others shut gone places due statuses ledger =
     let was : facts_at d.facts.items i ≡ Some f = facts_read d.facts.items i f within at in
     record {
       history = refl;
@@ -257,12 +267,15 @@ stands_marked {P} told_by d e hand after entry i f g s within at written rows be
                 (λ k other. some_mapped _ _ (facts_at d.facts.items k) (λ x t. others x k other t) (r.facts k)) j);
             bytes = bytes ∙ r.bytes ∙ ap capped (sym (bytes_mute d.log.history entry mute));
             next = next r.next;
-            order = (order fine, r.order);
+            order = ((order fine, in_turn d.log.history entry r.noticeless), r.order);
+            noticeless = due;
+            statuses = statuses fine (accounted d.log.history r.order) r.statuses;
+            ledger = ledger r.ledger;
             unknown = λ j past. unknown_mute entry d.log.history j mute (r.unknown j (subst (λ (v : _). length v.items ≤ j) rows past));
             cause = ap (λ (t : _). t.1) berths ∙ r.cause ∙ sym cause;
             installed = force_mute d.log.history entry mute ∙ r.installed ∙ ap Some (sym (ap (λ (t : _). t.2) berths));
-            places = subst (λ (v : _). IsPlaced v.items (numbers_in after) (entry ∷ d.log.history)) (sym rows)
-                (places (conserved (entry ∷ d.log.history) (order fine, r.order)) r.places);
+            places = subst (λ (v : _). IsPlaced v.items after (entry ∷ d.log.history)) (sym rows)
+                (places fine (conserved (entry ∷ d.log.history) ((order fine, in_turn d.log.history entry r.noticeless), r.order)) r.places);
           });
       shut = λ j. subst (λ (v : _). IfSome (facts_at e.facts.items j) (IsShut told_by v.items j)) (sym rows)
           (subst (λ (fs : List Facts). IfSome (facts_at fs j) (IsShut told_by d.rows.items j)) (sym written)
@@ -279,10 +292,10 @@ pub stands_brought : {P : Type 0} (told_by : P → Told) (d e : Hub P) (copies :
     Stands told_by d copies d.log.history → IsSomeAnd (facts_at d.facts.items i) (λ f. f.closed ≡ false) →
     (IsSound d → IsTold (told_by port) d.log.history i) →
     IsBalanced e.batches e.rows.items [] → port_at e.rows.items i ≡ Some port → SameOtherPorts i d.rows.items e.rows.items → KeepsOthersBare i d.rows.items e.rows.items →
-    length e.rows.items ≡ length d.rows.items → e.batches.next ≡ d.batches.next → e.facts ≡ d.facts → e.log ≡ d.log → e.starved ≡ d.starved → e.bytes ≡ d.bytes → spare_of e ≡ spare_of d →
-    (IsSound d → IsConserved d.log.history → IsPlaced d.rows.items (numbers_in copies) d.log.history → IsPlaced e.rows.items [] d.log.history) →
+    length e.rows.items ≡ length d.rows.items → e.batches ≡ d.batches → e.facts ≡ d.facts → e.log ≡ d.log → e.starved ≡ d.starved → e.bytes ≡ d.bytes → spare_of e ≡ spare_of d →
+    (IsSound d → IsConserved d.log.history → IsPlaced d.rows.items copies d.log.history → IsPlaced e.rows.items [] d.log.history) →
     Stands told_by e [] e.log.history
-stands_brought {P} told_by d e copies port i s unclosed told balanced here ports bare size next facts log starved bytes berths places =
+stands_brought {P} told_by d e copies port i s unclosed told balanced here ports bare size batches facts log starved bytes berths places =
     record {
       history = refl;
       balanced = balanced;
@@ -295,8 +308,11 @@ stands_brought {P} told_by d e copies port i s unclosed told balanced here ports
                 (λ k other. subst (λ (p : Option P). IfSome p (λ q. IsTold (told_by q) d.log.history k)) (sym (ports k other)) (r.ports k));
             facts = λ k. subst (λ (v : _). IfSome (facts_at v.items k) (λ f. IsKnown f d.log.history k)) (sym facts) (r.facts k);
             bytes = bytes ∙ r.bytes;
-            next = next ∙ r.next;
+            next = ap (λ (l : Ledger). l.next) batches ∙ r.next;
             order = r.order;
+            noticeless = r.noticeless;
+            statuses = subst (λ (l : Ledger). AreRunning d.log.history l.open_rows) (sym batches) r.statuses;
+            ledger = subst IsKept (sym batches) r.ledger;
             unknown = λ k past. r.unknown k (subst (λ n. n ≤ k) size past);
             cause = ap (λ (t : _). t.1) berths ∙ r.cause;
             installed = r.installed ∙ ap Some (sym (ap (λ (t : _). t.2) berths));
@@ -413,6 +429,9 @@ stands_shut {P} told_by d e i s home becomes loses ports bare size batches facts
             bytes = bytes ∙ r.bytes;
             next = ap (λ (l : Ledger). l.next) batches ∙ r.next;
             order = r.order;
+            noticeless = r.noticeless;
+            statuses = subst (λ (l : Ledger). AreRunning d.log.history l.open_rows) (sym batches) r.statuses;
+            ledger = subst IsKept (sym batches) r.ledger;
             unknown = λ k past. r.unknown k (subst (λ n. n ≤ k) size past);
             cause = ap (λ (t : _). t.1) berths ∙ r.cause;
             installed = r.installed ∙ ap Some (sym (ap (λ (t : _). t.2) berths));
@@ -463,11 +482,14 @@ stands_attempted {P} told_by d log hand i copies bytes reply s within out noted 
             facts = λ j. some_mapped _ _ (facts_at d.facts.items j) (λ f k. known_attempt f d.log.history i j copies bytes reply k) (r.facts j);
             bytes = r.bytes;
             next = same_next d.batches d.batches d.log.history e refl refl r.next;
-            order = (tt, r.order);
+            order = ((tt, r.noticeless), r.order);
+            noticeless = λ b w. w;
+            statuses = running_still d.log.history e d.batches.open_rows tt r.statuses;
+            ledger = r.ledger;
             unknown = λ k past. unknown_on e d.log.history k (λ t. let same : i ≡ k = cc in omega (arith, within, past, same)) (r.unknown k past);
             cause = r.cause;
             installed = r.installed;
-            places = placed_still d.rows.items (numbers_in hand) d.log.history e tt (conserved d.log.history r.order) r.places;
+            places = placed_still d.rows.items hand d.log.history e tt (conserved d.log.history r.order) r.places;
           });
       shut = s.shut;
       gone = s.gone;
@@ -497,10 +519,10 @@ not_both false n f = cc
 pub stands_out : {P : Type 0} (told_by : P → Told) (d e : Hub P) (copies : List Copy) (i : ℕ) →
     Stands told_by d [] d.log.history → IsSomeAnd (facts_at d.facts.items i) (λ f. f.closed ≡ false) →
     IsBalanced e.batches e.rows.items copies → port_at e.rows.items i ≡ None → SameOtherPorts i d.rows.items e.rows.items → KeepsOthersBare i d.rows.items e.rows.items →
-    length e.rows.items ≡ length d.rows.items → e.batches.next ≡ d.batches.next → e.facts ≡ d.facts → e.log ≡ d.log → e.starved ≡ d.starved → e.bytes ≡ d.bytes → spare_of e ≡ spare_of d →
-    (IsConserved d.log.history → IsPlaced d.rows.items [] d.log.history → IsPlaced e.rows.items (numbers_in copies) d.log.history) →
+    length e.rows.items ≡ length d.rows.items → e.batches ≡ d.batches → e.facts ≡ d.facts → e.log ≡ d.log → e.starved ≡ d.starved → e.bytes ≡ d.bytes → spare_of e ≡ spare_of d →
+    (IsConserved d.log.history → IsPlaced d.rows.items [] d.log.history → IsPlaced e.rows.items copies d.log.history) →
     Stands told_by e copies e.log.history
-stands_out {P} told_by d e copies i s unclosed balanced away ports bare size next facts log starved bytes berths places =
+stands_out {P} told_by d e copies i s unclosed balanced away ports bare size batches facts log starved bytes berths places =
     record {
       history = refl;
       balanced = balanced;
@@ -513,8 +535,11 @@ stands_out {P} told_by d e copies i s unclosed balanced away ports bare size nex
                 (λ k other. subst (λ (p : Option P). IfSome p (λ q. IsTold (told_by q) d.log.history k)) (sym (ports k other)) (r.ports k));
             facts = λ k. subst (λ (v : _). IfSome (facts_at v.items k) (λ f. IsKnown f d.log.history k)) (sym facts) (r.facts k);
             bytes = bytes ∙ r.bytes;
-            next = next ∙ r.next;
+            next = ap (λ (l : Ledger). l.next) batches ∙ r.next;
             order = r.order;
+            noticeless = r.noticeless;
+            statuses = subst (λ (l : Ledger). AreRunning d.log.history l.open_rows) (sym batches) r.statuses;
+            ledger = subst IsKept (sym batches) r.ledger;
             unknown = λ k past. r.unknown k (subst (λ n. n ≤ k) size past);
             cause = ap (λ (t : _). t.1) berths ∙ r.cause;
             installed = r.installed ∙ ap Some (sym (ap (λ (t : _). t.2) berths));

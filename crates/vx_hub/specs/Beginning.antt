@@ -1,6 +1,7 @@
 -- A hub whose instances are still being seated.
 use Rattle.std.specs.Prelude.{◌≡◌, ℕ, ◌+◌, ◌≤◌, [], length, vec_capacity, slice_get, Bool, None, IfSome}
 use Rattle.vx_ends.specs.Told.{Told}
+use Rattle.vx_ledger.specs.Ledger.{IsKept}
 use Rattle.vx_plan.specs.declared.plan.Plan.{Plan}
 use Rattle.vx_record.specs.Records.{Record}
 use Rattle.vx_record.specs.Wirings.{begun}
@@ -8,7 +9,7 @@ use Rattle.vx_hub.specs.declared.hub.Hub.{Hub}
 use Rattle.vx_hub.specs.declared.making.Room.{Room}
 use Rattle.vx_hub.specs.Making.{AreNew, IsUntouched}
 use Rattle.vx_record.specs.Places.{Place}
-use Rattle.vx_hub.specs.Places.{numbers_at}
+use Rattle.vx_hub.specs.Places.{copies_at}
 use Rattle.vx_hub.specs.Rows.{copies_in, port_at}
 use Rattle.vx_hub.specs.Stands.{facts_at, spec_of}
 
@@ -22,6 +23,7 @@ pub record HasFirst (plan : Plan) (h : Record) : Type 0 where
 pub record HasRoomFor {P : Type 0} (plan : Plan) (n : ℕ) (room : Room P) : Type 0 where
   pub batches : room.batches.open_rows ≡ []
   pub next : room.batches.next ≡ 0
+  pub kept : IsKept room.batches
   pub facts : room.facts.items ≡ []
   pub rows : room.rows.items ≡ []
   pub ports : room.ports.items ≡ []
@@ -42,8 +44,9 @@ pub record HasSeats {P : Type 0} (hub : Hub P) (n : ℕ) : Type 0 where
 pub record Begins {P : Type 0} (told_by : P → Told) (plan : Plan) (hub : Hub P) : Type 0 where
   pub batches : hub.batches.open_rows ≡ []
   pub next : hub.batches.next ≡ 0
+  pub kept : IsKept hub.batches
   pub copies : (batch place : ℕ) → copies_in batch place hub.rows.items ≡ 0
-  pub places : (p : Place) → numbers_at p hub.rows.items ≡ []
+  pub places : (p : Place) → copies_at p hub.rows.items ≡ []
   pub ports : (i : ℕ) → IfSome (port_at hub.rows.items i) (λ port. IsUntouched (spec_of (slice_get plan.components i)) (told_by port))
   pub facts : (i : ℕ) → IfSome (facts_at hub.facts.items i) AreNew
   pub bytes : hub.bytes ≡ 0

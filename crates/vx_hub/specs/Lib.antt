@@ -3,6 +3,7 @@ pub mod Attempts
 pub mod Rows
 pub mod Places
 pub mod Order
+pub mod Batching
 pub mod Numbers
 pub mod Works
 pub mod Stands

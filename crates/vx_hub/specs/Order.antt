@@ -10,6 +10,7 @@ use Rattle.vx_record.specs.Copies.{counting, next_copy, IsLive}
 use Rattle.vx_record.specs.Lists.{waiting, contents}
 use Rattle.vx_record.specs.Sending.{IsOldest}
 use Rattle.vx_record.specs.Moving.{Divides}
+use Rattle.vx_record.specs.Accounting.{IsNoticedSo, IsInTurn}
 use Rattle.vx_record.specs.Starting.{MayInstall}
 use Rattle.vx_record.specs.declared.child.Child.{Child}
 use Rattle.vx_record.specs.Reads.{bytes_taken}
@@ -17,7 +18,7 @@ use Rattle.vx_record.specs.Confirms.{born_positions, is_unconfirmed}
 use Rattle.vx_record.specs.Sourcing.{failed_starts}
 pub use Rattle.vx_record.specs.Spending.{last_reply}
 use Rattle.vx_record.specs.declared.entry.Entry.{Entry}
-use Rattle.vx_record.specs.declared.entry.Entry.TheVariants.{Install, Read, Idle, SourceLost, Born, Split, Push, Take, Spent, Confirm, Abandon}
+use Rattle.vx_record.specs.declared.entry.Entry.TheVariants.{Install, Read, Idle, SourceLost, Born, Split, Push, Take, Spent, Notice, Confirm, Abandon}
 use Rattle.vx_record.specs.declared.abandon_cause.AbandonCause.{AbandonCause}
 use Rattle.vx_record.specs.declared.abandon_cause.AbandonCause.TheVariants.{Grace, Numbers, WantOfMemory}
 
@@ -109,14 +110,15 @@ IsInOrder h (Split j ports copies event children) = IsSplitOf h j copies childre
 IsInOrder h (Push j t s copies) = IsOldest copies (waiting h j t)
 IsInOrder h (Take j s copies) = IsOldest copies (contents h j s)
 IsInOrder h (Spent j c outcome) = IsLive h c × IsSpentFor h j outcome
+IsInOrder h (Notice batch status) = IsNoticedSo h batch status
 IsInOrder h (Confirm j positions made) = positions ≡ born_positions h j
 IsInOrder h (Abandon cause) = IsGivenUp h cause
 IsInOrder h other = Unit {0}
 
--- each entry is in order
+-- each entry is in order, and where a notice is due nothing else stands
 abbrev pub IsOrderly : Record → Type 0
 IsOrderly [] = Unit {0}
-IsOrderly (e ∷ h) = IsInOrder h e × IsOrderly h
+IsOrderly (e ∷ h) = (IsInOrder h e × IsInTurn h e) × IsOrderly h
 
 -- an instance that isn't there: it was never lost, and no confirm of it failed
 pub record IsUnknown (h : Record) (i : ℕ) : Type 0 where

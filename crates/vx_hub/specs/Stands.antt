@@ -2,7 +2,7 @@
 use Rattle.std.specs.Prelude.{◌≡◌, ℕ, zero, suc, ◌+◌, ◌<◌, ◌≤◌, ◌^◌, Bool, true, false, IsTrue, List, [], ◌∷◌, length, Option, Some, None, IfSome, IsSomeAnd, slice_get}
 use Rattle.vx_ends.specs.Told.{Told}
 use Rattle.vx_ledger.specs.Copies.{Copy, copies_of}
-use Rattle.vx_ledger.specs.Ledger.{Ledger, live_count}
+use Rattle.vx_ledger.specs.Ledger.{Ledger, IsKept, live_count}
 pub use Rattle.vx_record.specs.Records.{capped}
 use Rattle.vx_record.specs.Records.{Record}
 use Rattle.vx_record.specs.Reads.{taken, bytes_taken, bytes_of_all, all_ended, ended_streams}
@@ -19,6 +19,8 @@ use Rattle.vx_hub.specs.declared.hub.Hub.{Hub}
 use Rattle.vx_hub.specs.declared.parts.Numbered.{Numbered}
 use Rattle.vx_value.specs.Filled.{Filled}
 use Rattle.vx_hub.specs.Rows.{copies_in, port_at, IsBareAt, HasRoom}
+use Rattle.vx_record.specs.Batches.{NoNoticeDue}
+use Rattle.vx_hub.specs.Batching.{AreRunning}
 use Rattle.vx_hub.specs.Places.{IsPlaced}
 use Rattle.vx_hub.specs.Numbers.{numbers_in}
 use Rattle.vx_hub.specs.Turns.{NothingLeft}
@@ -87,7 +89,10 @@ pub record IsRecorded {P : Type 0} (told_by : P → Told) (hub : Hub P) (hand : 
   pub unknown : (i : ℕ) → length hub.rows.items ≤ i → IsUnknown h i
   pub cause : hub.abandoned ≡ cause_of h
   pub installed : in_force h ≡ Some hub.plan
-  pub places : IsPlaced hub.rows.items (numbers_in hand) h
+  pub noticeless : NoNoticeDue h
+  pub statuses : AreRunning h hub.batches.open_rows
+  pub ledger : IsKept hub.batches
+  pub places : IsPlaced hub.rows.items hand h
 
 -- whether the record has all that happened
 pub record IsSound {P : Type 0} (hub : Hub P) : Type 0 where

@@ -1,7 +1,7 @@
 // The places of the instances, one call for each way in which a parcel or a task moves.
 ghost use Rattle.std.specs.Prelude.{◌≡◌, ◌+◌, ◌<◌, ℕ, [], length, OnOk, IfSome, IfNone, IsSome, IsSomeAnd, Some};
 ghost use Rattle.vx_record.specs.Places.Place.{Outputs, Waiting, Contents, Held};
-ghost use Rattle.vx_hub.specs.Places.{parcel_numbers, numbers_at, SamePlaces, TakesOldest, TakesFrom, PutsLast, Fills, FillsWaiting, IsFirstChild};
+ghost use Rattle.vx_hub.specs.Places.{parcel_lists, copies_at, SamePlaces, TakesOldest, TakesFrom, PutsLast, Fills, FillsWaiting, IsFirstChild};
 ghost use Rattle.vx_hub.specs.Works.{IsClosedBy};
 ghost use Rattle.vx_hub.specs.Rows.{child_copies, role_copies, role_parcels, option_copies, task_copies, port_at, Loses, Gains, SamePorts, SameOtherPorts, KeepsBare, KeepsOthersBare, HasOutputRoom, HasRoom, NoneWaits, HasChild, IsOutAt, IsBareAt, CanHold};
 
@@ -140,7 +140,7 @@ pub(crate) fn take_task<P>(rows: &mut Vec<Row<P>>, i: usize) -> Option<Task<P>>
     ensures ports { SameOtherPorts i rows.old.items rows.new.items }
     ensures bare { KeepsOthersBare i rows.old.items rows.new.items }
     ensures size { length rows.new.items ≡ length rows.old.items }
-    ensures held { IfSome result (λ task. numbers_at (Held i) rows.old.items ≡ parcel_numbers (role_parcels task.role)) }
+    ensures held { IfSome result (λ task. copies_at (Held i) rows.old.items ≡ parcel_lists (role_parcels task.role)) }
     ensures places { Fills (Held i) [] rows.old.items rows.new.items }
     ensures none { IfNone result (SamePlaces rows.old.items rows.new.items) }
 {
@@ -156,7 +156,7 @@ pub(crate) fn put_task<P>(rows: &mut Vec<Row<P>>, i: usize, task: Task<P>)
     ensures ports { SameOtherPorts i rows.old.items rows.new.items }
     ensures bare { KeepsOthersBare i rows.old.items rows.new.items }
     ensures size { length rows.new.items ≡ length rows.old.items }
-    ensures places { Fills (Held i) (parcel_numbers (role_parcels task.role)) rows.old.items rows.new.items }
+    ensures places { Fills (Held i) (parcel_lists (role_parcels task.role)) rows.old.items rows.new.items }
 {
     match mem::replace(&mut rows[i].task, Some(task)) {
         None => {}

@@ -2,6 +2,7 @@ ghost use Rattle.std.specs.Prelude.{◌≡◌, ℕ, List, [], ◌∷◌, ◌++�
 ghost use Rattle.vx_ledger.specs.Copies.{Copy};
 ghost use Rattle.vx_ledger.specs.Ledger.{AreLive};
 ghost use Rattle.vx_status.specs.declared.outcome.Outcome.{Outcome};
+ghost use Rattle.vx_record.specs.Noted.{Noted};
 ghost use Rattle.vx_hub.specs.Spending.{MaySpend};
 ghost use Rattle.vx_hub.specs.Stands.{Stands};
 
@@ -58,12 +59,8 @@ impl<P: Port> Hub<P> {
 
     /// Notes a notice, and counts it at the source.
     fn tell(&mut self, notice: Notice)
-        ensures cause { (instance : ℕ) (outcome : Outcome) → MaySpend self.old instance outcome → MaySpend self.new instance outcome }
-        ensures stands { (hand : List Copy) → Stands P.told self.old hand self.old.log.history → Stands P.told self.new hand self.new.log.history }
-        ensures rows { self.new.rows ≡ self.old.rows }
-        ensures plan { self.new.plan ≡ self.old.plan }
-        ensures facts { self.new.facts ≡ self.old.facts }
-        ensures abandoned { self.new.abandoned ≡ self.old.abandoned }
+        ensures noted { Noted self.old.log (Entry.Notice notice.batch notice.status) self.new.log }
+        ensures rest { self.new ≡ record self.old { log = self.new.log; progress = self.new.progress } }
     {
         self.log.note(Ok(Entry::Notice {
             batch: notice.batch,

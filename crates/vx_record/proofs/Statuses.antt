@@ -120,7 +120,7 @@ outcomes_future (Spent i c o ∷ h) r sound l =
     if_other (root_of h c) r (outcomes h r ++ o ∷ []) (outcomes h r) (λ e. absurd (omega arith)) ∙ outcomes_future h r sound.1 (omega arith)
 outcomes_future (e ∷ h) r sound l = outcomes_future h r sound.1 (omega arith)
 
-running_future : (h : Record) (b : ℕ) → IsAccounted h → next_copy h ≤ b → running h b ≡ batch.Delivered
+pub running_future : (h : Record) (b : ℕ) → IsAccounted h → next_copy h ≤ b → running h b ≡ batch.Delivered
 running_future [] b sound l = refl
 running_future (Spent i c o ∷ h) b sound l =
     let m = batch_made h c sound.1 sound.0.conserves.0 in

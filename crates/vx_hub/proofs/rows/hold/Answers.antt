@@ -6,8 +6,7 @@ use Rattle.vx_hub.proofs.Parcels.{row_counts, parcels_pushed, held_copies}
 use Rattle.vx_hub.proofs.RowLaws.{rows_gain, ports_kept, others_bare}
 use Rattle.vx_record.specs.Places.{same_place}
 use Rattle.vx_record.specs.Places.Place.{Held}
-use Rattle.vx_hub.specs.Numbers.{numbers_in}
-use Rattle.vx_hub.specs.Places.{parcel_numbers}
+use Rattle.vx_hub.specs.Places.{parcel_lists}
 use Rattle.vx_hub.proofs.PlaceLaws.{read_at, written_at, places_but, but_task, numbers-more, task_holds}
 use Rattle.vx_hub.proofs.rows.hold.Goals as goal
 
@@ -31,9 +30,9 @@ returns-clause-bare g c = others_bare c.args.rows.now.items c.args.i _
 
 pub returns-clause-last : goal.returns-clause-last
 returns-clause-last g c = record {
-  last = written_at (Held c.args.i) c.args.rows.now.items c.args.i _ c.requires.within refl ∙ ap parcel_numbers c.push.ensures.items
+  last = written_at (Held c.args.i) c.args.rows.now.items c.args.i _ c.requires.within refl ∙ ap parcel_lists c.push.ensures.items
       ∙ numbers-more c.in-Sink.core.held.items c.args.parcel
-      ∙ ap (λ ns. ns ++ numbers_in c.args.parcel.finalizers ∷ []) (sym (read_at (Held c.args.i) c.args.rows.now.items c.args.i c.index_mut.result.now c.requires.within c.index_mut.ensures.value refl
-      ∙ ap parcel_numbers (task_holds c.index_mut.result.now.task c.in-Some.task c.in-Sink.core c.in-Some.is c.in-Sink.is)));
+      ∙ ap (λ ns. ns ++ c.args.parcel.finalizers ∷ []) (sym (read_at (Held c.args.i) c.args.rows.now.items c.args.i c.index_mut.result.now c.requires.within c.index_mut.ensures.value refl
+      ∙ ap parcel_lists (task_holds c.index_mut.result.now.task c.in-Some.task c.in-Sink.core c.in-Some.is c.in-Sink.is)));
   others = places_but (λ p. same_place (Held c.args.i) p ≡ false) c.args.rows.now.items c.args.i c.index_mut.result.now _ c.requires.within c.index_mut.ensures.value (λ p own other. but_task c.args.i c.index_mut.result.now _ p own other);
 }

@@ -4,7 +4,6 @@ use Rattle.vx_hub.proofs.Parcels.{row_counts, popped_first, none_first, first_he
 use Rattle.vx_hub.proofs.RowLaws.{rows_lose, row_has, each_keeps, ports_kept, bare_kept}
 use Rattle.vx_record.specs.Places.{same_place}
 use Rattle.vx_record.specs.Places.Place.{Contents}
-use Rattle.vx_hub.specs.Numbers.{numbers_in}
 use Rattle.vx_hub.proofs.PlaceLaws.{read_at, written_at, places_but, but_buffer, places_kept, same_buffer, popped_queue, popped_none}
 use Rattle.vx_hub.proofs.rows.pop_buffer.Goals as goal
 
@@ -41,7 +40,7 @@ returns-clause-held g c some bare =
 pub returns-clause-oldest : goal.returns-clause-oldest
 returns-clause-oldest g c = popped_queue c.pop.result c.index_mut.result.now.buffer.items c.pop.new.self.items _ c.pop.ensures.some (λ x is. record {
   oldest = read_at (Contents c.args.i 0) c.args.rows.now.items c.args.i c.index_mut.result.now c.requires c.index_mut.ensures.value refl ∙ is
-      ∙ ap (λ ns. numbers_in x.finalizers ∷ ns) (sym (written_at (Contents c.args.i 0) c.args.rows.now.items c.args.i _ c.requires refl));
+      ∙ ap (λ ns. x.finalizers ∷ ns) (sym (written_at (Contents c.args.i 0) c.args.rows.now.items c.args.i _ c.requires refl));
   others = places_but (λ p. same_place (Contents c.args.i 0) p ≡ false) c.args.rows.now.items c.args.i c.index_mut.result.now _ c.requires c.index_mut.ensures.value (λ p own other. but_buffer c.args.i c.index_mut.result.now c.pop.new.self p own other);
 })
 

@@ -5,8 +5,7 @@ use Rattle.vx_hub.proofs.Parcels.{row_counts, popped_first, held_copies, none_he
 use Rattle.vx_hub.proofs.RowLaws.{rows_lose, ports_kept, bare_kept}
 use Rattle.vx_record.specs.Places.{same_place}
 use Rattle.vx_record.specs.Places.Place.{Held}
-use Rattle.vx_hub.specs.Numbers.{numbers_in}
-use Rattle.vx_hub.specs.Places.{parcel_numbers}
+use Rattle.vx_hub.specs.Places.{parcel_lists}
 use Rattle.vx_hub.proofs.PlaceLaws.{read_at, written_at, places_but, but_task, places_kept, same_task, popped_queue, popped_none, task_holds}
 use Rattle.vx_hub.proofs.rows.pop_held.Goals as goal
 
@@ -37,8 +36,8 @@ returns-in-Sink-clause-bare g c = bare_kept c.args.rows.now.items c.args.i c.ind
 pub returns-in-Sink-clause-oldest : goal.returns-in-Sink-clause-oldest
 returns-in-Sink-clause-oldest g c = popped_queue c.pop.result c.in-Sink.core.held.items c.pop.new.self.items _ c.pop.ensures.some (λ x is. record {
   oldest = read_at (Held c.args.i) c.args.rows.now.items c.args.i c.index_mut.result.now c.requires c.index_mut.ensures.value refl
-      ∙ ap parcel_numbers (task_holds c.index_mut.result.now.task c.in-Some.task c.in-Sink.core c.in-Some.is c.in-Sink.is) ∙ is
-      ∙ ap (λ ns. numbers_in x.finalizers ∷ ns) (sym (written_at (Held c.args.i) c.args.rows.now.items c.args.i _ c.requires refl));
+      ∙ ap parcel_lists (task_holds c.index_mut.result.now.task c.in-Some.task c.in-Sink.core c.in-Some.is c.in-Sink.is) ∙ is
+      ∙ ap (λ ns. x.finalizers ∷ ns) (sym (written_at (Held c.args.i) c.args.rows.now.items c.args.i _ c.requires refl));
   others = places_but (λ p. same_place (Held c.args.i) p ≡ false) c.args.rows.now.items c.args.i c.index_mut.result.now _ c.requires c.index_mut.ensures.value (λ p own other. but_task c.args.i c.index_mut.result.now _ p own other);
 })
 

@@ -5,8 +5,7 @@ use Rattle.vx_hub.proofs.Parcels.{row_counts, parcels_pushed}
 use Rattle.vx_hub.proofs.RowLaws.{rows_gain, ports_kept, others_bare}
 use Rattle.vx_record.specs.Places.{same_place}
 use Rattle.vx_record.specs.Places.Place.{Contents}
-use Rattle.vx_hub.specs.Numbers.{numbers_in}
-use Rattle.vx_hub.specs.Places.{parcel_numbers}
+use Rattle.vx_hub.specs.Places.{parcel_lists}
 use Rattle.vx_hub.proofs.PlaceLaws.{read_at, written_at, places_but, but_buffer, numbers-more}
 use Rattle.vx_hub.proofs.rows.push_buffer.Goals as goal
 
@@ -29,8 +28,8 @@ returns-clause-bare g c = others_bare c.args.rows.now.items c.args.i _
 
 pub returns-clause-last : goal.returns-clause-last
 returns-clause-last g c = record {
-  last = written_at (Contents c.args.i 0) c.args.rows.now.items c.args.i _ c.requires.within refl ∙ ap parcel_numbers c.push.ensures.items
+  last = written_at (Contents c.args.i 0) c.args.rows.now.items c.args.i _ c.requires.within refl ∙ ap parcel_lists c.push.ensures.items
       ∙ numbers-more c.index_mut.result.now.buffer.items c.args.parcel
-      ∙ ap (λ ns. ns ++ numbers_in c.args.parcel.finalizers ∷ []) (sym (read_at (Contents c.args.i 0) c.args.rows.now.items c.args.i c.index_mut.result.now c.requires.within c.index_mut.ensures.value refl));
+      ∙ ap (λ ns. ns ++ c.args.parcel.finalizers ∷ []) (sym (read_at (Contents c.args.i 0) c.args.rows.now.items c.args.i c.index_mut.result.now c.requires.within c.index_mut.ensures.value refl));
   others = places_but (λ p. same_place (Contents c.args.i 0) p ≡ false) c.args.rows.now.items c.args.i c.index_mut.result.now _ c.requires.within c.index_mut.ensures.value (λ p own other. but_buffer c.args.i c.index_mut.result.now c.push.new.self p own other);
 }

@@ -6,8 +6,7 @@ use Rattle.vx_hub.proofs.Parcels.{row_counts, parcels_pushed}
 use Rattle.vx_hub.proofs.RowLaws.{rows_gain, row_has, row_gets, ports_kept, others_bare}
 use Rattle.vx_record.specs.Places.{same_place}
 use Rattle.vx_record.specs.Places.Place.{Outputs}
-use Rattle.vx_hub.specs.Numbers.{numbers_in}
-use Rattle.vx_hub.specs.Places.{stacked_numbers}
+use Rattle.vx_hub.specs.Places.{stacked_lists}
 use Rattle.vx_hub.proofs.PlaceLaws.{read_at, written_at, places_but, but_outputs, stacked-more}
 use Rattle.vx_hub.proofs.rows.push_output.Goals as goal
 
@@ -36,8 +35,8 @@ returns-clause-room g c n more = row_gets (λ row. length row.outputs.items + n 
 
 pub returns-clause-oldest : goal.returns-clause-oldest
 returns-clause-oldest g c = record {
-  oldest = written_at (Outputs c.args.i) c.args.rows.now.items c.args.i _ c.requires.within refl ∙ ap stacked_numbers c.push.ensures.items
+  oldest = written_at (Outputs c.args.i) c.args.rows.now.items c.args.i _ c.requires.within refl ∙ ap stacked_lists c.push.ensures.items
       ∙ stacked-more c.index_mut.result.now.outputs.items c.args.parcel
-      ∙ ap (λ ns. numbers_in c.args.parcel.finalizers ∷ ns) (sym (read_at (Outputs c.args.i) c.args.rows.now.items c.args.i c.index_mut.result.now c.requires.within c.index_mut.ensures.value refl));
+      ∙ ap (λ ns. c.args.parcel.finalizers ∷ ns) (sym (read_at (Outputs c.args.i) c.args.rows.now.items c.args.i c.index_mut.result.now c.requires.within c.index_mut.ensures.value refl));
   others = λ p off. sym (places_but (λ q. same_place (Outputs c.args.i) q ≡ false) c.args.rows.now.items c.args.i c.index_mut.result.now _ c.requires.within c.index_mut.ensures.value (λ q own other. but_outputs c.args.i c.index_mut.result.now c.push.new.self q own other) p off);
 }

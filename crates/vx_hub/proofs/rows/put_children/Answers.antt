@@ -5,7 +5,7 @@ use Rattle.vx_hub.proofs.Parcels.{row_counts}
 use Rattle.vx_hub.proofs.RowLaws.{rows_gain, row_has, ports_kept, others_bare}
 use Rattle.vx_record.specs.Places.Place.{Waiting}
 use Rattle.vx_record.specs.Lists.{is_child_of}
-use Rattle.vx_hub.specs.Places.{waiting_numbers}
+use Rattle.vx_hub.specs.Places.{waiting_lists}
 use Rattle.vx_hub.proofs.PlaceLaws.{written_at, places_but, but_waiting}
 use Rattle.vx_hub.proofs.rows.put_children.Goals as goal
 
@@ -29,7 +29,7 @@ returns-clause-bare g c = others_bare c.args.rows.now.items c.args.i _
 
 pub returns-clause-places : goal.returns-clause-places
 returns-clause-places g c = record {
-  wait = λ t. written_at (Waiting c.args.i t) c.args.rows.now.items c.args.i _ c.requires.within refl ∙ ap (λ (v : _). waiting_numbers t v.items) c.replace-none.ensures.after
-      ∙ ap (waiting_numbers t) c.into_vec.ensures;
+  wait = λ t. written_at (Waiting c.args.i t) c.args.rows.now.items c.args.i _ c.requires.within refl ∙ ap (λ (v : _). waiting_lists t v.items) c.replace-none.ensures.after
+      ∙ ap (waiting_lists t) c.into_vec.ensures;
   others = places_but (λ p. is_child_of c.args.i p ≡ false) c.args.rows.now.items c.args.i c.index_mut.result.now _ c.requires.within c.index_mut.ensures.value (λ p own other. but_waiting c.args.i c.index_mut.result.now _ p own other);
 }

@@ -5,8 +5,7 @@ use Rattle.vx_hub.proofs.Parcels.{row_counts, child_removed}
 use Rattle.vx_hub.proofs.RowLaws.{rows_lose, row_has, each_keeps, ports_kept, bare_kept}
 use Rattle.vx_record.specs.Places.{same_place}
 use Rattle.vx_record.specs.Places.Place.{Waiting}
-use Rattle.vx_hub.specs.Numbers.{numbers_in}
-use Rattle.vx_hub.specs.Places.{waiting_numbers, NoneBefore}
+use Rattle.vx_hub.specs.Places.{waiting_lists, NoneBefore}
 use Rattle.vx_hub.proofs.PlaceLaws.{read_at, written_at, places_but, but_target, first_removed, other_removed}
 use Rattle.vx_hub.proofs.rows.take_child.Goals as goal
 
@@ -45,8 +44,8 @@ returns-clause-oldest g c t first =
       r.0,
       record {
         oldest = read_at (Waiting c.args.i t) c.args.rows.now.items c.args.i row c.requires.within c.index_mut.ensures.value refl ∙ r.1
-            ∙ ap (λ ns. numbers_in c.remove.result.parcel.finalizers ∷ ns) (sym (written_at (Waiting c.args.i t) c.args.rows.now.items c.args.i _ c.requires.within refl ∙ ap (waiting_numbers t) c.remove.ensures.items));
+            ∙ ap (λ ns. c.remove.result.parcel.finalizers ∷ ns) (sym (written_at (Waiting c.args.i t) c.args.rows.now.items c.args.i _ c.requires.within refl ∙ ap (waiting_lists t) c.remove.ensures.items));
         others = places_but (λ p. same_place (Waiting c.args.i t) p ≡ false) c.args.rows.now.items c.args.i c.index_mut.result.now _ c.requires.within c.index_mut.ensures.value (λ p own other. but_target c.args.i t row c.remove.new.self p own other
-            (λ u off. ap (waiting_numbers u) c.remove.ensures.items ∙ other_removed t u c.args.k row.waiting.items c.remove.result l c.remove.ensures.value r.0 off));
+            (λ u off. ap (waiting_lists u) c.remove.ensures.items ∙ other_removed t u c.args.k row.waiting.items c.remove.result l c.remove.ensures.value r.0 off));
       },
     )

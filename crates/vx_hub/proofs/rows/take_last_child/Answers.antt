@@ -7,8 +7,7 @@ use Rattle.vx_hub.proofs.Parcels.{row_counts, children_pushed}
 use Rattle.vx_hub.proofs.RowLaws.{rows_lose, ports_kept, bare_kept}
 use Rattle.vx_record.specs.Places.{same_place}
 use Rattle.vx_record.specs.Places.Place.{Waiting}
-use Rattle.vx_hub.specs.Numbers.{numbers_in}
-use Rattle.vx_hub.specs.Places.{waiting_numbers}
+use Rattle.vx_hub.specs.Places.{waiting_lists}
 use Rattle.vx_hub.proofs.Silence.{same_test}
 use Rattle.vx_hub.proofs.PlaceLaws.{read_at, written_at, places_but, but_target, waiting-more, places_kept, same_waiting}
 use Rattle.vx_hub.proofs.rows.take_last_child.Goals as goal
@@ -64,18 +63,18 @@ returns-in-Some-clause-from g c =
     let child = c.in-Some.field-0 in
     let t = child.target in
     let left = c.pop.new.self.items in
-    let ns = numbers_in child.parcel.finalizers in (
+    let ns = child.parcel.finalizers in (
       t,
       record {
-        before = waiting_numbers t left;
+        before = waiting_lists t left;
         after = [];
         was = read_at (Waiting c.args.i t) c.args.rows.now.items c.args.i row c.requires c.index_mut.ensures.value refl
-            ∙ ap (waiting_numbers t) c.in-Some.ensures.items ∙ waiting-more t left child
-            ∙ ap (λ b. waiting_numbers t left ++ (if b then ns ∷ [] else [])) (same_test t);
-        left = written_at (Waiting c.args.i t) c.args.rows.now.items c.args.i _ c.requires refl ∙ sym (append-nil (waiting_numbers t left));
+            ∙ ap (waiting_lists t) c.in-Some.ensures.items ∙ waiting-more t left child
+            ∙ ap (λ b. waiting_lists t left ++ (if b then ns ∷ [] else [])) (same_test t);
+        left = written_at (Waiting c.args.i t) c.args.rows.now.items c.args.i _ c.requires refl ∙ sym (append-nil (waiting_lists t left));
         others = places_but (λ p. same_place (Waiting c.args.i t) p ≡ false) c.args.rows.now.items c.args.i c.index_mut.result.now _ c.requires c.index_mut.ensures.value (λ p own other. but_target c.args.i t row c.pop.new.self p own other
-            (λ u off. sym (ap (waiting_numbers u) c.in-Some.ensures.items ∙ waiting-more u left child
-            ∙ ap (λ b. waiting_numbers u left ++ (if b then ns ∷ [] else [])) off ∙ append-nil (waiting_numbers u left))));
+            (λ u off. sym (ap (waiting_lists u) c.in-Some.ensures.items ∙ waiting-more u left child
+            ∙ ap (λ b. waiting_lists u left ++ (if b then ns ∷ [] else [])) off ∙ append-nil (waiting_lists u left))));
       },
     )
 

@@ -6,7 +6,7 @@ use Rattle.vx_hub.proofs.RowLaws.{rows_lose, row_read, row_gets, other_ports, ot
 use Rattle.vx_record.specs.Places.{same_place}
 use Rattle.vx_record.specs.Places.Place.{Held}
 use Rattle.vx_hub.specs.Rows.{task_parcels}
-use Rattle.vx_hub.specs.Places.{parcel_numbers}
+use Rattle.vx_hub.specs.Places.{parcel_lists}
 use Rattle.vx_hub.proofs.PlaceLaws.{written_at, places_but, but_task}
 use Rattle.vx_hub.proofs.rows.take_task.Goals as goal
 
@@ -36,6 +36,6 @@ returns-clause-bare g c = others_bare c.args.rows.now.items c.args.i _
 
 pub returns-clause-places : goal.returns-clause-places
 returns-clause-places g c = record {
-  now = written_at (Held c.args.i) c.args.rows.now.items c.args.i _ c.requires refl ∙ ap (λ (t : _). parcel_numbers (task_parcels t)) c.take.ensures.after;
+  now = written_at (Held c.args.i) c.args.rows.now.items c.args.i _ c.requires refl ∙ ap (λ (t : _). parcel_lists (task_parcels t)) c.take.ensures.after;
   others = places_but (λ p. same_place (Held c.args.i) p ≡ false) c.args.rows.now.items c.args.i c.index_mut.result.now _ c.requires c.index_mut.ensures.value (λ p own other. but_task c.args.i c.index_mut.result.now _ p own other);
 }

@@ -1,4 +1,4 @@
-use Rattle.std.proofs.Common.{refl, subst, List}
+use Rattle.std.proofs.Common.{refl, subst, List, ap}
 use Rattle.vx_ledger.specs.Copies.{Copy}
 use Rattle.vx_record.specs.Places.Place.{Outputs}
 use Rattle.vx_hub.specs.Numbers.{numbers_in}
@@ -6,8 +6,9 @@ use Rattle.vx_hub.specs.Places.{IsPlaced}
 use Rattle.vx_hub.specs.Rows.{role_copies, role_parcels}
 use Rattle.vx_hub.proofs.StandsLaws.{put_balanced}
 use Rattle.vx_hub.proofs.Touching.{stands_brought}
-use Rattle.vx_hub.proofs.Placing.{placed_home}
+use Rattle.vx_hub.proofs.Owning.{placed_home}
 use Rattle.vx_hub.proofs.Homing.{role_same}
+use Rattle.vx_hub.specs.Places.{all_numbers}
 use Rattle.vx_hub.proofs.hub.Hub.bring.Goals as goal
 
 pub returns-clause-stands : goal.returns-clause-stands
@@ -18,7 +19,7 @@ returns-clause-stands g c =
     (put_balanced d.batches d.rows.items c.put_task.new.rows.items (role_copies role) c.requires.stands.balanced c.put_task.ensures.gains)
     c.put_task.ensures.port c.put_task.ensures.ports c.put_task.ensures.bare c.put_task.ensures.size refl refl refl refl refl refl
     (λ fine kept placed. placed_home d.rows.items c.put_task.new.rows.items d.log.history c.args.instance (role_parcels role) kept
-    (subst (λ (cs : List Copy). IsPlaced d.rows.items (numbers_in cs) d.log.history) (role_same role) placed) (c.requires.held fine) c.put_task.ensures.places)
+    (subst (λ (cs : List Copy). IsPlaced d.rows.items cs d.log.history) (role_same role) placed) (c.requires.held fine) c.put_task.ensures.places)
 
 pub returns-clause-outputs : goal.returns-clause-outputs
-returns-clause-outputs g c i = c.put_task.ensures.places.others (Outputs i) refl
+returns-clause-outputs g c i = ap all_numbers (c.put_task.ensures.places.others (Outputs i) refl)

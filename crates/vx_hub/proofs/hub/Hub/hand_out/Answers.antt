@@ -1,4 +1,4 @@
-use Rattle.std.proofs.Common.{refl, sym, subst, List, ◌<◌, ◌∙◌}
+use Rattle.std.proofs.Common.{refl, sym, subst, List, ◌<◌, ◌∙◌, ap}
 use Rattle.vx_ledger.specs.Copies.{Copy}
 use Rattle.vx_record.specs.Places.Place.{Outputs, Held}
 use Rattle.vx_hub.specs.Numbers.{numbers_in}
@@ -7,8 +7,10 @@ use Rattle.vx_hub.specs.Stands.{IsTold}
 use Rattle.vx_hub.specs.Rows.{role_copies, role_parcels, row_at, port_at}
 use Rattle.vx_hub.proofs.StandsLaws.{hand_balanced}
 use Rattle.vx_hub.proofs.Touching.{stands_out, out_port, taken_told}
-use Rattle.vx_hub.proofs.Placing.{places_all, placed_leased}
+use Rattle.vx_hub.proofs.Placing.{places_all}
+use Rattle.vx_hub.proofs.Owning.{placed_leased}
 use Rattle.vx_hub.proofs.Homing.{role_same}
+use Rattle.vx_hub.specs.Places.{all_numbers}
 use Rattle.vx_hub.proofs.hub.Hub.hand_out.Goals as goal
 
 pub returns-clause-leased : goal.returns-clause-leased
@@ -23,14 +25,14 @@ returns-clause-leased g c =
       stands = stands_out g.P.Port.told d _ (role_copies role) i s c.requires.open.unclosed
           (hand_balanced d.batches d.rows.items rows (role_copies role) s.balanced (c.in_ok-task.ensures.loses))
           (out_port (row_at rows i) c.take_task.ensures.out) c.take_task.ensures.ports c.take_task.ensures.bare c.take_task.ensures.size refl refl refl refl refl refl
-          (λ kept placed. subst (λ (cs : List Copy). IsPlaced rows (numbers_in cs) d.log.history) (sym (role_same role))
+          (λ kept placed. subst (λ (cs : List Copy). IsPlaced rows cs d.log.history) (sym (role_same role))
           (placed_leased d.rows.items rows d.log.history i (role_parcels role) kept placed c.in_ok-task.ensures.held c.take_task.ensures.places));
       open_at = record { within = subst (λ n. i < n) (sym c.take_task.ensures.size) c.requires.open.within; unclosed = c.requires.open.unclosed };
       out = c.take_task.ensures.out;
       told = λ sound. taken_told (λ port. IsTold (g.P.Port.told port) d.log.history i) (port_at d.rows.items i) task.port c.in_ok-task.ensures.port
           ((s.recorded (record { whole = sound.whole; fed = sound.fed })).ports i);
-      held = λ sound. places_all d.rows.items d.log.history (s.recorded (record { whole = sound.whole; fed = sound.fed })).places (Held i) ∙ c.in_ok-task.ensures.held;
+      held = λ sound. places_all d.rows.items d.log.history (s.recorded (record { whole = sound.whole; fed = sound.fed })).places.standing (Held i) ∙ ap all_numbers c.in_ok-task.ensures.held;
       unlost = c.requires.unlost;
-      sent = λ read. c.take_task.ensures.places.others (Outputs i) refl ∙ c.requires.sent read;
+      sent = λ read. ap all_numbers (c.take_task.ensures.places.others (Outputs i) refl) ∙ c.requires.sent read;
       due = λ sound. c.requires.due (record { whole = sound.whole; fed = sound.fed });
     }

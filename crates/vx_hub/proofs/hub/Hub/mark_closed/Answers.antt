@@ -3,7 +3,8 @@ use Rattle.vx_hub.specs.Stands.{IsGone}
 use Rattle.vx_hub.proofs.StandsLaws.{known_quiet, same_next}
 use Rattle.vx_hub.proofs.Touching.{stands_marked, facts_has}
 use Rattle.vx_record.specs.declared.entry.Entry.TheVariants.{Closed}
-use Rattle.vx_hub.proofs.Placing.{placed_still}
+use Rattle.vx_hub.proofs.Owning.{placed_still}
+use Rattle.vx_hub.proofs.Noticing.{running_still}
 use Rattle.vx_hub.proofs.hub.Hub.mark_closed.Goals as goal
 
 pub returns-clause-stands : goal.returns-clause-stands
@@ -16,4 +17,5 @@ returns-clause-stands g c =
       (facts_has (IsGone c.args.self.now.rows.items c.args.instance) c.args.self.now.facts.items c.args.instance c.index_mut.result.now within c.index_mut.ensures.value
           (c.requires.stands.gone c.args.instance) retired).1,
     ))
-    (λ kept placed. placed_still c.args.self.now.rows.items [] c.args.self.now.log.history (Closed c.args.instance) tt kept.1 placed)
+    (λ fine kept placed. placed_still c.args.self.now.rows.items [] c.args.self.now.log.history (Closed c.args.instance) tt kept.1 placed)
+    (λ b w. w) (λ fine sound. running_still c.args.self.now.log.history (Closed c.args.instance) c.args.self.now.batches.open_rows tt) (λ ledger. ledger)

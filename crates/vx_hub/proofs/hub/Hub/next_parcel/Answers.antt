@@ -2,7 +2,8 @@ use Rattle.std.proofs.Common.{refl, []}
 use Rattle.vx_record.specs.Places.Place.{Outputs, Contents, Held}
 use Rattle.vx_hub.specs.Rows.{option_copies}
 use Rattle.vx_hub.proofs.StandsLaws.{stands_moved, hand_balanced, bare_by}
-use Rattle.vx_hub.proofs.Placing.{placed_if, placed_child_if, some_from_oldest}
+use Rattle.vx_hub.proofs.Placing.{some_from_oldest}
+use Rattle.vx_hub.proofs.Owning.{placed_if, placed_child_if}
 use Rattle.vx_hub.proofs.hub.Hub.next_parcel.Goals as goal
 
 pub returns-then-not-is_empty-clause-stands : goal.returns-then-not-is_empty-clause-stands

@@ -5,7 +5,8 @@ use Rattle.vx_record.specs.Records.{Record}
 use Rattle.vx_record.specs.declared.entry.Entry.TheVariants.{Lease}
 use Rattle.vx_hub.proofs.StandsLaws.{known_quiet, to_confirm_on, same_next}
 use Rattle.vx_hub.proofs.Touching.{stands_marked, facts_surely, facts_get, facts_has}
-use Rattle.vx_hub.proofs.Placing.{placed_still}
+use Rattle.vx_hub.proofs.Owning.{placed_still}
+use Rattle.vx_hub.proofs.Noticing.{running_still}
 use Rattle.vx_hub.proofs.hub.Hub.note_lease.Goals as goal
 
 pub returns-clause-stands : goal.returns-clause-stands
@@ -17,7 +18,8 @@ returns-clause-stands g c =
     (λ x k other known. known_quiet x c.args.self.now.log.history k _ tt known)
     (facts_has (IsShut g.P.Port.told c.args.self.now.rows.items c.args.instance) c.args.self.now.facts.items c.args.instance c.index_mut-facts.result.now within c.index_mut-facts.ensures.value (c.requires.stands.shut c.args.instance))
     (facts_has (IsGone c.args.self.now.rows.items c.args.instance) c.args.self.now.facts.items c.args.instance c.index_mut-facts.result.now within c.index_mut-facts.ensures.value (c.requires.stands.gone c.args.instance))
-    (λ kept placed. placed_still c.args.self.now.rows.items [] c.args.self.now.log.history (Lease c.args.instance c.args.worker c.args.now 0) tt kept.1 placed)
+    (λ fine kept placed. placed_still c.args.self.now.rows.items [] c.args.self.now.log.history (Lease c.args.instance c.args.worker c.args.now 0) tt kept.1 placed)
+    (λ b w. w) (λ fine sound. running_still c.args.self.now.log.history (Lease c.args.instance c.args.worker c.args.now 0) c.args.self.now.batches.open_rows tt) (λ ledger. ledger)
 
 pub returns-clause-open : goal.returns-clause-open
 returns-clause-open g c =

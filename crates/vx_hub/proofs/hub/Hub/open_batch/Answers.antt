@@ -11,7 +11,14 @@ use Rattle.vx_record.specs.Records.{Record}
 use Rattle.vx_record.specs.Lists.{outputs}
 use Rattle.vx_record.specs.Moving.{singles}
 use Rattle.vx_hub.specs.Stands.{IsSound}
-use Rattle.vx_hub.proofs.Placing.{placed_born, lined_born, conserved}
+use Rattle.vx_hub.proofs.Placing.{lined_born, conserved}
+use Rattle.vx_hub.proofs.Owning.{placed_born}
+use Rattle.vx_ledger.specs.Copies.{numbered}
+use Rattle.std.proofs.Common.{◌∷◌}
+use Rattle.vx_ledger.specs.declared.open_batch.OpenBatch.{OpenBatch}
+use Rattle.vx_record.specs.declared.entry.Entry.TheVariants.{Born}
+use Rattle.vx_hub.specs.Batching.{AreRunning}
+use Rattle.vx_hub.proofs.Noticing.{running_on, running_more, born_status}
 use Rattle.vx_hub.proofs.hub.Hub.open_batch.Goals as goal
 
 pub returns-clause-stands : goal.returns-clause-stands
@@ -42,7 +49,15 @@ returns-clause-stands g c =
     (λ x k other known. known_other x h c.args.instance k _ refl other known)
     (facts_has (IsShut g.P.Port.told c.args.self.now.rows.items c.args.instance) c.args.self.now.facts.items c.args.instance c.index_mut-facts.result.now within c.index_mut-facts.ensures.value (s.shut c.args.instance))
     (facts_has (IsGone c.args.self.now.rows.items c.args.instance) c.args.self.now.facts.items c.args.instance c.index_mut-facts.result.now within c.index_mut-facts.ensures.value (s.gone c.args.instance))
-    (λ kept placed. placed_born c.args.self.now.rows.items h c.args.instance c.in-Ok.born.0 c.in-Ok.born.0 (numbers_in copies) c.args.events.now false c.args.position.stream c.args.position.end kept placed)
+    (λ fine kept placed. placed_born c.args.self.now.rows.items h c.args.instance c.in-Ok.born.0 c.in-Ok.born.0 copies c.args.events.now false c.args.position.stream c.args.position.end c.len-n.result
+    (c.in-Ok.ensures.copies ∙ ap (λ k. numbered c.len-n.result k k k) (sym c.in-Ok.ensures.number)) (c.in-Ok.ensures.number ∙ (s.recorded fine).next)
+    (omega (arith, many, length_numbers copies)) kept placed)
+    (λ b w. w)
+    (λ fine sound running. subst (λ (rs : List OpenBatch). AreRunning (Born c.args.instance c.in-Ok.born.0 c.in-Ok.born.0 (numbers_in copies) c.args.events.now false c.args.position.stream c.args.position.end ∷ h) rs) (sym c.in-Ok.ensures.rows)
+    (running_more (Born c.args.instance c.in-Ok.born.0 c.in-Ok.born.0 (numbers_in copies) c.args.events.now false c.args.position.stream c.args.position.end ∷ h) c.args.self.now.batches.open_rows _
+    (running_on h (Born c.args.instance c.in-Ok.born.0 c.in-Ok.born.0 (numbers_in copies) c.args.events.now false c.args.position.stream c.args.position.end ∷ h) c.args.self.now.batches.open_rows (λ b. refl) running)
+    (born_status h next sound (omega (arith, (s.recorded fine).next)))))
+    (λ ledger. c.in-Ok.ensures.kept)
 
 pub returns-clause-each : goal.returns-clause-each
 returns-clause-each g c =
@@ -70,4 +85,4 @@ returns-clause-lined g c sound =
     let order = birth_in_order h c.args.instance next c.len-n.result c.in-Ok.born.0 copies c.args.events.now (c.requires.read fine) (s.recorded fine).next c.in-Ok.ensures.number c.in-Ok.ensures.copies (sym c.len-n.ensures)
     (omega (arith, c.requires.some, c.len-n.ensures)) (omega (arith, c.born.ensures.kept.numbers, c.in-Ok.ensures.next)) in
     subst (λ (k : Record). (done : List ℕ) × (outputs k c.args.instance ≡ singles (numbers_in copies ++ done))) (sym w.1)
-    (lined_born d.rows.items h c.args.instance c.in-Ok.born.0 c.in-Ok.born.0 (numbers_in copies) c.args.events.now false c.args.position.stream c.args.position.end (order.next, conserved h (s.recorded fine).order) (s.recorded fine).places c.requires.sent)
+    (lined_born d.rows.items h c.args.instance c.in-Ok.born.0 c.in-Ok.born.0 (numbers_in copies) c.args.events.now false c.args.position.stream c.args.position.end (order.next, conserved h (s.recorded fine).order) (s.recorded fine).places.standing c.requires.sent)

@@ -1,11 +1,14 @@
 use Rattle.std.proofs.Common.{refl, ◌∙◌, [], sym, subst}
 use Rattle.vx_record.specs.Places.Place.{Waiting, Contents}
 use Rattle.vx_hub.specs.Places.{TakesOldest, PutsLast}
-use Rattle.vx_hub.proofs.Placing.{oldest_is, placed_pushed}
+use Rattle.vx_hub.proofs.Placing.{oldest_is}
+use Rattle.vx_hub.proofs.Owning.{placed_pushed}
 use Rattle.vx_hub.proofs.Homing.{is_oldest}
 use Rattle.vx_record.specs.declared.entry.Entry.TheVariants.{Push}
 use Rattle.vx_hub.specs.Numbers.{numbers_in}
 use Rattle.vx_hub.proofs.StandsLaws.{stands_quiet, moved_balanced, bare_running, same_next}
+use Rattle.std.proofs.Common.{◌∷◌}
+use Rattle.vx_hub.proofs.Noticing.{running_on}
 use Rattle.vx_hub.proofs.hub.Hub.push.Goals as goal
 
 pub returns-clause-stands : goal.returns-clause-stands
@@ -25,8 +28,11 @@ returns-clause-stands g c =
     (record {
       quiet = tt;
       next = same_next d.batches d.batches d.log.history (Push c.args.instance c.take_child-target.result.target 0 (numbers_in copies)) refl refl;
-      order = λ fine. is_oldest (numbers_in copies) _ _ (oldest_is (Waiting c.args.instance target) copies d.rows.items c.take_child-target.new.rows.items d.log.history (s.recorded fine).places takes);
-      places = λ kept placed. placed_pushed d.rows.items c.take_child-target.new.rows.items c.push_buffer.new.rows.items d.log.history c.args.instance target copies kept placed takes
+      order = λ fine. is_oldest (numbers_in copies) _ _ (oldest_is (Waiting c.args.instance target) copies d.rows.items c.take_child-target.new.rows.items d.log.history (s.recorded fine).places.standing takes);
+      places = λ fine kept placed. placed_pushed d.rows.items c.take_child-target.new.rows.items c.push_buffer.new.rows.items d.log.history c.args.instance target copies kept placed takes
           (subst (λ t. PutsLast (Contents t 0) copies c.take_child-target.new.rows.items c.push_buffer.new.rows.items) (sym first.0) c.push_buffer.ensures.last);
+      due = λ fine b w. w;
+      statuses = λ fine. running_on d.log.history (Push c.args.instance target 0 (numbers_in copies) ∷ d.log.history) d.batches.open_rows (λ b. refl);
+      ledger = λ ledger. ledger;
     })
     refl refl refl

@@ -1,7 +1,7 @@
 use Rattle.std.proofs.Common.{refl}
 use Rattle.vx_hub.proofs.StandsLaws.{stands_moved}
 use Rattle.vx_hub.proofs.Touching.{rest_balanced, bare_unclosed}
-use Rattle.vx_hub.proofs.Placing.{placed_put}
+use Rattle.vx_hub.proofs.Owning.{placed_put}
 use Rattle.vx_hub.proofs.hub.Hub.put_one.Goals as goal
 
 pub returns-clause-stands : goal.returns-clause-stands

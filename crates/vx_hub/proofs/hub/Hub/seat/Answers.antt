@@ -9,7 +9,7 @@ use Rattle.vx_hub.specs.Rows.{parcel_copies, child_copies, copies_in, port_at}
 use Rattle.vx_hub.proofs.Parcels.{row_counts}
 use Rattle.vx_hub.proofs.Beginning.{ports_more, facts_more, copies_more, role_counts}
 use Rattle.std.proofs.Common.{◌∙◌}
-use Rattle.vx_hub.specs.Places.{numbers_at}
+use Rattle.vx_hub.specs.Places.{copies_at}
 use Rattle.vx_hub.proofs.Beginning.{places_more, unused_here}
 use Rattle.vx_hub.proofs.hub.Hub.seat.Goals as goal
 
@@ -19,6 +19,7 @@ returns-clause-begins g c plan begins untouched =
     record {
       batches = begins.batches;
       next = begins.next;
+      kept = begins.kept;
       copies = λ batch place. omega (
         arith,
         ap (copies_in batch place) c.push_reserved-3.ensures.items,
@@ -30,7 +31,7 @@ returns-clause-begins g c plan begins untouched =
         ap (λ cs. copies_of batch place (child_copies cs)) c.new.ensures.items,
         role_counts batch place c.args.seat.role c.requires.unused.held,
       );
-      places = λ p. ap (numbers_at p) c.push_reserved-3.ensures.items ∙ places_more c.args.self.now.rows.items row begins.places
+      places = λ p. ap (copies_at p) c.push_reserved-3.ensures.items ∙ places_more c.args.self.now.rows.items row begins.places
           (unused_here row c.requires.unused.outputs c.new.ensures.items c.requires.unused.buffer c.requires.unused.held) p;
       ports = λ i. subst (λ (rows : List (Row _)). IfSome (port_at rows i) (λ port. IsUntouched (spec_of (slice_get plan.components i)) (g.P.Port.told port))) (sym c.push_reserved-3.ensures.items)
           (ports_more (λ k port. IsUntouched (spec_of (slice_get plan.components k)) (g.P.Port.told port)) c.args.self.now.rows.items row begins.ports untouched i);

@@ -1,7 +1,8 @@
 use Rattle.std.proofs.Common.{refl, []}
 use Rattle.vx_record.specs.Places.Place.{Held}
 use Rattle.vx_hub.proofs.StandsLaws.{stands_moved, hand_balanced, bare_by}
-use Rattle.vx_hub.proofs.Placing.{placed_taken, from_oldest}
+use Rattle.vx_hub.proofs.Placing.{from_oldest}
+use Rattle.vx_hub.proofs.Owning.{placed_taken}
 use Rattle.vx_hub.proofs.hub.Hub.spend_first.Goals as goal
 
 pub spend-requires-clause-stands : goal.spend-requires-clause-stands

@@ -1,36 +1,74 @@
-use Rattle.std.proofs.Common.{refl}
-use Rattle.vx_hub.proofs.Ordering.{spent_on}
-use Rattle.vx_hub.proofs.StandsLaws.{same_next, stands_quiet, spent_balanced, bare_stays}
-use Rattle.vx_record.specs.declared.entry.Entry.TheVariants.{Spent}
-use Rattle.vx_hub.proofs.Placing.{spent_live, spent_places}
+use Rattle.std.proofs.Common.{refl, sym, ap, subst, ◌≡◌, ◌∙◌, [], ◌∷◌, ◌++◌, Some, None}
+use Rattle.std.specs.Prelude.{IsSome}
+use Rattle.vx_record.specs.Noted.{Noted}
+use Rattle.vx_record.specs.declared.log.Log.{Log}
+use Rattle.vx_record.specs.declared.entry.Entry.TheVariants.{Spent, Notice}
+use Rattle.vx_hub.proofs.Ordering.{spent_on, noticed_on}
+use Rattle.vx_hub.proofs.StandsLaws.{same_next, stands_quiet, stands_noticed, spent_balanced, bare_stays}
+use Rattle.vx_hub.proofs.Placing.{spent_live, conserved}
+use Rattle.vx_hub.proofs.Owning.{placed_spent}
+use Rattle.vx_hub.proofs.Noticing.{in_turn, spent_statuses, spent_quietly, spent_last, last_mine, none_there}
+use Rattle.std.proofs.Common.{Option}
+use Rattle.vx_record.specs.Moving.{IsConserved}
+use Rattle.vx_hub.specs.Order.{IsInOrder}
+use Rattle.vx_hub.specs.Places.{IsPlaced}
+use Rattle.vx_hub.specs.Stands.{Stands, IsSound}
+use Rattle.vx_hub.specs.declared.hub.Hub.{Hub}
 use Rattle.vx_hub.proofs.hub.Hub.spend_one.Goals as goal
 
 pub returns-in_default-clause-stands : goal.returns-in_default-clause-stands
 returns-in_default-clause-stands g c rest s =
-    stands_quiet g.P.Port.told c.args.self.now _ _ rest _ s
-    (spent_balanced c.args.self.now.batches c.spend-notice.new.self c.args.self.now.rows.items rest c.args.finalizer s.balanced c.spend-notice.ensures.exchange)
-    refl (λ i. refl) (bare_stays c.args.self.now.facts.items c.args.self.now.rows.items) refl c.note.ensures.noted
+    let d = c.args.self.now in
+    let h = d.log.history in
+    let f = c.args.finalizer in
+    let n = c.number-copy.result in
+    let balanced = spent_balanced d.batches c.spend-notice.new.self d.rows.items rest f s.balanced c.spend-notice.ensures.exchange in
+    let order : IsSound d → IsInOrder h (Spent c.args.instance n c.args.outcome) = λ fine. (spent_live d.rows.items h rest f n c.number-copy.ensures (s.recorded fine).places.standing, c.requires.cause fine) in
+    stands_quiet g.P.Port.told d _ (rest ++ f ∷ []) rest (Spent c.args.instance n c.args.outcome) s balanced
+    refl (λ i. refl) (bare_stays d.facts.items d.rows.items) refl c.note.ensures.noted
     (record {
       quiet = tt;
-      next = same_next c.args.self.now.batches c.spend-notice.new.self c.args.self.now.log.history (Spent c.args.instance c.number-copy.result c.args.outcome) refl c.spend-notice.ensures.next;
-      order = λ fine. (spent_live c.args.self.now.rows.items c.args.self.now.log.history rest c.args.finalizer c.number-copy.result c.number-copy.ensures (s.recorded fine).places, c.requires.cause fine);
-      places = λ kept placed. spent_places c.args.self.now.rows.items c.args.self.now.log.history c.args.instance rest c.args.finalizer c.number-copy.result c.args.outcome c.number-copy.ensures kept placed;
+      next = same_next d.batches c.spend-notice.new.self h (Spent c.args.instance n c.args.outcome) refl c.spend-notice.ensures.next;
+      order = order;
+      places = λ fine kept placed. placed_spent d.rows.items h c.args.instance rest f n c.args.outcome c.number-copy.ensures kept placed;
+      due = λ fine.
+          let r = s.recorded fine in
+          let kept = conserved (Spent c.args.instance n c.args.outcome ∷ h) ((order fine, in_turn h (Spent c.args.instance n c.args.outcome) r.noticeless), r.order) in
+          spent_quietly c.spend-notice.new.self d.rows.items rest h c.args.instance n c.args.outcome f c.number-copy.ensures (last_mine h rest f r.places.owned) kept
+          (placed_spent d.rows.items h c.args.instance rest f n c.args.outcome c.number-copy.ensures kept r.places) balanced
+          (λ none. none_there c.spend-notice.result c.in_default.is (c.spend-notice.ensures.last.1 none));
+      statuses = λ fine running. let r = s.recorded fine in
+          spent_statuses h c.args.instance n c.args.outcome f d.batches _ c.number-copy.ensures (last_mine h rest f r.places.owned) r.ledger running c.spend-notice.ensures.rows;
+      ledger = λ ledger. c.spend-notice.ensures.kept;
     }) refl refl refl
 
 pub returns-in-Some-clause-stands : goal.returns-in-Some-clause-stands
-returns-in-Some-clause-stands g c rest s = c.tell.ensures.stands rest (
-    stands_quiet g.P.Port.told c.args.self.now _ _ rest _ s
-    (spent_balanced c.args.self.now.batches c.spend-notice.new.self c.args.self.now.rows.items rest c.args.finalizer s.balanced c.spend-notice.ensures.exchange)
-    refl (λ i. refl) (bare_stays c.args.self.now.facts.items c.args.self.now.rows.items) refl c.note.ensures.noted
-    (record {
-      quiet = tt;
-      next = same_next c.args.self.now.batches c.spend-notice.new.self c.args.self.now.log.history (Spent c.args.instance c.number-copy.result c.args.outcome) refl c.spend-notice.ensures.next;
-      order = λ fine. (spent_live c.args.self.now.rows.items c.args.self.now.log.history rest c.args.finalizer c.number-copy.result c.number-copy.ensures (s.recorded fine).places, c.requires.cause fine);
-      places = λ kept placed. spent_places c.args.self.now.rows.items c.args.self.now.log.history c.args.instance rest c.args.finalizer c.number-copy.result c.args.outcome c.number-copy.ensures kept placed;
-    }) refl refl refl)
+returns-in-Some-clause-stands g c rest s =
+    let d = c.args.self.now in
+    let h = d.log.history in
+    let f = c.args.finalizer in
+    let n = c.number-copy.result in
+    let balanced = spent_balanced d.batches c.spend-notice.new.self d.rows.items rest f s.balanced c.spend-notice.ensures.exchange in
+    let order : IsSound d → IsInOrder h (Spent c.args.instance n c.args.outcome) = λ fine. (spent_live d.rows.items h rest f n c.number-copy.ensures (s.recorded fine).places.standing, c.requires.cause fine) in
+    let kept : IsSound d → IsConserved (Spent c.args.instance n c.args.outcome ∷ h) = λ fine. let r = s.recorded fine in
+    conserved (Spent c.args.instance n c.args.outcome ∷ h) ((order fine, in_turn h (Spent c.args.instance n c.args.outcome) r.noticeless), r.order) in
+    let places : IsSound d → IsPlaced d.rows.items rest (Spent c.args.instance n c.args.outcome ∷ h) = λ fine.
+    placed_spent d.rows.items h c.args.instance rest f n c.args.outcome c.number-copy.ensures (kept fine) (s.recorded fine).places in
+    subst (λ (x : Hub _). Stands g.P.Port.told x rest x.log.history) (sym c.tell.ensures.rest)
+    (stands_noticed g.P.Port.told d _ (rest ++ f ∷ []) rest c.args.instance n c.args.outcome c.in-Some.notice.batch c.in-Some.notice.status c.note.new.self s balanced refl refl c.note.ensures.noted c.tell.ensures.noted
+    c.spend-notice.ensures.next order places
+    (λ fine. let r = s.recorded fine in
+    spent_last d.batches c.spend-notice.new.self d.rows.items rest h c.args.instance n c.args.outcome f c.in-Some.notice c.number-copy.ensures (last_mine h rest f r.places.owned) (kept fine) (places fine) balanced r.statuses
+    (c.spend-notice.ensures.last.0 (subst (λ (o : Option _). IsSome o) (sym c.in-Some.is) refl)) (sym c.spend-notice.ensures.notice ∙ c.in-Some.is))
+    (λ fine. let r = s.recorded fine in
+    spent_statuses h c.args.instance n c.args.outcome f d.batches _ c.number-copy.ensures (last_mine h rest f r.places.owned) r.ledger r.statuses c.spend-notice.ensures.rows)
+    c.spend-notice.ensures.kept refl refl refl)
 
 pub returns-in_default-clause-cause : goal.returns-in_default-clause-cause
 returns-in_default-clause-cause g c = spent_on c.args.self.now (record c.args.self.now { batches = c.spend-notice.new.self; log = c.note.new.self }) c.args.instance c.number-copy.result c.args.outcome c.args.instance c.args.outcome c.note.ensures.noted refl c.requires.cause
 
 pub returns-in-Some-clause-cause : goal.returns-in-Some-clause-cause
-returns-in-Some-clause-cause g c = c.tell.ensures.cause c.args.instance c.args.outcome (spent_on c.args.self.now (record c.args.self.now { batches = c.spend-notice.new.self; log = c.note.new.self }) c.args.instance c.number-copy.result c.args.outcome c.args.instance c.args.outcome c.note.ensures.noted refl c.requires.cause)
+returns-in-Some-clause-cause g c =
+    noticed_on (record c.args.self.now { batches = c.spend-notice.new.self; log = c.note.new.self }) c.tell.new.self c.in-Some.notice.batch c.in-Some.notice.status c.args.instance c.args.outcome c.tell.ensures.noted
+    (ap (λ (x : Hub _). x.starved) c.tell.ensures.rest)
+    (spent_on c.args.self.now (record c.args.self.now { batches = c.spend-notice.new.self; log = c.note.new.self }) c.args.instance c.number-copy.result c.args.outcome c.args.instance c.args.outcome c.note.ensures.noted refl c.requires.cause)

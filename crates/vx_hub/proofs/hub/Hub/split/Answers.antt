@@ -1,6 +1,9 @@
-use Rattle.std.proofs.Common.{refl, sym, ap, subst, ◌∙◌, ◌≡◌, ◌*◌, ◌+◌, ◌≤◌, [], length}
+use Rattle.std.proofs.Common.{arith, ◌∷◌, refl, sym, ap, subst, ◌∙◌, ◌≡◌, ◌*◌, ◌+◌, ◌-◌, ◌≤◌, [], length}
 use Rattle.std.specs.Prelude.{◌^◌}
-use Rattle.vx_ledger.specs.Ledger.{Ledger, Exchanges}
+use Rattle.vx_ledger.specs.Ledger.{Exchanges, grown_rows}
+use Rattle.vx_ledger.specs.declared.open_batch.OpenBatch.{OpenBatch}
+use Rattle.vx_hub.specs.Batching.{AreRunning}
+use Rattle.vx_hub.proofs.Noticing.{running_on, running_grown}
 use Rattle.vx_ledger.specs.Routing.{targets_of, children_for}
 use Rattle.vx_ledger.specs.declared.parcel.Parcel.{Parcel}
 use Rattle.vx_record.specs.declared.entry.Entry.TheVariants.{Split}
@@ -9,13 +12,14 @@ use Rattle.vx_hub.specs.Rows.{child_copies}
 use Rattle.vx_hub.specs.Numbers.{numbers_in, noted_of}
 use Rattle.vx_hub.specs.Failures.{abandon_cause}
 use Rattle.vx_hub.specs.Order.{IsReason}
-use Rattle.vx_hub.proofs.Ordering.{children_have, parcel_has, targets_some, split_next, split_in_order, noted_split, short_reason, unread_balanced, unread_may}
+use Rattle.vx_hub.proofs.Ordering.{children_have, parcel_has, targets_some, split_next, split_in_order, noted_split, length_numbers, length_noted, short_reason, unread_balanced, unread_may}
 use Rattle.vx_hub.proofs.StandsLaws.{stands_quiet, stands_moved, split_balanced, back_balanced, bare_but, bare_by}
 use Rattle.std.proofs.Common.{List}
 use Rattle.vx_ledger.specs.declared.child.Child.{Child}
 use Rattle.vx_record.specs.Places.Place.{Outputs}
-use Rattle.vx_hub.specs.Places.{IsPlaced, FillsWaiting}
-use Rattle.vx_hub.proofs.Placing.{oldest_is, placed_split, placed_same, placed_taken, from_oldest}
+use Rattle.vx_hub.specs.Places.{IsPlaced, EachMine, waiting_lists, FillsWaiting}
+use Rattle.vx_hub.proofs.Placing.{oldest_is, from_oldest}
+use Rattle.vx_hub.proofs.Owning.{children_mine, placed_split, placed_same, placed_taken}
 use Rattle.vx_hub.proofs.Homing.{is_oldest, oldest_some, none_wait, put_back}
 use Rattle.vx_hub.proofs.hub.Hub.split.Goals as goal
 
@@ -31,6 +35,7 @@ returns-in-Ok-Children-clause-stands g c =
     c.as_slice.ensures ∙ children_have c.in-Ok-Children.field-0 made (λ children. children ≡ children_for targets d.batches.next parcel) c.in-Ok-Children.field-0-is c.in-Ok-Children.ensures.children in
     let more : c.route.new.batches.next ≡ d.batches.next + length targets * length parcel.finalizers =
     children_have c.in-Ok-Children.field-0 made (λ children. c.route.new.batches.next ≡ d.batches.next + length targets * length parcel.finalizers) c.in-Ok-Children.field-0-is c.in-Ok-Children.ensures.next in
+    let rows = children_have c.in-Ok-Children.field-0 made (λ children. c.route.new.batches.open_rows ≡ grown_rows (length targets - 1) parcel.finalizers d.batches.open_rows) c.in-Ok-Children.field-0-is c.in-Ok-Children.ensures.rows in
     let exchange = children_have c.in-Ok-Children.field-0 made (λ children. Exchanges d.batches parcel.finalizers c.route.new.batches (child_copies children)) c.in-Ok-Children.field-0-is c.in-Ok-Children.ensures.exchange in
     let noted = noted_split d.log c.note_children.new.log c.args.instance c.taken_apart-noted.result (numbers_in parcel.finalizers) parcel.event (noted_of cs) c.taken_apart-noted.ensures c.note_children.ensures.noted c.note_children.ensures.unmade in
     stands_quiet g.P.Port.told d _ [] [] (Split c.args.instance 1 (numbers_in parcel.finalizers) noted.0 (noted_of cs)) s
@@ -43,14 +48,23 @@ returns-in-Ok-Children-clause-stands g c =
       quiet = tt;
       next = split_next d.log.history d.batches.next c.route.new.batches.next targets parcel cs are more;
       order = λ fine. split_in_order d.log.history c.args.instance d.batches.next targets parcel cs
-          (is_oldest (numbers_in parcel.finalizers) _ _ (oldest_is (Outputs c.args.instance) parcel.finalizers d.rows.items c.pop_output.new.rows.items d.log.history (s.recorded fine).places c.in-Some.ensures.oldest))
+          (is_oldest (numbers_in parcel.finalizers) _ _ (oldest_is (Outputs c.args.instance) parcel.finalizers d.rows.items c.pop_output.new.rows.items d.log.history (s.recorded fine).places.standing c.in-Some.ensures.oldest))
           (s.recorded fine).next are
           (targets_some c.in-Ok-Children.field-0 made targets c.in-Ok-Children.field-0-is c.in-Ok-Children.ensures.no_consumer.1)
           (subst (λ n. n ≤ 2 ^ 63) more c.in-Ok-Children.ensures.kept.numbers);
-      places = λ kept placed. placed_split d.rows.items c.pop_output.new.rows.items c.put_children.new.rows.items d.log.history c.args.instance 1 parcel.finalizers noted.0 cs
-          (oldest_some d.log.history (Outputs c.args.instance) (numbers_in parcel.finalizers) _ (oldest_is (Outputs c.args.instance) parcel.finalizers d.rows.items c.pop_output.new.rows.items d.log.history placed c.in-Some.ensures.oldest))
+      places = λ fine kept placed. placed_split d.rows.items c.pop_output.new.rows.items c.put_children.new.rows.items d.log.history c.args.instance 1 parcel.finalizers noted.0 cs
+          (oldest_some d.log.history (Outputs c.args.instance) (numbers_in parcel.finalizers) _ (oldest_is (Outputs c.args.instance) parcel.finalizers d.rows.items c.pop_output.new.rows.items d.log.history placed.standing c.in-Some.ensures.oldest))
           kept placed c.in-Some.ensures.oldest (λ t. none_wait d.rows.items c.args.instance t c.requires.none)
-          (subst (λ (ch : List Child). FillsWaiting c.args.instance ch c.pop_output.new.rows.items c.put_children.new.rows.items) (sym c.as_slice.ensures) c.put_children.ensures.places);
+          (subst (λ (ch : List Child). FillsWaiting c.args.instance ch c.pop_output.new.rows.items c.put_children.new.rows.items) (sym c.as_slice.ensures) c.put_children.ensures.places)
+          (λ t. subst (λ (ch : List Child). EachMine (Split c.args.instance 1 (numbers_in parcel.finalizers) noted.0 (noted_of cs) ∷ d.log.history) (waiting_lists t ch)) (sym are)
+          (children_mine d.log.history c.args.instance 1 noted.0 (noted_of cs) parcel targets 0 d.batches.next (omega (arith, (s.recorded fine).next)) (length_numbers parcel.finalizers) (omega (arith, length_noted targets d.batches.next parcel cs are))
+          (placed_taken (Outputs c.args.instance) parcel.finalizers d.rows.items c.pop_output.new.rows.items d.log.history kept.1 placed
+          (from_oldest (Outputs c.args.instance) parcel.finalizers d.rows.items c.pop_output.new.rows.items c.in-Some.ensures.oldest)).owned t));
+      due = λ fine b w. w;
+      statuses = λ fine running. subst (λ (rs : List OpenBatch). AreRunning (Split c.args.instance 1 (numbers_in parcel.finalizers) noted.0 (noted_of cs) ∷ d.log.history) rs) (sym rows)
+          (running_grown (Split c.args.instance 1 (numbers_in parcel.finalizers) noted.0 (noted_of cs) ∷ d.log.history) (length targets - 1) parcel.finalizers d.batches.open_rows
+          (running_on d.log.history (Split c.args.instance 1 (numbers_in parcel.finalizers) noted.0 (noted_of cs) ∷ d.log.history) d.batches.open_rows (λ b. refl) running));
+      ledger = λ ledger. c.in-Ok-Children.ensures.kept;
     })
     refl refl refl
 
@@ -63,7 +77,7 @@ returns-in-Err-clause-stands g c =
     s.balanced c.in-Some.ensures.loses c.in-Err.ensures.unchanged (ap (λ (p : Parcel). p.finalizers) c.in-Err.ensures.back) c.push_output.ensures.gains)
     refl (λ i. c.push_output.ensures.ports i ∙ c.pop_output.ensures.ports i)
     (bare_but d.facts.items d.rows.items c.pop_output.new.rows.items c.push_output.new.rows.items c.args.instance (c.in-Some.ensures.held refl) c.pop_output.ensures.bare c.push_output.ensures.bare)
-    (c.push_output.ensures.size ∙ c.pop_output.ensures.size) (ap (λ (l : Ledger). l.next) c.in-Err.ensures.unchanged) refl refl refl refl
+    (c.push_output.ensures.size ∙ c.pop_output.ensures.size) c.in-Err.ensures.unchanged refl refl refl refl
     (λ fine kept placed. placed_same d.rows.items c.push_output.new.rows.items [] d.log.history
     (put_back (Outputs c.args.instance) c.in-Some.parcel.finalizers c.in-Err.field-0.parcel.finalizers d.rows.items c.pop_output.new.rows.items c.push_output.new.rows.items c.in-Some.ensures.oldest c.push_output.ensures.oldest
     (ap (λ (p : Parcel). p.finalizers) c.in-Err.ensures.back)) placed)
@@ -82,8 +96,8 @@ spend-requires-clause-stands g c =
     stands_moved g.P.Port.told d _ [] c.in-Ok-NoConsumer.parcel.finalizers s
     (unread_balanced d.batches c.route.new.batches d.rows.items c.pop_output.new.rows.items c.in-Some.parcel.finalizers c.in-Ok-NoConsumer.parcel.finalizers s.balanced c.in-Some.ensures.loses unmoved
     (ap (λ (p : Parcel). p.finalizers) whole))
-    refl c.pop_output.ensures.ports (bare_by d.facts.items d.rows.items c.pop_output.new.rows.items c.pop_output.ensures.bare) c.pop_output.ensures.size (ap (λ (l : Ledger). l.next) unmoved) refl refl refl refl
-    (λ fine kept placed. subst (λ (p : Parcel). IsPlaced c.pop_output.new.rows.items (numbers_in p.finalizers) d.log.history) (sym whole)
+    refl c.pop_output.ensures.ports (bare_by d.facts.items d.rows.items c.pop_output.new.rows.items c.pop_output.ensures.bare) c.pop_output.ensures.size unmoved refl refl refl refl
+    (λ fine kept placed. subst (λ (p : Parcel). IsPlaced c.pop_output.new.rows.items p.finalizers d.log.history) (sym whole)
     (placed_taken (Outputs c.args.instance) c.in-Some.parcel.finalizers d.rows.items c.pop_output.new.rows.items d.log.history kept placed
     (from_oldest (Outputs c.args.instance) c.in-Some.parcel.finalizers d.rows.items c.pop_output.new.rows.items c.in-Some.ensures.oldest)))
 

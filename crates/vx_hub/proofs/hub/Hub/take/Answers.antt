@@ -1,10 +1,14 @@
-use Rattle.std.proofs.Common.{refl, ◌∙◌, []}
+use Rattle.std.proofs.Common.{refl, ◌∙◌, [], ap}
 use Rattle.vx_hub.proofs.StandsLaws.{same_next, stands_quiet, stands_moved, moved_balanced, same_balanced, bare_but, bare_by}
 use Rattle.vx_hub.specs.Numbers.{numbers_in}
 use Rattle.vx_record.specs.declared.entry.Entry.TheVariants.{Take}
 use Rattle.vx_record.specs.Places.Place.{Contents, Outputs}
-use Rattle.vx_hub.proofs.Placing.{oldest_is, placed_held, placed_same}
+use Rattle.vx_hub.proofs.Placing.{oldest_is}
+use Rattle.vx_hub.proofs.Owning.{placed_held, placed_same}
 use Rattle.vx_hub.proofs.Homing.{is_oldest}
+use Rattle.vx_hub.specs.Places.{all_numbers}
+use Rattle.std.proofs.Common.{◌∷◌}
+use Rattle.vx_hub.proofs.Noticing.{running_on}
 use Rattle.vx_hub.proofs.hub.Hub.take.Goals as goal
 
 pub returns-in_default-clause-stands : goal.returns-in_default-clause-stands
@@ -25,12 +29,15 @@ returns-clause-stands g c =
     (record {
       quiet = tt;
       next = same_next c.args.self.now.batches c.args.self.now.batches c.args.self.now.log.history (Take c.args.instance 0 (numbers_in c.in-Some.parcel.finalizers)) refl refl;
-      order = λ fine. is_oldest (numbers_in c.in-Some.parcel.finalizers) _ _ (oldest_is (Contents c.args.instance 0) c.in-Some.parcel.finalizers c.args.self.now.rows.items c.pop_buffer.new.rows.items c.args.self.now.log.history (c.requires.stands.recorded fine).places c.in-Some.ensures.oldest);
-      places = λ kept placed. placed_held c.args.self.now.rows.items c.pop_buffer.new.rows.items c.hold.new.rows.items c.args.self.now.log.history c.args.instance c.in-Some.parcel.finalizers kept placed c.in-Some.ensures.oldest c.hold.ensures.last;
+      order = λ fine. is_oldest (numbers_in c.in-Some.parcel.finalizers) _ _ (oldest_is (Contents c.args.instance 0) c.in-Some.parcel.finalizers c.args.self.now.rows.items c.pop_buffer.new.rows.items c.args.self.now.log.history (c.requires.stands.recorded fine).places.standing c.in-Some.ensures.oldest);
+      places = λ fine kept placed. placed_held c.args.self.now.rows.items c.pop_buffer.new.rows.items c.hold.new.rows.items c.args.self.now.log.history c.args.instance c.in-Some.parcel.finalizers kept placed c.in-Some.ensures.oldest c.hold.ensures.last;
+      due = λ fine b w. w;
+      statuses = λ fine. running_on c.args.self.now.log.history (Take c.args.instance 0 (numbers_in c.in-Some.parcel.finalizers) ∷ c.args.self.now.log.history) c.args.self.now.batches.open_rows (λ b. refl);
+      ledger = λ ledger. ledger;
     }) refl refl refl
 
 pub returns-in_default-clause-outputs : goal.returns-in_default-clause-outputs
-returns-in_default-clause-outputs g c i = c.in_default.ensures.none (Outputs i)
+returns-in_default-clause-outputs g c i = ap all_numbers (c.in_default.ensures.none (Outputs i))
 
 pub returns-clause-outputs : goal.returns-clause-outputs
-returns-clause-outputs g c i = c.hold.ensures.last.others (Outputs i) refl ∙ c.in-Some.ensures.oldest.others (Outputs i) refl
+returns-clause-outputs g c i = ap all_numbers (c.hold.ensures.last.others (Outputs i) refl ∙ c.in-Some.ensures.oldest.others (Outputs i) refl)
