@@ -1,5 +1,5 @@
 -- A copy that is live in the record is at an instance or in the hand, and the other way round.
-use Rattle.std.proofs.Common.{◌≡◌, ℕ, zero, suc, ◌+◌, ◌<◌, ◌≤◌, Bool, true, false, List, [], ◌∷◌, ◌++◌, length, Option, Some, None, refl, sym, ap, ◌∙◌, subst, arith, inl, inr, ◌⊎◌}
+use Rattle.std.proofs.Common.{◌≡◌, ℕ, zero, suc, ◌+◌, ◌<◌, ◌≤◌, Bool, true, false, List, [], ◌∷◌, ◌++◌, length, Option, Some, None, refl, sym, ap, ◌∙◌, subst, arith, inl, inr}
 use Rattle.std.specs.Prelude.{◌==◌, ◌&&◌, if◌then◌else◌}
 use Rattle.std.proofs.lemmas.Bool.Decides.{nat_tests}
 use Rattle.std.proofs.lemmas.Bool.{cases_eq, cases_lt}
@@ -8,8 +8,8 @@ use Rattle.vx_ledger.proofs.CopyLaws.{copies_of-append}
 use Rattle.vx_ledger.specs.declared.parcel.Parcel.{Parcel}
 use Rattle.vx_ledger.specs.declared.child.Child.{Child}
 use Rattle.vx_record.specs.Records.{Record}
-use Rattle.vx_record.specs.Copies.{count, joined, next_copy, IsLive}
-use Rattle.vx_record.specs.Places.{Place, owner, same_place, all_puts, left}
+use Rattle.vx_record.specs.Copies.{count, joined, IsLive}
+use Rattle.vx_record.specs.Places.{Place, owner, same_place}
 use Rattle.vx_record.specs.Places.Place.{Outputs, Waiting, Contents, Held}
 use Rattle.vx_record.specs.Lists.{stands, without, and_rest, shrunk, parcels_at, places, times_among}
 use Rattle.vx_record.specs.Moving.{IsConserved}
@@ -22,7 +22,7 @@ use Rattle.vx_hub.specs.declared.task.Role.{Role}
 use Rattle.vx_hub.specs.declared.task.Role.TheVariants.{Source, Sink}
 use Rattle.vx_hub.specs.Rows.{parcel_copies, child_copies, row_copies, task_copies, task_parcels, role_copies, role_parcels, copies_in, row_at}
 use Rattle.vx_hub.specs.Numbers.{numbers_in}
-use Rattle.vx_hub.specs.Places.{parcel_lists, stacked_lists, waiting_lists, copies_here, copies_if, copies_at, numbers_at, all_numbers, IsMine, AllMine, EachMine, IsThere, IsPlaced}
+use Rattle.vx_hub.specs.Places.{parcel_lists, stacked_lists, waiting_lists, copies_here, copies_if, copies_at, all_numbers, IsMine, AllMine, EachMine, IsPlaced}
 use Rattle.std.proofs.lemmas.List.{append_assoc}
 use Rattle.vx_hub.proofs.Parcels.{row_counts}
 use Rattle.vx_hub.proofs.Placing.{numbers-append}

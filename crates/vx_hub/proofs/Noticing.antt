@@ -1,10 +1,9 @@
 -- Each batch gets its notice where its last copy is spent, with the status of its spends.
-use Rattle.std.proofs.Common.{◌≡◌, ℕ, zero, suc, ◌+◌, ◌-◌, ◌<◌, ◌≤◌, Bool, true, false, List, [], ◌∷◌, ◌++◌, length, Option, Some, None, refl, sym, ap, ◌∙◌, subst, arith, inl, inr}
-use Rattle.std.specs.Prelude.{◌==◌, ◌&&◌, if◌then◌else◌, IsSome, ◌↔◌}
+use Rattle.std.proofs.Common.{◌≡◌, ℕ, zero, suc, ◌+◌, ◌-◌, ◌<◌, ◌≤◌, Bool, true, false, List, [], ◌∷◌, ◌++◌, Option, Some, None, refl, sym, ap, ◌∙◌, subst, arith, inl, inr}
+use Rattle.std.specs.Prelude.{◌==◌, ◌&&◌, if◌then◌else◌, IsSome}
 use Rattle.std.proofs.lemmas.Bool.Decides.{nat_tests}
 use Rattle.std.proofs.lemmas.Bool.{cases_eq}
 use Rattle.vx_status.specs.declared.outcome.Outcome.{Outcome}
-use Rattle.vx_status.specs.declared.batch_status.BatchStatus.{BatchStatus}
 use Rattle.vx_status.specs.declared.batch_status.BatchStatus.TheVariants.{Delivered}
 use Rattle.vx_status.specs.Tables.{status_of, batch_update}
 use Rattle.vx_ledger.specs.Copies.{Copy, copies_of}
@@ -14,8 +13,8 @@ use Rattle.vx_ledger.specs.declared.notice.Notice.{Notice as Told}
 use Rattle.vx_record.specs.Records.{Record}
 use Rattle.vx_record.specs.declared.entry.Entry.{Entry}
 use Rattle.vx_record.specs.declared.entry.Entry.TheVariants.{Born, Split, Push, Take, Spent, Notice}
-use Rattle.vx_record.specs.Copies.{next_copy, IsLive}
-use Rattle.vx_record.specs.Batches.{batch_of, NoneLive, AwaitsNotice, NoNoticeDue}
+use Rattle.vx_record.specs.Copies.{next_copy}
+use Rattle.vx_record.specs.Batches.{batch_of, AwaitsNotice, NoNoticeDue}
 use Rattle.vx_record.specs.Statuses.{running}
 use Rattle.vx_record.specs.Moving.{IsStill, IsConserved}
 use Rattle.vx_record.specs.Accounting.{IsInTurn, Accounts, IsAccounted, IsNoticedSo}

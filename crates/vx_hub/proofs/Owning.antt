@@ -1,6 +1,6 @@
 -- Each copy that an instance has, or a call has in its hand, goes on coming from its batch.
-use Rattle.std.proofs.Common.{◌≡◌, ℕ, zero, suc, ◌+◌, ◌*◌, ◌-◌, ◌%◌, ◌<◌, ◌≤◌, Bool, true, false, List, [], ◌∷◌, ◌++◌, length, Option, Some, None, IfSome, refl, sym, ap, ◌∙◌, subst, arith, inl, inr}
-use Rattle.std.specs.Prelude.{◌==◌, if◌then◌else◌, nat_lt, IfNone, slice_index}
+use Rattle.std.proofs.Common.{◌≡◌, ℕ, zero, suc, ◌+◌, ◌*◌, ◌-◌, ◌%◌, ◌<◌, ◌≤◌, Bool, true, false, List, [], ◌∷◌, ◌++◌, length, Option, Some, None, IfSome, refl, sym, ap, ◌∙◌, subst, arith}
+use Rattle.std.specs.Prelude.{◌==◌, if◌then◌else◌, IfNone, slice_index}
 use Rattle.std.proofs.Math.Nat.{mul-le-mul_right}
 use Rattle.std.proofs.lemmas.Nat.{mod-mul-add}
 use Rattle.std.proofs.lemmas.Bool.Decides.{nat_tests}
@@ -8,7 +8,7 @@ use Rattle.std.proofs.lemmas.List.{append_assoc, length-append}
 use Rattle.vx_value.specs.declared.event.Event.{Event}
 use Rattle.vx_status.specs.declared.outcome.Outcome.{Outcome}
 use Rattle.vx_ledger.specs.Copies.{Copy, numbered, renumbered}
-use Rattle.vx_ledger.specs.Routing.{children_for as routed_children, child_of}
+use Rattle.vx_ledger.specs.Routing.{children_for as routed_children}
 use Rattle.vx_ledger.specs.declared.parcel.Parcel.{Parcel}
 use Rattle.vx_ledger.specs.declared.child.Child.{Child}
 use Rattle.vx_record.specs.Records.{Record}
@@ -17,17 +17,16 @@ use Rattle.vx_record.specs.declared.entry.Entry.{Entry}
 use Rattle.vx_record.specs.declared.entry.Entry.TheVariants.{Born, Split, Push, Take, Spent}
 use Rattle.vx_record.specs.Copies.{next_copy}
 use Rattle.vx_record.specs.Batches.{parent, batch_of}
-use Rattle.vx_record.specs.Places.{Place, same_place}
+use Rattle.vx_record.specs.Places.{Place}
 use Rattle.vx_record.specs.Places.Place.{Outputs, Waiting, Contents, Held}
 use Rattle.vx_record.specs.Lists.{stands, parcels_at, is_child_of, outputs, held}
 use Rattle.vx_record.specs.Moving.{IsStill, IsConserved, singles}
 use Rattle.vx_record.proofs.Live.{if_lt, if_ge}
-use Rattle.vx_record.proofs.Changes.{same_place_is}
 use Rattle.vx_hub.specs.declared.row.Row.{Row}
 use Rattle.vx_hub.specs.Rows.{parcel_copies, option_copies}
 use Rattle.vx_hub.specs.Numbers.{numbers_in, noted_of}
-use Rattle.vx_hub.specs.Places.{parcel_lists, waiting_lists, parcel_numbers, copies_at, numbers_at, all_numbers, IsMine, AllMine, EachMine, IsThere, IsPlaced, SamePlaces, SameOtherPlaces, TakesOldest, TakesFrom, PutsLast, Fills, FillsWaiting}
-use Rattle.vx_hub.proofs.Placing.{by_place, at_rest, numbers-append, there_still, there_same, there_taken, there_spent, there_born, there_put, there_leased, there_home, there_pushed, there_held, there_split, there_if, there_child_if, from_oldest, spent_places}
+use Rattle.vx_hub.specs.Places.{parcel_lists, waiting_lists, parcel_numbers, copies_at, numbers_at, all_numbers, IsMine, AllMine, EachMine, IsPlaced, SamePlaces, TakesOldest, TakesFrom, PutsLast, Fills, FillsWaiting}
+use Rattle.vx_hub.proofs.Placing.{by_place, at_rest, there_still, there_same, there_taken, there_born, there_put, there_leased, there_home, there_pushed, there_held, there_split, from_oldest, spent_places}
 
 -- LISTS
 pub all-append : (h : Record) (xs ys : List Copy) → AllMine h xs → AllMine h ys → AllMine h (xs ++ ys)

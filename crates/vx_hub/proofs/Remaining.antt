@@ -12,13 +12,20 @@ use Rattle.vx_hub.specs.Rows.{IsBare, row_at, task_port, port_at}
 use Rattle.vx_hub.specs.Stands.{IsGone, IsShut, IsTold, facts_at}
 use Rattle.vx_record.specs.Places.{Place, owner}
 use Rattle.vx_record.specs.Moving.{IsConserved}
+use Rattle.vx_record.specs.declared.entry.Entry.TheVariants.{Notice}
+use Rattle.vx_record.specs.Batches.{NoNoticeDue}
+use Rattle.vx_record.specs.Accounting.{IsAccounted}
+use Rattle.vx_record.proofs.Notices.{accounted_once}
+use Rattle.vx_record.proofs.Statuses.{delivered_so}
+use Rattle.vx_record.proofs.Accounted.{accounted_so, accounted_before}
+use Rattle.vx_hub.proofs.Noticing.{accounted}
 use Rattle.vx_record.proofs.OnePlace.{conserved_place}
 use Rattle.vx_record.proofs.Hands.{nowhere}
 use Rattle.vx_hub.specs.Order.{IsOrderly}
 use Rattle.vx_hub.specs.Places.{copies_at, copies_if, all_numbers, IsPlaced}
 use Rattle.vx_hub.proofs.Beginning.{unused_here}
 use Rattle.vx_hub.proofs.Placing.{conserved, places_all}
-use Rattle.vx_hub.specs.Remains.{AreBare, numbered_port, ports_in, AreNumbered, AreClosed, AreTold, HasOnePlace, AllSpent}
+use Rattle.vx_hub.specs.Remains.{AreBare, numbered_port, ports_in, AreNumbered, AreClosed, AreTold, HasOnePlace, AllSpent, HasNotices}
 
 -- where all instances ended, nothing stands at any
 pub all_bare : {P : Type 0} (fs : List Facts) (rows : List (Row P)) → length fs ≡ length rows → All (λ f. f.retired ≡ true) fs →
@@ -125,3 +132,18 @@ all_spent rows h order placed bare c l =
 
 pub one_place : (h : Record) → IsOrderly h → HasOnePlace h
 one_place h order later earlier is c l = conserved_place later earlier (subst IsConserved (sym is) (conserved h order)) c l
+
+-- each batch had its notice
+pub all_noticed : (h : Record) → IsOrderly h → NoNoticeDue h → AllSpent h → HasNotices h
+all_noticed h order quiet spent = record {
+  once = λ b has. accounted_once h (accounted h order) b has (λ c same live. let one = spent c live.0 in let a = live.1 in let d = live.2 in omega arith) (quiet b);
+  due = λ later earlier b status is. (accounted_so later earlier b status (all is)).0;
+  folded = λ later earlier b status is. (accounted_so later earlier b status (all is)).1;
+  good = λ later earlier b status is.
+      let same = (accounted_so later earlier b status (all is)).1 in
+      let meant = delivered_so earlier b (accounted_before later (Notice b status ∷ earlier) (all is)).1 in
+      ((λ e. meant.0 (sym same ∙ e)), (λ g. same ∙ meant.1 g));
+}
+  where
+    all : {k : Record} → k ≡ h → IsAccounted k
+    all is = subst IsAccounted (sym is) (accounted h order)

@@ -27,7 +27,6 @@ use Rattle.vx_record.specs.Confirms.{Birth, births, births_in, born_positions, l
 use Rattle.vx_record.specs.Copies.{next_copy, makes}
 use Rattle.vx_record.specs.Confirms.{is_unconfirmed}
 use Rattle.vx_record.specs.Moving.{IsStill, IsConserved}
-use Rattle.vx_hub.specs.Numbers.{numbers_in}
 use Rattle.vx_hub.specs.Places.{IsPlaced}
 use Rattle.vx_hub.specs.Order.{IsInOrder, IsOrderly, IsUnknown, IsReason}
 use Rattle.vx_ledger.specs.Ledger.{IsKept}

@@ -29,7 +29,6 @@ use Rattle.vx_hub.specs.Stands.{Stands, IsTold, IsKnown, IsRecorded, IsSound, Is
 use Rattle.vx_hub.proofs.StandsLaws.{some_mapped, some_all, berths_kept, ends_on, to_confirm_on, told_mute, bytes_mute, force_mute, same_next, unknown_on, unknown_mute}
 use Rattle.vx_record.specs.Copies.{next_copy, makes}
 use Rattle.vx_record.specs.Moving.{IsStill, IsConserved}
-use Rattle.vx_hub.specs.Numbers.{numbers_in}
 use Rattle.vx_hub.specs.Places.{IsPlaced, SamePlaces}
 use Rattle.vx_hub.specs.Order.{IsInOrder}
 use Rattle.vx_ledger.specs.Ledger.{IsKept}

@@ -1,8 +1,14 @@
 -- What a hub leaves behind.
-use Rattle.std.specs.Prelude.{◌≡◌, ℕ, ◌+◌, ◌<◌, List, [], ◌∷◌, ◌++◌, length, Option, Some, None, false}
+use Rattle.std.specs.Prelude.{◌≡◌, ◌↔◌, ℕ, ◌+◌, ◌<◌, List, [], ◌∷◌, ◌++◌, length, Option, Some, None, false}
 use Rattle.vx_ends.specs.Told.{Told}
 use Rattle.vx_record.specs.Records.{Record}
-use Rattle.vx_record.specs.Copies.{next_copy, times_split, times_spent}
+use Rattle.vx_status.specs.declared.batch_status.BatchStatus.{BatchStatus}
+use Rattle.vx_status.specs.declared.batch_status.BatchStatus.TheVariants.{Delivered}
+use Rattle.vx_record.specs.declared.entry.Entry.TheVariants.{Notice}
+use Rattle.vx_record.specs.Copies.{count, next_copy, times_split, times_spent}
+use Rattle.vx_record.specs.Batches.{batches, AwaitsNotice}
+use Rattle.vx_record.specs.Statuses.{batch_status, AllGood}
+use Rattle.vx_record.specs.Laws.{times_noticed}
 use Rattle.vx_record.specs.Lists.{places}
 use Rattle.vx_hub.specs.declared.row.Row.{Row}
 use Rattle.vx_hub.specs.declared.parts.Numbered.{Numbered}
@@ -18,6 +24,14 @@ HasOnePlace h =
 -- each copy that was made was split once or spent once
 abbrev pub AllSpent : Record → Type 0
 AllSpent h = (c : ℕ) → c < next_copy h → times_split h c + times_spent h c ≡ 1
+
+-- each batch has one notice; it stands directly behind the spend of its last copy, has the status that the tables fold
+-- over its spends, and is Delivered exactly where each of them is good
+pub record HasNotices (h : Record) : Type 0 where
+  pub once : (b : ℕ) → 0 < count b (batches h) → times_noticed h b ≡ 1
+  pub due : (later earlier : Record) (b : ℕ) (status : BatchStatus) → later ++ Notice b status ∷ earlier ≡ h → AwaitsNotice earlier b
+  pub folded : (later earlier : Record) (b : ℕ) (status : BatchStatus) → later ++ Notice b status ∷ earlier ≡ h → status ≡ batch_status earlier b
+  pub good : (later earlier : Record) (b : ℕ) (status : BatchStatus) → later ++ Notice b status ∷ earlier ≡ h → (status ≡ Delivered) ↔ AllGood earlier b
 
 -- nothing stands at any instance, and each is at home
 abbrev pub AreBare : {P : Type 0} → List (Row P) → Type 0

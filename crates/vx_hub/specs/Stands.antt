@@ -22,7 +22,6 @@ use Rattle.vx_hub.specs.Rows.{copies_in, port_at, IsBareAt, HasRoom}
 use Rattle.vx_record.specs.Batches.{NoNoticeDue}
 use Rattle.vx_hub.specs.Batching.{AreRunning}
 use Rattle.vx_hub.specs.Places.{IsPlaced}
-use Rattle.vx_hub.specs.Numbers.{numbers_in}
 use Rattle.vx_hub.specs.Turns.{NothingLeft}
 pub use Rattle.vx_hub.specs.Order.{lost_at, cause_of}
 use Rattle.vx_hub.specs.Order.{IsOrderly, IsUnknown}

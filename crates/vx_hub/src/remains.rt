@@ -1,7 +1,7 @@
 ghost use Rattle.std.specs.Prelude.{◌≡◌, [], length, All, Some, true};
 ghost use Rattle.vx_hub.specs.Rows.{IsBare, task_port};
 ghost use Rattle.vx_hub.specs.Stands.{Stands, IsSound, HasBerths};
-ghost use Rattle.vx_hub.specs.Remains.{AreBare, ports_in, AreNumbered, AreClosed, AreTold, HasOnePlace, AllSpent};
+ghost use Rattle.vx_hub.specs.Remains.{AreBare, ports_in, AreNumbered, AreClosed, AreTold, HasOnePlace, AllSpent, HasNotices};
 ghost use Rattle.vx_hub.specs.Order.{IsOrderly};
 ghost use Rattle.vx_record.specs.Installs.{in_force};
 
@@ -37,6 +37,7 @@ impl<P: Port> Hub<P> {
         ensures order { IsSound self → IsOrderly result.history }
         ensures one_place { IsSound self → HasOnePlace result.history }
         ensures spent { IsSound self → AllSpent result.history }
+        ensures notices { IsSound self → HasNotices result.history }
     {
         let Hub {
             alloc: _,

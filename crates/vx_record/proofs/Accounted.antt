@@ -25,7 +25,7 @@ accounted (e ∷ h) legal =
     let before = accounted h legal.1 in
     (record { conserves = conserves h e legal.0.row; accounts = accounts h e before legal.0.row; turn = legal.0.turn }, before)
 
-accounted_before : (later earlier : Record) → IsAccounted (later ++ earlier) → IsAccounted earlier
+pub accounted_before : (later earlier : Record) → IsAccounted (later ++ earlier) → IsAccounted earlier
 accounted_before [] earlier sound = sound
 accounted_before (e ∷ later) earlier sound = accounted_before later earlier sound.1
 

@@ -1,7 +1,9 @@
 -- What was counted, whatever fault is told in the end.
-use Rattle.std.proofs.Common.{◌≡◌, ◌⊎◌, inl, inr, ℕ, List, [], ◌∷◌, Option, Some, None, sym, subst, arith}
+use Rattle.std.proofs.Common.{◌≡◌, ◌⊎◌, inl, inr, ℕ, List, [], ◌∷◌, ◌++◌, Option, Some, None, sym, subst, arith}
 use Rattle.vx_ends.specs.Told.{Told}
 use Rattle.vx_plan.specs.First.{first_plan}
+use Rattle.vx_status.specs.declared.batch_status.BatchStatus.{BatchStatus}
+use Rattle.vx_record.specs.declared.entry.Entry.TheVariants.{Notice}
 use Rattle.vx_record.specs.Records.{Record}
 use Rattle.vx_record.specs.Installs.{in_force}
 use Rattle.vx_record.specs.TallyLists.{tallies_of}
@@ -9,11 +11,11 @@ use Rattle.vx_record.specs.declared.tally.Tally.{Tally}
 use Rattle.vx_hub.specs.declared.parts.Numbered.{Numbered}
 use Rattle.vx_hub.specs.declared.hub.Hub.{Hub}
 use Rattle.vx_hub.specs.Order.{IsOrderly}
-use Rattle.vx_hub.specs.Remains.{AreTold, HasOnePlace, AllSpent}
+use Rattle.vx_hub.specs.Remains.{AreTold, HasOnePlace, AllSpent, HasNotices}
 use Rattle.vx_hub.specs.Stands.{IsSound}
 use Rattle.vx_run.specs.Judging.{IsSure}
 use Rattle.vx_run.specs.Answers.{IsJudged}
-use Rattle.vx_run.specs.Running.{IsTrueTo, HasInstalled, AreKept, IsCounted}
+use Rattle.vx_run.specs.Running.{IsTrueTo, HasInstalled, AreKept, AreNoticed, IsCounted}
 use Rattle.vx_run.specs.Telling.{IsKept}
 use Rattle.vx_run.specs.declared.fault.Fault.{Fault}
 use Rattle.vx_run.specs.declared.fault.Fault.TheVariants.{Usage, ConfigRead, ConfigRefused, Numbers, TooLong, SourceFailed, ConfirmFailed, WantOfMemory}
@@ -137,3 +139,43 @@ installed_of hub h (Some (ConfirmFailed name)) sure is = is sure
 pub installed_short : (h : Record) (fault counted : Option Fault) → (counted ≡ fault) ⊎ (counted ≡ Some WantOfMemory) → HasInstalled h fault → HasInstalled h counted
 installed_short h fault counted (inl same) is = subst (λ (f : Option Fault). HasInstalled h f) (sym same) is
 installed_short h fault counted (inr short) is = subst (λ (f : Option Fault). HasInstalled h f) (sym short) tt
+
+-- but for want of memory each batch has its notice
+pub noticed_of : {P : Type 0} (hub : Hub P) (h : Record) (fault : Option Fault) → IsSure hub fault → (IsSound hub → HasNotices h) → AreNoticed h fault
+noticed_of hub h None sure has = has sure
+noticed_of hub h (Some WantOfMemory) sure has = tt
+noticed_of hub h (Some Usage) sure has = has sure
+noticed_of hub h (Some (ConfigRead path)) sure has = has sure
+noticed_of hub h (Some (ConfigRefused f)) sure has = has sure
+noticed_of hub h (Some (Numbers next wanted)) sure has = has sure
+noticed_of hub h (Some TooLong) sure has = has sure
+noticed_of hub h (Some (SourceFailed name at)) sure has = has sure
+noticed_of hub h (Some (ConfirmFailed name)) sure has = has sure
+
+pub noticed_short : (h : Record) (fault counted : Option Fault) → (counted ≡ fault) ⊎ (counted ≡ Some WantOfMemory) → AreNoticed h fault → AreNoticed h counted
+noticed_short h fault counted (inl same) has = subst (λ (f : Option Fault). AreNoticed h f) (sym same) has
+noticed_short h fault counted (inr short) has = subst (λ (f : Option Fault). AreNoticed h f) (sym short) tt
+
+-- an empty record has no notice
+nothing_there : (later earlier : Record) (b : ℕ) (status : BatchStatus) → later ++ Notice b status ∷ earlier ≡ [] → ⊥
+nothing_there [] earlier b status is = cc
+nothing_there (e ∷ later) earlier b status is = cc
+
+none_noticed : HasNotices []
+none_noticed = record {
+  once = λ b has. absurd (omega arith);
+  due = λ later earlier b status is. absurd (nothing_there later earlier b status is);
+  folded = λ later earlier b status is. absurd (nothing_there later earlier b status is);
+  good = λ later earlier b status is. absurd (nothing_there later earlier b status is);
+}
+
+pub noticed_none : (h : Record) (fault : Option Fault) → h ≡ [] → AreNoticed h fault
+noticed_none h None none = subst HasNotices (sym none) none_noticed
+noticed_none h (Some WantOfMemory) none = tt
+noticed_none h (Some Usage) none = subst HasNotices (sym none) none_noticed
+noticed_none h (Some (ConfigRead path)) none = subst HasNotices (sym none) none_noticed
+noticed_none h (Some (ConfigRefused f)) none = subst HasNotices (sym none) none_noticed
+noticed_none h (Some (Numbers next wanted)) none = subst HasNotices (sym none) none_noticed
+noticed_none h (Some TooLong) none = subst HasNotices (sym none) none_noticed
+noticed_none h (Some (SourceFailed name at)) none = subst HasNotices (sym none) none_noticed
+noticed_none h (Some (ConfirmFailed name)) none = subst HasNotices (sym none) none_noticed

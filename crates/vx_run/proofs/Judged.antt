@@ -103,7 +103,7 @@ reason_unasked h cause.WantOfMemory r = tt
 -- a run that was given up has a reason, and nobody asked it to stop
 orderly_unasked : (h : Record) (cause : AbandonCause) → IsOrderly h → cause_of h ≡ Some cause → IsUnasked cause
 orderly_unasked [] cause o is = cc
-orderly_unasked (Abandon found ∷ h) cause o is = let same : found ≡ cause = cc in subst (λ (c : AbandonCause). IsUnasked c) same (reason_unasked h found o.0.reason)
+orderly_unasked (Abandon found ∷ h) cause o is = let same : found ≡ cause = cc in subst (λ (c : AbandonCause). IsUnasked c) same (reason_unasked h found o.0.0.reason)
 orderly_unasked (e ∷ h) cause o is = orderly_unasked h cause o.1 is
 
 pub given_up_unasked : {P : Type 0} (told_by : P → Told) (hub : Hub P) (cause : AbandonCause) → Stands told_by hub [] hub.log.history → IsSound hub → hub.abandoned ≡ Some cause → IsUnasked cause

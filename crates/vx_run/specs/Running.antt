@@ -8,7 +8,7 @@ use Rattle.vx_record.specs.TallyLists.{tallies_of}
 use Rattle.vx_record.specs.declared.tally.Tally.{Tally}
 use Rattle.vx_hub.specs.declared.parts.Numbered.{Numbered}
 use Rattle.vx_hub.specs.Order.{IsOrderly}
-use Rattle.vx_hub.specs.Remains.{AreTold, HasOnePlace, AllSpent}
+use Rattle.vx_hub.specs.Remains.{AreTold, HasOnePlace, AllSpent, HasNotices}
 use Rattle.vx_run.specs.declared.fault.Fault.{Fault}
 use Rattle.vx_run.specs.declared.fault.Fault.TheVariants.{Usage, ConfigRead, ConfigRefused, WantOfMemory}
 
@@ -22,6 +22,11 @@ IsTrueTo told_by h ports fault = AreTold told_by h ports × IsOrderly h
 abbrev pub AreKept : Record → Option Fault → Type 0
 AreKept h (Some WantOfMemory) = Unit {0}
 AreKept h fault = HasOnePlace h × AllSpent h
+
+-- but for want of memory, each batch has its notice
+abbrev pub AreNoticed : Record → Option Fault → Type 0
+AreNoticed h (Some WantOfMemory) = Unit {0}
+AreNoticed h fault = HasNotices h
 
 -- a run that began has the first plan in force, but for want of memory
 abbrev pub HasInstalled : Record → Option Fault → Type 0

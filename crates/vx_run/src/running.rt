@@ -4,7 +4,7 @@ ghost use Rattle.vx_hub.specs.Making.{AreUntouched};
 ghost use Rattle.vx_hub.specs.Stands.{Stands};
 ghost use Rattle.vx_hub.specs.Remains.{AreNumbered, AreClosed};
 ghost use Rattle.vx_run.specs.Answers.{IsAnswer, IsJudged};
-ghost use Rattle.vx_run.specs.Running.{IsTrueTo, HasInstalled, AreKept, IsCounted, NoneMissing};
+ghost use Rattle.vx_run.specs.Running.{IsTrueTo, HasInstalled, AreKept, AreNoticed, IsCounted, NoneMissing};
 
 use crate::driver::drive;
 use crate::fault::Fault;
@@ -40,6 +40,7 @@ pub(crate) fn run<R: Wait, W: World, C: Clock>(
     ensures told { IsTrueTo W.Port.told result.history result.ports result.fault }
     ensures installed { HasInstalled result.history result.fault }
     ensures copies { AreKept result.history result.fault }
+    ensures notices { AreNoticed result.history result.fault }
     ensures counted { IsCounted result.history (length result.ports) result.tallies result.fault }
     ensures closed { AreClosed W.Port.told result.ports }
     ensures numbers { AreNumbered 0 result.ports }
@@ -59,6 +60,7 @@ fn unbegun<P>(alloc: Global, fault: Fault) -> Outcome<P>
     ensures tallies { result.tallies ≡ [] }
     ensures ports { result.ports ≡ [] }
     ensures copies { AreKept result.history result.fault }
+    ensures notices { AreNoticed result.history result.fault }
     ensures counted { IsCounted result.history (length result.ports) result.tallies result.fault }
 {
     Outcome {
@@ -83,6 +85,7 @@ fn begin<R: Wait, P: Port, C: Clock>(
     ensures told { IsTrueTo P.told result.history result.ports result.fault }
     ensures installed { HasInstalled result.history result.fault }
     ensures copies { AreKept result.history result.fault }
+    ensures notices { AreNoticed result.history result.fault }
     ensures counted { IsCounted result.history (length result.ports) result.tallies result.fault }
     ensures closed { AreClosed P.told result.ports }
     ensures numbers { AreNumbered 0 result.ports }
@@ -113,6 +116,7 @@ fn finish<R: Wait, P: Port, C: Clock>(
     ensures told { IsTrueTo P.told result.history result.ports result.fault }
     ensures installed { HasInstalled result.history result.fault }
     ensures copies { AreKept result.history result.fault }
+    ensures notices { AreNoticed result.history result.fault }
     ensures counted { IsCounted result.history (length result.ports) result.tallies result.fault }
     ensures closed { AreClosed P.told result.ports }
     ensures numbers { AreNumbered 0 result.ports }

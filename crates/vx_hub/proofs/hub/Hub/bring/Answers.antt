@@ -1,7 +1,6 @@
 use Rattle.std.proofs.Common.{refl, subst, List, ap}
 use Rattle.vx_ledger.specs.Copies.{Copy}
 use Rattle.vx_record.specs.Places.Place.{Outputs}
-use Rattle.vx_hub.specs.Numbers.{numbers_in}
 use Rattle.vx_hub.specs.Places.{IsPlaced}
 use Rattle.vx_hub.specs.Rows.{role_copies, role_parcels}
 use Rattle.vx_hub.proofs.StandsLaws.{put_balanced}

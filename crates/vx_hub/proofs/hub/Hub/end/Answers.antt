@@ -1,7 +1,7 @@
 use Rattle.std.proofs.Common.{ap, ◌∙◌, subst, sym, List, length}
 use Rattle.vx_hub.specs.declared.parts.Numbered.{Numbered}
 use Rattle.vx_hub.specs.Remains.{AreNumbered, AreClosed, AreTold}
-use Rattle.vx_hub.proofs.Remaining.{all_bare, all_shut, ports_told, all_numbered, all_counted, one_place, all_spent}
+use Rattle.vx_hub.proofs.Remaining.{all_bare, all_shut, ports_told, all_numbered, all_counted, one_place, all_spent, all_noticed}
 use Rattle.vx_hub.proofs.hub.Hub.end.Goals as goal
 
 pub ports_of-requires-clause-bare : goal.ports_of-requires-clause-bare
@@ -35,3 +35,9 @@ returns-clause-spent g c sound =
 
 pub returns-clause-installed : goal.returns-clause-installed
 returns-clause-installed g c sound = (c.requires.stands.recorded sound).installed
+
+pub returns-clause-notices : goal.returns-clause-notices
+returns-clause-notices g c sound =
+    let r = c.requires.stands.recorded sound in
+    all_noticed c.args.self.log.history r.order r.noticeless
+    (all_spent c.args.self.rows.items c.args.self.log.history r.order r.places (all_bare c.args.self.facts.items c.args.self.rows.items c.requires.stands.size c.requires.over c.requires.stands.gone))

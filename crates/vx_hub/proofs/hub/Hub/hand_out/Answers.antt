@@ -1,7 +1,6 @@
 use Rattle.std.proofs.Common.{refl, sym, subst, List, ◌<◌, ◌∙◌, ap}
 use Rattle.vx_ledger.specs.Copies.{Copy}
 use Rattle.vx_record.specs.Places.Place.{Outputs, Held}
-use Rattle.vx_hub.specs.Numbers.{numbers_in}
 use Rattle.vx_hub.specs.Places.{IsPlaced}
 use Rattle.vx_hub.specs.Stands.{IsTold}
 use Rattle.vx_hub.specs.Rows.{role_copies, role_parcels, row_at, port_at}

@@ -1,8 +1,6 @@
-use Rattle.std.proofs.Common.{refl, sym, ap, subst, ◌≡◌, ◌∙◌, [], ◌∷◌, ◌++◌, Some, None}
+use Rattle.std.proofs.Common.{refl, sym, ap, subst, ◌∙◌, [], ◌∷◌, ◌++◌}
 use Rattle.std.specs.Prelude.{IsSome}
-use Rattle.vx_record.specs.Noted.{Noted}
-use Rattle.vx_record.specs.declared.log.Log.{Log}
-use Rattle.vx_record.specs.declared.entry.Entry.TheVariants.{Spent, Notice}
+use Rattle.vx_record.specs.declared.entry.Entry.TheVariants.{Spent}
 use Rattle.vx_hub.proofs.Ordering.{spent_on, noticed_on}
 use Rattle.vx_hub.proofs.StandsLaws.{same_next, stands_quiet, stands_noticed, spent_balanced, bare_stays}
 use Rattle.vx_hub.proofs.Placing.{spent_live, conserved}
