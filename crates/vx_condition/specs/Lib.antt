@@ -6,8 +6,15 @@ pub mod Sizes
 pub mod Meaning
 pub mod Views
 pub mod Falls
+pub mod PathSteps
+pub mod Words
+pub mod FrameCode
 pub mod Grammar
 pub mod Conditions
+pub mod Moves
+pub mod Runs
+pub mod Takes
+pub mod Faults
 pub mod Steps
 pub mod Picking
 pub mod Merging

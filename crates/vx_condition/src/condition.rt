@@ -1,5 +1,6 @@
 ghost use Rattle.std.specs.Prelude.{◌≡◌, IfOk, IsOk};
-ghost use Rattle.vx_condition.specs.Conditions.{Says, IsMatchFree};
+ghost use Rattle.vx_condition.specs.Conditions.{Says, IsMatchFree, IsCondition};
+ghost use Rattle.vx_condition.specs.Trees.{disjunction_of};
 
 use crate::disjunction::Disjunction;
 use std::alloc::Global;
@@ -29,6 +30,14 @@ impl Model for Condition {
 }
 
 impl Condition {
+    // The condition of a text and its tree.
+    pub(crate) fn of(text: Text, tree: Disjunction) -> Self
+        requires { IsCondition (disjunction_of tree) text }
+        ensures { result ≡ text }
+    {
+        Condition { text, tree }
+    }
+
     /// Whether the condition holds of an event.
     ///
     /// A missing value counts as null at `==` and `!=`. `<` and its kin hold of whole numbers alone, and `contains` and

@@ -1,4 +1,4 @@
-ghost use Rattle.std.specs.Prelude.{◌≡◌, IfOk, IsOk, true};
+ghost use Rattle.std.specs.Prelude.{◌≡◌, [], ◌∷◌, ◌++◌, IfOk, OnOk, IsOk, true};
 
 use crate::term::Term;
 use std::alloc::Global;
@@ -39,6 +39,26 @@ impl Model for Conjunction {
 impl Conjunction {
     ghost use Rattle.vx_condition.specs.Meaning.{conjunction_holds, is_free_conjunction};
     ghost use Rattle.vx_condition.specs.Trees.{conjunction_of};
+    ghost use Rattle.vx_condition.specs.Views.{term_view};
+
+    /// A conjunction without terms. It takes no memory.
+    pub fn new(alloc: Global) -> Self
+        ensures { result ≡ [] }
+    {
+        Conjunction {
+            terms: Vec::new(alloc),
+        }
+    }
+
+    /// Adds a term at the end.
+    pub fn push(&mut self, term: Term) -> Result<(), WantOfMemory>
+        ensures { OnOk result (self.new ≡ self.old ++ term_view term ∷ []) }
+    {
+        match self.terms.push(term) {
+            Ok(()) => Ok(()),
+            Err(_) => Err(WantOfMemory),
+        }
+    }
 
     /// Whether each term holds of an event. It takes memory only for a match.
     #[cycle(holds)]

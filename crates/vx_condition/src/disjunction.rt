@@ -1,4 +1,4 @@
-ghost use Rattle.std.specs.Prelude.{◌≡◌, IfOk, IsOk, true};
+ghost use Rattle.std.specs.Prelude.{◌≡◌, [], ◌∷◌, ◌++◌, IfOk, OnOk, IsOk, true};
 
 use crate::conjunction::Conjunction;
 use std::alloc::Global;
@@ -38,6 +38,25 @@ impl Model for Disjunction {
 impl Disjunction {
     ghost use Rattle.vx_condition.specs.Meaning.{disjunction_holds, is_free_disjunction};
     ghost use Rattle.vx_condition.specs.Trees.{disjunction_of};
+
+    /// A disjunction without branches. It takes no memory.
+    pub fn new(alloc: Global) -> Self
+        ensures { result ≡ [] }
+    {
+        Disjunction {
+            branches: Vec::new(alloc),
+        }
+    }
+
+    /// Adds a branch at the end.
+    pub fn push(&mut self, branch: Conjunction) -> Result<(), WantOfMemory>
+        ensures { OnOk result (self.new ≡ self.old ++ branch ∷ []) }
+    {
+        match self.branches.push(branch) {
+            Ok(()) => Ok(()),
+            Err(_) => Err(WantOfMemory),
+        }
+    }
 
     /// Whether some branch holds of an event. It takes memory only for a match.
     #[cycle(holds)]

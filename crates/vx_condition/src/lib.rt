@@ -2,20 +2,38 @@
 //! conditions.
 #![tactic(auto)]
 
+mod call;
 mod comparison;
 mod condition;
+mod condition_fault;
 mod conjunction;
 mod dedupe_fields;
 mod disjunction;
 pub mod examples;
+mod expected;
+mod fixed_word;
+mod frame;
+mod frame_stack;
 mod how;
 mod literal;
+mod mode;
+mod openings;
+mod operator;
+mod parsing;
+mod path_place;
 mod pattern;
 mod predicate;
+mod reader;
+mod stop;
 mod strategy;
 mod term;
+#[cfg(test)]
+mod tests;
+mod tokens;
 
 pub use condition::{Condition, ConditionList};
+pub use condition_fault::ConditionFault;
 pub use dedupe_fields::{DedupeFields, PathList};
 pub use how::How;
+pub use parsing::parse;
 pub use strategy::{Strategy, StrategyList};

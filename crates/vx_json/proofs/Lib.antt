@@ -22,3 +22,4 @@ pub mod WrittenTexts
 pub mod Shallow
 pub mod WrittenAgain
 pub mod Fitting
+pub mod Runs

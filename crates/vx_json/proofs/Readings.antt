@@ -41,6 +41,10 @@ one-more bytes i b m st l e h =
 height-is : (bytes : Word) (i : ℕ) (m : Mode) (st : List Frame) → HasRead bytes i m st → height m st ≡ open_levels (take i bytes)
 height-is bytes i m st h = (stands (take i bytes) (record { mode = m; stack = st }) h.leads).count
 
+-- and they are few
+pub low-at : (bytes : Word) (i : ℕ) (m : Mode) (st : List Frame) → HasRead bytes i m st → height m st ≤ 32
+low-at bytes i m st h = omega (arith, height-is bytes i m st h, h.shallow i (omega arith))
+
 -- a text begins with what was read
 begins-at : (bytes : Word) (i : ℕ) (m : Mode) (st : List Frame) → reached AtValue [] (take i bytes) ≡ state m st → BeginsText (take i bytes)
 begins-at bytes i m st e = beginning (take i bytes) m st e (stands (take i bytes) (record { mode = m; stack = st }) e).live

@@ -14,3 +14,5 @@ pub mod Puts
 pub mod Writable
 pub mod LineEvents
 pub mod DemoLines
+pub mod Runs
+pub mod Openings

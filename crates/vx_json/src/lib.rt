@@ -13,6 +13,7 @@ mod number_place;
 mod put_field;
 mod quote;
 mod reader;
+mod run;
 mod step;
 mod text_move;
 mod text_place;

@@ -10,6 +10,7 @@ use std::cmp::Ordering;
 use vx_value::{Field, FieldList, Text, Value, WantOfMemory};
 
 /// How the last name stands to another; before it where there is none.
+#[inline(always)]
 fn last_order(fields: &FieldList, name: &str) -> Ordering
     ensures order { result ≡ last_order fields.now name.now }
     ensures rising { IsTrue (names_rise fields.now) }

@@ -50,14 +50,18 @@ fn value(alloc: Global, bytes: &[u8]) -> Result<Value, JsonFault>
 {
     let mut stack = Vec::new(alloc);
     let mut mode = Mode::Before;
-    for (i, b) in bytes.iter().enumerate() {
-        match mode.step(alloc, &mut stack, *b)? {
-            Some(next) => mode = next,
-            None => return Err(JsonFault::NotJson { at: i as u64 }),
+    let mut i: usize = 0;
+    while i < bytes.len() {
+        match mode.step(alloc, &mut stack, bytes[i]) {
+            Ok(Some(next)) => mode = next,
+            Ok(None) => return Err(JsonFault::NotJson { at: i as u64 }),
+            Err(_) => return Err(JsonFault::WantOfMemory),
         }
         if level(&mode, &stack) > DEEPEST {
             return Err(JsonFault::Deep { at: i as u64 });
         }
+        i += 1;
+        i += mode.run(alloc, &bytes[i..])?;
     }
     let at = bytes.len() as u64;
     if !stack.is_empty() {

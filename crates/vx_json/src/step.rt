@@ -38,6 +38,7 @@ fn begin_number(alloc: Global, b: u8, place: NumberPlace) -> Result<Option<Mode>
 }
 
 /// Where a byte leads that begins a value.
+#[inline(always)]
 fn begin(alloc: Global, b: u8) -> Result<Option<Mode>, WantOfMemory>
     ensures { IfOk result (λ next. (st : List machine.Frame) → state_view next st ≡ begin_move st b) }
 {
@@ -226,6 +227,7 @@ fn in_name(
 
 /// Where a byte leads behind a value of an array.
 #[tactic(auto, using(crate::proofs::StackRules::stacks))]
+#[inline(always)]
 fn behind_item(
     items: ValueList,
     value: Value,
@@ -251,6 +253,7 @@ fn behind_item(
 }
 
 /// Where a byte leads behind a value of an object.
+#[inline(always)]
 fn behind_field(
     alloc: Global,
     fields: FieldList,
@@ -272,6 +275,7 @@ fn behind_field(
 
 /// Where a byte that is no blank leads behind a value.
 #[tactic(auto, using(crate::proofs::StackRules::stacks))]
+#[inline(always)]
 fn end(
     alloc: Global,
     value: Value,
@@ -289,6 +293,7 @@ fn end(
 }
 
 /// Where a byte leads behind a value.
+#[inline(always)]
 fn behind(
     alloc: Global,
     value: Value,

@@ -1,9 +1,12 @@
 //! The worked rows, and texts whose values and faults another reader told.
 
+mod texts;
+
+use super::word_place::WordPlace;
 use super::{Codec, DemoSettings, JsonFault, encode_event, read, write, write_value};
 use std::alloc::Global;
 use std::test::Fail;
-use vx_value::{Bytes, Event, ItemList, Text, Value};
+use vx_value::{Bytes, Event, FieldList, ItemList, Path, Text, Value, ValueList, WantOfMemory};
 
 /// What some bytes are read as: the event in its one spelling, or the fault in words.
 fn said(alloc: Global, bytes: &[u8]) -> Result<String, Fail> {
@@ -70,48 +73,6 @@ fn json_in_and_out(rt: HostRuntime) -> Result<(), Fail> {
     Ok(())
 }
 
-// Texts at the edges of the grammar. The verdicts and places are those of Node's `JSON.parse`, but for the two lone
-// surrogates, which it takes.
-#[test]
-fn texts_at_their_edges(rt: HostRuntime) -> Result<(), Fail> {
-    let alloc = rt.alloc();
-    for (text, want) in [
-        ("", "not json at 0"),
-        ("{\"a\":01}", "not json at 6"),
-        ("{\"a\":1.}", "not json at 7"),
-        ("{\"a\":\"\\ud800\\u0041\"}", "not json at 14"),
-        ("{\"a\":\"\\udc00\"}", "not json at 9"),
-        ("{\"a\":\"\t\"}", "not json at 6"),
-        ("{\"a\":1,}", "not json at 7"),
-        ("{\"a\":nul}", "not json at 8"),
-        ("{\"a\":[1 2]}", "not json at 8"),
-        ("\"a\"", "not an object"),
-        ("-12e+3", "not an object"),
-    ] {
-        let answer = said(alloc, text.as_bytes())?;
-        assert_eq!(rt; answer.as_str(), want);
-    }
-    Ok(())
-}
-
-// Bytes that are no UTF-8: the fault is the first byte with which no character goes on.
-#[test]
-fn bytes_that_are_no_text(rt: HostRuntime) -> Result<(), Fail> {
-    let alloc = rt.alloc();
-    let overlong: &[u8] = b"{\"\xC0\xAF";
-    let surrogate: &[u8] = b"{\"\xED\xA0\x80\":1}";
-    let cut: &[u8] = b"{\"\xE2\x82\":1}";
-    for (bytes, want) in [
-        (overlong, "not json at 2"),
-        (surrogate, "not json at 3"),
-        (cut, "not json at 4"),
-    ] {
-        let answer = said(alloc, bytes)?;
-        assert_eq!(rt; answer.as_str(), want);
-    }
-    Ok(())
-}
-
 // What a sink writes of an event under each codec.
 #[test]
 fn events_for_sinks(rt: HostRuntime) -> Result<(), Fail> {
@@ -132,18 +93,59 @@ fn events_for_sinks(rt: HostRuntime) -> Result<(), Fail> {
     Ok(())
 }
 
-// A value alone.
+// A value of each kind alone, behind what is there. The texts are those that Python's `json` writes without blanks; a
+// spelled number is its spelling.
 #[test]
 fn values_alone(rt: HostRuntime) -> Result<(), Fail> {
     let alloc = rt.alloc();
-    let mut out = Bytes::new(alloc);
-    write_value(&Value::Whole(-7), &mut out)?;
-    write_value(&Value::Truth(true), &mut out)?;
-    write_value(
-        &Value::Words(Text::copy_of(alloc, "é\u{7f}\u{1}")?),
-        &mut out,
-    )?;
-    assert_eq!(rt; out.as_slice(), "-7true\"é\u{7f}\\u0001\"".as_bytes());
+    let mut out = Bytes::copy_of(alloc, b"x")?;
+    let mut items = ValueList::new(alloc);
+    items.push(Value::Null).map_err(|_| WantOfMemory)?;
+    items
+        .push(Value::Fields(FieldList::new(alloc)))
+        .map_err(|_| WantOfMemory)?;
+    for value in [
+        Value::Whole(-7),
+        Value::Truth(true),
+        Value::Words(Text::copy_of(alloc, "é\u{7f}\u{1}")?),
+        Value::Spelled(Text::copy_of(alloc, "1E+2")?),
+        Value::Items(items),
+    ] {
+        write_value(&value, &mut out)?;
+    }
+    assert_eq!(rt;
+        out.as_slice(),
+        "x-7true\"é\u{7f}\\u0001\"1E+2[null,{}]".as_bytes()
+    );
+    Ok(())
+}
+
+// An event behind what is there.
+#[test]
+fn an_event_alone(rt: HostRuntime) -> Result<(), Fail> {
+    let alloc = rt.alloc();
+    let mut out = Bytes::copy_of(alloc, b"x")?;
+    let mut event = Event::new(alloc);
+    write(&event, &mut out)?;
+    event.put(&Path::read(alloc, ".b.a")?, Value::Truth(false))?;
+    event.put(&Path::read(alloc, ".a")?, Value::Whole(0))?;
+    write(&event, &mut out)?;
+    assert_eq!(rt;
+        out.as_slice(),
+        b"x{}{\"a\":0,\"b\":{\"a\":false}}".as_slice()
+    );
+    Ok(())
+}
+
+// The letters of the three words, in order.
+#[test]
+fn letters_of_words(rt: HostRuntime) -> Result<(), Fail> {
+    let null = [WordPlace::N, WordPlace::Nu, WordPlace::Nul];
+    for (place, letter) in null.iter().zip(b"ull") {
+        assert_eq!(rt; place.expected(), *letter);
+    }
+    assert_eq!(rt; WordPlace::Tr.rest(), b"ue".as_slice());
+    assert_eq!(rt; WordPlace::Fals.expected(), b'e');
     Ok(())
 }
 

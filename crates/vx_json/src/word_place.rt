@@ -1,5 +1,8 @@
 ghost use Rattle.std.specs.Prelude.{◌≡◌};
-ghost use Rattle.vx_json.specs.WordViews.{word_first};
+ghost use Rattle.vx_value.specs.Values.{datum_of};
+ghost use Rattle.vx_json.specs.WordViews.{word_first, word_rest, word_datum};
+
+use vx_value::Value;
 
 /// Where a reader stands inside one of the words `null`, `true` and `false`: behind these letters.
 #[derive(Clone, Copy, Debug)]
@@ -29,6 +32,34 @@ impl WordPlace {
             WordPlace::Tru | WordPlace::Fals => b'e',
             WordPlace::F => b'a',
             WordPlace::Fal => b's',
+        }
+    }
+
+    /// The bytes that have to come up to the word's end.
+    pub fn rest(self) -> &'static [u8]
+        ensures { result.now ≡ word_rest self }
+    {
+        match self {
+            WordPlace::N => b"ull",
+            WordPlace::Nu => b"ll",
+            WordPlace::Nul => b"l",
+            WordPlace::T => b"rue",
+            WordPlace::Tr => b"ue",
+            WordPlace::Tru | WordPlace::Fals => b"e",
+            WordPlace::F => b"alse",
+            WordPlace::Fa => b"lse",
+            WordPlace::Fal => b"se",
+        }
+    }
+
+    /// The value of the word.
+    pub fn value(self) -> Value
+        ensures { datum_of result ≡ word_datum self }
+    {
+        match self {
+            WordPlace::N | WordPlace::Nu | WordPlace::Nul => Value::Null,
+            WordPlace::T | WordPlace::Tr | WordPlace::Tru => Value::Truth(true),
+            WordPlace::F | WordPlace::Fa | WordPlace::Fal | WordPlace::Fals => Value::Truth(false),
         }
     }
 }

@@ -1,0 +1,36 @@
+-- What is copied of a line.
+use Rattle.std.specs.Prelude.{◌≡◌, Bool, true, false, List, [], ◌∷◌, ◌++◌}
+use Rattle.vx_value.specs.Texts.{Word}
+use Rattle.vx_value.specs.Datum.{Fields, NamedDatum, named_of}
+use Rattle.vx_json.specs.Written.{written}
+use Rattle.vx_json.specs.Faults.{IsEvent, IsFault}
+use Rattle.vx_json.specs.declared.json_fault.JsonFault.{JsonFault}
+
+-- the bytes are an event, which is added in its one spelling with a line feed
+pub record IsEventCopied (bytes old new : Word) : Type 0 where
+  pub fields : List NamedDatum
+  pub event : IsEvent bytes fields
+  pub added : new ≡ old ++ (written (Fields (named_of fields)) ++ 10 ∷ [])
+
+-- the bytes are none, for a fault, and nothing is added
+pub record IsLeftOut (bytes old new : Word) : Type 0 where
+  pub fault : JsonFault
+  pub is_fault : IsFault bytes fault
+  pub same : new ≡ old
+
+abbrev pub IsCopied : Word → Bool → Word → Word → Type 0
+IsCopied bytes true old new = IsEventCopied bytes old new
+IsCopied bytes false old new = IsLeftOut bytes old new
+
+-- whether the bytes are an event
+pub record IsSomeEvent (bytes : Word) : Type 0 where
+  pub fields : List NamedDatum
+  pub event : IsEvent bytes fields
+
+pub record IsRefused (bytes : Word) : Type 0 where
+  pub fault : JsonFault
+  pub is_fault : IsFault bytes fault
+
+abbrev pub IsJudged : Word → Bool → Type 0
+IsJudged bytes true = IsSomeEvent bytes
+IsJudged bytes false = IsRefused bytes

@@ -1,0 +1,226 @@
+//! Texts whose verdicts other readers told.
+
+use super::said;
+use std::test::Fail;
+
+/// Texts that are no event, each with its verdict. Which texts are JSON told Node: its strict decoder of UTF-8, its
+/// `JSON.parse`, and that no text in them has a lone surrogate. A place is the length of the longest beginning from
+/// which one of many endings makes such a text.
+const REFUSED: &str = r#" => not json at 0
+  => not json at 1
+{ => not json at 1
+} => not json at 0
+{} { => not json at 3
+{"a":1}x => not json at 7
+{,} => not json at 1
+{"a":1,} => not json at 7
+{"a"} => not json at 4
+{"a":} => not json at 5
+{"a" 1} => not json at 5
+{a:1} => not json at 1
+{'a':1} => not json at 1
+{"a":1 "b":2} => not json at 7
+{"a":1,,"b":2} => not json at 7
+{"a":[1,]} => not json at 8
+{"a":[,1]} => not json at 6
+{"a":[1,,2]} => not json at 8
+{"a":[} => not json at 6
+{"a":{] => not json at 6
+{"a":[1} => not json at 7
+{"a":{"b":1] => not json at 11
+{"a":-} => not json at 6
+{"a":+1} => not json at 5
+{"a":01} => not json at 6
+{"a":-01} => not json at 7
+{"a":00} => not json at 6
+{"a":.5} => not json at 5
+{"a":1.} => not json at 7
+{"a":1.e1} => not json at 7
+{"a":1e} => not json at 7
+{"a":1e+} => not json at 8
+{"a":1E-} => not json at 8
+{"a":1e1.5} => not json at 8
+{"a":0x10} => not json at 6
+{"a":1_0} => not json at 6
+{"a":--1} => not json at 6
+{"a":NaN} => not json at 5
+{"a":Infinity} => not json at 5
+{"a":-Infinity} => not json at 6
+{"a":1 2} => not json at 7
+{"a":- 1} => not json at 6
+{"a":nul} => not json at 8
+{"a":nulL} => not json at 8
+{"a":True} => not json at 5
+{"a":truefalse} => not json at 9
+{"a":fals => not json at 9
+{"a":tru => not json at 8
+{"a":"\x"} => not json at 7
+{"a":"\u12"} => not json at 10
+{"a":"\u12g4"} => not json at 10
+{"a":"\U0041"} => not json at 7
+{"a":"\ => not json at 7
+{"a":"\u => not json at 8
+{"a":"\a"} => not json at 7
+{"a":"\0"} => not json at 7
+{"a":"\'"} => not json at 7
+{"a":"x => not json at 7
+{"a => not json at 3
+{" => not json at 2
+{"a":1}// => not json at 7
+{"a":/**/1} => not json at 5
+[ => not json at 1
+] => not json at 0
+[1 => not json at 2
+" => not json at 1
+"a => not json at 2
+n => not json at 1
+nul => not json at 3
+- => not json at 1
+1. => not json at 2
+{"a":1}} => not json at 7
+{"a":1}] => not json at 7
+[1] => not an object
+1 => not an object
+null => not an object
+"x" => not an object
+true => not an object
+-0 => not an object
+-12e+3 => not an object
+[] => not an object
+ [ ]  => not an object
+{"a":"\ud800"} => not json at 12
+{"a":"\udbff\udbff"} => not json at 15
+{"a":"\udc00"} => not json at 9
+{"a":"\uDFFF"} => not json at 9
+{"a":"\ud800x"} => not json at 12
+{"a":"\ud800\n"} => not json at 13
+{"a":"\ud800\u0041"} => not json at 14
+{"\ud800":1} => not json at 8
+{"a":"\ud83d\ude0"} => not json at 17
+{"a":"\ud83d => not json at 12"#;
+
+#[test]
+fn texts_that_are_refused(rt: HostRuntime) -> Result<(), Fail> {
+    let alloc = rt.alloc();
+    let mut count = 0u32;
+    for line in REFUSED.lines() {
+        let (text, want) = line.split_once(" => ").ok_or("a verdict")?;
+        let answer = said(alloc, text.as_bytes())?;
+        assert_eq!(rt; answer.as_str(), want, "{text}");
+        count = count.saturating_add(1);
+    }
+    assert_eq!(rt; count, 92);
+    Ok(())
+}
+
+// Bytes that no text has, with verdicts of the same origin: control characters, and what is no UTF-8.
+#[test]
+fn bytes_that_are_refused(rt: HostRuntime) -> Result<(), Fail> {
+    let alloc = rt.alloc();
+    let table: [(&[u8], &str); 31] = [
+        (b"\xEF\xBB\xBF{}", "not json at 0"),
+        (b"{\"a\":1}\xC2\xA0", "not json at 7"),
+        (b"{\"a\":\"\x09\"}", "not json at 6"),
+        (b"{\"a\x09b\":1}", "not json at 3"),
+        (b"\x09{\"a\":\x091\x09}\x09x", "not json at 11"),
+        (b"{\"a\":\"\x00\"}", "not json at 6"),
+        (b"{\"a\":\"\x1F\"}", "not json at 6"),
+        (b"{\"a\":\"\x0A\"}", "not json at 6"),
+        (b"\x0B{}", "not json at 0"),
+        (b"\x0C{}", "not json at 0"),
+        (b"{}\x00", "not json at 2"),
+        (b"{\"\xC0\xAF\":1}", "not json at 2"),
+        (b"{\"\xC1\xBF\":1}", "not json at 2"),
+        (b"{\"\xE0\x80\x80\":1}", "not json at 3"),
+        (b"{\"\xE0\x9F\xBF\":1}", "not json at 3"),
+        (b"{\"\xF0\x80\x80\x80\":1}", "not json at 3"),
+        (b"{\"\xF0\x8F\xBF\xBF\":1}", "not json at 3"),
+        (b"{\"\xC3\":1}", "not json at 3"),
+        (b"{\"\xE2\x82\":1}", "not json at 4"),
+        (b"{\"\xF0\x9F\x98\":1}", "not json at 5"),
+        (b"{\"\xE2(\xA1\":1}", "not json at 3"),
+        (b"{\"\xED\xA0\x80\":1}", "not json at 3"),
+        (b"{\"\xED\xBF\xBF\":1}", "not json at 3"),
+        (b"{\"\xF4\x90\x80\x80\":1}", "not json at 3"),
+        (b"{\"\xF5\x80\x80\x80\":1}", "not json at 2"),
+        (b"{\"\xFF\":1}", "not json at 2"),
+        (b"{\"\x80\":1}", "not json at 2"),
+        (b"{\"\xE2\x82", "not json at 4"),
+        (b"{\"\xF0\x9F", "not json at 4"),
+        (b"\xC2\xA0{}", "not json at 0"),
+        (b"{\"a\":\xE2\x80\xA81}", "not json at 5"),
+    ];
+    for (bytes, want) in table {
+        let answer = said(alloc, bytes)?;
+        assert_eq!(rt; answer.as_str(), want, "{bytes:?}");
+    }
+    Ok(())
+}
+
+// Events, spelled as Python's `json` does, with sorted names and no blanks; Node reads the same values.
+#[test]
+fn texts_that_are_events(rt: HostRuntime) -> Result<(), Fail> {
+    let alloc = rt.alloc();
+    let table: [(&str, &str); 12] = [
+        (
+            "{\"a\":\"\\\"\\\\\\/\\b\\f\\n\\r\\t\"}",
+            "{\"a\":\"\\\"\\\\/\\b\\f\\n\\r\\t\"}",
+        ),
+        (
+            "{\"a\":\"\\u0000\\u001F\\u007f\\u00e9\\u20AC\\uD7ff\\uE000\\uffff\"}",
+            "{\"a\":\"\\u0000\\u001f\u{7F}é€\u{D7FF}\u{E000}\u{FFFF}\"}",
+        ),
+        (
+            "{\"a\":\"\\uD800\\uDC00\\uDBFF\\uDFFF\\ud83d\\uDe00\"}",
+            "{\"a\":\"\u{10000}\u{10FFFF}😀\"}",
+        ),
+        ("{\"a\":\"\\u0022\\u005c\\u002F\"}", "{\"a\":\"\\\"\\\\/\"}"),
+        ("{\"a\":1,\"\\u0061\":2}", "{\"a\":2}"),
+        (
+            "{\"a\":{\"b\":1,\"b\":2},\"a\":{\"c\":3}}",
+            "{\"a\":{\"c\":3}}",
+        ),
+        (
+            "{\"b\":0,\"a\":1,\"b\":2,\"a\":3,\"c\":4,\"b\":5}",
+            "{\"a\":3,\"b\":5,\"c\":4}",
+        ),
+        (
+            "{\"é\":1,\"z\":2,\"Z\":3,\"\":4,\"\\uffff\":5,\"\\ud800\\udc00\":6}",
+            "{\"\":4,\"Z\":3,\"z\":2,\"é\":1,\"\u{FFFF}\":5,\"\u{10000}\":6}",
+        ),
+        (
+            "{\"a\":[-1,0,9007199254740993,-9223372036854775808,18446744073709551616]}",
+            "{\"a\":[-1,0,9007199254740993,-9223372036854775808,18446744073709551616]}",
+        ),
+        (
+            "{\"f\":1,\"e\":2,\"d\":3,\"c\":4,\"b\":5,\"a\":6}",
+            "{\"a\":6,\"b\":5,\"c\":4,\"d\":3,\"e\":2,\"f\":1}",
+        ),
+        (
+            "{\"a\":\" / \",\"b\":[[],[{}],{\"c\":[]}],\"c\":null}",
+            "{\"a\":\" / \",\"b\":[[],[{}],{\"c\":[]}],\"c\":null}",
+        ),
+        (
+            "{\"a\":\"\u{80}\u{7FF}\u{800}\u{D7FF}\u{E000}\u{FFFF}\u{10000}\u{10FFFF}\"}",
+            "{\"a\":\"\u{80}\u{7FF}\u{800}\u{D7FF}\u{E000}\u{FFFF}\u{10000}\u{10FFFF}\"}",
+        ),
+    ];
+    for (text, want) in table {
+        let answer = said(alloc, text.as_bytes())?;
+        assert_eq!(rt; answer.as_str(), want, "{text}");
+    }
+    Ok(())
+}
+
+// An object with arrays in it, of 32 levels and of 33. Where the last opens was counted.
+#[test]
+fn as_deep_as_may_be(rt: HostRuntime) -> Result<(), Fail> {
+    let alloc = rt.alloc();
+    let most = "{\"a\":[[[[[[[[[[[[[[[[[[[[[[[[[[[[[[[]]]]]]]]]]]]]]]]]]]]]]]]]]]]]]]}";
+    let answer = said(alloc, most.as_bytes())?;
+    assert_eq!(rt; answer.as_str(), most);
+    let more = "{\"a\":[[[[[[[[[[[[[[[[[[[[[[[[[[[[[[[[]]]]]]]]]]]]]]]]]]]]]]]]]]]]]]]]}";
+    let answer = said(alloc, more.as_bytes())?;
+    assert_eq!(rt; answer.as_str(), "deep at 36");
+    Ok(())
+}

@@ -1,0 +1,6 @@
+pub mod Lists
+pub mod Precedence
+pub mod Answering
+pub mod OneAnswer
+pub mod Examples
+pub mod FirstRead

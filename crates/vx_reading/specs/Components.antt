@@ -1,0 +1,87 @@
+-- The components of a document.
+use Rattle.std.specs.Prelude.{ℕ, Bool, true, false, not, ◌&&◌, ◌||◌, ◌==◌, Option, Some, None, option_map, option_and_then, is_some, List, [], ◌∷◌, ◌++◌, map, length, codes, find, nat_le}
+use Rattle.std.specs.List.{list_all}
+use Rattle.vx_value.specs.Texts.{Word, same_text}
+use Rattle.toml.specs.Data.{Data, get, as_str}
+use Rattle.vx_plan.specs.declared.class.Class.{Class}
+use Rattle.vx_plan.specs.declared.class.Class.TheVariants.{Source, Transform, Sink}
+use Rattle.vx_reading.specs.declared.kind.Kind.{Kind}
+use Rattle.vx_reading.specs.declared.kind.Kind.TheVariants.{Stdin, Console}
+use Rattle.vx_reading.specs.Judging.{Pair, pairs_in}
+use Rattle.vx_reading.specs.Options.{dot, kind_named}
+
+-- a component as the document has it
+pub record Part : Type 0 where
+  pub class : Class
+  pub name : Word
+  pub value : Data
+
+-- the name of the table of a class
+abbrev pub section_name : Class → Word
+section_name Source = codes "sources"
+section_name Transform = codes "transforms"
+section_name Sink = codes "sinks"
+
+-- the table of a class, if it is there
+abbrev pub section : Data → Class → Option Data
+section root class = get (section_name class) root
+
+-- a member of the table of a class
+abbrev pub part_in : Class → Pair → Part
+part_in class p = record { class = class; name = p.name; value = p.value }
+
+-- the components of a class, by the bytes of their names
+abbrev pub parts_in : Data → Class → List Part
+parts_in root class =
+    elim (section root class) [
+      | None ↦ []
+      | Some value ↦ map (part_in class) (pairs_in value)
+    ]
+
+-- the components: sources, transforms, sinks
+abbrev pub parts : Data → List Part
+parts root = parts_in root Source ++ (parts_in root Transform ++ parts_in root Sink)
+
+-- where a component stands
+abbrev pub part_path : Part → Word
+part_path part = section_name part.class ++ dot ∷ part.name
+
+-- a letter or a digit of ASCII, `_` or `-`
+abbrev pub is_name_byte : ℕ → Bool
+is_name_byte b =
+    (((nat_le 65 b && nat_le b 90) || (nat_le 97 b && nat_le b 122)) || (nat_le 48 b && nat_le b 57)) || ((b == 95) || (b == 45))
+
+-- 1 to 64 of these bytes
+abbrev pub is_name : Word → Bool
+is_name name = (nat_le 1 (length name) && nat_le (length name) 64) && list_all is_name_byte name
+
+-- whether a class has a component of that name
+abbrev pub has_part : Data → Class → Word → Bool
+has_part root class name = is_some (option_and_then (get name) (section root class))
+
+-- whether a name stands in an earlier one of the three tables
+abbrev pub is_taken : Data → Class → Word → Bool
+is_taken root Source name = false
+is_taken root Transform name = has_part root Source name
+is_taken root Sink name = has_part root Source name || has_part root Transform name
+
+-- the value of `type`
+abbrev pub type_in : Data → Option Data
+type_in value = get (codes "type") value
+
+-- the type of a component, where its table has that type
+abbrev pub kind_of : Part → Option Kind
+kind_of part = option_and_then (kind_named part.class) (option_and_then as_str (type_in part.value))
+
+-- whether it reads standard input
+abbrev pub reads_stdin : Part → Bool
+reads_stdin part = elim (kind_of part) [ None ↦ false | Some kind ↦ elim kind [ Stdin ↦ true | Console ↦ false ] ]
+
+-- the name of the first component that reads standard input
+abbrev pub first_stdin : Data → Option Word
+first_stdin root = option_map (λ (p : Part). p.name) (find reads_stdin (parts root))
+
+-- whether a component reads standard input after the first that does
+abbrev pub is_later_stdin : Option Word → Part → Bool
+is_later_stdin None part = false
+is_later_stdin (Some first) part = reads_stdin part && not (same_text first part.name)

@@ -1,0 +1,90 @@
+-- What a table gives, and how each value of it is judged.
+use Rattle.std.specs.Prelude.{ℕ, Bool, false, true, not, ◌&&◌, Option, Some, None, List, [], ◌∷◌, length, map, find, if◌then◌else◌, nat_lt}
+use Rattle.std.specs.List.{list_any, flat_map}
+use Rattle.vx_value.specs.Texts.{Word, same_text}
+use Rattle.toml.specs.Data.{Data, Items, no_items, item, Members, no_members, member, as_table, as_array, as_str}
+use Rattle.vx_reading.specs.declared.trouble.Trouble.{Trouble}
+use Rattle.vx_reading.specs.declared.trouble.Trouble.TheVariants.{UnknownOption, BadValue, TooMany}
+use Rattle.vx_reading.specs.Options.{Place, Alone, Within, Shape, AnyText, OneOf, Texts, Row, same_place}
+
+-- a name and the value under it
+pub record Pair : Type 0 where
+  pub name : Word
+  pub value : Data
+
+-- the members of a table, in their order, which is that of the bytes of their names
+abbrev pub pairs_of : Members → List Pair
+pairs_of no_members = []
+pairs_of (member name value rest) = record { name = name; value = value } ∷ pairs_of rest
+
+-- what a value has in it, where it is a table
+abbrev pub pairs_in : Data → List Pair
+pairs_in value = elim (as_table value) [ None ↦ [] | Some inner ↦ pairs_of inner ]
+
+-- whether a value is a table
+abbrev pub is_table : Data → Bool
+is_table value = elim (as_table value) [ None ↦ false | Some inner ↦ true ]
+
+-- an option that a table gives: where, and which value
+pub record Given : Type 0 where
+  pub place : Place
+  pub value : Data
+
+-- whether options stand in a table of that name
+abbrev pub is_within : Word → Place → Bool
+is_within group (Alone name) = false
+is_within group (Within other name) = same_text other group
+
+abbrev pub is_group : List Row → Word → Bool
+is_group rows group = list_any (λ (r : Row). is_within group r.place) rows
+
+abbrev pub within : Word → Pair → Given
+within group p = record { place = Within group p.name; value = p.value }
+
+abbrev pub alone : Pair → Given
+alone p = record { place = Alone p.name; value = p.value }
+
+-- what a table gives under a name: where options stand in a table of that name, those that this one has
+abbrev pub given_by : List Row → Pair → List Given
+given_by rows p = if is_group rows p.name && is_table p.value then map (within p.name) (pairs_in p.value) else alone p ∷ []
+
+-- what a table gives
+abbrev pub given : List Row → List Pair → List Given
+given rows pairs = flat_map (given_by rows) pairs
+
+-- whether something is given at a place
+abbrev pub is_given : Place → List Given → Bool
+is_given place all = list_any (λ (g : Given). same_place g.place place) all
+
+-- the items of a list, in order
+abbrev pub items_in : Items → List Data
+items_in no_items = []
+items_in (item first rest) = first ∷ items_in rest
+
+-- whether a value is a text
+abbrev pub is_text : Data → Bool
+is_text value = elim (as_str value) [ None ↦ false | Some text ↦ true ]
+
+-- whether a value is one of some texts
+abbrev pub is_one_of : List Word → Data → Bool
+is_one_of texts value = elim (as_str value) [ None ↦ false | Some text ↦ list_any (λ t. same_text t text) texts ]
+
+-- what is wrong with a list of texts, at most so many
+abbrev pub fits_texts : ℕ → List Data → Option Trouble
+fits_texts most items =
+    if list_any (λ d. not (is_text d)) items then Some BadValue
+    else (if nat_lt most (length items) then Some (TooMany (length items) most) else None)
+
+-- what is wrong with a value, by what it has to be
+abbrev pub fits : Shape → Data → Option Trouble
+fits AnyText value = if is_text value then None else Some BadValue
+fits (OneOf texts) value = if is_one_of texts value then None else Some BadValue
+fits (Texts most) value = elim (as_array value) [ None ↦ Some BadValue | Some items ↦ fits_texts most (items_in items) ]
+
+-- the row of a place
+abbrev pub row_at : List Row → Place → Option Row
+row_at rows place = find (λ (r : Row). same_place r.place place) rows
+
+-- what is wrong with an option that is given: it has no row, or the value isn't what the row says
+abbrev pub judged : List Row → Given → Option Trouble
+judged rows g = elim (row_at rows g.place) [ None ↦ Some UnknownOption | Some row ↦ fits row.shape g.value ]

@@ -1,0 +1,87 @@
+-- Which options there are: tables of rows, read by the same definitions whatever they hold.
+use Rattle.std.specs.Prelude.{ℕ, Bool, true, false, ◌&&◌, Option, List, [], ◌∷◌, ◌++◌, codes, find}
+use Rattle.vx_value.specs.Texts.{Word, same_text}
+use Rattle.vx_plan.specs.declared.class.Class.{Class}
+use Rattle.vx_plan.specs.declared.class.Class.TheVariants.{Source, Transform, Sink}
+use Rattle.vx_reading.specs.declared.kind.Kind.{Kind}
+use Rattle.vx_reading.specs.declared.kind.Kind.TheVariants.{Stdin, Console}
+
+-- where an option stands in a table: by itself, or in a table of its own, whose name comes first
+pub data Place : Type 0 where
+  Alone : Word → Place
+  Within : Word → Word → Place
+
+-- what a value has to be: a text, one of some texts, or a list of texts, at most so many
+pub data Shape : Type 0 where
+  AnyText : Shape
+  OneOf : List Word → Shape
+  Texts : ℕ → Shape
+
+-- an option: where it stands, what its value has to be, and whether it has to be there
+pub record Row : Type 0 where
+  pub place : Place
+  pub shape : Shape
+  pub required : Bool
+
+-- the byte `.`
+abbrev pub dot : ℕ
+dot = 46
+
+-- the names of a place, joined by a dot
+abbrev pub place_path : Place → Word
+place_path (Alone name) = name
+place_path (Within group name) = group ++ dot ∷ name
+
+-- whether two places are the same
+abbrev pub same_place : Place → Place → Bool
+same_place (Alone a) (Alone b) = same_text a b
+same_place (Within g a) (Within h b) = same_text g h && same_text a b
+same_place _ _ = false
+
+-- the options of the whole configuration
+abbrev pub global_rows : List Row
+global_rows = record { place = Alone (codes "data_dir"); shape = AnyText; required = false } ∷ []
+
+-- an option of every component
+abbrev pub type_row : Row
+type_row = record { place = Alone (codes "type"); shape = AnyText; required = true }
+
+-- an option of every component that reads others; the graph asks for one input at least
+abbrev pub inputs_row : Row
+inputs_row = record { place = Alone (codes "inputs"); shape = Texts 256; required = false }
+
+-- where a console writes
+abbrev pub target_row : Row
+target_row = record { place = Alone (codes "target"); shape = OneOf (codes "stdout" ∷ codes "stderr" ∷ []); required = false }
+
+-- how a sink writes an event
+abbrev pub codec_row : Row
+codec_row = record { place = Within (codes "encoding") (codes "codec"); shape = OneOf (codes "text" ∷ []); required = true }
+
+-- the options of each type
+abbrev pub rows_of : Kind → List Row
+rows_of Stdin = type_row ∷ []
+rows_of Console = type_row ∷ inputs_row ∷ target_row ∷ codec_row ∷ []
+
+-- the types, each with the table in which it stands and its name
+abbrev pub kinds : List Kind
+kinds = Stdin ∷ Console ∷ []
+
+abbrev pub kind_class : Kind → Class
+kind_class Stdin = Source
+kind_class Console = Sink
+
+abbrev pub kind_name : Kind → Word
+kind_name Stdin = codes "stdin"
+kind_name Console = codes "console"
+
+-- whether two classes are the same
+abbrev pub same_class : Class → Class → Bool
+same_class Source Source = true
+same_class Transform Transform = true
+same_class Sink Sink = true
+same_class _ _ = false
+
+-- the type of that name in a table
+abbrev pub kind_named : Class → Word → Option Kind
+kind_named class name = find (λ (k : Kind). same_class (kind_class k) class && same_text (kind_name k) name) kinds

@@ -1,0 +1,97 @@
+-- The plan of a document without faults.
+use Rattle.std.specs.Prelude.{Option, Some, None, option_and_then, List, [], ◌∷◌, map, codes, if◌then◌else◌, false, ◌^◌, ◌-◌}
+use Rattle.std.specs.List.{flat_map}
+use Rattle.vx_value.specs.Texts.{Word, same_text}
+use Rattle.toml.specs.Data.{Data, Items, get, as_str, as_array}
+use Rattle.vx_graph.specs.declared.node.Class as graph_class
+use Rattle.vx_graph.specs.declared.node.Class.TheVariants as graph
+use Rattle.vx_graph.specs.declared.node.Node.{Node}
+use Rattle.vx_plan.specs.declared.class.Class.{Class}
+use Rattle.vx_plan.specs.declared.class.Class.TheVariants.{Source, Transform, Sink}
+use Rattle.vx_plan.specs.declared.codec.Codec.TheVariants as codec
+use Rattle.vx_plan.specs.declared.component.Component.{Component}
+use Rattle.vx_plan.specs.declared.console_target.ConsoleTarget.{ConsoleTarget}
+use Rattle.vx_plan.specs.declared.console_target.ConsoleTarget.TheVariants.{Stdout, Stderr}
+use Rattle.vx_plan.specs.declared.decoding.Decoding.TheVariants as decoding
+use Rattle.vx_plan.specs.declared.global.Global.{Global}
+use Rattle.vx_plan.specs.declared.plan.Plan.{Plan}
+use Rattle.vx_plan.specs.declared.settings.Settings.{Settings}
+use Rattle.vx_plan.specs.declared.settings.Settings.TheVariants as settings
+use Rattle.vx_plan.specs.declared.sink_settings.SinkSettings.{SinkSettings}
+use Rattle.vx_plan.specs.declared.when_full.WhenFull.TheVariants.{Block}
+use Rattle.vx_plan.specs.Components.{class_ports}
+use Rattle.vx_reading.specs.declared.kind.Kind.{Kind}
+use Rattle.vx_reading.specs.declared.kind.Kind.TheVariants.{Stdin, Console}
+use Rattle.vx_reading.specs.Components.{Part, parts, kind_of}
+use Rattle.vx_reading.specs.Judging.{items_in}
+
+-- a text, or another where it isn't given
+abbrev pub text_or : Word → Option Word → Word
+text_or other None = other
+text_or other (Some text) = text
+
+-- the text under a name of a table
+abbrev pub text_at : Word → Data → Option Word
+text_at name value = option_and_then as_str (get name value)
+
+-- the options of the whole
+abbrev pub global_of : Data → Global
+global_of root = record { data_dir = text_or (codes "/var/lib/vector/") (text_at (codes "data_dir") root); acknowledgements = false }
+
+-- the texts among some values
+abbrev pub text_of : Data → List Word
+text_of value = elim (as_str value) [ None ↦ [] | Some text ↦ text ∷ [] ]
+
+abbrev pub texts_of : Option Items → List Word
+texts_of None = []
+texts_of (Some items) = flat_map text_of (items_in items)
+
+-- the inputs of a component
+abbrev pub inputs_of : Data → List Word
+inputs_of value = texts_of (option_and_then as_array (get (codes "inputs") value))
+
+-- where a console writes: to standard output where it doesn't say
+abbrev pub target_named : Option Word → ConsoleTarget
+target_named None = Stdout
+target_named (Some text) = if same_text text (codes "stderr") then Stderr else Stdout
+
+-- what every sink has that says nothing of it
+abbrev pub sink_defaults : SinkSettings
+sink_defaults = record {
+  acknowledgements = false;
+  buffer = record { max_events = 500; when_full = Block } ∷ [];
+  batch_max_events = 1;
+  batch_timeout_secs = 1;
+  request_retry_attempts = 2 ^ 63 - 1;
+  request_retry_initial_backoff_secs = 1;
+  request_retry_max_duration_secs = 30;
+}
+
+-- the settings of a component of a type
+abbrev pub settings_of : Data → Kind → Settings
+settings_of value Stdin = settings.Stdin 102400 decoding.Bytes
+settings_of value Console = settings.Console (target_named (text_at (codes "target") value)) codec.Text sink_defaults
+
+-- the component of a type
+abbrev pub component : Part → Kind → Component
+component part kind = record { name = part.name; class = part.class; inputs = inputs_of part.value; settings = settings_of part.value kind }
+
+abbrev pub component_of : Part → List Component
+component_of part = elim (kind_of part) [ None ↦ [] | Some kind ↦ component part kind ∷ [] ]
+
+-- what a document stands for
+abbrev pub plan_of : Data → Plan
+plan_of root = record { global = global_of root; components = flat_map component_of (parts root) }
+
+-- the class of a component in the graph
+abbrev pub node_class : Class → graph_class.Class
+node_class Source = graph.Source
+node_class Transform = graph.Transform
+node_class Sink = graph.Sink
+
+abbrev pub node_of : Component → Node
+node_of c = record { name = c.name; class = node_class c.class; ports = class_ports c.class; inputs = c.inputs }
+
+-- the graph of a plan
+abbrev pub nodes_of : Plan → List Node
+nodes_of plan = map node_of plan.components

@@ -1,0 +1,90 @@
+ghost use Rattle.std.specs.Prelude.{◌≡◌, ◌++◌, OnOk};
+ghost use Rattle.vx_reading.specs.Findings.{found_if, given_findings, lacking, option_findings};
+ghost use Rattle.vx_reading.specs.Judging.{judged};
+ghost use Rattle.vx_reading.specs.Options.{place_path};
+ghost use Rattle.vx_reading.specs.Views.{owner_view, rows_view, row_view, given_view, givens_view};
+
+use crate::finding::{FindingList, push};
+use crate::given::{Given, is_given};
+use crate::judging::judged;
+use crate::owner::Owner;
+use crate::paths::option_path;
+use crate::row::Row;
+use crate::trouble::Trouble;
+use std::alloc::Global;
+use vx_value::WantOfMemory;
+
+/// Adds the fault of an option that is given, if it has one.
+fn push_judged(
+    alloc: Global,
+    findings: &mut FindingList,
+    owner: Owner<'_>,
+    lead: &str,
+    rows: &[Row],
+    given: Given<'_>,
+) -> Result<(), WantOfMemory>
+    ensures { OnOk result (findings.new
+        ≡ findings.old ++ found_if (owner_view owner.entry) (lead.now ++ place_path (given_view given.entry).place) (judged (rows_view rows.now) (given_view given.entry))) }
+{
+    match judged(rows, given) {
+        None => Ok(()),
+        Some(trouble) => {
+            let path = option_path(alloc, lead, given.place)?;
+            push(alloc, findings, owner, path, trouble)
+        }
+    }
+}
+
+/// Adds the faults of what a table gives.
+fn push_given(
+    alloc: Global,
+    findings: &mut FindingList,
+    owner: Owner<'_>,
+    lead: &str,
+    rows: &[Row],
+    all: &[Given<'_>],
+) -> Result<(), WantOfMemory>
+    ensures { OnOk result (findings.new ≡ findings.old ++ given_findings (owner_view owner.entry) lead.now (rows_view rows.now) (givens_view all.now)) }
+{
+    for given in all {
+        push_judged(alloc, findings, owner, lead, rows, *given)?;
+    }
+    Ok(())
+}
+
+/// Adds the fault of an option that has to be there and isn't.
+fn push_lacking(
+    alloc: Global,
+    findings: &mut FindingList,
+    owner: Owner<'_>,
+    lead: &str,
+    all: &[Given<'_>],
+    row: Row,
+) -> Result<(), WantOfMemory>
+    ensures { OnOk result (findings.new ≡ findings.old ++ lacking (owner_view owner.entry) lead.now (givens_view all.now) (row_view row)) }
+{
+    if row.required && !is_given(row.place, all) {
+        let path = option_path(alloc, lead, row.place)?;
+        push(alloc, findings, owner, path, Trouble::MissingOption)
+    } else {
+        Ok(())
+    }
+}
+
+/// Adds the faults of a table's options.
+pub(crate) fn push_options(
+    alloc: Global,
+    findings: &mut FindingList,
+    owner: Owner<'_>,
+    lead: &str,
+    rows: &[Row],
+    all: &[Given<'_>],
+) -> Result<(), WantOfMemory>
+    ensures { OnOk result (findings.new ≡ findings.old ++ option_findings (owner_view owner.entry) lead.now (rows_view rows.now) (givens_view all.now)) }
+{
+    push_given(alloc, findings, owner, lead, rows, all)?;
+    for row in rows {
+        push_lacking(alloc, findings, owner, lead, all, *row)?;
+    }
+    Ok(())
+}

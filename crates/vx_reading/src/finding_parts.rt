@@ -1,0 +1,154 @@
+ghost use Rattle.std.specs.Prelude.{◌≡◌, ◌++◌, Some, OnOk};
+ghost use Rattle.std.specs.Option.{option_map};
+ghost use Rattle.toml.specs.View.{view};
+ghost use Rattle.vx_reading.specs.Components.{type_in};
+ghost use Rattle.vx_reading.specs.Findings.{owner_of, part_finding, later_findings, kind_findings, text_findings, type_findings, part_findings};
+ghost use Rattle.vx_reading.specs.Views.{owner_view, part_view};
+
+use crate::finding::{FindingList, push};
+use crate::finding_options::push_options;
+use crate::given::{given_in, is_table};
+use crate::kind::Kind;
+use crate::options::{kind_named, rows_of, section_number};
+use crate::owner::Owner;
+use crate::pair::pairs_in;
+use crate::part::{Part, is_later_stdin, is_taken};
+use crate::paths::{part_lead, part_path, type_path};
+use crate::texts::is_name;
+use crate::trouble::Trouble;
+use std::alloc::Global;
+use toml::Value;
+use vx_value::WantOfMemory;
+
+/// To whom the faults of a component belong.
+fn owner_of<'a>(part: Part<'a>) -> Owner<'a>
+    ensures { owner_view result ≡ owner_of (part_view part.entry) }
+{
+    Owner {
+        section: section_number(part.class),
+        name: part.name,
+    }
+}
+
+/// Adds the fault of a component itself: it is no table, its name is malformed, or an earlier table has it.
+fn push_part_itself(
+    alloc: Global,
+    findings: &mut FindingList,
+    root: &Value,
+    part: Part<'_>,
+) -> Result<(), WantOfMemory>
+    ensures { OnOk result (findings.new ≡ findings.old ++ part_finding (view root.now) (part_view part.entry)) }
+{
+    if is_table(part.value) && is_name(part.name) && !is_taken(root, part.class, part.name) {
+        return Ok(());
+    }
+    let path = part_path(alloc, part)?;
+    push(alloc, findings, owner_of(part), path, Trouble::BadValue)
+}
+
+/// Adds the fault of a component that reads standard input after another that does.
+fn push_later(
+    alloc: Global,
+    findings: &mut FindingList,
+    first: Option<&str>,
+    part: Part<'_>,
+) -> Result<(), WantOfMemory>
+    ensures { OnOk result (findings.new ≡ findings.old ++ later_findings (option_map (λ name. name.now) first.entry) (part_view part.entry)) }
+{
+    if is_later_stdin(first, part) {
+        let path = type_path(alloc, part)?;
+        push(alloc, findings, owner_of(part), path, Trouble::BadValue)
+    } else {
+        Ok(())
+    }
+}
+
+/// Adds the faults of a component whose type is known.
+fn push_kind(
+    alloc: Global,
+    findings: &mut FindingList,
+    first: Option<&str>,
+    part: Part<'_>,
+    kind: Kind,
+) -> Result<(), WantOfMemory>
+    ensures { OnOk result (findings.new ≡ findings.old ++ kind_findings (option_map (λ name. name.now) first.entry) (part_view part.entry) kind) }
+{
+    push_later(alloc, findings, first, part)?;
+    let rows = rows_of(kind);
+    let pairs = pairs_in(alloc, part.value)?;
+    let all = given_in(alloc, rows, pairs.as_slice())?;
+    let lead = part_lead(alloc, part)?;
+    push_options(
+        alloc,
+        findings,
+        owner_of(part),
+        lead.as_str(),
+        rows,
+        all.as_slice(),
+    )
+}
+
+/// Adds the faults of a component by what its type is called.
+fn push_named(
+    alloc: Global,
+    findings: &mut FindingList,
+    first: Option<&str>,
+    part: Part<'_>,
+    text: &str,
+) -> Result<(), WantOfMemory>
+    ensures { OnOk result (findings.new ≡ findings.old ++ text_findings (option_map (λ name. name.now) first.entry) (part_view part.entry) (Some text.now)) }
+{
+    match kind_named(part.class, text) {
+        Some(kind) => push_kind(alloc, findings, first, part, kind),
+        None => {
+            let path = type_path(alloc, part)?;
+            push(alloc, findings, owner_of(part), path, Trouble::UnknownKind)
+        }
+    }
+}
+
+/// Adds the faults of a component by its type, which has to be a text.
+fn push_typed(
+    alloc: Global,
+    findings: &mut FindingList,
+    first: Option<&str>,
+    part: Part<'_>,
+) -> Result<(), WantOfMemory>
+    ensures { OnOk result (findings.new ≡ findings.old ++ type_findings (option_map (λ name. name.now) first.entry) (part_view part.entry) (type_in (part_view part.entry).value)) }
+{
+    let Some(value) = part.value.get("type") else {
+        let path = type_path(alloc, part)?;
+        return push(
+            alloc,
+            findings,
+            owner_of(part),
+            path,
+            Trouble::MissingOption,
+        );
+    };
+    match value.as_str() {
+        Some(text) => push_named(alloc, findings, first, part, text),
+        None => {
+            let path = type_path(alloc, part)?;
+            push(alloc, findings, owner_of(part), path, Trouble::BadValue)
+        }
+    }
+}
+
+/// Adds the faults of a component.
+pub(crate) fn push_part(
+    alloc: Global,
+    findings: &mut FindingList,
+    root: &Value,
+    first: Option<&str>,
+    part: Part<'_>,
+) -> Result<(), WantOfMemory>
+    ensures { OnOk result (findings.new ≡ findings.old ++ part_findings (view root.now) (option_map (λ name. name.now) first.entry) (part_view part.entry)) }
+{
+    push_part_itself(alloc, findings, root, part)?;
+    if is_table(part.value) {
+        push_typed(alloc, findings, first, part)
+    } else {
+        Ok(())
+    }
+}

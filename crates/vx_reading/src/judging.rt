@@ -1,0 +1,109 @@
+ghost use Rattle.std.specs.Prelude.{◌≡◌, map, not};
+ghost use Rattle.std.specs.Option.{option_map};
+ghost use Rattle.std.specs.List.{list_any};
+ghost use Rattle.toml.specs.View.{view, items_view};
+ghost use Rattle.vx_value.specs.Texts.{same_text};
+ghost use Rattle.vx_reading.specs.Judging.{fits, fits_texts, judged, items_in, is_text, is_one_of, row_at};
+ghost use Rattle.vx_reading.specs.Views.{shape_view, rows_view, row_view, place_view, given_view};
+
+use crate::given::{Given, same_place};
+use crate::place::Place;
+use crate::row::Row;
+use crate::shape::Shape;
+use crate::texts::same_text;
+use crate::trouble::Trouble;
+use toml::Value;
+
+/// Whether a value is a text.
+fn is_text(value: &Value) -> bool
+    ensures { result ≡ is_text (view value.now) }
+{
+    value.as_str().is_some()
+}
+
+/// Whether a value is one of some texts.
+fn is_one_of(texts: &[&str], value: &Value) -> bool
+    ensures { result ≡ is_one_of (map (λ t. t.now) texts.now) (view value.now) }
+{
+    match value.as_str() {
+        Some(text) => is_among(texts, text),
+        None => false,
+    }
+}
+
+/// Whether a text is one of some.
+fn is_among(texts: &[&str], text: &str) -> bool
+    ensures { result ≡ list_any (λ t. same_text t text.now) (map (λ t. t.now) texts.now) }
+{
+    for other in texts {
+        if same_text(other, text) {
+            return true;
+        }
+    }
+    false
+}
+
+/// What is wrong with a list of texts, which may have so many; `None` exactly where nothing is.
+#[tactic(auto, using(crate::proofs::Lists::items_in_length))]
+fn fits_texts(most: usize, items: &[Value]) -> Option<Trouble>
+    ensures { result ≡ fits_texts most (items_in (items_view items.now)) }
+{
+    if has_other(items) {
+        return Some(Trouble::BadValue);
+    }
+    if most < items.len() {
+        let found = items.len() as u64;
+        let limit = most as u64;
+        return Some(Trouble::TooMany { found, limit });
+    }
+    None
+}
+
+/// Whether some value is no text.
+fn has_other(items: &[Value]) -> bool
+    ensures { result ≡ list_any (λ d. not (is_text d)) (items_in (items_view items.now)) }
+{
+    for item in items {
+        if !is_text(item) {
+            return true;
+        }
+    }
+    false
+}
+
+/// What is wrong with a value, by what it has to be.
+fn fits(shape: Shape, value: &Value) -> Option<Trouble>
+    ensures { result ≡ fits (shape_view shape) (view value.now) }
+{
+    match shape {
+        Shape::AnyText if is_text(value) => None,
+        Shape::OneOf(texts) if is_one_of(texts, value) => None,
+        Shape::Texts(most) => match value.as_array() {
+            Some(items) => fits_texts(most, items.as_slice()),
+            None => Some(Trouble::BadValue),
+        },
+        _ => Some(Trouble::BadValue),
+    }
+}
+
+/// The row of a place.
+fn row_at<'a>(rows: &'a [Row], place: Place<'_>) -> Option<&'a Row>
+    ensures { option_map (λ r. row_view r.now) result ≡ row_at (rows_view rows.now) (place_view place.entry) }
+{
+    for row in rows {
+        if same_place(row.place, place) {
+            return Some(row);
+        }
+    }
+    None
+}
+
+/// What is wrong with an option that is given.
+pub(crate) fn judged(rows: &[Row], given: Given<'_>) -> Option<Trouble>
+    ensures { result ≡ judged (rows_view rows.now) (given_view given.entry) }
+{
+    match row_at(rows, given.place) {
+        Some(row) => fits(row.shape, given.value),
+        None => Some(Trouble::UnknownOption),
+    }
+}

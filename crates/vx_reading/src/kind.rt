@@ -1,0 +1,8 @@
+/// What a component is: the meaning of its `type`.
+#[derive(Clone, Copy, PartialEq, Eq, Debug)]
+pub(crate) enum Kind {
+    /// A source that reads standard input.
+    Stdin,
+    /// A sink that writes to standard output or standard error.
+    Console,
+}

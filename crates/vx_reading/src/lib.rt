@@ -1,0 +1,33 @@
+//! A configuration is read: a text and an environment give a plan, or the first fault.
+#![tactic(auto)]
+
+mod finding;
+mod finding_options;
+mod finding_parts;
+mod findings;
+mod first;
+mod given;
+mod graphs;
+mod judging;
+mod kind;
+mod laws;
+mod options;
+mod owner;
+mod pair;
+mod part;
+mod paths;
+mod place;
+mod plan_fault;
+mod plans;
+mod reading;
+mod row;
+mod shape;
+mod texts;
+mod trouble;
+
+pub use laws::{first_configuration, one_answer};
+pub use plan_fault::PlanFault;
+pub use reading::read_plan;
+
+#[cfg(test)]
+mod tests;

@@ -1,0 +1,111 @@
+ghost use Rattle.std.specs.Prelude.{◌≡◌};
+ghost use Rattle.vx_reading.specs.Components.{section_name};
+ghost use Rattle.vx_reading.specs.Findings.{section_number, is_section};
+ghost use Rattle.vx_reading.specs.Options.{global_rows, rows_of, kind_named};
+ghost use Rattle.vx_reading.specs.Views.{rows_view};
+
+use crate::kind::Kind;
+use crate::place::Place;
+use crate::row::Row;
+use crate::shape::Shape;
+use crate::texts::same_text;
+use vx_plan::Class;
+
+/// How many inputs a component may have.
+const MOST_INPUTS: usize = 256;
+
+/// The options of the whole configuration.
+static GLOBAL_ROWS: [Row; 1] = [Row {
+    place: Place::Alone("data_dir"),
+    shape: Shape::AnyText,
+    required: false,
+}];
+
+/// An option of every component.
+const TYPE_ROW: Row = Row {
+    place: Place::Alone("type"),
+    shape: Shape::AnyText,
+    required: true,
+};
+
+/// The options of a source that reads standard input.
+static STDIN_ROWS: [Row; 1] = [TYPE_ROW];
+
+/// The options of a sink that writes to standard output or standard error.
+static CONSOLE_ROWS: [Row; 4] = [
+    TYPE_ROW,
+    Row {
+        place: Place::Alone("inputs"),
+        shape: Shape::Texts(MOST_INPUTS),
+        required: false,
+    },
+    Row {
+        place: Place::Alone("target"),
+        shape: Shape::OneOf(&["stdout", "stderr"]),
+        required: false,
+    },
+    Row {
+        place: Place::Within("encoding", "codec"),
+        shape: Shape::OneOf(&["text"]),
+        required: true,
+    },
+];
+
+/// The options of the whole configuration.
+pub(crate) fn global_rows() -> &'static [Row]
+    ensures { rows_view result.now ≡ global_rows }
+{
+    &GLOBAL_ROWS
+}
+
+/// The options of a type.
+pub(crate) fn rows_of(kind: Kind) -> &'static [Row]
+    ensures { rows_view result.now ≡ rows_of kind }
+{
+    match kind {
+        Kind::Stdin => &STDIN_ROWS,
+        Kind::Console => &CONSOLE_ROWS,
+    }
+}
+
+/// The type of that name in the table of a class.
+pub(crate) fn kind_named(class: Class, name: &str) -> Option<Kind>
+    ensures { result ≡ kind_named class name.now }
+{
+    match class {
+        Class::Source if same_text("stdin", name) => Some(Kind::Stdin),
+        Class::Sink if same_text("console", name) => Some(Kind::Console),
+        _ => None,
+    }
+}
+
+/// The name of the table of a class.
+pub(crate) fn section_name(class: Class) -> &'static str
+    ensures { result.now ≡ section_name class }
+{
+    match class {
+        Class::Source => "sources",
+        Class::Transform => "transforms",
+        Class::Sink => "sinks",
+    }
+}
+
+/// The place of the table of a class among the parts of a configuration.
+pub(crate) fn section_number(class: Class) -> u8
+    ensures { result ≡ section_number class }
+{
+    match class {
+        Class::Source => 1,
+        Class::Transform => 2,
+        Class::Sink => 3,
+    }
+}
+
+/// Whether a name is that of one of the three tables.
+pub(crate) fn is_section(name: &str) -> bool
+    ensures { result ≡ is_section name.now }
+{
+    same_text(name, section_name(Class::Source))
+        || same_text(name, section_name(Class::Transform))
+        || same_text(name, section_name(Class::Sink))
+}

@@ -1,0 +1,182 @@
+ghost use Rattle.std.specs.Prelude.{◌≡◌, ◌++◌, IfOk, OnOk, map};
+ghost use Rattle.std.specs.Option.{option_map};
+ghost use Rattle.std.specs.List.{flat_map};
+ghost use Rattle.toml.specs.View.{view, items_view};
+ghost use Rattle.vx_reading.specs.Judging.{items_in};
+ghost use Rattle.vx_reading.specs.Components.{parts};
+ghost use Rattle.vx_reading.specs.Plans.{text_at, global_of, text_of, inputs_of, target_named, sink_defaults, settings_of, component, component_of, plan_of};
+ghost use Rattle.vx_reading.specs.Views.{part_view, parts_view};
+
+use crate::kind::Kind;
+use crate::part::{Part, kind_of};
+use crate::texts::same_text;
+use std::alloc::Global as Allocator;
+use toml::Value;
+use vx_plan::{
+    Codec, Component, ComponentList, ConsoleTarget, Decoding, Global, Plan, Settings, SinkSettings,
+    Stage, StageList, WhenFull,
+};
+use vx_value::{Text, TextList, WantOfMemory};
+
+/// The length of the longest line where a source doesn't say, without its line feed.
+const LINE_LIMIT: u32 = 102_400;
+
+/// The folder in which checkpoints are kept where a configuration doesn't say.
+const DATA_DIR: &str = "/var/lib/vector/";
+
+/// The text under a name of a table.
+fn text_at<'a>(name: &str, table: &'a Value) -> Option<&'a str>
+    ensures { option_map (λ t. t.now) result ≡ text_at name.now (view table.now) }
+{
+    match table.get(name) {
+        Some(value) => value.as_str(),
+        None => None,
+    }
+}
+
+/// The options of the whole.
+fn global_of(alloc: Allocator, root: &Value) -> Result<Global, WantOfMemory>
+    ensures { IfOk result (λ global. global ≡ global_of (view root.now)) }
+{
+    let data_dir = match text_at("data_dir", root) {
+        Some(text) => Text::copy_of(alloc, text)?,
+        None => Text::copy_of(alloc, DATA_DIR)?,
+    };
+    Ok(Global {
+        data_dir,
+        acknowledgements: false,
+    })
+}
+
+/// Adds a value that is a text.
+fn push_text(alloc: Allocator, texts: &mut TextList, value: &Value) -> Result<(), WantOfMemory>
+    ensures { OnOk result (texts.new ≡ texts.old ++ text_of (view value.now)) }
+{
+    let Some(text) = value.as_str() else {
+        return Ok(());
+    };
+    match texts.push(Text::copy_of(alloc, text)?) {
+        Ok(()) => Ok(()),
+        Err(_) => Err(WantOfMemory),
+    }
+}
+
+/// The texts among some values.
+fn texts_of(alloc: Allocator, values: &[Value]) -> Result<TextList, WantOfMemory>
+    ensures { IfOk result (λ texts. texts ≡ flat_map text_of (items_in (items_view values.now))) }
+{
+    let mut texts = TextList::new(alloc);
+    for value in values {
+        push_text(alloc, &mut texts, value)?;
+    }
+    Ok(texts)
+}
+
+/// The inputs of a component.
+fn inputs_of(alloc: Allocator, table: &Value) -> Result<TextList, WantOfMemory>
+    ensures { IfOk result (λ inputs. inputs ≡ inputs_of (view table.now)) }
+{
+    let Some(value) = table.get("inputs") else {
+        return Ok(TextList::new(alloc));
+    };
+    match value.as_array() {
+        Some(values) => texts_of(alloc, values.as_slice()),
+        None => Ok(TextList::new(alloc)),
+    }
+}
+
+/// Where a console writes: to standard output where it doesn't say.
+fn target_named(name: Option<&str>) -> ConsoleTarget
+    ensures { result ≡ target_named (option_map (λ t. t.now) name.entry) }
+{
+    match name {
+        Some(text) if same_text(text, "stderr") => ConsoleTarget::Stderr,
+        _ => ConsoleTarget::Stdout,
+    }
+}
+
+/// What every sink has that says nothing of it.
+fn sink_defaults(alloc: Allocator) -> Result<SinkSettings, WantOfMemory>
+    ensures { IfOk result (λ sink. sink ≡ sink_defaults) }
+{
+    let mut buffer = StageList::new(alloc);
+    let stage = Stage {
+        max_events: 500,
+        when_full: WhenFull::Block,
+    };
+    buffer.push(stage).map_err(|_| WantOfMemory)?;
+    Ok(SinkSettings {
+        acknowledgements: false,
+        buffer,
+        batch_max_events: 1,
+        batch_timeout_secs: 1,
+        request_retry_attempts: 0x7fff_ffff_ffff_ffff,
+        request_retry_initial_backoff_secs: 1,
+        request_retry_max_duration_secs: 30,
+    })
+}
+
+/// The settings of a component of a type.
+fn settings_of(alloc: Allocator, table: &Value, kind: Kind) -> Result<Settings, WantOfMemory>
+    ensures { IfOk result (λ settings. settings ≡ settings_of (view table.now) kind) }
+{
+    match kind {
+        Kind::Stdin => Ok(Settings::Stdin {
+            max_length: LINE_LIMIT,
+            decoding_codec: Decoding::Bytes,
+        }),
+        Kind::Console => Ok(Settings::Console {
+            target: target_named(text_at("target", table)),
+            encoding_codec: Codec::Text,
+            sink: sink_defaults(alloc)?,
+        }),
+    }
+}
+
+/// The component of a type.
+fn make_component(alloc: Allocator, part: Part<'_>, kind: Kind) -> Result<Component, WantOfMemory>
+    ensures { IfOk result (λ made. made ≡ component (part_view part.entry) kind) }
+{
+    Ok(Component {
+        name: Text::copy_of(alloc, part.name)?,
+        class: part.class,
+        inputs: inputs_of(alloc, part.value)?,
+        settings: settings_of(alloc, part.value, kind)?,
+    })
+}
+
+/// Adds the component that a part of a document stands for.
+fn push_component(
+    alloc: Allocator,
+    components: &mut ComponentList,
+    part: Part<'_>,
+) -> Result<(), WantOfMemory>
+    ensures { OnOk result (components.new ≡ components.old ++ component_of (part_view part.entry)) }
+{
+    let Some(kind) = kind_of(part) else {
+        return Ok(());
+    };
+    match components.push(make_component(alloc, part, kind)?) {
+        Ok(()) => Ok(()),
+        Err(_) => Err(WantOfMemory),
+    }
+}
+
+/// What a document stands for.
+pub(crate) fn plan_of(
+    alloc: Allocator,
+    root: &Value,
+    all: &[Part<'_>],
+) -> Result<Plan, WantOfMemory>
+    requires { parts_view all.now ≡ parts (view root.now) }
+    ensures { IfOk result (λ plan. plan ≡ plan_of (view root.now)) }
+{
+    let mut components = ComponentList::new(alloc);
+    for part in all {
+        push_component(alloc, &mut components, *part)?;
+    }
+    Ok(Plan {
+        global: global_of(alloc, root)?,
+        components,
+    })
+}

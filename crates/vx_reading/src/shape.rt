@@ -1,0 +1,10 @@
+/// What the value of an option has to be.
+#[derive(Clone, Copy)]
+pub(crate) enum Shape {
+    /// A text.
+    AnyText,
+    /// One of some texts.
+    OneOf(&'static [&'static str]),
+    /// A list of texts, at most so many.
+    Texts(usize),
+}

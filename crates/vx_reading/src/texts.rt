@@ -1,0 +1,59 @@
+ghost use Rattle.std.specs.Prelude.{◌≡◌};
+ghost use Rattle.std.specs.List.{list_all};
+ghost use Rattle.vx_value.specs.Texts.{same_text, text_lt};
+ghost use Rattle.vx_reading.specs.Components.{is_name, is_name_byte};
+
+use std::cmp::Ordering;
+
+/// The longest name of a component, in bytes.
+const LONGEST_NAME: usize = 64;
+
+/// Whether two texts are the same.
+#[tactic(auto, using(vx_value::proofs::Order::told_equal))]
+pub(crate) fn same_text(a: &str, b: &str) -> bool
+    ensures { result ≡ same_text a.now b.now }
+{
+    a == b
+}
+
+/// Whether a text comes before another by its bytes.
+#[tactic(auto, using(vx_value::proofs::Order::told_less))]
+pub(crate) fn text_lt(a: &str, b: &str) -> bool
+    ensures { result ≡ text_lt a.now b.now }
+{
+    match a.cmp(b) {
+        Ordering::Less => true,
+        Ordering::Equal => false,
+        Ordering::Greater => false,
+    }
+}
+
+/// Whether a byte may stand in the name of a component.
+fn is_name_byte(byte: u8) -> bool
+    ensures { result ≡ is_name_byte byte }
+{
+    (b'A' <= byte && byte <= b'Z')
+        || (b'a' <= byte && byte <= b'z')
+        || (b'0' <= byte && byte <= b'9')
+        || byte == b'_'
+        || byte == b'-'
+}
+
+/// Whether all of some bytes may stand in the name of a component.
+fn are_name_bytes(bytes: &[u8]) -> bool
+    ensures { result ≡ list_all is_name_byte bytes.now }
+{
+    for byte in bytes {
+        if !is_name_byte(*byte) {
+            return false;
+        }
+    }
+    true
+}
+
+/// Whether a text may name a component: 1 to 64 letters and digits of ASCII, `_` and `-`.
+pub(crate) fn is_name(name: &str) -> bool
+    ensures { result ≡ is_name name.now }
+{
+    1 <= name.len() && name.len() <= LONGEST_NAME && are_name_bytes(name.as_bytes())
+}
