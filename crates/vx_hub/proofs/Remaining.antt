@@ -1,6 +1,6 @@
 -- What is left when each instance ended.
 use Rattle.std.proofs.Common.{◌≡◌, ℕ, zero, suc, ◌+◌, List, [], ◌∷◌, ◌++◌, length, Option, Some, None, IfSome, IsSome, IsSomeAnd, true, false, refl, sym, ap, subst, ◌∙◌, arith}
-use Rattle.std.specs.Prelude.{All}
+use Rattle.std.specs.Prelude.{All, ◌↔◌}
 use Rattle.std.proofs.lemmas.List.Elements.{All-head, All-tail}
 use Rattle.vx_ends.specs.Told.{Told}
 use Rattle.vx_record.specs.Records.{Record}
@@ -12,12 +12,13 @@ use Rattle.vx_hub.specs.Rows.{IsBare, row_at, task_port, port_at}
 use Rattle.vx_hub.specs.Stands.{IsGone, IsShut, IsTold, facts_at}
 use Rattle.vx_record.specs.Places.{Place, owner}
 use Rattle.vx_record.specs.Moving.{IsConserved}
-use Rattle.vx_record.specs.declared.entry.Entry.TheVariants.{Notice}
 use Rattle.vx_record.specs.Batches.{NoNoticeDue}
 use Rattle.vx_record.specs.Accounting.{IsAccounted}
 use Rattle.vx_record.proofs.Notices.{accounted_once}
-use Rattle.vx_record.proofs.Statuses.{delivered_so}
-use Rattle.vx_record.proofs.Accounted.{accounted_so, accounted_before}
+use Rattle.vx_status.specs.declared.batch_status.BatchStatus.TheVariants.{Delivered}
+use Rattle.vx_record.specs.Statuses.{AllGood}
+use Rattle.vx_record.proofs.LegalNotices.{accounted_so}
+use Rattle.vx_record.proofs.After.{accounted_tells}
 use Rattle.vx_hub.proofs.Noticing.{accounted}
 use Rattle.vx_record.proofs.OnePlace.{conserved_place}
 use Rattle.vx_record.proofs.Hands.{nowhere}
@@ -139,10 +140,7 @@ all_noticed h order quiet spent = record {
   once = λ b has. accounted_once h (accounted h order) b has (λ c same live. let one = spent c live.0 in let a = live.1 in let d = live.2 in omega arith) (quiet b);
   due = λ later earlier b status is. (accounted_so later earlier b status (all is)).0;
   folded = λ later earlier b status is. (accounted_so later earlier b status (all is)).1;
-  good = λ later earlier b status is.
-      let same = (accounted_so later earlier b status (all is)).1 in
-      let meant = delivered_so earlier b (accounted_before later (Notice b status ∷ earlier) (all is)).1 in
-      ((λ e. meant.0 (sym same ∙ e)), (λ g. same ∙ meant.1 g));
+  good = λ later earlier b status is. subst (λ k. (status ≡ Delivered) ↔ AllGood k b) is (accounted_tells later earlier b status (all is));
 }
   where
     all : {k : Record} → k ≡ h → IsAccounted k

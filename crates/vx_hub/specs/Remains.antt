@@ -25,13 +25,13 @@ HasOnePlace h =
 abbrev pub AllSpent : Record → Type 0
 AllSpent h = (c : ℕ) → c < next_copy h → times_split h c + times_spent h c ≡ 1
 
--- each batch has one notice; it stands directly behind the spend of its last copy, has the status that the tables fold
--- over its spends, and is Delivered exactly where each of them is good
+-- each batch has one notice; it stands directly behind the spend of the last copy that was live of it, has the status that
+-- the tables fold over its spends, and is Delivered exactly where each of its outcomes in the whole record is good
 pub record HasNotices (h : Record) : Type 0 where
   pub once : (b : ℕ) → 0 < count b (batches h) → times_noticed h b ≡ 1
   pub due : (later earlier : Record) (b : ℕ) (status : BatchStatus) → later ++ Notice b status ∷ earlier ≡ h → AwaitsNotice earlier b
   pub folded : (later earlier : Record) (b : ℕ) (status : BatchStatus) → later ++ Notice b status ∷ earlier ≡ h → status ≡ batch_status earlier b
-  pub good : (later earlier : Record) (b : ℕ) (status : BatchStatus) → later ++ Notice b status ∷ earlier ≡ h → (status ≡ Delivered) ↔ AllGood earlier b
+  pub good : (later earlier : Record) (b : ℕ) (status : BatchStatus) → later ++ Notice b status ∷ earlier ≡ h → (status ≡ Delivered) ↔ AllGood h b
 
 -- nothing stands at any instance, and each is at home
 abbrev pub AreBare : {P : Type 0} → List (Row P) → Type 0

@@ -6,7 +6,7 @@ pub mod OnePlace
 pub mod Live
 pub mod Notices
 pub mod Statuses
-pub mod Accounted
+pub mod LegalNotices
 pub mod Changes
 pub mod Entries
 pub mod Hands

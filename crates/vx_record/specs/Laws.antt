@@ -1,4 +1,4 @@
--- The laws over every legal record.
+-- The laws over every legal record, and over every record of which some of that holds.
 use Rattle.std.specs.Prelude.{ℕ, ◌+◌, ◌^◌, ◌<◌, ◌≤◌, ◌≡◌, false, List, [], ◌∷◌, ◌++◌, length, map, if◌then◌else◌, ◌==◌, ◌↔◌}
 use Rattle.vx_value.specs.declared.event.Event.{Event}
 use Rattle.vx_record.specs.Records.{Record}
@@ -99,6 +99,12 @@ abbrev pub AccountedSo : Type 0
 AccountedSo =
     (later earlier : Record) (b : ℕ) (status : BatchStatus) → IsAccounted (later ++ Notice b status ∷ earlier) →
     AwaitsNotice earlier b × (status ≡ batch_status earlier b)
+
+-- and says Delivered exactly where each outcome of the batch in the whole record, also behind it, is good
+abbrev pub AccountedTells : Type 0
+AccountedTells =
+    (later earlier : Record) (b : ℕ) (status : BatchStatus) → IsAccounted (later ++ Notice b status ∷ earlier) →
+    (status ≡ Delivered) ↔ AllGood (later ++ Notice b status ∷ earlier) b
 
 -- what stood there before some entries of a legal record is legal
 abbrev pub BeginningLegal : Type 0

@@ -1,6 +1,7 @@
-//! The laws of every legal record. A law's function does nothing: what it ensures is proved.
+//! The laws of every legal record, and of every record of which some of that holds. A law's function does nothing: what it
+//! ensures is proved.
 
-ghost use Rattle.vx_record.specs.Laws.{OnePlace, PlacesMeant, LiveStands, LegalConserved, ConservedPlace, ConservedLive, LegalAccounted, AccountedOnce, AccountedLate, AccountedSo, OneNotice, OneNoticeAtLast, NoEarlyNotice, NoticeAtOnce, NoSpentAfterNotice, NoticeTells, BeginningLegal, RunningStatus, DeliveredWhereGood, OneEvent, NumbersBounded, RoutingKept, NoLeaseAfterAbandon, PrefixGrows};
+ghost use Rattle.vx_record.specs.Laws.{OnePlace, PlacesMeant, LiveStands, LegalConserved, ConservedPlace, ConservedLive, LegalAccounted, AccountedOnce, AccountedLate, AccountedSo, AccountedTells, OneNotice, OneNoticeAtLast, NoEarlyNotice, NoticeAtOnce, NoSpentAfterNotice, NoticeTells, BeginningLegal, RunningStatus, DeliveredWhereGood, OneEvent, NumbersBounded, RoutingKept, NoLeaseAfterAbandon, PrefixGrows};
 ghost use Rattle.vx_record.specs.Wirings.{WiringStays, StartedStays, ComponentOfFirst, TargetsOfFirst};
 ghost use Rattle.vx_record.specs.Growth.{TakenGrows, GivenGrows, ConfirmedGrows, EndedGrows, SourceRises, SinkRises, SpentRises, TallyStays};
 
@@ -34,6 +35,7 @@ pub fn accounted()
     ensures once { AccountedOnce }
     ensures late { AccountedLate }
     ensures so { AccountedSo }
+    ensures tells { AccountedTells }
 {}
 
 /// One status for each batch, into which each spend is folded as it comes, is the status that the tables fold.

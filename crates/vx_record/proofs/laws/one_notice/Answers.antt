@@ -1,4 +1,4 @@
-use Rattle.vx_record.proofs.Accounted.{one_notice, one_notice_at_last, no_early_notice, notice_at_once}
+use Rattle.vx_record.proofs.LegalNotices.{one_notice, one_notice_at_last, no_early_notice, notice_at_once}
 use Rattle.vx_record.proofs.After.{no_spent_after_notice, notice_tells}
 use Rattle.vx_record.proofs.laws.one_notice.Goals as goal
 

@@ -1,4 +1,4 @@
-use Rattle.vx_record.proofs.Accounted.{running_status, delivered_where_good}
+use Rattle.vx_record.proofs.LegalNotices.{running_status, delivered_where_good}
 use Rattle.vx_record.proofs.laws.running_status.Goals as goal
 
 pub returns-clause-running : goal.returns-clause-running

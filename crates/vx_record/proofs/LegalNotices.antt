@@ -1,4 +1,4 @@
--- The notices of every legal record.
+-- The notices of every record that accounts; a legal one does.
 use Rattle.std.proofs.Common.{◌≡◌, ℕ, ◌+◌, ◌<◌, [], ◌∷◌, ◌++◌, sym, ◌∙◌, arith}
 use Rattle.std.specs.Prelude.{if◌then◌else◌, ◌==◌, ◌||◌, Bool, true, false}
 use Rattle.vx_record.specs.declared.entry.Entry.{Entry}
