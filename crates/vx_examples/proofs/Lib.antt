@@ -12,3 +12,5 @@ mod EmptyInputLegal
 mod UnfinishedLineLegal
 mod FailedTakeLegal
 mod FurtherRefusals
+mod ThreeTargetsLegal
+mod FanOutRefusals

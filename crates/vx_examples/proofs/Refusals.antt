@@ -23,7 +23,7 @@ pub never : (h : Record) → (IsLegal h → ⊥) → NeverLegal h
 never h refusal later legal = refusal (legal_before later h legal)
 
 -- two things of which a test says different things are not the same
-different : {X : Type 0} {a b : X} (test : X → Bool) → test a ≡ true → test b ≡ false → a ≡ b → ⊥
+pub different : {X : Type 0} {a b : X} (test : X → Bool) → test a ≡ true → test b ≡ false → a ≡ b → ⊥
 different test here there same = let e = sym here ∙ ap test same ∙ there in cc
 
 second_install_is_refused : IsLegal second_install → ⊥

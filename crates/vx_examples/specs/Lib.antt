@@ -14,3 +14,5 @@ pub mod EmptyInput
 pub mod UnfinishedLine
 pub mod FailedTake
 pub mod RefusedMore
+pub mod ThreeTargets
+pub mod RefusedFanOuts

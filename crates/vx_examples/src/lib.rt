@@ -13,7 +13,9 @@ ghost use Rattle.vx_examples.specs.Dropped.{run as dropped};
 ghost use Rattle.vx_examples.specs.GivenUp.{run as given_up};
 ghost use Rattle.vx_examples.specs.Batched.{run as batched};
 ghost use Rattle.vx_examples.specs.Waiting.{run as waiting};
+ghost use Rattle.vx_examples.specs.ThreeTargets.{run as three_targets};
 ghost use Rattle.vx_examples.specs.Facts.{SourceCounts, SinkCounts, SourceBytes, SinkBytes, Positions, NewestCounts, UnreadCounts, FailedCounts, UnconfirmedCounts, RefusedCounts, Cut, CutOpen, CutShort, Likeness, Readers, NoReaders, Waits, NoWait, RetryWaits, Replaced, EmptyRead, RetryPastTheEnd, TimeoutPastTheEnd};
+ghost use Rattle.vx_examples.specs.RefusedFanOuts.{swapped_targets, copy_of_another_child, notice_before_the_third, delivered_past_a_refusal, errored_by_a_refusal};
 ghost use Rattle.vx_examples.specs.RefusedMore.{born_of_nothing, born_of_too_few, confirm_at_home, confirm_of_a_sink, retired_stranger, second_notice, push_to_a_later_stage, idle_of_a_sink, lost_at_home, split_after_an_abandon, attempt_of_nothing, closed_before_its_confirm, closed_with_a_parcel, closed_with_a_held_parcel, lease_before_its_notice, lease_without_its_birth, given_up_elsewhere, closed_at_home};
 ghost use Rattle.vx_examples.specs.RefusedToo.{no_install, later_version, missing_instances, polled_lease, falling_moment, lease_of_the_retired, fifth_idle, lost_too_soon, lost_at_another_byte, take_of_a_later_stage, take_after_an_attempt, early_attempt, second_attempt, attempt_of_a_part, spent_by_no_failure, filtered_by_a_sink, unread_though_read, newest_with_room, given_up_without_an_abandon, spent_after_a_split, confirmed_again, retired_with_a_copy, second_abandon, waiting_missed, confirmed_before_its_notice, confirmed_past_an_error, home_twice, read_at_home, read_of_a_sink, born_by_another, born_of_another_stream, born_late, split_while_a_child_waits, split_on_another_port, split_to_nobody, push_while_out, take_at_home, attempt_at_home, confirmed_twice, closed_twice, retired_while_out, retired_twice, numbers_not_used_up};
 ghost use Rattle.vx_examples.specs.Refused.{NeverLegal, second_install, lease_without_work, lease_of_one_out, second_read, lost_line, wrong_position, needless_wait, used_number, split_of_the_younger, split_while_out, shared_copy, child_for_another, changed_event, push_past_room, pushed_twice, take_of_the_younger, take_past_the_batch, part_answered_ok, other_bytes, delivered_after_a_failure, spent_twice, spent_elsewhere, early_notice, late_notice, wrong_status, early_confirm, confirm_of_less, lease_of_a_debtor, read_past_the_end, close_too_soon, retired_with_its_port_open, grace_without_a_stop, lease_after_an_abandon, delivered_after_an_abandon};
@@ -88,6 +90,8 @@ pub fn other_runs()
     ensures batched_closed { IsClosed batched }
     ensures waiting_legal { IsLegal waiting }
     ensures waiting_closed { IsClosed waiting }
+    ensures three_targets_legal { IsLegal three_targets }
+    ensures three_targets_closed { IsClosed three_targets }
 {}
 
 /// What the definitions say of closed things.
@@ -184,4 +188,13 @@ pub fn more_refused()
     ensures lease_without_its_birth { NeverLegal lease_without_its_birth }
     ensures given_up_elsewhere { NeverLegal given_up_elsewhere }
     ensures closed_at_home { NeverLegal closed_at_home }
+{}
+
+/// And these, each of which differs from the run with three targets in one entry.
+pub fn refused_fan_outs()
+    ensures swapped_targets { NeverLegal swapped_targets }
+    ensures copy_of_another_child { NeverLegal copy_of_another_child }
+    ensures notice_before_the_third { NeverLegal notice_before_the_third }
+    ensures delivered_past_a_refusal { NeverLegal delivered_past_a_refusal }
+    ensures errored_by_a_refusal { NeverLegal errored_by_a_refusal }
 {}
