@@ -5,11 +5,14 @@ use Rattle.vx_hub.specs.declared.seat.Seat.{Seat}
 use Rattle.vx_hub.specs.declared.facts.Facts.{Facts}
 use Rattle.vx_hub.specs.declared.row.Row.{Row}
 use Rattle.vx_ledger.specs.Copies.{copies_of}
-use Rattle.vx_hub.specs.Making.{IsUnused, AreUnused, IsUntouched, AreUntouched, AreNew}
+use Rattle.vx_hub.specs.Making.{IsUnused, AreUnused, IsFittedTo, AreFitted, IsUntouched, AreUntouched, AreNew}
 use Rattle.vx_hub.specs.Rows.{row_at, row_copies, copies_in, port_at, task_port, task_parcels, role_parcels, role_copies, parcel_copies}
 use Rattle.vx_plan.specs.declared.plan.Plan.{Plan}
 use Rattle.vx_plan.specs.declared.component.Component.{Component}
 use Rattle.vx_record.specs.Wirings.{begun}
+use Rattle.vx_record.proofs.FirstWiring.{targets_of_first}
+use Rattle.std.specs.Prelude.{Option, None, IsSomeAnd}
+use Rattle.std.proofs.Common.{◌∙◌}
 use Rattle.vx_hub.specs.declared.parts.Named.{Named}
 use Rattle.vx_hub.specs.Stands.{Stands, IsTold, IsKnown, IsRecorded, facts_at, spec_of}
 use Rattle.vx_hub.specs.Beginning.{Begins, HasFirst}
@@ -52,6 +55,20 @@ facts_more F [] new all f (suc i) = tt
 facts_more F (r ∷ fs) new all f zero = all zero
 facts_more F (r ∷ fs) new all f (suc i) = facts_more F fs new (λ j. all (suc j)) f i
 
+pub fitted_more_at : (G : ℕ → Facts → Type 0) (fs : List Facts) (new : Facts) → ((i : ℕ) → IfSome (facts_at fs i) (G i)) → G (length fs) new → (i : ℕ) → IfSome (facts_at (fs ++ new ∷ []) i) (G i)
+fitted_more_at G [] new all f zero = f
+fitted_more_at G [] new all f (suc i) = tt
+fitted_more_at G (r ∷ fs) new all f zero = all zero
+fitted_more_at G (r ∷ fs) new all f (suc i) = fitted_more_at (λ k. G (suc k)) fs new (λ j. all (suc j)) f i
+
+-- one more seat, for the next component
+pub fitted_more : (plan : Plan) (cs : List Component) (seats : List Seat) (seat : Seat) (c : Component) → AreFitted plan cs seats → length seats < length cs → c ≡ get_or cs (length seats) c → IsFittedTo plan c seat.facts →
+    AreFitted plan cs (seats ++ seat ∷ [])
+fitted_more plan [] [] seat c a l is fit = absurd (omega arith)
+fitted_more plan [] (s ∷ seats) seat c a l is fit = absurd a
+fitted_more plan (d ∷ cs) [] seat c a l is fit = (subst (λ (x : Component). IsFittedTo plan x seat.facts) is fit, tt)
+fitted_more plan (d ∷ cs) (s ∷ seats) seat c a l is fit = (a.0, fitted_more plan cs seats seat c a.1 (omega arith) is fit)
+
 pub copies_more : {P : Type 0} (batch place : ℕ) (rows : List (Row P)) (new : Row P) → copies_in batch place (rows ++ new ∷ []) ≡ copies_in batch place rows + copies_of batch place (row_copies new)
 copies_more batch place [] new = omega arith
 copies_more batch place (r ∷ rows) new = omega (arith, copies_more batch place rows new)
@@ -72,6 +89,11 @@ places_more {P} rows new none here p = go rows (owner p) (none p)
     go [] (suc k) e = refl
     go (r ∷ rs) zero e = e
     go (r ∷ rs) (suc k) e = go rs k e
+
+-- nothing stands where there is no instance
+pub none_at : {P : Type 0} (rows : List (Row P)) (p : Place) → rows ≡ [] → copies_at p rows ≡ []
+none_at [] p is = refl
+none_at (row ∷ rows) p is = cc
 
 -- nothing stands at an unused seat
 pub unused_here : {P : Type 0} (row : Row P) → row.outputs.items ≡ [] → row.waiting.items ≡ [] → row.buffer.items ≡ [] → task_parcels row.task ≡ [] → (p : Place) → copies_here p row ≡ []
@@ -94,8 +116,23 @@ front_of (y ∷ ys) x l at = ap (λ z. z ∷ ys) (sym at)
 untouched_told : (told : Told) (plan : Plan) (once : Bool) (now i : ℕ) → IsUntouched (spec_of (slice_get plan.components i)) told → IsTold told (begun plan once now) i
 untouched_told told plan once now i u = record { taken = u.taken; given = u.given; spec = u.made_for; confirmed = u.confirmed; ended = u.ended; over = λ over. cc; faults = omega arith; refusals = omega arith; idles = omega arith }
 
-new_known : (f : Facts) (plan : Plan) (once : Bool) (now i : ℕ) → AreNew f → IsKnown f (begun plan once now) i
-new_known f plan once now i n = record { taken = n.taken; lost = n.lost; failed_starts = n.failed_starts; ends = n.ends; to_confirm = subst (λ (o : _). IfSome o (λ positions. positions ≡ [])) (sym n.to_confirm) tt; confirm_failed = n.confirm_failed }
+-- an instance that begins is as a record of the install alone has it
+new_known : (f : Facts) (plan : Plan) (once : Bool) (now i : ℕ) (o : Option Component) → slice_get plan.components i ≡ o → AreNew f → IsSomeAnd o (λ component. IsFittedTo plan component f) → IsKnown f (begun plan once now) i
+new_known f plan once now i None is n fit = absurd fit
+new_known f plan once now i (Some component) is n fit = record {
+  outlet = fit ∙ ap (λ (targets : List ℕ). targets ∷ []) (sym (targets_of_first plan once now i 0 component is));
+  taken = n.taken;
+  lost = n.lost;
+  failed_starts = n.failed_starts;
+  ends = n.ends;
+  to_confirm = subst (λ (o : _). IfSome o (λ positions. positions ≡ [])) (sym n.to_confirm) tt;
+  confirm_failed = n.confirm_failed;
+}
+
+-- what follows from two facts on a value
+both_mapped : {X : Type 0} (A B C : X → Type 0) (o : Option X) → ((x : X) → A x → B x → C x) → IfSome o A → IfSome o B → IfSome o C
+both_mapped A B C None f a b = tt
+both_mapped A B C (Some x) f a b = f x a b
 
 -- a hub whose instances were all seated stands for the record of their install
 pub begun_stands : {P : Type 0} (told_by : P → Told) (plan : Plan) (hub : Hub P) → Begins told_by plan hub → hub.plan ≡ plan → HasFirst plan hub.log.history → hub.ports.items ≡ [] → length hub.rows.items ≤ hub.ports.room → length hub.rows.items < 2 ^ 32 →
@@ -105,7 +142,7 @@ begun_stands told_by plan hub b mine first none room few = record {
   balanced = λ batch place. let live : live_count batch place hub.batches.open_rows ≡ 0 = ap (live_count batch place) b.batches in omega (arith, b.copies batch place);
   recorded = λ sound. subst (λ (h : Record). IsRecorded told_by hub [] h) (sym first.alone) (record {
     ports = λ i. some_mapped _ _ (port_at hub.rows.items i) (λ port u. untouched_told (told_by port) plan first.once first.now i u) (b.ports i);
-    facts = λ i. some_mapped _ _ (facts_at hub.facts.items i) (λ f n. new_known f plan first.once first.now i n) (b.facts i);
+    facts = λ i. both_mapped _ _ _ (facts_at hub.facts.items i) (λ f n fit. new_known f plan first.once first.now i (slice_get plan.components i) refl n fit) (b.facts i) (b.fitted i);
     bytes = b.bytes;
     next = b.next;
     order = ((record { first = refl; zeroth = refl; all_new = refl }, λ b w. w), tt);
@@ -125,6 +162,16 @@ begun_stands told_by plan hub b mine first none room few = record {
 
 suc_plus : (k : ℕ) → suc (k + 1) ≡ suc k + 1
 suc_plus k = omega arith
+
+-- of the seats that are left, the first is for the component in its place
+pub fitted_first : (plan : Plan) (components : List Component) (k : ℕ) (seat : Seat) (rest : List Seat) → AreFitted plan (drop k components) (seat ∷ rest) →
+    IsSomeAnd (slice_get components k) (λ component. IsFittedTo plan component seat.facts) × AreFitted plan (drop (k + 1) components) rest
+fitted_first plan [] zero seat rest a = absurd a
+fitted_first plan [] (suc k) seat rest a = absurd a
+fitted_first plan (c ∷ cs) zero seat rest a = a
+fitted_first plan (c ∷ cs) (suc k) seat rest a =
+    let tail = fitted_first plan cs k seat rest a in
+    (tail.0, subst (λ (n : ℕ). AreFitted plan (drop n (c ∷ cs)) rest) (suc_plus k) tail.1)
 
 -- of the ports that are left, the first is made for the component in its place
 pub untouched_first : {P : Type 0} (told_by : P → Told) (components : List Component) (k : ℕ) (named : Named P) (rest : List (Named P)) → AreUntouched told_by (drop k components) (named ∷ rest) →

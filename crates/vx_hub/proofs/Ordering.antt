@@ -2,6 +2,7 @@
 use Rattle.std.proofs.Common.{◌≡◌, ℕ, zero, suc, ◌+◌, ◌*◌, ◌<◌, ◌≤◌, List, [], ◌∷◌, length, Option, Some, None, refl, sym, ap, subst, ◌∙◌, arith, false}
 use Rattle.std.specs.Prelude.{◌^◌, Result, Ok, Err, IfOk, IfErr, OnOk, OnErr, IsSome}
 use Rattle.std.specs.Bool.{IsFalse}
+use Rattle.std.proofs.lemmas.List.{append-nil}
 use Rattle.vx_ends.specs.Told.{Told}
 use Rattle.vx_ends.specs.declared.trouble.Reply.{Reply}
 use Rattle.vx_status.specs.declared.outcome.Outcome.{Outcome}
@@ -11,7 +12,7 @@ use Rattle.vx_value.specs.declared.want_of_memory.WantOfMemory.{WantOfMemory}
 use Rattle.vx_ledger.specs.Copies.{Copy, numbered, renumbered}
 use Rattle.vx_ledger.specs.Copies.{copies_of}
 use Rattle.vx_ledger.specs.Ledger.{Ledger, IsShort, live_count}
-use Rattle.vx_ledger.specs.Routing.{children_for, IfChildren, IfNoConsumer, IsNoConsumer}
+use Rattle.vx_ledger.specs.Routing.{children_for, targets_of, IfChildren, IfNoConsumer, IsNoConsumer}
 use Rattle.vx_ledger.specs.declared.routed.Routed.{Routed}
 use Rattle.vx_ledger.specs.declared.routed.Routed.TheVariants as routed
 use Rattle.vx_ledger.specs.declared.routed.Routed.TheVariants.{Children}
@@ -37,7 +38,7 @@ use Rattle.vx_hub.specs.declared.fatal.Fatal.{Fatal}
 use Rattle.vx_hub.specs.declared.fatal.Fatal.TheVariants as fatal
 use Rattle.vx_hub.specs.Failures.{fatal_of, abandon_cause, HasReason}
 use Rattle.vx_hub.specs.Numbers.{numbers_in, noted_of}
-use Rattle.vx_hub.specs.Order.{IsBirthOf, IsReadBy, IsGiven, IsSplitOf, IsSpentFor, IsReason, reply_behind}
+use Rattle.vx_hub.specs.Order.{IsBirthOf, IsReadBy, IsGiven, IsSplitOf, IsSpentFor, IsReason, readers_at, reply_behind}
 use Rattle.vx_hub.specs.Spending.{MaySpend, IsReplied}
 use Rattle.vx_hub.specs.Stands.{Stands, IsSound, IsBalanced}
 use Rattle.vx_hub.proofs.StandsLaws.{unmade}
@@ -89,14 +90,17 @@ pub length_noted : (targets : List ℕ) (first : ℕ) (parcel : Parcel) (childre
 length_noted targets first parcel children are = ap (λ (cs : List Child). length (noted_of cs)) are ∙ ap length (noted_children targets first parcel) ∙ length_children first (length parcel.finalizers) targets
 
 -- a split that the ledger made is in order
-pub split_in_order : (h : Record) (i next : ℕ) (targets : List ℕ) (parcel : Parcel) (children : List Child) → IsOldest (numbers_in parcel.finalizers) (outputs h i) → next ≡ next_copy h → children ≡ children_for targets next parcel → 0 < length targets →
+pub split_in_order : (h : Record) (i next : ℕ) (targets : List ℕ) (parcel : Parcel) (children : List Child) → targets ≡ readers_at h i → IsOldest (numbers_in parcel.finalizers) (outputs h i) → next ≡ next_copy h → children ≡ children_for targets next parcel → 0 < length targets →
     next + length targets * length parcel.finalizers ≤ 2 ^ 63 → IsSplitOf h i (numbers_in parcel.finalizers) (noted_of children)
-split_in_order h i next targets parcel children oldest now are some fits =
+split_in_order h i next targets parcel children routed oldest now are some fits =
     let m = length parcel.finalizers in
     let many : length (numbers_in parcel.finalizers) ≡ m = length_numbers parcel.finalizers in
     let count : length (noted_of children) ≡ length targets = length_noted targets next parcel children are in
+    let made : noted_of children ≡ children_of (next_copy h) (length (numbers_in parcel.finalizers)) targets =
+    ap noted_of are ∙ noted_children targets next parcel ∙ ap (λ k. children_of k m targets) now ∙ ap (λ k. children_of (next_copy h) k targets) (sym many) in
     record {
-      divides = record { oldest = oldest; made = (targets, ap noted_of are ∙ noted_children targets next parcel ∙ ap (λ k. children_of k m targets) now ∙ ap (λ k. children_of (next_copy h) k targets) (sym many)) };
+      divides = record { oldest = oldest; made = (targets, made) };
+      routed = made ∙ ap (λ (ts : List ℕ). children_of (next_copy h) (length (numbers_in parcel.finalizers)) ts) routed;
       some = omega (arith, count, some);
       fits = subst (λ k. k + length (noted_of children) * length (numbers_in parcel.finalizers) ≤ 2 ^ 63) now
           (subst (λ k. next + k * length (numbers_in parcel.finalizers) ≤ 2 ^ 63) (sym count) (subst (λ k. next + length targets * k ≤ 2 ^ 63) (sym many) fits));
@@ -121,16 +125,24 @@ sound_before d e entry noted starved sound = record { whole = (noted.whole sound
 pub spent_on : {P : Type 0} (d e : Hub P) (j copy : ℕ) (spent : Outcome) (i : ℕ) (outcome : Outcome) → Noted d.log (Spent j copy spent) e.log → e.starved ≡ d.starved → MaySpend d i outcome → MaySpend e i outcome
 spent_on d e j copy spent i outcome noted starved may sound =
     let before = may (sound_before d e (Spent j copy spent) noted starved sound) in
-    subst (λ (h : Record). IsSpentFor h i outcome) (sym (noted.whole sound.whole).1) (record { given = before.given; replied = before.replied; given_up = before.given_up })
+    subst (λ (h : Record). IsSpentFor h i outcome) (sym (noted.whole sound.whole).1) (record { given = before.given; replied = before.replied; given_up = before.given_up; unread = before.unread })
 
 pub noticed_on : {P : Type 0} (d e : Hub P) (batch : ℕ) (status : _) (i : ℕ) (outcome : Outcome) → Noted d.log (Notice batch status) e.log → e.starved ≡ d.starved → MaySpend d i outcome → MaySpend e i outcome
 noticed_on d e batch status i outcome noted starved may sound =
     let before = may (sound_before d e (Notice batch status) noted starved sound) in
-    subst (λ (h : Record). IsSpentFor h i outcome) (sym (noted.whole sound.whole).1) (record { given = before.given; replied = before.replied; given_up = before.given_up })
+    subst (λ (h : Record). IsSpentFor h i outcome) (sym (noted.whole sound.whole).1) (record { given = before.given; replied = before.replied; given_up = before.given_up; unread = before.unread })
 
--- a copy without a consumer needs no other cause
-pub unread_may : {P : Type 0} (hub : Hub P) (i : ℕ) → MaySpend hub i NoConsumer
-unread_may hub i sound = record { given = tt; replied = λ reply behind. cc; given_up = λ is. cc }
+-- a copy is without a consumer where nobody reads its instance
+pub unread_may : {P : Type 0} (hub : Hub P) (i : ℕ) → (IsSound hub → readers_at hub.log.history i ≡ []) → MaySpend hub i NoConsumer
+unread_may hub i none sound = record { given = tt; replied = λ reply behind. cc; given_up = λ is. cc; unread = λ is. none sound }
+
+-- where no port had a target, there was none
+pub targets_none : (r : Routed) (parcel : Parcel) (targets : List ℕ) → r ≡ routed.NoConsumer parcel → (IsNoConsumer (Ok r) → targets ≡ []) → targets ≡ []
+targets_none r parcel targets is none = none (subst (λ (x : Routed). IsNoConsumer (Ok x)) (sym is) tt)
+
+-- the targets of the first port of an outlet that has no other
+pub first_targets : (outlet : List (List ℕ)) (readers : List ℕ) → outlet ≡ readers ∷ [] → targets_of 1 outlet ≡ readers
+first_targets outlet readers is = ap (λ (o : List (List ℕ)). targets_of 1 o) is ∙ append-nil readers
 
 -- nor one of a run that was given up
 pub abandoned_may : {P : Type 0} (told_by : P → Told) (hub : Hub P) (hand : List Copy) (i : ℕ) → Stands told_by hub hand hub.log.history → IsSome hub.abandoned → MaySpend hub i Abandoned
@@ -138,6 +150,7 @@ abandoned_may told_by hub hand i s given_up sound = record {
   given = tt;
   replied = λ reply behind. cc;
   given_up = λ is. subst (λ (cause : Option AbandonCause). IsSome cause) (s.recorded sound).cause given_up;
+  unread = λ is. cc;
 }
 
 -- what an attempt is answered is the outcome of its copies
@@ -152,6 +165,7 @@ replied_may hub i reply outcome behind last sound = record {
   given = replied_given reply outcome behind;
   replied = λ answer is. last sound ∙ sym behind ∙ is;
   given_up = λ is. let none : reply_behind outcome ≡ None = ap reply_behind is in cc;
+  unread = λ is. let none : reply_behind outcome ≡ None = ap reply_behind is in cc;
 }
 
 -- the reason of a landing stays, behind its end

@@ -71,6 +71,7 @@ to_confirm_on f h i e none k = subst (λ (ps : List Position). IfSome f.to_confi
 
 -- a quiet entry changes nothing of what is known
 pub known_quiet : (f : Facts) (h : Record) (i : ℕ) (e : Entry) → IsQuiet e → IsKnown f h i → IsKnown f (e ∷ h) i
+known_quiet f h i (Install version plan once instances now) q k = absurd q
 known_quiet f h i (Read j stream took) q k = absurd q
 known_quiet f h i (Idle j failed) q k = absurd q
 known_quiet f h i (SourceLost j at failed) q k = absurd q
@@ -84,6 +85,7 @@ known_quiet f h i e q k = record {
   ends = ends_on f h i e refl k.ends;
   to_confirm = to_confirm_on f h i e refl k.to_confirm;
   confirm_failed = k.confirm_failed;
+  outlet = k.outlet;
 }
 
 pub bytes_mute : (h : Record) (e : Entry) → IsMute e → bytes_of_all (e ∷ h) ≡ bytes_of_all h
@@ -308,6 +310,7 @@ known_abandoned f h i cause k = record {
   ends = ends_on f h i (Abandon cause) refl k.ends;
   to_confirm = to_confirm_on f h i (Abandon cause) refl k.to_confirm;
   confirm_failed = k.confirm_failed;
+  outlet = k.outlet;
 }
 
 -- a run is abandoned

@@ -30,7 +30,9 @@ use Rattle.vx_hub.proofs.StandsLaws.{some_mapped, some_all, berths_kept, ends_on
 use Rattle.vx_record.specs.Copies.{next_copy, makes}
 use Rattle.vx_record.specs.Moving.{IsStill, IsConserved}
 use Rattle.vx_hub.specs.Places.{IsPlaced, SamePlaces}
-use Rattle.vx_hub.specs.Order.{IsInOrder}
+use Rattle.vx_hub.specs.Order.{IsInOrder, readers_at}
+use Rattle.vx_ledger.specs.Routing.{targets_of}
+use Rattle.vx_hub.proofs.Ordering.{first_targets}
 use Rattle.vx_ledger.specs.Ledger.{IsKept}
 use Rattle.vx_record.specs.Batches.{NoNoticeDue}
 use Rattle.vx_record.specs.Accounting.{IsAccounted}
@@ -57,6 +59,7 @@ known_other f h i j (Read k stream took) t other s =
       ends = ends_on f h j (Read k stream took) (refl) s.ends;
       to_confirm = to_confirm_on f h j (Read k stream took) (refl) s.to_confirm;
       confirm_failed = s.confirm_failed;
+      outlet = s.outlet;
     }
 known_other f h i j (Idle k failed) t other s =
     let k_is : k ≡ i = cc in
@@ -68,6 +71,7 @@ known_other f h i j (Idle k failed) t other s =
       ends = ends_on f h j (Idle k failed) (refl) s.ends;
       to_confirm = to_confirm_on f h j (Idle k failed) (refl) s.to_confirm;
       confirm_failed = s.confirm_failed;
+      outlet = s.outlet;
     }
 known_other f h i j (SourceLost k at failed) t other s =
     let k_is : k ≡ i = cc in
@@ -79,6 +83,7 @@ known_other f h i j (SourceLost k at failed) t other s =
       ends = ends_on f h j (SourceLost k at failed) (refl) s.ends;
       to_confirm = to_confirm_on f h j (SourceLost k at failed) (refl) s.to_confirm;
       confirm_failed = s.confirm_failed;
+      outlet = s.outlet;
     }
 known_other f h i j (Attempt k copies bytes reply) t other s =
     record {
@@ -88,6 +93,7 @@ known_other f h i j (Attempt k copies bytes reply) t other s =
       ends = ends_on f h j (Attempt k copies bytes reply) (refl) s.ends;
       to_confirm = to_confirm_on f h j (Attempt k copies bytes reply) (refl) s.to_confirm;
       confirm_failed = s.confirm_failed;
+      outlet = s.outlet;
     }
 known_other f h i j (Confirm k positions made) t other s =
     let k_is : k ≡ i = cc in
@@ -99,6 +105,7 @@ known_other f h i j (Confirm k positions made) t other s =
       ends = ends_on f h j (Confirm k positions made) (refl) s.ends;
       to_confirm = to_confirm_on f h j (Confirm k positions made) (refl) s.to_confirm;
       confirm_failed = known_chosen (k == j) (not made) (is_unconfirmed h j) f.confirm_failed test s.confirm_failed;
+      outlet = s.outlet;
     }
 known_other f h i j (Born k b place copies events waits stream end) t other s =
     let k_is : k ≡ i = cc in
@@ -110,6 +117,7 @@ known_other f h i j (Born k b place copies events waits stream end) t other s =
       ends = ends_on f h j (Born k b place copies events waits stream end) (sym (known_chosen (k == j) (record { batch = b; waits = waits; stream = stream; end = end } ∷ []) [] [] test refl)) s.ends;
       to_confirm = to_confirm_on f h j (Born k b place copies events waits stream end) (sym (known_chosen (k == j) (record { batch = b; waits = waits; stream = stream; end = end } ∷ []) [] [] test refl)) s.to_confirm;
       confirm_failed = s.confirm_failed;
+      outlet = s.outlet;
     }
 known_other f h i j e t other s = cc
 
@@ -459,6 +467,7 @@ known_attempt f h i j copies bytes reply k = record {
   ends = ends_on f h j (Attempt i copies bytes reply) refl k.ends;
   to_confirm = to_confirm_on f h j (Attempt i copies bytes reply) refl k.to_confirm;
   confirm_failed = k.confirm_failed;
+  outlet = k.outlet;
 }
 
 -- an attempt of an instance that is out is told
@@ -558,3 +567,10 @@ stands_out {P} told_by d e copies i s unclosed balanced away ports bare size bat
 pub taken_told : {P : Type 0} (F : P → Type 0) (o : Option P) (p : P) → o ≡ Some p → IfSome o F → F p
 taken_told F None p is f = cc
 taken_told F (Some q) p is f = let same : q ≡ p = cc in subst F same f
+
+-- an instance sends to its readers
+pub routed_as : {P : Type 0} (told_by : P → Told) (d : Hub P) (i : ℕ) (f : Facts) → Stands told_by d [] d.log.history → i < length d.rows.items → f ≡ get_or d.facts.items i f → IsSound d →
+    targets_of 1 f.outlet ≡ readers_at d.log.history i
+routed_as told_by d i f s within at fine =
+    first_targets f.outlet (readers_at d.log.history i)
+    (facts_has (λ x. IsKnown x d.log.history i) d.facts.items i f (omega (arith, s.size, within)) at ((s.recorded fine).facts i)).outlet

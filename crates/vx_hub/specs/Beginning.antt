@@ -1,5 +1,5 @@
 -- A hub whose instances are still being seated.
-use Rattle.std.specs.Prelude.{◌≡◌, ℕ, ◌+◌, ◌≤◌, [], length, vec_capacity, slice_get, Bool, None, IfSome}
+use Rattle.std.specs.Prelude.{◌≡◌, ℕ, ◌+◌, ◌≤◌, [], length, vec_capacity, slice_get, Bool, None, IfSome, IsSomeAnd}
 use Rattle.vx_ends.specs.Told.{Told}
 use Rattle.vx_ledger.specs.Ledger.{IsKept}
 use Rattle.vx_plan.specs.declared.plan.Plan.{Plan}
@@ -7,7 +7,7 @@ use Rattle.vx_record.specs.Records.{Record}
 use Rattle.vx_record.specs.Wirings.{begun}
 use Rattle.vx_hub.specs.declared.hub.Hub.{Hub}
 use Rattle.vx_hub.specs.declared.making.Room.{Room}
-use Rattle.vx_hub.specs.Making.{AreNew, IsUntouched}
+use Rattle.vx_hub.specs.Making.{AreNew, IsFittedTo, IsUntouched}
 use Rattle.vx_record.specs.Places.{Place}
 use Rattle.vx_hub.specs.Places.{copies_at}
 use Rattle.vx_hub.specs.Rows.{copies_in, port_at}
@@ -40,7 +40,7 @@ pub record HasSeats {P : Type 0} (hub : Hub P) (n : ℕ) : Type 0 where
   pub progress : length hub.progress.items + n ≤ vec_capacity hub.progress
   pub rows : length hub.rows.items + n ≤ vec_capacity hub.rows
 
--- each instance that was seated begins with the port of its component
+-- each instance that was seated begins with the port of its component, and sends to that component's readers
 pub record Begins {P : Type 0} (told_by : P → Told) (plan : Plan) (hub : Hub P) : Type 0 where
   pub batches : hub.batches.open_rows ≡ []
   pub next : hub.batches.next ≡ 0
@@ -49,6 +49,7 @@ pub record Begins {P : Type 0} (told_by : P → Told) (plan : Plan) (hub : Hub P
   pub places : (p : Place) → copies_at p hub.rows.items ≡ []
   pub ports : (i : ℕ) → IfSome (port_at hub.rows.items i) (λ port. IsUntouched (spec_of (slice_get plan.components i)) (told_by port))
   pub facts : (i : ℕ) → IfSome (facts_at hub.facts.items i) AreNew
+  pub fitted : (i : ℕ) → IfSome (facts_at hub.facts.items i) (λ f. IsSomeAnd (slice_get plan.components i) (λ component. IsFittedTo plan component f))
   pub bytes : hub.bytes ≡ 0
   pub abandoned : hub.abandoned ≡ None
   pub size : length hub.facts.items ≡ length hub.rows.items

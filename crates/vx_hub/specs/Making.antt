@@ -1,5 +1,7 @@
 -- What a hub begins with.
 use Rattle.std.specs.Prelude.{◌≡◌, ℕ, false, List, [], ◌∷◌, Option, Some, None, IfSome}
+use Rattle.vx_plan.specs.declared.plan.Plan.{Plan}
+use Rattle.vx_plan.specs.Numbers.{reader_numbers}
 use Rattle.vx_ends.specs.Told.{Told}
 use Rattle.vx_ends.specs.declared.port_spec.PortSpec.{PortSpec}
 use Rattle.vx_plan.specs.declared.component.Component.{Component}
@@ -30,6 +32,17 @@ pub record IsUnused (seat : Seat) : Type 0 where
 abbrev pub AreUnused : List Seat → Type 0
 AreUnused [] = Unit {0}
 AreUnused (seat ∷ seats) = IsUnused seat × AreUnused seats
+
+-- an instance sends to the readers of its component
+abbrev pub IsFittedTo : Plan → Component → Facts → Type 0
+IsFittedTo plan component f = f.outlet ≡ reader_numbers plan component.name 0 ∷ []
+
+-- each seat is for the component in its place
+abbrev pub AreFitted : Plan → List Component → List Seat → Type 0
+AreFitted plan components [] = Unit {0}
+AreFitted plan [] (seat ∷ seats) = ⊥
+AreFitted plan (component ∷ components) (seat ∷ seats) =
+    IsFittedTo plan component seat.facts × AreFitted plan components seats
 
 -- nothing went through a port, and it is made for that
 pub record IsUntouched (spec : Option PortSpec) (told : Told) : Type 0 where

@@ -3,15 +3,17 @@ use Rattle.std.specs.Prelude.{◌≡◌, ℕ, ◌+◌, ◌*◌, ◌<◌, ◌≤�
 use Rattle.vx_ends.specs.declared.trouble.Reply.{Reply}
 use Rattle.vx_ends.specs.declared.trouble.Reply.TheVariants as reply
 use Rattle.vx_status.specs.declared.outcome.Outcome.{Outcome}
-use Rattle.vx_status.specs.declared.outcome.Outcome.TheVariants.{Delivered, Attempts, Refusal, Abandoned, Filtered, NewestDropped}
+use Rattle.vx_status.specs.declared.outcome.Outcome.TheVariants.{Delivered, Attempts, Refusal, Abandoned, NoConsumer, Filtered, NewestDropped}
 use Rattle.vx_value.specs.declared.event.Event.{Event}
 use Rattle.vx_record.specs.Records.{Record, capped}
-use Rattle.vx_record.specs.Copies.{counting, next_copy, IsLive}
+use Rattle.vx_record.specs.Copies.{counting, children_of, next_copy, IsLive}
 use Rattle.vx_record.specs.Lists.{waiting, contents}
 use Rattle.vx_record.specs.Sending.{IsOldest}
 use Rattle.vx_record.specs.Moving.{Divides}
 use Rattle.vx_record.specs.Accounting.{IsNoticedSo, IsInTurn}
 use Rattle.vx_record.specs.Starting.{MayInstall}
+use Rattle.vx_record.specs.Installs.{wired}
+use Rattle.vx_record.specs.Routing.{wired_targets}
 use Rattle.vx_record.specs.declared.child.Child.{Child}
 use Rattle.vx_record.specs.Reads.{bytes_taken}
 use Rattle.vx_record.specs.Confirms.{born_positions, is_unconfirmed}
@@ -61,10 +63,15 @@ pub record IsBirthOf (h : Record) (i batch : ℕ) (copies : List ℕ) (events : 
   pub number : batch ≡ next_copy h
   pub fits : next_copy h + length copies ≤ 2 ^ 63
 
--- a split replaces the oldest output of its instance, and makes, for each of some targets, one child with a copy for each
--- of the copies that it replaces, with the next numbers
+-- the instances that read what an instance puts out, by the Install that gave it work, in byte order of their names
+abbrev pub readers_at : Record → ℕ → List ℕ
+readers_at = wired [] (wired_targets 0)
+
+-- a split replaces the oldest output of its instance, and makes, for each reader of the instance, one child with a copy
+-- for each of the copies that it replaces, with the next numbers
 pub record IsSplitOf (h : Record) (i : ℕ) (copies : List ℕ) (children : List Child) : Type 0 where
   pub divides : Divides h i copies children
+  pub routed : children ≡ children_of (next_copy h) (length copies) (readers_at h i)
   pub some : 0 < length children
   pub fits : next_copy h + length children * length copies ≤ 2 ^ 63
 
@@ -82,11 +89,12 @@ IsGiven NewestDropped = ⊥
 IsGiven other = Unit {0}
 
 -- an outcome that an attempt gives is what the instance's last attempt was answered, whichever copies that had; none is
--- spent as abandoned before the run was given up; of a copy without a consumer nothing is said
+-- spent as abandoned before the run was given up, and as without a consumer only where nobody reads the instance
 pub record IsSpentFor (h : Record) (i : ℕ) (outcome : Outcome) : Type 0 where
   pub given : IsGiven outcome
   pub replied : (reply : Reply) → reply_behind outcome ≡ Some reply → last_reply h i ≡ Some reply
   pub given_up : outcome ≡ Abandoned → IsSome (cause_of h)
+  pub unread : outcome ≡ NoConsumer → readers_at h i ≡ []
 
 -- a run is given up where some wanted numbers would pass 2^63, or for want of memory; nobody asks it to stop yet
 abbrev pub IsReason : Record → AbandonCause → Type 0

@@ -24,7 +24,7 @@ use Rattle.vx_hub.specs.Batching.{AreRunning}
 use Rattle.vx_hub.specs.Places.{IsPlaced}
 use Rattle.vx_hub.specs.Turns.{NothingLeft}
 pub use Rattle.vx_hub.specs.Order.{lost_at, cause_of}
-use Rattle.vx_hub.specs.Order.{IsOrderly, IsUnknown}
+use Rattle.vx_hub.specs.Order.{IsOrderly, IsUnknown, readers_at}
 use Rattle.vx_record.specs.Copies.{next_copy}
 use Rattle.vx_record.specs.Installs.{in_force}
 use Rattle.vx_ends.specs.declared.port_spec.PortSpec.{PortSpec}
@@ -72,6 +72,7 @@ pub record IsKnown (f : Facts) (h : Record) (i : ℕ) : Type 0 where
   pub ends : f.ends ≡ born_positions h i
   pub to_confirm : IfSome f.to_confirm (λ positions. positions ≡ born_positions h i)
   pub confirm_failed : f.confirm_failed ≡ is_unconfirmed h i
+  pub outlet : f.outlet ≡ readers_at h i ∷ []
 
 -- whatever is live stands at an instance or in the hand
 abbrev pub IsBalanced : {P : Type 0} → Ledger → List (Row P) → List Copy → Type 0

@@ -1,6 +1,6 @@
 ghost use Rattle.std.specs.Prelude.{◌≡◌, ◌++◌, ◌∷◌, [], length, IfOk};
 ghost use Rattle.vx_plan.specs.Numbers.{reader_numbers};
-ghost use Rattle.vx_hub.specs.Making.{IsUnused, AreUnused};
+ghost use Rattle.vx_hub.specs.Making.{IsUnused, AreUnused, IsFittedTo, AreFitted};
 ghost use Rattle.vx_hub.specs.Rows.{role_parcels};
 
 use crate::facts::Facts;
@@ -28,6 +28,7 @@ pub struct Seat {
 pub(crate) fn seats(alloc: Global, plan: &Plan) -> Result<Vec<Seat>, WantOfMemory>
     ensures unused { IfOk result (λ seats. AreUnused seats.items) }
     ensures count { IfOk result (λ seats. length seats.items ≡ length plan.now.components) }
+    ensures fitted { IfOk result (λ seats. AreFitted plan.now plan.now.components seats.items) }
 {
     let mut seats = Vec::with_capacity(alloc, plan.components.len())?;
     for component in plan.components.as_slice() {
@@ -44,7 +45,8 @@ pub(crate) fn seats(alloc: Global, plan: &Plan) -> Result<Vec<Seat>, WantOfMemor
 
 /// What a component begins with.
 fn make_seat(alloc: Global, plan: &Plan, component: &Component) -> Result<Seat, WantOfMemory>
-    ensures { IfOk result IsUnused }
+    ensures unused { IfOk result IsUnused }
+    ensures fitted { IfOk result (λ seat. IsFittedTo plan.now component.now seat.facts) }
 {
     let facts = Facts {
         name: component.name.copy(alloc)?,

@@ -1,11 +1,48 @@
-use Rattle.std.proofs.Common.{arith, ap, ◌≡◌, ◌∙◌, ◌+◌, ◌<◌, ℕ, List, length, subst, sym}
-use Rattle.std.specs.Prelude.{drop}
+use Rattle.std.proofs.Common.{refl, IfSome, arith, ap, ◌≡◌, ◌∙◌, ◌+◌, ◌<◌, ℕ, List, length, subst, sym}
+use Rattle.std.specs.Prelude.{drop, slice_get, IsSomeAnd}
+use Rattle.vx_hub.specs.declared.row.Row.{Row}
+use Rattle.vx_hub.specs.declared.facts.Facts.{Facts}
+use Rattle.vx_hub.specs.Stands.{facts_at, spec_of}
+use Rattle.vx_hub.specs.Rows.{copies_in, port_at}
 use Rattle.vx_hub.specs.declared.seat.Seat.{Seat}
 use Rattle.vx_hub.specs.declared.parts.Named.{Named}
-use Rattle.vx_hub.specs.Making.{AreUnused, AreUntouched}
+use Rattle.vx_hub.specs.Making.{AreNew, AreUnused, IsFittedTo, AreFitted, IsUntouched, AreUntouched}
 use Rattle.vx_hub.specs.Beginning.{HasSeats, HasFirst}
-use Rattle.vx_hub.proofs.Beginning.{begun_stands, front_of, untouched_first}
+use Rattle.vx_hub.proofs.Beginning.{begun_stands, front_of, none_at, fitted_first, untouched_first}
 use Rattle.vx_hub.proofs.making.seated.Goals as goal
+
+pub loop-seats-init : goal.loop-seats-init
+loop-seats-init g c =
+    let none : length c.args.room.rows.items ≡ 0 = ap length c.requires.room.rows in
+    record {
+      begins = record {
+        batches = c.requires.room.batches;
+        next = c.requires.room.next;
+        kept = c.requires.room.kept;
+        copies = λ batch place. ap (copies_in batch place) c.requires.room.rows;
+        places = λ p. none_at c.args.room.rows.items p c.requires.room.rows;
+        ports = λ i. subst (λ (rows : List (Row _)). IfSome (port_at rows i) (λ port. IsUntouched (spec_of (slice_get c.args.plan.components i)) (g.P.Port.told port))) (sym c.requires.room.rows) tt;
+        facts = λ i. subst (λ (fs : List Facts). IfSome (facts_at fs i) AreNew) (sym c.requires.room.facts) tt;
+        fitted = λ i. subst (λ (fs : List Facts). IfSome (facts_at fs i) (λ f. IsSomeAnd (slice_get c.args.plan.components i) (λ component. IsFittedTo c.args.plan component f))) (sym c.requires.room.facts) tt;
+        bytes = refl;
+        abandoned = refl;
+        size = ap length c.requires.room.facts ∙ sym none;
+      };
+      unused = c.requires.unused;
+      fitted = subst (λ (n : ℕ). AreFitted c.args.plan (drop n c.args.plan.components) c.args.seats.items) (sym none) c.requires.fitted;
+      ports = c.requires.ports;
+      untouched = subst (λ (n : ℕ). AreUntouched g.P.Port.told (drop n c.args.plan.components) c.args.ports.items) (sym none) c.requires.untouched;
+      room = record {
+        facts = omega (arith, ap length c.requires.room.facts, c.requires.room.facts_room);
+        progress = omega (arith, ap length c.requires.room.progress, c.requires.room.progress_room);
+        rows = omega (arith, none, c.requires.room.rows_room);
+      };
+      size = omega (arith, none);
+      plan = refl;
+      first = c.requires.room.first;
+      none = c.requires.room.ports;
+      berths = c.requires.room.ports_room;
+    }
 
 pub loop-seats-preserved : goal.loop-seats-preserved
 loop-seats-preserved g c =
@@ -15,8 +52,12 @@ loop-seats-preserved g c =
     let ports_some : 0 < length c.loop-seats.ports.items = omega (arith, inv.ports) in
     let first = untouched_first g.P.Port.told c.args.plan.components (length c.loop-seats.hub.rows.items) c.remove-port.result _
     (subst (λ (s : List (Named _)). AreUntouched g.P.Port.told (drop (length c.loop-seats.hub.rows.items) c.args.plan.components) s) (front_of c.loop-seats.ports.items c.remove-port.result ports_some c.remove-port.ensures.value) inv.untouched) in
+    let seat = fitted_first c.args.plan c.args.plan.components (length c.loop-seats.hub.rows.items) c.remove-seat.result _
+    (subst (λ (s : List Seat). AreFitted c.args.plan (drop (length c.loop-seats.hub.rows.items) c.args.plan.components) s) (front_of c.loop-seats.seats.items c.remove-seat.result some c.remove-seat.ensures.value) inv.fitted) in
     record {
-      begins = c.seat.ensures.begins c.args.plan inv.begins first.0;
+      begins = c.seat.ensures.begins c.args.plan inv.begins first.0 seat.0;
+      fitted = subst (λ (n : ℕ). AreFitted c.args.plan (drop n c.args.plan.components) c.remove-seat.new.self.items) (sym c.seat.ensures.size)
+          (subst (λ (s : List Seat). AreFitted c.args.plan (drop (length c.loop-seats.hub.rows.items + 1) c.args.plan.components) s) (sym c.remove-seat.ensures.items) seat.1);
       unused = subst (λ (s : List Seat). AreUnused s) (sym c.remove-seat.ensures.items)
           (subst (λ (s : List Seat). AreUnused s) (front_of c.loop-seats.seats.items c.remove-seat.result some c.remove-seat.ensures.value) inv.unused).1;
       ports = omega (arith, inv.ports, c.remove-port.ensures.len);

@@ -1,5 +1,5 @@
 use Rattle.std.proofs.Common.{◌≡◌, ◌+◌, ◌≤◌, [], drop, length}
-use Rattle.vx_hub.specs.Making.{AreUnused, AreUntouched}
+use Rattle.vx_hub.specs.Making.{AreUnused, AreFitted, AreUntouched}
 use Rattle.vx_hub.specs.Beginning.{Begins, HasSeats, HasFirst}
 use Rattle.vx_hub.proofs.making.seated.Given as goal
 
@@ -7,6 +7,7 @@ abbrev pub invariant-loop-seats : goal.invariant-loop-seats
 invariant-loop-seats g l = record {
   begins : Begins g.P.Port.told l.fn.plan l.hub;
   unused : AreUnused l.seats.items;
+  fitted : AreFitted l.fn.plan (drop (length l.hub.rows.items) l.fn.plan.components) l.seats.items;
   ports : length l.ports.items ≡ length l.seats.items;
   untouched : AreUntouched g.P.Port.told (drop (length l.hub.rows.items) l.fn.plan.components) l.ports.items;
   room : HasSeats l.hub (length l.seats.items);

@@ -10,7 +10,7 @@ use Rattle.vx_hub.proofs.hub.Hub.mark_retired.Goals as goal
 pub returns-clause-stands : goal.returns-clause-stands
 returns-clause-stands g c =
     stands_marked g.P.Port.told c.args.self.now _ [] [] _ c.args.instance c.index_mut.result.now _ c.requires.stands c.requires.within c.index_mut.ensures.value
-    refl refl refl c.requires.stands.balanced refl refl c.note.ensures.noted tt (same_next c.args.self.now.batches c.args.self.now.batches c.args.self.now.log.history (Retired c.args.instance) refl refl) (λ fine. tt) refl (λ known. known_quiet _ c.args.self.now.log.history c.args.instance _ tt (record { taken = known.taken; lost = known.lost; failed_starts = known.failed_starts; ends = known.ends; to_confirm = known.to_confirm; confirm_failed = known.confirm_failed })) (λ x k other known. known_quiet x c.args.self.now.log.history k _ tt known)
+    refl refl refl c.requires.stands.balanced refl refl c.note.ensures.noted tt (same_next c.args.self.now.batches c.args.self.now.batches c.args.self.now.log.history (Retired c.args.instance) refl refl) (λ fine. tt) refl (λ known. known_quiet _ c.args.self.now.log.history c.args.instance _ tt (record { taken = known.taken; lost = known.lost; failed_starts = known.failed_starts; ends = known.ends; to_confirm = known.to_confirm; confirm_failed = known.confirm_failed; outlet = known.outlet })) (λ x k other known. known_quiet x c.args.self.now.log.history k _ tt known)
     (facts_has (IsShut g.P.Port.told c.args.self.now.rows.items c.args.instance) c.args.self.now.facts.items c.args.instance c.index_mut.result.now c.requires.within c.index_mut.ensures.value (c.requires.stands.shut c.args.instance))
     (λ retired. (facts_surely (λ f. f.closed ≡ true) c.args.self.now.facts.items c.args.instance c.index_mut.result.now c.requires.within c.index_mut.ensures.value c.requires.closed, c.requires.bare))
     (λ fine kept placed. placed_still c.args.self.now.rows.items [] c.args.self.now.log.history (Retired c.args.instance) tt kept.1 placed)

@@ -18,6 +18,7 @@ returns-clause-stands g c hand s =
       ends = ends_on c.index_mut-facts.result.now c.args.self.now.log.history c.args.instance (entry.Confirm c.args.instance c.args.confirmed.positions c.args.confirmed.made) refl known.ends;
       to_confirm = to_confirm_on c.index_mut-facts.result.now c.args.self.now.log.history c.args.instance (entry.Confirm c.args.instance c.args.confirmed.positions c.args.confirmed.made) refl known.to_confirm;
       confirm_failed = sym (ap (λ t. if t then not c.args.confirmed.made else is_unconfirmed c.args.self.now.log.history c.args.instance) (same_test c.args.instance));
+      outlet = known.outlet;
     })
     (λ bytes. bytes)
     refl (λ fine known. c.requires.due fine)

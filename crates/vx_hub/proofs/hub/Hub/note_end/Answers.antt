@@ -21,6 +21,7 @@ returns-clause-stands g c hand s =
       ends = ends_on c.index_mut-facts.result.now c.args.self.now.log.history c.args.instance (entry.Read c.args.instance c.args.stream c.args.taken) refl known.ends;
       to_confirm = to_confirm_on c.index_mut-facts.result.now c.args.self.now.log.history c.args.instance (entry.Read c.args.instance c.args.stream c.args.taken) refl known.to_confirm;
       confirm_failed = known.confirm_failed;
+      outlet = known.outlet;
     })
     (λ bytes. bytes ∙ no_bytes true (bytes_of_all c.args.self.now.log.history) (bytes_of c.args.taken) c.requires.end)
     refl (λ fine known. sym known.lost ∙ facts_surely (λ f. f.lost ≡ None) c.args.self.now.facts.items c.args.instance c.index_mut-facts.result.now c.requires.within c.index_mut-facts.ensures.value c.requires.unlost)

@@ -14,7 +14,7 @@ returns-clause-stands g c =
     let within : c.args.instance < length c.args.self.now.facts.items = omega (arith, c.requires.stands.size, c.requires.open.within) in
     stands_marked g.P.Port.told c.args.self.now _ [] [] _ c.args.instance c.index_mut-facts.result.now _ c.requires.stands within c.index_mut-facts.ensures.value
     refl refl refl c.requires.stands.balanced refl refl c.note.ensures.noted tt (same_next c.args.self.now.batches c.args.self.now.batches c.args.self.now.log.history (Lease c.args.instance c.args.worker c.args.now 0) refl refl) (λ fine. tt) refl
-    (λ known. known_quiet _ c.args.self.now.log.history c.args.instance _ tt (record { taken = known.taken; lost = known.lost; failed_starts = known.failed_starts; ends = known.ends; to_confirm = subst (λ (o : Option _). IfSome o (λ positions. positions ≡ born_positions c.args.self.now.log.history c.args.instance)) (sym c.take.ensures.after) tt; confirm_failed = known.confirm_failed }))
+    (λ known. known_quiet _ c.args.self.now.log.history c.args.instance _ tt (record { taken = known.taken; lost = known.lost; failed_starts = known.failed_starts; ends = known.ends; to_confirm = subst (λ (o : Option _). IfSome o (λ positions. positions ≡ born_positions c.args.self.now.log.history c.args.instance)) (sym c.take.ensures.after) tt; confirm_failed = known.confirm_failed; outlet = known.outlet }))
     (λ x k other known. known_quiet x c.args.self.now.log.history k _ tt known)
     (facts_has (IsShut g.P.Port.told c.args.self.now.rows.items c.args.instance) c.args.self.now.facts.items c.args.instance c.index_mut-facts.result.now within c.index_mut-facts.ensures.value (c.requires.stands.shut c.args.instance))
     (facts_has (IsGone c.args.self.now.rows.items c.args.instance) c.args.self.now.facts.items c.args.instance c.index_mut-facts.result.now within c.index_mut-facts.ensures.value (c.requires.stands.gone c.args.instance))

@@ -18,6 +18,7 @@ returns-clause-stands g c hand s =
       ends = ends_on c.index_mut-facts.result.now c.args.self.now.log.history c.args.instance (entry.SourceLost c.args.instance c.index_mut-facts.result.now.taken c.args.start_failed) refl known.ends;
       to_confirm = to_confirm_on c.index_mut-facts.result.now c.args.self.now.log.history c.args.instance (entry.SourceLost c.args.instance c.index_mut-facts.result.now.taken c.args.start_failed) refl known.to_confirm;
       confirm_failed = known.confirm_failed;
+      outlet = known.outlet;
     })
     (λ bytes. bytes)
     refl (λ fine known. record { first = sym known.lost ∙ facts_surely (λ f. f.lost ≡ None) c.args.self.now.facts.items c.args.instance c.index_mut-facts.result.now c.requires.within c.index_mut-facts.ensures.value c.requires.unlost; after = known.taken; many = λ failed. subst (λ n. 4 ≤ n) known.failed_starts (facts_surely (λ f. 4 ≤ f.failed_starts) c.args.self.now.facts.items c.args.instance c.index_mut-facts.result.now c.requires.within c.index_mut-facts.ensures.value (c.requires.many failed)) })

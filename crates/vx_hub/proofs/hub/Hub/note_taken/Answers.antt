@@ -21,6 +21,7 @@ returns-clause-stands g c hand s =
       ends = ends_on c.index_mut-facts.result.now c.args.self.now.log.history c.args.instance (entry.Read c.args.instance c.args.stream (taken.Bytes c.args.bytes)) refl known.ends;
       to_confirm = to_confirm_on c.index_mut-facts.result.now c.args.self.now.log.history c.args.instance (entry.Read c.args.instance c.args.stream (taken.Bytes c.args.bytes)) refl known.to_confirm;
       confirm_failed = known.confirm_failed;
+      outlet = known.outlet;
     })
     (λ bytes. c.saturating_add-self.ensures ∙ ap (λ n. min (c.args.self.now.bytes + n) (2 ^ 64 - 1)) c.len-n.ensures ∙ capped_on c.args.self.now.bytes _ (length c.args.bytes) _ bytes)
     refl (λ fine known. sym known.lost ∙ facts_surely (λ f. f.lost ≡ None) c.args.self.now.facts.items c.args.instance c.index_mut-facts.result.now c.requires.within c.index_mut-facts.ensures.value c.requires.unlost)

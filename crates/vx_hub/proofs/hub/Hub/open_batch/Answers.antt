@@ -45,6 +45,7 @@ returns-clause-stands g c =
       ends = moves.ends ∙ ap (λ ps. moved_to c.args.position.stream c.args.position.end ps) known.ends ∙ more;
       to_confirm = moves.to_confirm ∙ ap (λ ps. moved_to c.args.position.stream c.args.position.end ps) known.ends ∙ more;
       confirm_failed = known.confirm_failed;
+      outlet = known.outlet;
     })
     (λ x k other known. known_other x h c.args.instance k _ refl other known)
     (facts_has (IsShut g.P.Port.told c.args.self.now.rows.items c.args.instance) c.args.self.now.facts.items c.args.instance c.index_mut-facts.result.now within c.index_mut-facts.ensures.value (s.shut c.args.instance))

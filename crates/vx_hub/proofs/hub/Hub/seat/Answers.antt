@@ -2,19 +2,19 @@ use Rattle.std.proofs.Common.{arith, ap, List, subst, sym, Some, IfSome}
 use Rattle.vx_ledger.specs.Copies.{copies_of}
 use Rattle.vx_hub.specs.declared.row.Row.{Row}
 use Rattle.vx_hub.specs.declared.facts.Facts.{Facts}
-use Rattle.vx_hub.specs.Making.{IsUntouched, AreNew}
-use Rattle.std.specs.Prelude.{slice_get}
+use Rattle.vx_hub.specs.Making.{IsUntouched, IsFittedTo, AreNew}
+use Rattle.std.specs.Prelude.{slice_get, IsSomeAnd, ℕ}
 use Rattle.vx_hub.specs.Stands.{facts_at, spec_of}
 use Rattle.vx_hub.specs.Rows.{parcel_copies, child_copies, copies_in, port_at}
 use Rattle.vx_hub.proofs.Parcels.{row_counts}
-use Rattle.vx_hub.proofs.Beginning.{ports_more, facts_more, copies_more, role_counts}
+use Rattle.vx_hub.proofs.Beginning.{ports_more, facts_more, fitted_more_at, copies_more, role_counts}
 use Rattle.std.proofs.Common.{◌∙◌}
 use Rattle.vx_hub.specs.Places.{copies_at}
 use Rattle.vx_hub.proofs.Beginning.{places_more, unused_here}
 use Rattle.vx_hub.proofs.hub.Hub.seat.Goals as goal
 
 pub returns-clause-begins : goal.returns-clause-begins
-returns-clause-begins g c plan begins untouched =
+returns-clause-begins g c plan begins untouched fitted =
     let row : Row _ = record { outputs = c.args.seat.outputs; waiting = c.new.result; buffer = c.args.seat.buffer; task = Some (record { port = c.args.port; role = c.args.seat.role }) } in
     record {
       batches = begins.batches;
@@ -37,6 +37,9 @@ returns-clause-begins g c plan begins untouched =
           (ports_more (λ k port. IsUntouched (spec_of (slice_get plan.components k)) (g.P.Port.told port)) c.args.self.now.rows.items row begins.ports untouched i);
       facts = λ i. subst (λ (fs : List Facts). IfSome (facts_at fs i) AreNew) (sym c.push_reserved.ensures.items)
           (facts_more AreNew c.args.self.now.facts.items c.args.seat.facts begins.facts c.requires.unused.facts i);
+      fitted = λ i. subst (λ (fs : List Facts). IfSome (facts_at fs i) (λ f. IsSomeAnd (slice_get plan.components i) (λ component. IsFittedTo plan component f))) (sym c.push_reserved.ensures.items)
+          (fitted_more_at (λ k f. IsSomeAnd (slice_get plan.components k) (λ component. IsFittedTo plan component f)) c.args.self.now.facts.items c.args.seat.facts begins.fitted
+          (subst (λ (n : ℕ). IsSomeAnd (slice_get plan.components n) (λ component. IsFittedTo plan component c.args.seat.facts)) (sym begins.size) fitted) i);
       bytes = begins.bytes;
       abandoned = begins.abandoned;
       size = omega (arith, c.push_reserved.ensures.len, c.push_reserved-3.ensures.len, begins.size);

@@ -12,7 +12,7 @@ use Rattle.vx_hub.specs.Rows.{child_copies}
 use Rattle.vx_hub.specs.Numbers.{numbers_in, noted_of}
 use Rattle.vx_hub.specs.Failures.{abandon_cause}
 use Rattle.vx_hub.specs.Order.{IsReason}
-use Rattle.vx_hub.proofs.Ordering.{children_have, parcel_has, targets_some, split_next, split_in_order, noted_split, length_numbers, length_noted, short_reason, unread_balanced, unread_may}
+use Rattle.vx_hub.proofs.Ordering.{children_have, parcel_has, targets_some, split_next, split_in_order, noted_split, length_numbers, length_noted, short_reason, unread_balanced, unread_may, targets_none}
 use Rattle.vx_hub.proofs.StandsLaws.{stands_quiet, stands_moved, split_balanced, back_balanced, bare_but, bare_by}
 use Rattle.std.proofs.Common.{List}
 use Rattle.vx_ledger.specs.declared.child.Child.{Child}
@@ -21,6 +21,7 @@ use Rattle.vx_hub.specs.Places.{IsPlaced, EachMine, waiting_lists, FillsWaiting}
 use Rattle.vx_hub.proofs.Placing.{oldest_is, from_oldest}
 use Rattle.vx_hub.proofs.Owning.{children_mine, placed_split, placed_same, placed_taken}
 use Rattle.vx_hub.proofs.Homing.{is_oldest, oldest_some, none_wait, put_back}
+use Rattle.vx_hub.proofs.Touching.{routed_as}
 use Rattle.vx_hub.proofs.hub.Hub.split.Goals as goal
 
 pub returns-in-Ok-Children-clause-stands : goal.returns-in-Ok-Children-clause-stands
@@ -48,6 +49,7 @@ returns-in-Ok-Children-clause-stands g c =
       quiet = tt;
       next = split_next d.log.history d.batches.next c.route.new.batches.next targets parcel cs are more;
       order = λ fine. split_in_order d.log.history c.args.instance d.batches.next targets parcel cs
+          (routed_as g.P.Port.told d c.args.instance c.index.result.now s c.requires.within c.index.ensures fine)
           (is_oldest (numbers_in parcel.finalizers) _ _ (oldest_is (Outputs c.args.instance) parcel.finalizers d.rows.items c.pop_output.new.rows.items d.log.history (s.recorded fine).places.standing c.in-Some.ensures.oldest))
           (s.recorded fine).next are
           (targets_some c.in-Ok-Children.field-0 made targets c.in-Ok-Children.field-0-is c.in-Ok-Children.ensures.no_consumer.1)
@@ -103,3 +105,5 @@ spend-requires-clause-stands g c =
 
 pub spend-requires-clause-cause : goal.spend-requires-clause-cause
 spend-requires-clause-cause g c = unread_may _ c.args.instance
+    (λ fine. sym (routed_as g.P.Port.told c.args.self.now c.args.instance c.index.result.now c.requires.stands c.requires.within c.index.ensures (record { whole = fine.whole; fed = fine.fed }))
+    ∙ targets_none c.in-Ok-NoConsumer.field-0 c.in-Ok-NoConsumer.parcel (targets_of 1 c.index.result.now.outlet) c.in-Ok-NoConsumer.field-0-is c.in-Ok-NoConsumer.ensures.no_consumer.0)
