@@ -1,10 +1,11 @@
 -- What is copied of a line.
-use Rattle.std.specs.Prelude.{◌≡◌, Bool, true, false, List, [], ◌∷◌, ◌++◌}
+use Rattle.std.specs.Prelude.{◌≡◌, ◌≢◌, Bool, true, false, List, [], ◌∷◌, ◌++◌}
 use Rattle.vx_value.specs.Texts.{Word}
 use Rattle.vx_value.specs.Datum.{Fields, NamedDatum, named_of}
 use Rattle.vx_json.specs.Written.{written}
 use Rattle.vx_json.specs.Faults.{IsEvent, IsFault}
 use Rattle.vx_json.specs.declared.json_fault.JsonFault.{JsonFault}
+use Rattle.vx_json.specs.declared.json_fault.JsonFault.TheVariants.{WantOfMemory}
 
 -- the bytes are an event, which is added in its one spelling with a line feed
 pub record IsEventCopied (bytes old new : Word) : Type 0 where
@@ -12,9 +13,10 @@ pub record IsEventCopied (bytes old new : Word) : Type 0 where
   pub event : IsEvent bytes fields
   pub added : new ≡ old ++ (written (Fields (named_of fields)) ++ 10 ∷ [])
 
--- the bytes are none, for a fault, and nothing is added
+-- the bytes are none, for a fault that isn't want of memory, and nothing is added
 pub record IsLeftOut (bytes old new : Word) : Type 0 where
   pub fault : JsonFault
+  pub theirs : fault ≢ WantOfMemory
   pub is_fault : IsFault bytes fault
   pub same : new ≡ old
 
@@ -27,8 +29,10 @@ pub record IsSomeEvent (bytes : Word) : Type 0 where
   pub fields : List NamedDatum
   pub event : IsEvent bytes fields
 
+-- the bytes have a fault that isn't want of memory
 pub record IsRefused (bytes : Word) : Type 0 where
   pub fault : JsonFault
+  pub theirs : fault ≢ WantOfMemory
   pub is_fault : IsFault bytes fault
 
 abbrev pub IsJudged : Word → Bool → Type 0
