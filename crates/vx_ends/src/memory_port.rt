@@ -21,8 +21,8 @@ use vx_value::Bytes;
 
 /// A port that plays a script, and keeps what it is given and what is confirmed.
 ///
-/// A take walks its steps. Each give, finish and confirm, and each start of a port that isn't started, uses the
-/// next act; past the last act it passes.
+/// Its steps answer the takes. Its acts say, one after the other, how the other calls end: a call to give, to finish
+/// or to confirm reads one, and so does a start, where the port wasn't started yet. With no act left, calls pass.
 #[derive(Drop)]
 pub struct MemoryPort {
     alloc: Global,

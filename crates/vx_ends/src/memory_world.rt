@@ -20,7 +20,8 @@ use vx_value::{Bytes, WantOfMemory};
 
 /// A world of texts in memory, and of ports that play scripts.
 ///
-/// Each port of a name takes the next script of that name, or an empty one.
+/// The scripts of a name are handed out in their order, one to a port. A port for which none is left plays an empty
+/// script: it has nothing to take, and each of its calls passes.
 #[derive(Drop)]
 pub struct MemoryWorld {
     alloc: Global,
