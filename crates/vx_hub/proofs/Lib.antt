@@ -8,6 +8,7 @@ mod Noticing
 pub mod Parcels
 pub mod Silence
 pub mod Saying
+pub mod Standing
 pub mod StandsLaws
 pub mod Touching
 pub mod Beginning

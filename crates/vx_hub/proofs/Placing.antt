@@ -34,7 +34,7 @@ conserves h (Born i b place copies events waits stream end) o = o.next
 conserves h (Split i ports copies event children) o = o.divides
 conserves h (Push i t s copies) o = o
 conserves h (Take i s copies) o = o
-conserves h (Spent i c outcome) o = o.0
+conserves h (Spent i c outcome) o = o.live
 conserves h e o = tt
 
 pub conserved : (h : Record) → IsOrderly h → IsConserved h

@@ -6,8 +6,10 @@ use Rattle.vx_status.specs.declared.outcome.Outcome.{Outcome}
 use Rattle.vx_status.specs.declared.outcome.Outcome.TheVariants.{Delivered, Attempts, Refusal, Abandoned, NoConsumer, Filtered, NewestDropped}
 use Rattle.vx_value.specs.declared.event.Event.{Event}
 use Rattle.vx_record.specs.Records.{Record, capped}
-use Rattle.vx_record.specs.Copies.{counting, children_of, next_copy, IsLive}
-use Rattle.vx_record.specs.Lists.{waiting, contents}
+use Rattle.vx_record.specs.Copies.{count, joined, counting, children_of, next_copy, IsLive}
+use Rattle.vx_record.specs.Places.{Place, owner}
+use Rattle.vx_record.specs.Places.Place.{Outputs, Held}
+use Rattle.vx_record.specs.Lists.{waiting, contents, stands, parcels_at}
 use Rattle.vx_record.specs.Sending.{IsOldest}
 use Rattle.vx_record.specs.Moving.{Divides}
 use Rattle.vx_record.specs.Accounting.{IsNoticedSo, IsInTurn}
@@ -96,6 +98,25 @@ pub record IsSpentFor (h : Record) (i : ℕ) (outcome : Outcome) : Type 0 where
   pub given_up : outcome ≡ Abandoned → IsSome (cause_of h)
   pub unread : outcome ≡ NoConsumer → readers_at h i ≡ []
 
+-- where a copy stands that is spent so: put out by its instance where nobody reads it, anywhere at it where the run was
+-- given up, and else held by it
+abbrev pub IsPlaceFor : Outcome → ℕ → Place → Type 0
+IsPlaceFor NoConsumer i p = p ≡ Outputs i
+IsPlaceFor Abandoned i p = owner p ≡ i
+IsPlaceFor other i p = p ≡ Held i
+
+-- some copies stand at one place of an instance, from which they may be spent so
+pub record AreSpentFrom (h : Record) (i : ℕ) (outcome : Outcome) (copies : List ℕ) : Type 0 where
+  pub place : Place
+  pub meant : IsPlaceFor outcome i place
+  pub there : (c : ℕ) → 0 < count c copies → 0 < count c (joined (parcels_at place (stands h)))
+
+-- a live copy is spent where it stands, and for a cause
+pub record IsSpending (h : Record) (i c : ℕ) (outcome : Outcome) : Type 0 where
+  pub live : IsLive h c
+  pub cause : IsSpentFor h i outcome
+  pub from : AreSpentFrom h i outcome (c ∷ [])
+
 -- a run is given up where some wanted numbers would pass 2^63, or for want of memory; nobody asks it to stop yet
 abbrev pub IsReason : Record → AbandonCause → Type 0
 IsReason h (Grace stopped now limit) = ⊥
@@ -117,7 +138,7 @@ IsInOrder h (Born j batch place copies events waits stream end) = IsBirthOf h j 
 IsInOrder h (Split j ports copies event children) = IsSplitOf h j copies children
 IsInOrder h (Push j t s copies) = IsOldest copies (waiting h j t)
 IsInOrder h (Take j s copies) = IsOldest copies (contents h j s)
-IsInOrder h (Spent j c outcome) = IsLive h c × IsSpentFor h j outcome
+IsInOrder h (Spent j c outcome) = IsSpending h j c outcome
 IsInOrder h (Notice batch status) = IsNoticedSo h batch status
 IsInOrder h (Confirm j positions made) = positions ≡ born_positions h j
 IsInOrder h (Abandon cause) = IsGivenUp h cause

@@ -1,5 +1,6 @@
 ghost use Rattle.std.specs.Prelude.{◌≡◌, ◌<◌, ◌↔◌, [], length, IfSome, IsSomeAnd, IsTrue, IsSome, All, Some, None, ℕ, IfNone, false, true};
 ghost use Rattle.vx_hub.specs.Order.{IsReason};
+ghost use Rattle.vx_hub.specs.Spending.{ComeFrom};
 ghost use Rattle.vx_hub.specs.Stands.{Stands, HasEnded, IsSound, facts_at};
 ghost use Rattle.vx_hub.specs.Rows.{IsBareAt, option_copies, port_at};
 
@@ -181,6 +182,7 @@ impl<P: Port> Hub<P> {
     fn spend_abandoned(&mut self, instance: u32, parcel: Parcel)
         requires stands { Stands P.told self.old parcel.finalizers self.old.log.history }
         requires given_up { IsSome self.old.abandoned }
+        requires from { ComeFrom self.old instance Outcome.Abandoned parcel.finalizers }
         ensures stands { Stands P.told self.new [] self.new.log.history }
         ensures rows { self.new.rows ≡ self.old.rows }
         ensures plan { self.new.plan ≡ self.old.plan }
@@ -194,6 +196,7 @@ impl<P: Port> Hub<P> {
         requires stands { Stands P.told self.old [] self.old.log.history }
         requires within { i < length self.old.rows.items }
         ensures stands { Stands P.told self.new (option_copies result) self.new.log.history }
+        ensures from { IfSome result (λ parcel. ComeFrom self.new i Outcome.Abandoned parcel.finalizers) }
         ensures size { length self.new.rows.items ≡ length self.old.rows.items }
         ensures plan { self.new.plan ≡ self.old.plan }
         ensures abandoned { self.new.abandoned ≡ self.old.abandoned }

@@ -2,13 +2,13 @@ ghost use Rattle.std.specs.Prelude.{◌≡◌, ℕ, ◌<◌, ◌≤◌, ◌++◌
 ghost use Rattle.vx_ledger.specs.Copies.{Copy};
 ghost use Rattle.vx_record.specs.Confirms.{born_positions};
 ghost use Rattle.vx_record.specs.Noted.{Noted};
-ghost use Rattle.vx_hub.specs.Order.{reply_behind};
+ghost use Rattle.vx_hub.specs.Order.{reply_behind, IsPlaceFor};
 ghost use Rattle.vx_hub.specs.Failures.{HasReason};
 ghost use Rattle.vx_hub.specs.Spending.{MaySpend, IsReplied, HasRead};
 ghost use Rattle.vx_hub.specs.Stands.{Stands, IsTold, IsSound, IsUnlost};
 ghost use Rattle.vx_hub.specs.Leases.{IsBack, IsOpenAt, Adds};
 ghost use Rattle.vx_hub.specs.Turns.{event_count};
-ghost use Rattle.vx_record.specs.Places.Place.{Outputs};
+ghost use Rattle.vx_record.specs.Places.Place.{Outputs, Held};
 ghost use Rattle.vx_hub.specs.Places.{numbers_at};
 ghost use Rattle.vx_hub.specs.Births.{IsHeldBy};
 ghost use Rattle.vx_hub.specs.Rows.{role_copies, port_at, IsOutAt};
@@ -244,6 +244,7 @@ impl<P: Port> Hub<P> {
     pub(crate) fn spend_held(&mut self, instance: u32, outcome: Outcome)
         requires stands { Stands P.told self.old [] self.old.log.history }
         requires cause { MaySpend self.old instance outcome }
+        requires held { IsPlaceFor outcome instance (Held instance) }
         requires within { instance < length self.old.rows.items }
         ensures stands { Stands P.told self.new [] self.new.log.history }
         ensures facts { self.new.facts ≡ self.old.facts }
@@ -261,6 +262,7 @@ impl<P: Port> Hub<P> {
     fn spend_first(&mut self, instance: u32, outcome: Outcome) -> bool
         requires stands { Stands P.told self.old [] self.old.log.history }
         requires cause { MaySpend self.old instance outcome }
+        requires held { IsPlaceFor outcome instance (Held instance) }
         requires within { instance < length self.old.rows.items }
         ensures stands { Stands P.told self.new [] self.new.log.history }
         ensures cause { MaySpend self.new instance outcome }

@@ -3,7 +3,7 @@ ghost use Rattle.vx_ledger.specs.Copies.{Copy};
 ghost use Rattle.vx_ledger.specs.Ledger.{AreLive};
 ghost use Rattle.vx_status.specs.declared.outcome.Outcome.{Outcome};
 ghost use Rattle.vx_record.specs.Noted.{Noted};
-ghost use Rattle.vx_hub.specs.Spending.{MaySpend};
+ghost use Rattle.vx_hub.specs.Spending.{MaySpend, ComeFrom};
 ghost use Rattle.vx_hub.specs.Stands.{Stands};
 
 use crate::hub::Hub;
@@ -17,6 +17,7 @@ impl<P: Port> Hub<P> {
     pub(crate) fn spend(&mut self, instance: u32, parcel: Parcel, outcome: Outcome)
         requires stands { Stands P.told self.old parcel.finalizers self.old.log.history }
         requires cause { MaySpend self.old instance outcome }
+        requires from { ComeFrom self.old instance outcome parcel.finalizers }
         ensures stands { Stands P.told self.new [] self.new.log.history }
         ensures cause { MaySpend self.new instance outcome }
         ensures rows { self.new.rows ≡ self.old.rows }
@@ -38,7 +39,9 @@ impl<P: Port> Hub<P> {
     fn spend_one(&mut self, instance: u32, finalizer: Finalizer, outcome: Outcome)
         requires live { AreLive self.old.batches (finalizer ∷ []) }
         requires cause { MaySpend self.old instance outcome }
+        requires from { ComeFrom self.old instance outcome (finalizer ∷ []) }
         ensures cause { MaySpend self.new instance outcome }
+        ensures from { (rest : List Copy) → Stands P.told self.old (rest ++ finalizer ∷ []) self.old.log.history → ComeFrom self.old instance outcome (rest ++ finalizer ∷ []) → ComeFrom self.new instance outcome rest }
         ensures stands { (rest : List Copy) → Stands P.told self.old (rest ++ finalizer ∷ []) self.old.log.history → Stands P.told self.new rest self.new.log.history }
         ensures rows { self.new.rows ≡ self.old.rows }
         ensures plan { self.new.plan ≡ self.old.plan }

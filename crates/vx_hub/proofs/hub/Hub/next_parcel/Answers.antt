@@ -4,6 +4,8 @@ use Rattle.vx_hub.specs.Rows.{option_copies}
 use Rattle.vx_hub.proofs.StandsLaws.{stands_moved, hand_balanced, bare_by}
 use Rattle.vx_hub.proofs.Placing.{some_from_oldest}
 use Rattle.vx_hub.proofs.Owning.{placed_if, placed_child_if}
+use Rattle.vx_status.specs.declared.outcome.Outcome.TheVariants.{Abandoned}
+use Rattle.vx_hub.proofs.Standing.{taken_if, child_if}
 use Rattle.vx_hub.proofs.hub.Hub.next_parcel.Goals as goal
 
 pub returns-then-not-is_empty-clause-stands : goal.returns-then-not-is_empty-clause-stands
@@ -37,3 +39,18 @@ returns-else-not-is_empty-3-clause-stands g c =
     (hand_balanced d.batches d.rows.items c.pop_held.new.rows.items (option_copies c.pop_held.result) c.requires.stands.balanced c.pop_held.ensures.loses)
     refl c.pop_held.ensures.ports (bare_by d.facts.items d.rows.items c.pop_held.new.rows.items c.pop_held.ensures.bare) c.pop_held.ensures.size refl refl refl refl refl
     (λ fine kept placed. placed_if (Held c.args.i) c.pop_held.result d.rows.items c.pop_held.new.rows.items d.log.history kept placed (some_from_oldest (Held c.args.i) c.pop_held.result d.rows.items c.pop_held.new.rows.items c.pop_held.ensures.oldest) c.pop_held.ensures.none)
+
+pub returns-then-not-is_empty-clause-from : goal.returns-then-not-is_empty-clause-from
+returns-then-not-is_empty-clause-from g c = taken_if g.P.Port.told c.args.self.now _ c.args.i Abandoned (Outputs c.args.i) c.pop_output.result c.requires.stands refl refl refl
+    (some_from_oldest (Outputs c.args.i) c.pop_output.result c.args.self.now.rows.items c.pop_output.new.rows.items c.pop_output.ensures.oldest)
+
+pub returns-then-not-is_empty-2-clause-from : goal.returns-then-not-is_empty-2-clause-from
+returns-then-not-is_empty-2-clause-from g c = child_if g.P.Port.told c.args.self.now _ c.args.i c.take_last_child.result c.requires.stands refl refl c.take_last_child.ensures.from
+
+pub returns-then-not-is_empty-3-clause-from : goal.returns-then-not-is_empty-3-clause-from
+returns-then-not-is_empty-3-clause-from g c = taken_if g.P.Port.told c.args.self.now _ c.args.i Abandoned (Contents c.args.i 0) c.pop_buffer.result c.requires.stands refl refl refl
+    (some_from_oldest (Contents c.args.i 0) c.pop_buffer.result c.args.self.now.rows.items c.pop_buffer.new.rows.items c.pop_buffer.ensures.oldest)
+
+pub returns-else-not-is_empty-3-clause-from : goal.returns-else-not-is_empty-3-clause-from
+returns-else-not-is_empty-3-clause-from g c = taken_if g.P.Port.told c.args.self.now _ c.args.i Abandoned (Held c.args.i) c.pop_held.result c.requires.stands refl refl refl
+    (some_from_oldest (Held c.args.i) c.pop_held.result c.args.self.now.rows.items c.pop_held.new.rows.items c.pop_held.ensures.oldest)

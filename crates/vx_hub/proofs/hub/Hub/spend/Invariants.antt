@@ -1,5 +1,5 @@
 use Rattle.std.proofs.Common.{◌≡◌, length}
-use Rattle.vx_hub.specs.Spending.{MaySpend}
+use Rattle.vx_hub.specs.Spending.{MaySpend, ComeFrom}
 use Rattle.vx_hub.specs.Stands.{Stands}
 use Rattle.vx_hub.proofs.hub.Hub.spend.Given as goal
 
@@ -7,6 +7,7 @@ abbrev pub invariant-loop-finalizer : goal.invariant-loop-finalizer
 invariant-loop-finalizer g l = record {
   stands : Stands g.P.Port.told l.self l.finalizers l.self.log.history;
   cause : MaySpend l.self l.instance l.outcome;
+  from : ComeFrom l.self l.instance l.outcome l.finalizers;
   rows : l.self.rows ≡ l.fn.self.rows;
   plan : l.self.plan ≡ l.fn.self.plan;
   facts : l.self.facts ≡ l.fn.self.facts;

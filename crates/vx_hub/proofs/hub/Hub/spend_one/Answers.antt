@@ -12,6 +12,7 @@ use Rattle.vx_hub.specs.Order.{IsInOrder}
 use Rattle.vx_hub.specs.Places.{IsPlaced}
 use Rattle.vx_hub.specs.Stands.{Stands, IsSound}
 use Rattle.vx_hub.specs.declared.hub.Hub.{Hub}
+use Rattle.vx_hub.proofs.Standing.{spending, from_spent, from_noticed}
 use Rattle.vx_hub.proofs.hub.Hub.spend_one.Goals as goal
 
 pub returns-in_default-clause-stands : goal.returns-in_default-clause-stands
@@ -21,7 +22,7 @@ returns-in_default-clause-stands g c rest s =
     let f = c.args.finalizer in
     let n = c.number-copy.result in
     let balanced = spent_balanced d.batches c.spend-notice.new.self d.rows.items rest f s.balanced c.spend-notice.ensures.exchange in
-    let order : IsSound d → IsInOrder h (Spent c.args.instance n c.args.outcome) = λ fine. (spent_live d.rows.items h rest f n c.number-copy.ensures (s.recorded fine).places.standing, c.requires.cause fine) in
+    let order : IsSound d → IsInOrder h (Spent c.args.instance n c.args.outcome) = λ fine. spending h c.args.instance f n c.args.outcome c.number-copy.ensures (spent_live d.rows.items h rest f n c.number-copy.ensures (s.recorded fine).places.standing) (c.requires.cause fine) (c.requires.from fine) in
     stands_quiet g.P.Port.told d _ (rest ++ f ∷ []) rest (Spent c.args.instance n c.args.outcome) s balanced
     refl (λ i. refl) (bare_stays d.facts.items d.rows.items) refl c.note.ensures.noted
     (record {
@@ -47,7 +48,7 @@ returns-in-Some-clause-stands g c rest s =
     let f = c.args.finalizer in
     let n = c.number-copy.result in
     let balanced = spent_balanced d.batches c.spend-notice.new.self d.rows.items rest f s.balanced c.spend-notice.ensures.exchange in
-    let order : IsSound d → IsInOrder h (Spent c.args.instance n c.args.outcome) = λ fine. (spent_live d.rows.items h rest f n c.number-copy.ensures (s.recorded fine).places.standing, c.requires.cause fine) in
+    let order : IsSound d → IsInOrder h (Spent c.args.instance n c.args.outcome) = λ fine. spending h c.args.instance f n c.args.outcome c.number-copy.ensures (spent_live d.rows.items h rest f n c.number-copy.ensures (s.recorded fine).places.standing) (c.requires.cause fine) (c.requires.from fine) in
     let kept : IsSound d → IsConserved (Spent c.args.instance n c.args.outcome ∷ h) = λ fine. let r = s.recorded fine in
     conserved (Spent c.args.instance n c.args.outcome ∷ h) ((order fine, in_turn h (Spent c.args.instance n c.args.outcome) r.noticeless), r.order) in
     let places : IsSound d → IsPlaced d.rows.items rest (Spent c.args.instance n c.args.outcome ∷ h) = λ fine.
@@ -70,3 +71,13 @@ returns-in-Some-clause-cause g c =
     noticed_on (record c.args.self.now { batches = c.spend-notice.new.self; log = c.note.new.self }) c.tell.new.self c.in-Some.notice.batch c.in-Some.notice.status c.args.instance c.args.outcome c.tell.ensures.noted
     (ap (λ (x : Hub _). x.starved) c.tell.ensures.rest)
     (spent_on c.args.self.now (record c.args.self.now { batches = c.spend-notice.new.self; log = c.note.new.self }) c.args.instance c.number-copy.result c.args.outcome c.args.instance c.args.outcome c.note.ensures.noted refl c.requires.cause)
+
+pub returns-in_default-clause-from : goal.returns-in_default-clause-from
+returns-in_default-clause-from g c rest s from =
+    from_spent g.P.Port.told c.args.self.now (record c.args.self.now { batches = c.spend-notice.new.self; log = c.note.new.self }) c.args.instance rest c.args.finalizer c.number-copy.result c.args.outcome c.number-copy.ensures s
+    from c.note.ensures.noted refl
+
+pub returns-in-Some-clause-from : goal.returns-in-Some-clause-from
+returns-in-Some-clause-from g c rest s from =
+    from_noticed g.P.Port.told c.args.self.now (record c.args.self.now { batches = c.spend-notice.new.self; log = c.note.new.self }) c.tell.new.self c.args.instance rest c.args.finalizer c.number-copy.result c.args.outcome
+    c.in-Some.notice.batch c.in-Some.notice.status c.number-copy.ensures s from c.note.ensures.noted refl c.tell.ensures.noted (ap (λ (x : Hub _). x.starved) c.tell.ensures.rest)

@@ -21,6 +21,9 @@ use Rattle.vx_hub.specs.Places.{IsPlaced, EachMine, waiting_lists, FillsWaiting}
 use Rattle.vx_hub.proofs.Placing.{oldest_is, from_oldest}
 use Rattle.vx_hub.proofs.Owning.{children_mine, placed_split, placed_same, placed_taken}
 use Rattle.vx_hub.proofs.Homing.{is_oldest, oldest_some, none_wait, put_back}
+use Rattle.vx_status.specs.declared.outcome.Outcome.TheVariants.{NoConsumer}
+use Rattle.vx_hub.specs.Places.{TakesFrom}
+use Rattle.vx_hub.proofs.Standing.{taken_from}
 use Rattle.vx_hub.proofs.Touching.{routed_as}
 use Rattle.vx_hub.proofs.hub.Hub.split.Goals as goal
 
@@ -102,6 +105,13 @@ spend-requires-clause-stands g c =
     (λ fine kept placed. subst (λ (p : Parcel). IsPlaced c.pop_output.new.rows.items p.finalizers d.log.history) (sym whole)
     (placed_taken (Outputs c.args.instance) c.in-Some.parcel.finalizers d.rows.items c.pop_output.new.rows.items d.log.history kept placed
     (from_oldest (Outputs c.args.instance) c.in-Some.parcel.finalizers d.rows.items c.pop_output.new.rows.items c.in-Some.ensures.oldest)))
+
+pub spend-requires-clause-from : goal.spend-requires-clause-from
+spend-requires-clause-from g c =
+    let whole : c.in-Ok-NoConsumer.parcel ≡ c.in-Some.parcel = parcel_has c.in-Ok-NoConsumer.field-0 c.in-Ok-NoConsumer.parcel (λ p. p ≡ c.in-Some.parcel) c.in-Ok-NoConsumer.field-0-is c.in-Ok-NoConsumer.ensures.whole in
+    taken_from g.P.Port.told c.args.self.now _ c.args.instance NoConsumer (Outputs c.args.instance) c.in-Ok-NoConsumer.parcel.finalizers c.requires.stands refl refl refl
+    (subst (λ (p : Parcel). TakesFrom (Outputs c.args.instance) p.finalizers c.args.self.now.rows.items c.pop_output.new.rows.items) (sym whole)
+    (from_oldest (Outputs c.args.instance) c.in-Some.parcel.finalizers c.args.self.now.rows.items c.pop_output.new.rows.items c.in-Some.ensures.oldest))
 
 pub spend-requires-clause-cause : goal.spend-requires-clause-cause
 spend-requires-clause-cause g c = unread_may _ c.args.instance
