@@ -15,9 +15,31 @@ from pathlib import Path
 TOP = Path(__file__).resolve().parent.parent
 PROGRAM = str(TOP / "vector")
 FIRST = str(TOP / "examples" / "first.toml")
+TWO = str(TOP / "examples" / "two_consoles.toml")
 USAGE = b"vector: usage: vector --config FILE [options]\nvector: usage: vector validate FILE\n"
 LONGEST = 102_400
 PATIENCE = 120
+
+SOURCE = b'[sources.in]\ntype = "stdin"\n'
+SINK = b'[sinks.out]\ntype = "console"\ninputs = ["in"]\nencoding.codec = "text"\n'
+
+# texts that aren't accepted, and why
+REFUSED = [
+    (b'[sources.in]\ntype = "$NOPE_NOPE"\n', "missing variable NOPE_NOPE at 21"),
+    (b"[sources.in\n", "not a TOML document"),
+    (SOURCE + SINK + b"# \xff\n", "not a TOML document"),
+    (SOURCE + b'[sinks.out]\ntype = "kafka"\n', "unknown kind at sinks.out.type"),
+    (b"data = 1\n" + SOURCE + SINK, "unknown option data"),
+    (SOURCE + SINK + b"batch.max_events = 2\n", "unknown option sinks.out.batch"),
+    (SOURCE + b'[sinks.out]\ntype = "console"\ninputs = ["in"]\n', "missing option sinks.out.encoding.codec"),
+    (b"data_dir = 1.5\n" + SOURCE + SINK, "bad value at data_dir"),
+    (SOURCE + b'[sources.too]\ntype = "stdin"\n' + SINK, "bad value at sources.too.type"),
+    (SINK, "no sources"),
+    (SOURCE, "no sinks"),
+    (SOURCE + b'[sinks.out]\ntype = "console"\nencoding.codec = "text"\n', "no inputs of component out"),
+    (SOURCE + SINK.replace(b'"in"', b'"on"'), "unknown input on of component out"),
+    (SOURCE + b"".join(SINK.replace(b"out", b"o%d" % i) for i in range(256)), "too many at sources: 257, limit 256"),
+]
 
 results = []
 
@@ -28,10 +50,11 @@ def check(name, held, seen):
     print(f"ok      {name}" if held else f"FAILED  {name}: {seen}", flush=True)
 
 
-def run(given, words=("--config", FIRST), cwd=None):
-    """The status, the output and the errors of one run on that input."""
+def run(given, words=("--config", FIRST), cwd=None, variables=None):
+    """The status, the output and the errors of one run on that input, with these variables beside those of this process."""
+    environment = {**os.environb, **(variables or {})}
     try:
-        ran = subprocess.run([PROGRAM, *words], input=given, capture_output=True, timeout=PATIENCE, cwd=cwd)
+        ran = subprocess.run([PROGRAM, *words], input=given, capture_output=True, timeout=PATIENCE, cwd=cwd, env=environment)
     except subprocess.TimeoutExpired:
         return "it did not end", b"", b""
     return ran.returncode, ran.stdout, ran.stderr
@@ -161,13 +184,34 @@ def refusals():
         check("no such file", seen == (74, b"", b"vector: cannot read none.toml\n"), seen)
         seen = run(b"a\n", ["--config", folder])
         check("a folder as a file", seen == (74, b"", b"vector: cannot read %s\n" % folder.encode()), seen)
-        (Path(folder) / "other.toml").write_text(Path(FIRST).read_text() + "\n")
-        seen = run(b"a\n", ["--config", "other.toml"], cwd=folder)
-        wanted = b"vector: configuration refused: this configuration is not built yet\n"
-        check("another configuration", seen == (78, b"", wanted), seen)
+        for text, why in REFUSED:
+            (Path(folder) / "other.toml").write_bytes(text)
+            seen = run(b"a\n", ["--config", "other.toml"], cwd=folder)
+            check(f"refused: {why}", seen == (78, b"", f"vector: configuration refused: {why}\n".encode()), seen)
         (Path(folder) / "first.toml").write_bytes(Path(FIRST).read_bytes())
         seen = run(b"a\nb\n", ["--config", "first.toml"], cwd=folder)
         check("a file beside the caller", seen == (0, b"a\nb\n", b""), seen)
+
+
+def consoles():
+    """Several sinks that read one source, and variables of the environment."""
+    seen = run(b"a\nb\n", ["--config", TWO])
+    check("two consoles", seen == (0, b"a\nb\n", b"a\nb\n"), seen)
+    seen = run(b"a\nb\n", ["--config", TWO], variables={b"SECOND": b"stdout"})
+    check("two consoles on one output", (seen[0], sorted(seen[1].split()), seen[2]) == (0, [b"a", b"a", b"b", b"b"], b""), seen)
+    seen = run(b"a\n", ["--config", TWO], variables={b"SECOND": b"nowhere"})
+    check("a variable with a wrong value", seen == (78, b"", b"vector: configuration refused: bad value at sinks.second.target\n"), seen)
+    seen = run(b"a\n", ["--config", TWO], variables={b"OTHER": b"\xff", b"SECOND": b"stderr"})
+    check("a variable that is no UTF-8", seen == (0, b"a\n", b"a\n"), seen)
+    seen = run(b"a\n", ["--config", TWO], variables={b"SECOND": b"\xff"})
+    check("the asked variable is no UTF-8", seen == (0, b"a\n", b"a\n"), seen)
+    seen = run(b"a\n", ["--config", TWO], variables={b"LONG": b"x" * 100_000, b"SECOND": b"stdout"})
+    check("a long variable", seen == (0, b"a\na\n", b""), seen)
+    with tempfile.TemporaryDirectory() as folder:
+        sinks = "".join(f'[sinks.s{i}]\ntype = "console"\ninputs = ["in"]\nencoding.codec = "text"\n' for i in range(255))
+        (Path(folder) / "many.toml").write_text('[sources.in]\ntype = "stdin"\n' + sinks)
+        seen = run(b"a\nb\n", ["--config", "many.toml"], cwd=folder)
+        check("255 consoles", (seen[0], sorted(seen[1].split()), seen[2]) == (0, [b"a"] * 255 + [b"b"] * 255, b""), seen[0])
 
 
 def built():
@@ -182,7 +226,7 @@ def main():
     if not built():
         print("0 passed, 1 failed")
         return 1
-    for part in [refusals, inputs, bytes_of_all_kinds, lines_as_they_come, a_reader_that_leaves, ends_that_fail, many_lines]:
+    for part in [refusals, consoles, inputs, bytes_of_all_kinds, lines_as_they_come, a_reader_that_leaves, ends_that_fail, many_lines]:
         part()
     failed = results.count(False)
     print(f"{results.count(True)} passed, {failed} failed")

@@ -1,6 +1,7 @@
 //! The program `vector`: it runs a pipeline between the real ends of this process.
 #![tactic(auto)]
 
+mod environment;
 mod os_clock;
 mod os_port;
 mod os_printer;
@@ -11,9 +12,8 @@ use os_clock::OsClock;
 use os_printer::OsPrinter;
 use os_world::OsWorld;
 use std::process::ExitCode;
-use vx_value::VariableList;
 
-/// The status where not even the words find memory.
+/// The status where not even the words or the environment find memory.
 const WANT_OF_MEMORY: u8 = 71;
 
 /// Runs what the words ask for, and ends with the status of that run.
@@ -22,7 +22,9 @@ fn main(rt: HostRuntime) -> ExitCode {
     let Ok(words) = words::read(&rt, alloc) else {
         return ExitCode::from(WANT_OF_MEMORY);
     };
-    let environment = VariableList::new(alloc);
+    let Ok(environment) = environment::read(&rt, alloc) else {
+        return ExitCode::from(WANT_OF_MEMORY);
+    };
     let world = OsWorld::new(rt);
     let clock = OsClock::new(rt);
     let mut out = OsPrinter::new(rt, false);

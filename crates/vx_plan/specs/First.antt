@@ -1,4 +1,4 @@
--- The one configuration that is read so far, and the plan that it stands for.
+-- A small configuration, and the plan that it stands for.
 use Rattle.std.specs.Prelude.{◌^◌, ◌-◌, false, [], ◌∷◌, codes}
 use Rattle.vx_plan.specs.declared.class.Class.TheVariants.{Source, Sink}
 use Rattle.vx_plan.specs.declared.codec.Codec.TheVariants as codec

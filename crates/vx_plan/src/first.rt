@@ -1,5 +1,5 @@
-ghost use Rattle.std.specs.Prelude.{◌≡◌, ◌≢◌, ◌↔◌, Err, IfOk};
-ghost use Rattle.vx_plan.specs.First.{first_configuration, default_global, default_sink, first_source, first_sink, first_plan};
+ghost use Rattle.std.specs.Prelude.{◌≡◌, IfOk};
+ghost use Rattle.vx_plan.specs.First.{default_global, default_sink, first_source, first_sink, first_plan};
 
 use crate::class::Class;
 use crate::codec::Codec;
@@ -8,48 +8,17 @@ use crate::console_target::ConsoleTarget;
 use crate::decoding::Decoding;
 use crate::global::Global;
 use crate::plan::Plan;
-use crate::plan_fault::PlanFault;
 use crate::settings::Settings;
 use crate::sink_settings::SinkSettings;
 use crate::stage::{Stage, StageList};
 use crate::when_full::WhenFull;
 use std::alloc::Global as Allocator;
-use vx_value::{Text, TextList, VariableList, WantOfMemory};
+use vx_value::{Text, TextList, WantOfMemory};
 
-/// The configuration that is read so far: standard input to standard output.
-const FIRST_CONFIGURATION: &str = "[sources.in]
-type = \"stdin\"
-
-[sinks.out]
-type = \"console\"
-inputs = [\"in\"]
-encoding.codec = \"text\"
-";
-
-/// The plan of a configuration.
+/// The plan of standard input to standard output, as text: a source named `in`, and a sink named `out` that reads it.
 ///
-/// So far it reads one configuration, byte for byte, in which no variable stands. `NotBuilt` comes exactly where the
-/// bytes differ from it.
-pub fn read_plan(
-    alloc: Allocator,
-    bytes: &[u8],
-    _environment: &VariableList,
-) -> Result<Plan, PlanFault>
-    ensures plan { IfOk result (λ plan. plan ≡ first_plan) }
-    ensures accepted { IfOk result (λ plan. bytes.now ≡ first_configuration) }
-    ensures not_built { (result ≡ Err PlanFault.NotBuilt) ↔ (bytes.now ≢ first_configuration) }
-{
-    if bytes != FIRST_CONFIGURATION.as_bytes() {
-        return Err(PlanFault::NotBuilt);
-    }
-    match first_plan(alloc) {
-        Ok(plan) => Ok(plan),
-        Err(_) => Err(PlanFault::WantOfMemory),
-    }
-}
-
-/// What the configuration stands for.
-fn first_plan(alloc: Allocator) -> Result<Plan, WantOfMemory>
+/// Nothing but their types, names, inputs and codec is said; what isn't has its default.
+pub fn first_plan(alloc: Allocator) -> Result<Plan, WantOfMemory>
     ensures { IfOk result (λ plan. plan ≡ first_plan) }
 {
     let mut components = ComponentList::new(alloc);

@@ -1,16 +1,10 @@
-use crate::{PlanFault, read_plan};
+use crate::first_plan;
 use std::test::Fail;
 use vx_ends::Form;
-use vx_value::VariableList;
-
-/// The configuration that is read so far, as a user writes it.
-const CONFIGURATION: &str =
-    "[sources.in]\ntype = \"stdin\"\n\n[sinks.out]\ntype = \"console\"\ninputs = [\"in\"]\nencoding.codec = \"text\"\n";
 
 #[test]
-fn first_configuration_is_read(rt: HostRuntime) -> Result<(), Fail> {
-    let environment = VariableList::new(rt.alloc());
-    let plan = read_plan(rt.alloc(), CONFIGURATION.as_bytes(), &environment)?;
+fn first_plan_reads_standard_input(rt: HostRuntime) -> Result<(), Fail> {
+    let plan = first_plan(rt.alloc())?;
     let plan = plan.copy(rt.alloc())?;
     assert_eq!(rt; plan.components.len(), 2);
     assert!(rt; !plan.acknowledged("in"));
@@ -27,16 +21,6 @@ fn first_configuration_is_read(rt: HostRuntime) -> Result<(), Fail> {
                 Form::Console { err } => assert!(rt; !err),
             }
         }
-    }
-    Ok(())
-}
-
-#[test]
-fn other_configurations_are_not_built(rt: HostRuntime) -> Result<(), Fail> {
-    let environment = VariableList::new(rt.alloc());
-    match read_plan(rt.alloc(), b"data_dir = \"d\"\n", &environment) {
-        Ok(_) => assert!(rt; false, "it is another configuration"),
-        Err(fault) => assert_eq!(rt; fault, PlanFault::NotBuilt),
     }
     Ok(())
 }

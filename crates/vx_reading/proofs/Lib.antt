@@ -4,3 +4,4 @@ pub mod Answering
 pub mod OneAnswer
 pub mod Examples
 pub mod FirstRead
+pub mod Few

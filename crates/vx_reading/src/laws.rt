@@ -1,4 +1,4 @@
-ghost use Rattle.std.specs.Prelude.{◌≡◌, List, Ok, Err};
+ghost use Rattle.std.specs.Prelude.{◌≡◌, ◌≤◌, List, Ok, Err, length};
 ghost use Rattle.vx_value.specs.Texts.{Word};
 ghost use Rattle.vx_value.specs.declared.variable.Variable.{Variable};
 ghost use Rattle.vx_plan.specs.First.{first_configuration, first_plan};
@@ -24,4 +24,9 @@ pub fn first_configuration()
     ensures read { (environment : List Variable) → IsReading environment first_configuration (Ok first_plan) }
     ensures plan { (environment : List Variable) (plan : Plan) → IsReading environment first_configuration (Ok plan) → plan ≡ first_plan }
     ensures taken { (environment : List Variable) (fault : PlanFault) → IsReading environment first_configuration (Err fault) → fault ≡ WantOfMemory }
+{}
+
+/// A configuration that has a plan has few components: at most 256.
+pub fn few_components()
+    ensures { (environment : List Variable) (bytes : Word) (plan : Plan) → IsReading environment bytes (Ok plan) → length plan.components ≤ 256 }
 {}

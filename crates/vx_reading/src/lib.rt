@@ -25,7 +25,7 @@ mod shape;
 mod texts;
 mod trouble;
 
-pub use laws::{first_configuration, one_answer};
+pub use laws::{few_components, first_configuration, one_answer};
 pub use plan_fault::PlanFault;
 pub use reading::read_plan;
 

@@ -310,6 +310,12 @@ fn each_fault_of_an_option(rt: HostRuntime) -> Result<(), Fail> {
     ] {
         assert_eq!(rt; said_of_sink(alloc, options)?.as_str(), want);
     }
+    Ok(())
+}
+
+#[test]
+fn each_fault_of_an_input(rt: HostRuntime) -> Result<(), Fail> {
+    let alloc = rt.alloc();
     for (inputs, want) in [
         ("", "no inputs of component out"),
         ("inputs = []", "no inputs of component out"),

@@ -2,15 +2,14 @@ ghost use Rattle.std.specs.Prelude.{◌≡◌, ◌∷◌, ◌++◌, [], IfOk, On
 ghost use Rattle.vx_value.specs.Events.{last_below};
 ghost use Rattle.vx_value.specs.Values.{named_datum};
 ghost use Rattle.vx_value.specs.Datum.{Words};
-ghost use Rattle.vx_plan.specs.First.{first_plan};
 ghost use Rattle.vx_record.specs.declared.entry.Entry.{Entry};
 ghost use Rattle.vx_examples.specs.FirstRun.{instances as first_instances, child as child_of, event_a as first_event, event_b as second_event, after1};
 
 use std::alloc::Global;
 use vx_ends::{Position, PositionList};
-use vx_plan::{Plan, read_plan};
+use vx_plan::first_plan;
 use vx_record::{Child, ChildList, Entry, Instance, InstanceList, Record, Start};
-use vx_value::{Event, Field, FieldList, ItemList, Text, Value, VariableList, WantOfMemory};
+use vx_value::{Event, Field, FieldList, ItemList, Text, Value, WantOfMemory};
 
 /// The first configuration.
 pub const FIRST: &str = "[sources.in]
@@ -107,7 +106,7 @@ pub(crate) fn installed(alloc: Global) -> Result<Record, WantOfMemory>
     let mut log = Record::new(alloc);
     let entry = Entry::Install {
         version: 0,
-        plan: plan(alloc)?,
+        plan: first_plan(alloc)?,
         once: false,
         instances: instances(alloc)?,
         now: 0,
@@ -116,17 +115,7 @@ pub(crate) fn installed(alloc: Global) -> Result<Record, WantOfMemory>
     Ok(log)
 }
 
-/// The plan of the first configuration.
-fn plan(alloc: Global) -> Result<Plan, WantOfMemory>
-    ensures { IfOk result (λ plan. plan ≡ first_plan) }
-{
-    match read_plan(alloc, FIRST.as_bytes(), &VariableList::new(alloc)) {
-        Ok(plan) => Ok(plan),
-        Err(_) => Err(WantOfMemory),
-    }
-}
-
-/// Its instances.
+/// The instances of the first configuration.
 fn instances(alloc: Global) -> Result<InstanceList, WantOfMemory>
     ensures { IfOk result (λ instances. instances ≡ first_instances) }
 {

@@ -1,7 +1,11 @@
 -- What was counted, whatever fault is told in the end.
 use Rattle.std.proofs.Common.{◌≡◌, ◌⊎◌, inl, inr, ℕ, List, [], ◌∷◌, ◌++◌, Option, Some, None, sym, subst, arith}
 use Rattle.vx_ends.specs.Told.{Told}
-use Rattle.vx_plan.specs.First.{first_plan}
+use Rattle.std.specs.Prelude.{IsSomeAnd}
+use Rattle.vx_value.specs.Texts.{Word}
+use Rattle.vx_value.specs.declared.variable.Variable.{Variable}
+use Rattle.vx_ends.specs.declared.world.Config.{Config}
+use Rattle.vx_plan.specs.declared.plan.Plan.{Plan}
 use Rattle.vx_status.specs.declared.batch_status.BatchStatus.{BatchStatus}
 use Rattle.vx_record.specs.declared.entry.Entry.TheVariants.{Notice}
 use Rattle.vx_record.specs.Records.{Record}
@@ -14,8 +18,8 @@ use Rattle.vx_hub.specs.Order.{IsOrderly}
 use Rattle.vx_hub.specs.Remains.{AreTold, HasOnePlace, AllSpent, HasNotices}
 use Rattle.vx_hub.specs.Stands.{IsSound}
 use Rattle.vx_run.specs.Judging.{IsSure}
-use Rattle.vx_run.specs.Answers.{IsJudged}
-use Rattle.vx_run.specs.Running.{IsTrueTo, HasInstalled, AreKept, AreNoticed, IsCounted}
+use Rattle.vx_run.specs.Answers.{IsReady, IsAnswer, IsJudged}
+use Rattle.vx_run.specs.Running.{IsTrueTo, HasInstalled, IsInForce, AreKept, AreNoticed, IsCounted, HasAll, HasEach, NoneMissing}
 use Rattle.vx_run.specs.Telling.{IsKept}
 use Rattle.vx_run.specs.declared.fault.Fault.{Fault}
 use Rattle.vx_run.specs.declared.fault.Fault.TheVariants.{Usage, ConfigRead, ConfigRefused, Numbers, TooLong, SourceFailed, ConfirmFailed, WantOfMemory}
@@ -125,20 +129,75 @@ kept_told h fault (Some (SourceFailed name at)) same kept = subst (λ (f : Optio
 kept_told h fault (Some (ConfirmFailed name)) same kept = subst (λ (f : Option Fault). AreKept h f) same kept
 
 -- but for want of memory a run that began has its plan in force
-pub installed_of : {P : Type 0} (hub : Hub P) (h : Record) (fault : Option Fault) → IsSure hub fault → (IsSound hub → in_force h ≡ Some first_plan) → HasInstalled h fault
-installed_of hub h None sure is = is sure
-installed_of hub h (Some WantOfMemory) sure is = tt
-installed_of hub h (Some Usage) sure is = tt
-installed_of hub h (Some (ConfigRead path)) sure is = tt
-installed_of hub h (Some (ConfigRefused f)) sure is = tt
-installed_of hub h (Some (Numbers next wanted)) sure is = is sure
-installed_of hub h (Some TooLong) sure is = is sure
-installed_of hub h (Some (SourceFailed name at)) sure is = is sure
-installed_of hub h (Some (ConfirmFailed name)) sure is = is sure
+pub force_of : {P : Type 0} (hub : Hub P) (plan : Plan) (h : Record) (fault : Option Fault) → IsSure hub fault → (IsSound hub → in_force h ≡ Some plan) → IsInForce plan h fault
+force_of hub plan h None sure is = is sure
+force_of hub plan h (Some WantOfMemory) sure is = tt
+force_of hub plan h (Some Usage) sure is = is sure
+force_of hub plan h (Some (ConfigRead path)) sure is = is sure
+force_of hub plan h (Some (ConfigRefused f)) sure is = is sure
+force_of hub plan h (Some (Numbers next wanted)) sure is = is sure
+force_of hub plan h (Some TooLong) sure is = is sure
+force_of hub plan h (Some (SourceFailed name at)) sure is = is sure
+force_of hub plan h (Some (ConfirmFailed name)) sure is = is sure
 
-pub installed_short : (h : Record) (fault counted : Option Fault) → (counted ≡ fault) ⊎ (counted ≡ Some WantOfMemory) → HasInstalled h fault → HasInstalled h counted
-installed_short h fault counted (inl same) is = subst (λ (f : Option Fault). HasInstalled h f) (sym same) is
-installed_short h fault counted (inr short) is = subst (λ (f : Option Fault). HasInstalled h f) (sym short) tt
+pub force_short : (plan : Plan) (h : Record) (fault counted : Option Fault) → (counted ≡ fault) ⊎ (counted ≡ Some WantOfMemory) → IsInForce plan h fault → IsInForce plan h counted
+force_short plan h fault counted (inl same) is = subst (λ (f : Option Fault). IsInForce plan h f) (sym same) is
+force_short plan h fault counted (inr short) is = subst (λ (f : Option Fault). IsInForce plan h f) (sym short) tt
+
+-- and so the plan that the words ask for
+pub installed_for : (words : List Word) (environment : List Variable) (texts : Option (List Config)) (plan : Plan) (h : Record) (fault : Option Fault) →
+    IsReady words environment texts plan → IsInForce plan h fault → HasInstalled words environment texts h fault
+installed_for words environment texts plan h None ready is = record { plan = plan; ready = ready; installed = is }
+installed_for words environment texts plan h (Some WantOfMemory) ready is = tt
+installed_for words environment texts plan h (Some Usage) ready is = tt
+installed_for words environment texts plan h (Some (ConfigRead path)) ready is = tt
+installed_for words environment texts plan h (Some (ConfigRefused f)) ready is = tt
+installed_for words environment texts plan h (Some (Numbers next wanted)) ready is = record { plan = plan; ready = ready; installed = is }
+installed_for words environment texts plan h (Some TooLong) ready is = record { plan = plan; ready = ready; installed = is }
+installed_for words environment texts plan h (Some (SourceFailed name at)) ready is = record { plan = plan; ready = ready; installed = is }
+installed_for words environment texts plan h (Some (ConfirmFailed name)) ready is = record { plan = plan; ready = ready; installed = is }
+
+-- what is judged of a run that began is its answer
+pub answered : (words : List Word) (environment : List Variable) (texts : Option (List Config)) (before now : ℕ) (h : Record) (fault : Option Fault) →
+    IsJudged h fault → IsAnswer words environment texts before now h fault
+answered words environment texts before now h None judged = judged
+answered words environment texts before now h (Some WantOfMemory) judged = tt
+answered words environment texts before now h (Some Usage) judged = absurd judged
+answered words environment texts before now h (Some (ConfigRead path)) judged = absurd judged
+answered words environment texts before now h (Some (ConfigRefused f)) judged = absurd judged
+answered words environment texts before now h (Some (Numbers next wanted)) judged = judged
+answered words environment texts before now h (Some TooLong) judged = judged
+answered words environment texts before now h (Some (SourceFailed name at)) judged = judged
+answered words environment texts before now h (Some (ConfirmFailed name)) judged = judged
+
+-- there is a port for each component of the plan in force
+there : {P : Type 0} (plan : Plan) (h : Record) (ports : List (Numbered P)) → in_force h ≡ Some plan → HasAll ports plan → IsSomeAnd (in_force h) (HasAll ports)
+there plan h ports is all = subst (λ (found : Option Plan). IsSomeAnd found (HasAll ports)) (sym is) all
+
+pub none_missing_for : {P : Type 0} (words : List Word) (environment : List Variable) (texts : Option (List Config)) (plan : Plan) (h : Record) (ports : List (Numbered P)) (fault : Option Fault) →
+    IsReady words environment texts plan → IsJudged h fault → IsInForce plan h fault → HasEach plan h ports fault → NoneMissing words environment texts h ports fault
+none_missing_for words environment texts plan h ports None ready judged is each = there plan h ports is each
+none_missing_for words environment texts plan h ports (Some WantOfMemory) ready judged is (inl unbegun) = inl unbegun
+none_missing_for words environment texts plan h ports (Some WantOfMemory) ready judged is (inr all) = inr (record { plan = plan; ready = ready; each = all })
+none_missing_for words environment texts plan h ports (Some Usage) ready judged is each = absurd judged
+none_missing_for words environment texts plan h ports (Some (ConfigRead path)) ready judged is each = absurd judged
+none_missing_for words environment texts plan h ports (Some (ConfigRefused f)) ready judged is each = absurd judged
+none_missing_for words environment texts plan h ports (Some (Numbers next wanted)) ready judged is each = there plan h ports is each
+none_missing_for words environment texts plan h ports (Some TooLong) ready judged is each = there plan h ports is each
+none_missing_for words environment texts plan h ports (Some (SourceFailed name at)) ready judged is each = there plan h ports is each
+none_missing_for words environment texts plan h ports (Some (ConfirmFailed name)) ready judged is each = there plan h ports is each
+
+-- for each component of a plan there is a port, whatever the fault
+pub each_of : {P : Type 0} (plan : Plan) (h : Record) (ports : List (Numbered P)) (fault : Option Fault) → HasAll ports plan → HasEach plan h ports fault
+each_of plan h ports None all = all
+each_of plan h ports (Some WantOfMemory) all = inr all
+each_of plan h ports (Some Usage) all = all
+each_of plan h ports (Some (ConfigRead path)) all = all
+each_of plan h ports (Some (ConfigRefused f)) all = all
+each_of plan h ports (Some (Numbers next wanted)) all = all
+each_of plan h ports (Some TooLong) all = all
+each_of plan h ports (Some (SourceFailed name at)) all = all
+each_of plan h ports (Some (ConfirmFailed name)) all = all
 
 -- but for want of memory each batch has its notice
 pub noticed_of : {P : Type 0} (hub : Hub P) (h : Record) (fault : Option Fault) → IsSure hub fault → (IsSound hub → HasNotices h) → AreNoticed h fault

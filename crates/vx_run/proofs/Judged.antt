@@ -1,17 +1,19 @@
 -- What the hub's state says of the record, when a run is judged.
 use Rattle.std.proofs.Common.{◌≡◌, true, false, ℕ, zero, suc, ◌<◌, ◌≤◌, List, [], ◌∷◌, length, Option, Some, None, IfSome, IsSome, refl, sym, subst, ◌∙◌, arith}
-use Rattle.std.specs.Prelude.{◌^◌}
+use Rattle.std.specs.Prelude.{◌^◌, slice_get, IsSomeAnd}
+use Rattle.vx_value.specs.Texts.{Word}
 use Rattle.vx_ends.specs.Told.{Told}
-use Rattle.vx_plan.specs.First.{first_plan}
+use Rattle.vx_plan.specs.declared.plan.Plan.{Plan}
+use Rattle.vx_record.specs.Installs.{in_force}
 use Rattle.vx_record.specs.Records.{Record, capped}
 use Rattle.vx_record.specs.Reads.{bytes_of_all}
 use Rattle.vx_record.specs.Confirms.{is_unconfirmed}
 use Rattle.vx_hub.specs.declared.hub.Hub.{Hub}
 use Rattle.vx_hub.specs.declared.facts.Facts.{Facts}
-use Rattle.vx_hub.specs.Stands.{Stands, IsSound, IsKnown, facts_at, lost_of, lost_at, unconfirmed_of, cause_of}
+use Rattle.vx_hub.specs.Stands.{Stands, IsSound, IsKnown, component_in, facts_at, lost_of, lost_at, unconfirmed_of, cause_of}
 use Rattle.vx_run.specs.declared.fault.Fault.{Fault}
 use Rattle.vx_run.specs.declared.fault.Fault.TheVariants.{Usage, ConfigRead, ConfigRefused, Numbers, TooLong, SourceFailed, ConfirmFailed, WantOfMemory}
-use Rattle.vx_run.specs.Answers.{IsJudged, NoneLost, AllConfirmed, WentOn}
+use Rattle.vx_run.specs.Answers.{component_at, IsJudged, NoneLost, AllConfirmed, WentOn}
 use Rattle.std.specs.Prelude.{nat_lt, Bool}
 use Rattle.std.proofs.lemmas.Bool.Decides.{nat_tests}
 use Rattle.vx_record.specs.declared.abandon_cause.AbandonCause.{AbandonCause}
@@ -34,9 +36,9 @@ pub lost_known : {P : Type 0} (told_by : P → Told) (hub : Hub P) (i : ℕ) →
     lost_at hub.log.history i ≡ lost_of (facts_at hub.facts.items i)
 lost_known told_by hub i stands sound l = known_lost hub.log.history i (facts_at hub.facts.items i) (facts_there hub.facts.items i l) ((stands.recorded sound).facts i)
 
-pub none_lost : {P : Type 0} (told_by : P → Told) (hub : Hub P) → Stands told_by hub [] hub.log.history → IsSound hub → length hub.rows.items ≡ length first_plan.components →
+pub none_lost : {P : Type 0} (told_by : P → Told) (hub : Hub P) → Stands told_by hub [] hub.log.history → IsSound hub →
     ((i : ℕ) → i < length hub.facts.items → lost_of (facts_at hub.facts.items i) ≡ None) → NoneLost hub.log.history
-none_lost told_by hub stands sound size none i = go (nat_lt i (length hub.facts.items)) refl
+none_lost told_by hub stands sound none i = go (nat_lt i (length hub.facts.items)) refl
   where
     go : (b : Bool) → nat_lt i (length hub.facts.items) ≡ b → lost_at hub.log.history i ≡ None
     go true e = let within : i < length hub.facts.items = grind (arith, nat_tests) in lost_known told_by hub i stands sound within ∙ none i within
@@ -52,16 +54,21 @@ few_bytes n bytes e l = omega arith
 pub many_bytes : (n bytes : ℕ) → bytes ≡ capped n → 2 ^ 48 ≤ bytes → 2 ^ 48 ≤ n
 many_bytes n bytes e l = omega arith
 
-pub judged_lost : (h : Record) (i at : ℕ) (fault : Fault) → WentOn h → bytes_of_all h < 2 ^ 48 → lost_at h i ≡ Some at → ((j : ℕ) → j < i → lost_at h j ≡ None) → IsNamed first_plan i at fault → IsJudged h (Some fault)
-judged_lost h i at Usage goes few lost least named = absurd named
-judged_lost h i at (ConfigRead path) goes few lost least named = absurd named
-judged_lost h i at (ConfigRefused f) goes few lost least named = absurd named
-judged_lost h i at (Numbers next wanted) goes few lost least named = absurd named
-judged_lost h i at TooLong goes few lost least named = absurd named
-judged_lost h i at (SourceFailed name n) goes few lost least named =
-    (goes, (few, (i, record { least = least; lost = lost ∙ subst (λ (m : ℕ). Some at ≡ Some m) (sym named.0) refl; named = named.1 })))
-judged_lost h i at (ConfirmFailed name) goes few lost least named = absurd named
-judged_lost h i at WantOfMemory goes few lost least named = tt
+-- the component in a place of the plan in force is that of the instance
+named_there : (h : Record) (plan : Plan) (i : ℕ) (name : Word) → in_force h ≡ Some plan → IsSomeAnd (slice_get plan.components i) (λ component. name ≡ component.name) →
+    IsSomeAnd (component_at h i) (λ component. name ≡ component.name)
+named_there h plan i name force named = subst (λ (found : Option Plan). IsSomeAnd (component_in found i) (λ component. name ≡ component.name)) (sym force) named
+
+pub judged_lost : (h : Record) (plan : Plan) (i at : ℕ) (fault : Fault) → in_force h ≡ Some plan → WentOn h → bytes_of_all h < 2 ^ 48 → lost_at h i ≡ Some at → ((j : ℕ) → j < i → lost_at h j ≡ None) → IsNamed plan i at fault → IsJudged h (Some fault)
+judged_lost h plan i at Usage force goes few lost least named = absurd named
+judged_lost h plan i at (ConfigRead path) force goes few lost least named = absurd named
+judged_lost h plan i at (ConfigRefused f) force goes few lost least named = absurd named
+judged_lost h plan i at (Numbers next wanted) force goes few lost least named = absurd named
+judged_lost h plan i at TooLong force goes few lost least named = absurd named
+judged_lost h plan i at (SourceFailed name n) force goes few lost least named =
+    (goes, (few, (i, record { least = least; lost = lost ∙ subst (λ (m : ℕ). Some at ≡ Some m) (sym named.0) refl; named = named_there h plan i name force named.1 })))
+judged_lost h plan i at (ConfirmFailed name) force goes few lost least named = absurd named
+judged_lost h plan i at WantOfMemory force goes few lost least named = tt
 
 known_unconfirmed : (h : Record) (i : ℕ) (o : Option Facts) → IsSome o → IfSome o (λ f. IsKnown f h i) → is_unconfirmed h i ≡ unconfirmed_of o
 known_unconfirmed h i None s k = cc
@@ -72,9 +79,9 @@ pub unconfirmed_known : {P : Type 0} (told_by : P → Told) (hub : Hub P) (i : �
     is_unconfirmed hub.log.history i ≡ unconfirmed_of (facts_at hub.facts.items i)
 unconfirmed_known told_by hub i stands sound l = known_unconfirmed hub.log.history i (facts_at hub.facts.items i) (facts_there hub.facts.items i l) ((stands.recorded sound).facts i)
 
-pub all_confirmed : {P : Type 0} (told_by : P → Told) (hub : Hub P) → Stands told_by hub [] hub.log.history → IsSound hub → length hub.rows.items ≡ length first_plan.components →
+pub all_confirmed : {P : Type 0} (told_by : P → Told) (hub : Hub P) → Stands told_by hub [] hub.log.history → IsSound hub →
     ((i : ℕ) → i < length hub.facts.items → unconfirmed_of (facts_at hub.facts.items i) ≡ false) → AllConfirmed hub.log.history
-all_confirmed told_by hub stands sound size none i = go (nat_lt i (length hub.facts.items)) refl
+all_confirmed told_by hub stands sound none i = go (nat_lt i (length hub.facts.items)) refl
   where
     go : (b : Bool) → nat_lt i (length hub.facts.items) ≡ b → is_unconfirmed hub.log.history i ≡ false
     go true e = let within : i < length hub.facts.items = grind (arith, nat_tests) in unconfirmed_known told_by hub i stands sound within ∙ none i within
@@ -83,16 +90,16 @@ all_confirmed told_by hub stands sound size none i = go (nat_lt i (length hub.fa
         let past : length hub.rows.items ≤ i = omega (arith, beyond, stands.size) in
         ((stands.recorded sound).unknown i past).confirmed
 
-pub judged_unconfirmed : (h : Record) (i : ℕ) (fault : Fault) → WentOn h → bytes_of_all h < 2 ^ 48 → NoneLost h → is_unconfirmed h i ≡ true →
-    ((j : ℕ) → j < i → is_unconfirmed h j ≡ false) → IsUnconfirmedAt first_plan i fault → IsJudged h (Some fault)
-judged_unconfirmed h i Usage goes few kept failed least named = absurd named
-judged_unconfirmed h i (ConfigRead path) goes few kept failed least named = absurd named
-judged_unconfirmed h i (ConfigRefused f) goes few kept failed least named = absurd named
-judged_unconfirmed h i (Numbers next wanted) goes few kept failed least named = absurd named
-judged_unconfirmed h i TooLong goes few kept failed least named = absurd named
-judged_unconfirmed h i (SourceFailed name n) goes few kept failed least named = absurd named
-judged_unconfirmed h i (ConfirmFailed name) goes few kept failed least named = (goes, (few, (kept, (i, record { failed = failed; least = least; named = named }))))
-judged_unconfirmed h i WantOfMemory goes few kept failed least named = tt
+pub judged_unconfirmed : (h : Record) (plan : Plan) (i : ℕ) (fault : Fault) → in_force h ≡ Some plan → WentOn h → bytes_of_all h < 2 ^ 48 → NoneLost h → is_unconfirmed h i ≡ true →
+    ((j : ℕ) → j < i → is_unconfirmed h j ≡ false) → IsUnconfirmedAt plan i fault → IsJudged h (Some fault)
+judged_unconfirmed h plan i Usage force goes few kept failed least named = absurd named
+judged_unconfirmed h plan i (ConfigRead path) force goes few kept failed least named = absurd named
+judged_unconfirmed h plan i (ConfigRefused f) force goes few kept failed least named = absurd named
+judged_unconfirmed h plan i (Numbers next wanted) force goes few kept failed least named = absurd named
+judged_unconfirmed h plan i TooLong force goes few kept failed least named = absurd named
+judged_unconfirmed h plan i (SourceFailed name n) force goes few kept failed least named = absurd named
+judged_unconfirmed h plan i (ConfirmFailed name) force goes few kept failed least named = (goes, (few, (kept, (i, record { failed = failed; least = least; named = named_there h plan i name force named }))))
+judged_unconfirmed h plan i WantOfMemory force goes few kept failed least named = tt
 
 -- nobody asked for a reason that there is
 reason_unasked : (h : Record) (cause : AbandonCause) → IsReason h cause → IsUnasked cause

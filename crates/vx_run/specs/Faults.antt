@@ -1,6 +1,7 @@
 -- The exit status of each fault.
 use Rattle.std.specs.Prelude.{ℕ, Option, Some, None}
-use Rattle.vx_plan.specs.declared.plan_fault.PlanFault.TheVariants as plan
+use Rattle.vx_graph.specs.declared.graph_fault.GraphFault.TheVariants as graph
+use Rattle.vx_reading.specs.declared.plan_fault.PlanFault.TheVariants as plan
 use Rattle.vx_run.specs.declared.fault.Fault.{Fault}
 use Rattle.vx_run.specs.declared.fault.Fault.TheVariants.{Usage, ConfigRead, ConfigRefused, Numbers, TooLong, SourceFailed, ConfirmFailed, WantOfMemory}
 
@@ -9,7 +10,8 @@ abbrev pub status_of : Fault → ℕ
 status_of Usage = 64
 status_of (ConfigRead path) = 74
 status_of (ConfigRefused plan.WantOfMemory) = 71
-status_of (ConfigRefused plan.NotBuilt) = 78
+status_of (ConfigRefused (plan.Graph graph.WantOfMemory)) = 71
+status_of (ConfigRefused fault) = 78
 status_of (Numbers next wanted) = 70
 status_of TooLong = 74
 status_of (SourceFailed name at) = 69

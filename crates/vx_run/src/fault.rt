@@ -1,7 +1,8 @@
 ghost use Rattle.std.specs.Prelude.{◌≡◌};
 ghost use Rattle.vx_run.specs.Faults.{status_of};
 
-use vx_plan::PlanFault;
+use vx_graph::GraphFault;
+use vx_reading::PlanFault;
 use vx_value::Text;
 
 /// Why a run didn't end well.
@@ -38,8 +39,9 @@ impl Fault {
             Fault::ConfigRead { path: _ } => 74,
             Fault::ConfirmFailed { name: _ } => 74,
             Fault::TooLong => 74,
-            Fault::ConfigRefused(PlanFault::NotBuilt) => 78,
             Fault::ConfigRefused(PlanFault::WantOfMemory) => 71,
+            Fault::ConfigRefused(PlanFault::Graph(GraphFault::WantOfMemory)) => 71,
+            Fault::ConfigRefused(_) => 78,
         }
     }
 }

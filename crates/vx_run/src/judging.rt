@@ -1,5 +1,4 @@
 ghost use Rattle.std.specs.Prelude.{◌≡◌, ◌<◌, ◌^◌, ℕ, [], length, Some, None, IfSome, IfNone, true, false};
-ghost use Rattle.vx_plan.specs.First.{first_plan};
 ghost use Rattle.vx_hub.specs.Stands.{Stands, IsSound, facts_at, lost_of, unconfirmed_of};
 ghost use Rattle.vx_record.specs.Reads.{bytes_of_all};
 ghost use Rattle.vx_run.specs.Answers.{IsJudged, WentOn, NoneLost};
@@ -23,9 +22,9 @@ struct Lost {
 /// Why a run that ended didn't end well. Of several faults it is the first in this order: want of memory, used up
 /// numbers, too many bytes, a lost source, and a source whose last confirm failed, the least instance first.
 pub(crate) fn judge<P: Port>(alloc: Global, plan: &Plan, hub: &Hub<P>) -> Option<Fault>
-    requires plan { plan.now ≡ first_plan }
+    requires plan { hub.now.plan ≡ plan.now }
     requires stands { Stands P.told hub.now [] hub.now.log.history }
-    requires size { length hub.now.rows.items ≡ length first_plan.components }
+    requires size { length hub.now.rows.items ≡ length plan.now.components }
     ensures sure { IsSure hub.now result }
     ensures judged { IsJudged hub.now.log.history result }
 {
@@ -37,9 +36,9 @@ pub(crate) fn judge<P: Port>(alloc: Global, plan: &Plan, hub: &Hub<P>) -> Option
 
 /// The same, of a run whose record has all that happened.
 fn judge_sound<P: Port>(alloc: Global, plan: &Plan, hub: &Hub<P>) -> Option<Fault>
-    requires plan { plan.now ≡ first_plan }
+    requires plan { hub.now.plan ≡ plan.now }
     requires stands { Stands P.told hub.now [] hub.now.log.history }
-    requires size { length hub.now.rows.items ≡ length first_plan.components }
+    requires size { length hub.now.rows.items ≡ length plan.now.components }
     requires sound { IsSound hub.now }
     ensures sure { IsSure hub.now result }
     ensures judged { IsJudged hub.now.log.history result }
@@ -68,9 +67,9 @@ fn fault_of(cause: AbandonCause) -> Fault
 
 /// The same, of a run that memory and numbers were enough for.
 fn judge_whole<P: Port>(alloc: Global, plan: &Plan, hub: &Hub<P>) -> Option<Fault>
-    requires plan { plan.now ≡ first_plan }
+    requires plan { hub.now.plan ≡ plan.now }
     requires stands { Stands P.told hub.now [] hub.now.log.history }
-    requires size { length hub.now.rows.items ≡ length first_plan.components }
+    requires size { length hub.now.rows.items ≡ length plan.now.components }
     requires sound { IsSound hub.now }
     requires goes_on { WentOn hub.now.log.history }
     ensures judged { IsJudged hub.now.log.history result }
@@ -86,9 +85,9 @@ fn judge_whole<P: Port>(alloc: Global, plan: &Plan, hub: &Hub<P>) -> Option<Faul
 
 /// The same, of a run that took few bytes and lost no source.
 fn judge_confirms<P: Port>(alloc: Global, plan: &Plan, hub: &Hub<P>) -> Option<Fault>
-    requires plan { plan.now ≡ first_plan }
+    requires plan { hub.now.plan ≡ plan.now }
     requires stands { Stands P.told hub.now [] hub.now.log.history }
-    requires size { length hub.now.rows.items ≡ length first_plan.components }
+    requires size { length hub.now.rows.items ≡ length plan.now.components }
     requires sound { IsSound hub.now }
     requires goes_on { WentOn hub.now.log.history }
     requires few { bytes_of_all hub.now.log.history < 2 ^ 48 }

@@ -5,6 +5,7 @@ mod driver;
 mod ended;
 mod fault;
 mod judging;
+mod plan_texts;
 mod preparing;
 mod running;
 mod telling;

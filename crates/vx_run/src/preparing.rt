@@ -1,17 +1,18 @@
-ghost use Rattle.std.specs.Prelude.{◌≡◌, ◌≢◌, ◌↔◌, length, Err, Some, IfOk, IfErr, IfSome, IsSomeAnd};
+ghost use Rattle.std.specs.Prelude.{◌≡◌, ◌≢◌, ◌↔◌, ◌<◌, ◌^◌, length, Ok, Err, Some, IfOk, IfErr, IfSome, IsSomeAnd};
 ghost use Rattle.vx_ends.specs.Texts.{IsTextAt};
 ghost use Rattle.vx_ends.specs.Told.{Rose};
-ghost use Rattle.vx_plan.specs.First.{first_plan, first_configuration};
 ghost use Rattle.vx_plan.specs.Ports.{port_of};
 ghost use Rattle.vx_hub.specs.Making.{IsUntouched, AreUntouched};
-ghost use Rattle.vx_run.specs.Answers.{IsUnready, IsReady, IsUnread, IsRefused};
+ghost use Rattle.vx_reading.specs.Reading.{IsReading};
+ghost use Rattle.vx_run.specs.Answers.{IsUnready, IsReady, IsUnread, IsMisread};
 
 use crate::fault::Fault;
 use crate::words::read_words;
 use std::alloc::Global;
 use vx_ends::{Port, PortSpec, Trouble, World};
 use vx_hub::{Named, NamedList, Parts};
-use vx_plan::{Component, Plan, PlanFault, read_plan};
+use vx_plan::{Component, Plan};
+use vx_reading::{PlanFault, read_plan};
 use vx_value::{Bytes, Text, TextList, VariableList, WantOfMemory};
 
 /// What a run is made of: the plan of the configuration that the words name, and a port for each component.
@@ -21,11 +22,11 @@ pub(crate) fn prepare<W: World>(
     environment: &VariableList,
     world: &mut W,
 ) -> Result<Parts<W::Port>, Fault>
-    ensures ready { IfOk result (λ parts. IsReady words.now (W.texts world.old)) }
-    ensures plan { IfOk result (λ parts. parts.plan ≡ first_plan) }
+    ensures ready { IfOk result (λ parts. IsReady words.now environment.now (W.texts world.old) parts.plan) }
+    ensures few { IfOk result (λ parts. length parts.plan.components < 2 ^ 32) }
     ensures ports { IfOk result (λ parts. length parts.ports ≡ length parts.plan.components) }
     ensures untouched { IfOk result (λ parts. AreUntouched W.Port.told parts.plan.components parts.ports) }
-    ensures unready { IfErr result (IsUnready words.now (W.texts world.old) (W.faults world.old) (W.faults world.new)) }
+    ensures unready { IfErr result (IsUnready words.now environment.now (W.texts world.old) (W.faults world.old) (W.faults world.new)) }
     ensures texts { W.texts world.new ≡ W.texts world.old }
 {
     let Some(file) = read_words(words) else {
@@ -62,14 +63,14 @@ fn config<W: World>(alloc: Global, file: &Text, world: &mut W) -> Result<Bytes, 
 
 /// The plan of a configuration's bytes.
 fn plan_of(alloc: Global, bytes: &Bytes, environment: &VariableList) -> Result<Plan, Fault>
-    ensures plan { IfOk result (λ plan. plan ≡ first_plan) }
-    ensures accepted { IfOk result (λ plan. bytes.now ≡ first_configuration) }
-    ensures refused { IfErr result (IsRefused bytes.now) }
+    ensures read { IfOk result (λ plan. IsReading environment.now bytes.now (Ok plan)) }
+    ensures few { IfOk result (λ plan. length plan.components < 2 ^ 32) }
+    ensures refused { IfErr result (IsMisread environment.now bytes.now) }
 {
     match read_plan(alloc, bytes.as_slice(), environment) {
         Ok(plan) => Ok(plan),
         Err(PlanFault::WantOfMemory) => Err(Fault::WantOfMemory),
-        Err(PlanFault::NotBuilt) => Err(Fault::ConfigRefused(PlanFault::NotBuilt)),
+        Err(fault) => Err(Fault::ConfigRefused(fault)),
     }
 }
 

@@ -1,10 +1,9 @@
-ghost use Rattle.std.specs.Prelude.{◌≡◌, ◌⊎◌, [], length, Some};
-ghost use Rattle.vx_plan.specs.First.{first_plan};
+ghost use Rattle.std.specs.Prelude.{◌≡◌, ◌⊎◌, ◌<◌, ◌^◌, [], length, Some};
 ghost use Rattle.vx_hub.specs.Making.{AreUntouched};
 ghost use Rattle.vx_hub.specs.Stands.{Stands};
 ghost use Rattle.vx_hub.specs.Remains.{AreNumbered, AreClosed};
 ghost use Rattle.vx_run.specs.Answers.{IsAnswer, IsJudged};
-ghost use Rattle.vx_run.specs.Running.{IsTrueTo, HasInstalled, AreKept, AreNoticed, IsCounted, NoneMissing};
+ghost use Rattle.vx_run.specs.Running.{IsTrueTo, HasInstalled, IsInForce, AreKept, AreNoticed, IsCounted, HasEach, NoneMissing};
 
 use crate::driver::drive;
 use crate::fault::Fault;
@@ -36,15 +35,15 @@ pub(crate) fn run<R: Wait, W: World, C: Clock>(
     world: &mut W,
     clock: &C,
 ) -> Outcome<W::Port>
-    ensures answer { IsAnswer words.now (W.texts world.old) (W.faults world.old) (W.faults world.new) result.history result.fault }
+    ensures answer { IsAnswer words.now environment.now (W.texts world.old) (W.faults world.old) (W.faults world.new) result.history result.fault }
     ensures told { IsTrueTo W.Port.told result.history result.ports result.fault }
-    ensures installed { HasInstalled result.history result.fault }
+    ensures installed { HasInstalled words.now environment.now (W.texts world.old) result.history result.fault }
     ensures copies { AreKept result.history result.fault }
     ensures notices { AreNoticed result.history result.fault }
     ensures counted { IsCounted result.history (length result.ports) result.tallies result.fault }
     ensures closed { AreClosed W.Port.told result.ports }
     ensures numbers { AreNumbered 0 result.ports }
-    ensures none_missing { NoneMissing result.history result.ports result.fault }
+    ensures none_missing { NoneMissing words.now environment.now (W.texts world.old) result.history result.ports result.fault }
     ensures texts { W.texts world.new ≡ W.texts world.old }
 {
     match prepare(alloc, words, environment, world) {
@@ -78,18 +77,18 @@ fn begin<R: Wait, P: Port, C: Clock>(
     parts: Parts<P>,
     clock: &C,
 ) -> Outcome<P>
-    requires plan { parts.plan ≡ first_plan }
+    requires few { length parts.plan.components < 2 ^ 32 }
     requires ports { length parts.ports ≡ length parts.plan.components }
     requires untouched { AreUntouched P.told parts.plan.components parts.ports }
     ensures judged { IsJudged result.history result.fault }
     ensures told { IsTrueTo P.told result.history result.ports result.fault }
-    ensures installed { HasInstalled result.history result.fault }
+    ensures installed { IsInForce parts.plan result.history result.fault }
     ensures copies { AreKept result.history result.fault }
     ensures notices { AreNoticed result.history result.fault }
     ensures counted { IsCounted result.history (length result.ports) result.tallies result.fault }
     ensures closed { AreClosed P.told result.ports }
     ensures numbers { AreNumbered 0 result.ports }
-    ensures none_missing { NoneMissing result.history result.ports result.fault }
+    ensures none_missing { HasEach parts.plan result.history result.ports result.fault }
 {
     let Ok(plan) = parts.plan.copy(alloc) else {
         return unbegun(alloc, Fault::WantOfMemory);
@@ -108,19 +107,18 @@ fn finish<R: Wait, P: Port, C: Clock>(
     hub: Hub<P>,
     clock: &C,
 ) -> Outcome<P>
-    requires plan { plan.now ≡ first_plan }
     requires stands { Stands P.told hub [] hub.log.history }
-    requires size { length hub.rows.items ≡ length first_plan.components }
-    requires installed { hub.plan ≡ first_plan }
+    requires size { length hub.rows.items ≡ length plan.now.components }
+    requires plan { hub.plan ≡ plan.now }
     ensures judged { IsJudged result.history result.fault }
     ensures told { IsTrueTo P.told result.history result.ports result.fault }
-    ensures installed { HasInstalled result.history result.fault }
+    ensures installed { IsInForce plan.now result.history result.fault }
     ensures copies { AreKept result.history result.fault }
     ensures notices { AreNoticed result.history result.fault }
     ensures counted { IsCounted result.history (length result.ports) result.tallies result.fault }
     ensures closed { AreClosed P.told result.ports }
     ensures numbers { AreNumbered 0 result.ports }
-    ensures count { length result.ports ≡ length first_plan.components }
+    ensures count { length result.ports ≡ length plan.now.components }
 {
     let mut hub = hub;
     drive(rt, alloc, &mut hub, clock);

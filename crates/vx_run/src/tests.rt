@@ -1,4 +1,5 @@
 mod ends;
 mod faults;
+mod plans;
 mod runs;
 mod tallies;

@@ -2,8 +2,10 @@ ghost use Rattle.std.specs.Prelude.{◌≡◌, ◌++◌, OnOk, OnErr, IfOk, stri
 ghost use Rattle.vx_run.specs.Texts.{text_of, reason_of, failed_after};
 
 use crate::fault::Fault;
+use crate::plan_texts::plan_text;
 use std::alloc::{AllocError, Global};
-use vx_plan::PlanFault;
+use vx_graph::GraphFault;
+use vx_reading::PlanFault;
 use vx_value::{Bytes, WantOfMemory};
 
 /// How the program is called, as it is printed where the words are no command.
@@ -20,7 +22,9 @@ pub fn fault_text(alloc: Global, fault: &Fault, out: &mut Bytes) -> Result<(), W
 {
     match fault {
         Fault::Usage => out.push_slice(USAGE.as_bytes()),
-        Fault::WantOfMemory | Fault::ConfigRefused(PlanFault::WantOfMemory) => Ok(()),
+        Fault::WantOfMemory
+        | Fault::ConfigRefused(PlanFault::WantOfMemory)
+        | Fault::ConfigRefused(PlanFault::Graph(GraphFault::WantOfMemory)) => Ok(()),
         _ => {
             let reason = reason(alloc, fault)?;
             let line = format!(in alloc; "vector: {reason}\n")?;
@@ -38,8 +42,9 @@ fn reason(alloc: Global, fault: &Fault) -> Result<String, AllocError>
             let path = path.as_str();
             format!(in alloc; "cannot read {path}")
         }
-        Fault::ConfigRefused(PlanFault::NotBuilt) => {
-            format!(in alloc; "configuration refused: this configuration is not built yet")
+        Fault::ConfigRefused(fault) => {
+            let text = plan_text(alloc, fault)?;
+            format!(in alloc; "configuration refused: {text}")
         }
         Fault::Numbers { next, wanted } => {
             format!(in alloc; "copy numbers are used up: next {next}, wanted {wanted}")
@@ -54,9 +59,7 @@ fn reason(alloc: Global, fault: &Fault) -> Result<String, AllocError>
             let name = name.as_str();
             format!(in alloc; "source {name} could not be confirmed")
         }
-        Fault::Usage | Fault::WantOfMemory | Fault::ConfigRefused(PlanFault::WantOfMemory) => {
-            Ok(String::new(alloc))
-        }
+        Fault::Usage | Fault::WantOfMemory => Ok(String::new(alloc)),
     }
 }
 

@@ -28,14 +28,14 @@ pub fn vector<R: Wait, W: World, C: Clock, P: Printer, L: Printer>(
     err: &mut L,
 ) -> Ended<W>
     ensures told { IsTrueTo W.Port.told result.history result.ports result.fault }
-    ensures installed { HasInstalled result.history result.fault }
+    ensures installed { HasInstalled words.now environment.now (W.texts world) result.history result.fault }
     ensures copies { AreKept result.history result.fault }
     ensures notices { AreNoticed result.history result.fault }
     ensures counted { IsCounted result.history (length result.ports) result.tallies result.fault }
     ensures closed { AreClosed W.Port.told result.ports }
     ensures numbers { AreNumbered 0 result.ports }
-    ensures none_missing { NoneMissing result.history result.ports result.fault }
-    ensures answer { IsAnswer words.now (W.texts world) (W.faults world) (W.faults result.world) result.history result.fault }
+    ensures none_missing { NoneMissing words.now environment.now (W.texts world) result.history result.ports result.fault }
+    ensures answer { IsAnswer words.now environment.now (W.texts world) (W.faults world) (W.faults result.world) result.history result.fault }
     ensures status { result.status ≡ ended_status result.fault }
     ensures said { IsSaid (err.new ≡ err.old) (L.printed err.old) (L.printed err.new) (L.faults err.old) (L.faults err.new) result.fault }
     ensures unprinted { _out.new ≡ _out.old }

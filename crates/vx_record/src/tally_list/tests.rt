@@ -3,13 +3,9 @@ use crate::{Child, Entry, Instance, Record, Start, Taken, Tally};
 use std::alloc::Global;
 use std::test::Fail;
 use vx_ends::{Position, Reply};
-use vx_plan::read_plan;
+use vx_plan::first_plan;
 use vx_status::{BatchStatus, Outcome};
-use vx_value::{Bytes, Event, ItemList, Text, VariableList, WantOfMemory};
-
-/// A source, whose lines may have 102,400 bytes, and a sink.
-const CONFIGURATION: &str =
-    "[sources.in]\ntype = \"stdin\"\n\n[sinks.out]\ntype = \"console\"\ninputs = [\"in\"]\nencoding.codec = \"text\"\n";
+use vx_value::{Bytes, Event, ItemList, Text, WantOfMemory};
 
 // A list of one item.
 fn one<T: Drop>(alloc: Global, item: T) -> Result<ItemList<T>, WantOfMemory> {
@@ -37,9 +33,9 @@ fn instance(alloc: Global, name: &str, number: u32) -> Result<Instance, WantOfMe
     })
 }
 
+/// The install of a source, whose lines may have 102,400 bytes, and of a sink.
 fn install(alloc: Global) -> Result<Entry, Fail> {
-    let environment = VariableList::new(alloc);
-    let plan = read_plan(alloc, CONFIGURATION.as_bytes(), &environment)?;
+    let plan = first_plan(alloc)?;
     let source = instance(alloc, "in", 0)?;
     let sink = instance(alloc, "out", 1)?;
     Ok(Entry::Install {

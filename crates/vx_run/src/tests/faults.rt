@@ -1,7 +1,9 @@
 use crate::{Fault, fault_text, read_words};
 use std::alloc::Global;
+use std::process::Abort;
 use std::test::Fail;
-use vx_plan::PlanFault;
+use vx_graph::GraphFault;
+use vx_reading::PlanFault;
 use vx_value::{Bytes, Text, TextList, WantOfMemory};
 
 fn words_of(alloc: Global, words: &[&str]) -> Result<TextList, WantOfMemory> {
@@ -54,9 +56,6 @@ fn faults_say_what_happened(rt: HostRuntime) -> Result<(), Fail> {
         said.as_slice(),
         "> vector: cannot read no.toml\n".as_bytes()
     );
-    let said = printed(alloc, &Fault::ConfigRefused(PlanFault::NotBuilt))?;
-    let refused = "> vector: configuration refused: this configuration is not built yet\n";
-    assert_eq!(rt; said.as_slice(), refused.as_bytes());
     let said = printed(
         alloc,
         &Fault::Numbers {
@@ -97,10 +96,98 @@ fn faults_say_what_happened(rt: HostRuntime) -> Result<(), Fail> {
     Ok(())
 }
 
+/// Checks what is printed of a configuration that isn't accepted.
+fn refused<R: Abort>(rt: &R, alloc: Global, fault: PlanFault, text: &str) -> Result<(), Fail> {
+    let said = printed(alloc, &Fault::ConfigRefused(fault))?;
+    let wanted = format!(in alloc; "> vector: configuration refused: {text}\n")?;
+    assert_eq!(rt; said.as_slice(), wanted.as_bytes());
+    Ok(())
+}
+
+#[test]
+fn plan_faults_say_where(rt: HostRuntime) -> Result<(), Fail> {
+    let alloc = rt.alloc();
+    let name = Text::copy_of(alloc, "NOPE")?;
+    let missing = PlanFault::MissingVariable { name, at: 21 };
+    refused(&rt, alloc, missing, "missing variable NOPE at 21")?;
+    refused(&rt, alloc, PlanFault::NotToml, "not a TOML document")?;
+    let path = Text::copy_of(alloc, "sinks.out.type")?;
+    refused(
+        &rt,
+        alloc,
+        PlanFault::UnknownKind { path },
+        "unknown kind at sinks.out.type",
+    )?;
+    let path = Text::copy_of(alloc, "sinks.out.x")?;
+    refused(
+        &rt,
+        alloc,
+        PlanFault::UnknownOption { path },
+        "unknown option sinks.out.x",
+    )?;
+    let path = Text::copy_of(alloc, "sinks.out.type")?;
+    refused(
+        &rt,
+        alloc,
+        PlanFault::MissingOption { path },
+        "missing option sinks.out.type",
+    )?;
+    let path = Text::copy_of(alloc, "data_dir")?;
+    refused(
+        &rt,
+        alloc,
+        PlanFault::BadValue { path },
+        "bad value at data_dir",
+    )?;
+    let path = Text::copy_of(alloc, "sources")?;
+    let many = PlanFault::TooMany {
+        path,
+        found: 257,
+        limit: 256,
+    };
+    refused(&rt, alloc, many, "too many at sources: 257, limit 256")
+}
+
+#[test]
+fn graph_faults_name_components(rt: HostRuntime) -> Result<(), Fail> {
+    let alloc = rt.alloc();
+    refused(
+        &rt,
+        alloc,
+        PlanFault::Graph(GraphFault::NoSources),
+        "no sources",
+    )?;
+    refused(
+        &rt,
+        alloc,
+        PlanFault::Graph(GraphFault::NoSinks),
+        "no sinks",
+    )?;
+    let none = GraphFault::NoInputs(Text::copy_of(alloc, "out")?);
+    refused(
+        &rt,
+        alloc,
+        PlanFault::Graph(none),
+        "no inputs of component out",
+    )?;
+    let unknown = GraphFault::UnknownInput {
+        name: Text::copy_of(alloc, "out")?,
+        input: Text::copy_of(alloc, "nope")?,
+    };
+    refused(
+        &rt,
+        alloc,
+        PlanFault::Graph(unknown),
+        "unknown input nope of component out",
+    )?;
+    let cycle = GraphFault::Cycle(words_of(alloc, &["x", "y"])?);
+    refused(&rt, alloc, PlanFault::Graph(cycle), "cycle x, y")
+}
+
 #[test]
 fn statuses_are_those_of_sysexits(rt: HostRuntime) {
     assert_eq!(rt; Fault::Usage.status(), 64);
-    assert_eq!(rt; Fault::ConfigRefused(PlanFault::NotBuilt).status(), 78);
+    assert_eq!(rt; Fault::ConfigRefused(PlanFault::NotToml).status(), 78);
     assert_eq!(rt; Fault::TooLong.status(), 74);
     assert_eq!(rt; Fault::WantOfMemory.status(), 71);
 }

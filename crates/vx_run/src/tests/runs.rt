@@ -54,22 +54,31 @@ pub(crate) fn staged(
     source: ActList,
     sink: ActList,
 ) -> Result<MemoryWorld, WantOfMemory> {
-    let mut configs = ConfigList::new(alloc);
-    let config = Config {
-        path: Text::copy_of(alloc, "first.toml")?,
-        bytes: Bytes::copy_of(alloc, text.as_bytes())?,
-    };
-    add(&mut configs, config)?;
     let mut scripts = ScriptedList::new(alloc);
     add(&mut scripts, script(alloc, "in", steps, source)?)?;
     add(
         &mut scripts,
         script(alloc, "out", StepList::new(alloc), sink)?,
     )?;
+    played(alloc, text, scripts)
+}
+
+/// A world with that text at `first.toml`, whose ports play these scripts.
+pub(crate) fn played(
+    alloc: Global,
+    text: &str,
+    scripts: ScriptedList,
+) -> Result<MemoryWorld, WantOfMemory> {
+    let mut configs = ConfigList::new(alloc);
+    let config = Config {
+        path: Text::copy_of(alloc, "first.toml")?,
+        bytes: Bytes::copy_of(alloc, text.as_bytes())?,
+    };
+    add(&mut configs, config)?;
     Ok(MemoryWorld::new(alloc, configs, scripts))
 }
 
-fn script(
+pub(crate) fn script(
     alloc: Global,
     name: &str,
     steps: StepList,
@@ -92,6 +101,19 @@ pub(crate) fn run<R: Wait + Abort>(
     printed: &str,
 ) -> Ended<MemoryWorld> {
     let environment = VariableList::new(alloc);
+    run_within(rt, alloc, words, &environment, world, status, printed)
+}
+
+/// The same with variables of an environment.
+pub(crate) fn run_within<R: Wait + Abort>(
+    rt: &R,
+    alloc: Global,
+    words: &TextList,
+    environment: &VariableList,
+    world: MemoryWorld,
+    status: u8,
+    printed: &str,
+) -> Ended<MemoryWorld> {
     let mut out = MemoryPrinter::new(alloc, None);
     let mut err = MemoryPrinter::new(alloc, None);
     let clock = MemoryClock::new();
@@ -99,7 +121,7 @@ pub(crate) fn run<R: Wait + Abort>(
         rt,
         alloc,
         words,
-        &environment,
+        environment,
         world,
         &clock,
         &mut out,
@@ -185,16 +207,6 @@ fn fails_after_two_lines(rt: HostRuntime) -> Result<(), Fail> {
     add(&mut steps, Step::Fail)?;
     let printed = "vector: source in failed after 4 bytes\n";
     copies(&rt, alloc, steps, 69, printed, "a\nb\n")
-}
-
-#[test]
-fn refuses_another_configuration(rt: HostRuntime) -> Result<(), Fail> {
-    let alloc = rt.alloc();
-    let world = world(alloc, "[sources.in]\n", StepList::new(alloc))?;
-    let printed = "vector: configuration refused: this configuration is not built yet\n";
-    let ended = run(&rt, alloc, &words(alloc, "first.toml")?, world, 78, printed);
-    assert!(rt; ended.ports.is_empty());
-    Ok(())
 }
 
 #[test]

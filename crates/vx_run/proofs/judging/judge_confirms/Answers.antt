@@ -1,6 +1,4 @@
-use Rattle.std.proofs.Common.{arith, ◌∙◌, subst}
-use Rattle.vx_plan.specs.declared.plan.Plan.{Plan}
-use Rattle.vx_run.specs.Judging.{IsUnconfirmedAt}
+use Rattle.std.proofs.Common.{arith, ◌∙◌, Some, ap}
 use Rattle.vx_run.proofs.Judged.{all_confirmed, unconfirmed_known, judged_unconfirmed}
 use Rattle.vx_run.proofs.judging.judge_confirms.Goals as goal
 
@@ -8,7 +6,7 @@ pub returns-in-None : goal.returns-in-None
 returns-in-None g c = record {
   judged = (
     c.requires.goes_on,
-    (c.requires.few, (c.requires.kept, all_confirmed g.P.Port.told c.args.hub.now c.requires.stands c.requires.sound c.requires.size c.in-None.ensures.none)),
+    (c.requires.few, (c.requires.kept, all_confirmed g.P.Port.told c.args.hub.now c.requires.stands c.requires.sound c.in-None.ensures.none)),
   );
 }
 
@@ -16,8 +14,9 @@ pub returns-in-Some : goal.returns-in-Some
 returns-in-Some g c =
     let known = unconfirmed_known g.P.Port.told c.args.hub.now in
     record {
-      judged = judged_unconfirmed c.args.hub.now.log.history c.in-Some.instance c.confirm_failed.result c.requires.goes_on c.requires.few c.requires.kept
+      judged = judged_unconfirmed c.args.hub.now.log.history c.args.plan.now c.in-Some.instance c.confirm_failed.result
+          ((c.requires.stands.recorded c.requires.sound).installed ∙ ap Some c.requires.plan) c.requires.goes_on c.requires.few c.requires.kept
           (known c.in-Some.instance c.requires.stands c.requires.sound c.in-Some.ensures.within ∙ c.in-Some.ensures.failed)
           (λ j l. known j c.requires.stands c.requires.sound (omega (arith, l, c.in-Some.ensures.within)) ∙ c.in-Some.ensures.least j l)
-          (subst (λ (p : Plan). IsUnconfirmedAt p c.in-Some.instance c.confirm_failed.result) c.requires.plan c.confirm_failed.ensures);
+          c.confirm_failed.ensures;
     }

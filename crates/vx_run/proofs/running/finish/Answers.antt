@@ -3,7 +3,7 @@ use Rattle.vx_record.specs.Records.{Record}
 use Rattle.vx_hub.specs.Order.{IsOrderly}
 use Rattle.vx_run.specs.Answers.{IsJudged}
 use Rattle.vx_run.specs.Running.{IsCounted}
-use Rattle.vx_run.proofs.Counting.{judged_short, true_short, true_of, kept_short, kept_of, installed_short, installed_of, noticed_short, noticed_of}
+use Rattle.vx_run.proofs.Counting.{judged_short, true_short, true_of, kept_short, kept_of, force_short, force_of, noticed_short, noticed_of}
 use Rattle.vx_run.proofs.running.finish.Goals as goal
 
 pub returns-clause-judged : goal.returns-clause-judged
@@ -25,9 +25,9 @@ returns-clause-copies g c = kept_short c.end-ports.result.history c.judge-fault.
     (kept_of c.drive.new.hub c.end-ports.result.history c.judge-fault.result c.judge-fault.ensures.sure c.end-ports.ensures.one_place c.end-ports.ensures.spent)
 
 pub returns-clause-installed : goal.returns-clause-installed
-returns-clause-installed g c = installed_short c.end-ports.result.history c.judge-fault.result c.count-tallies.result.fault c.count-tallies.ensures.kept
-    (installed_of c.drive.new.hub c.end-ports.result.history c.judge-fault.result c.judge-fault.ensures.sure
-    (λ sound. c.end-ports.ensures.installed sound ∙ ap Some (c.drive.ensures.plan ∙ c.requires.installed)))
+returns-clause-installed g c = force_short c.args.plan.now c.end-ports.result.history c.judge-fault.result c.count-tallies.result.fault c.count-tallies.ensures.kept
+    (force_of c.drive.new.hub c.args.plan.now c.end-ports.result.history c.judge-fault.result c.judge-fault.ensures.sure
+    (λ sound. c.end-ports.ensures.installed sound ∙ ap Some (c.drive.ensures.plan ∙ c.requires.plan)))
 
 pub returns-clause-notices : goal.returns-clause-notices
 returns-clause-notices g c = noticed_short c.end-ports.result.history c.judge-fault.result c.count-tallies.result.fault c.count-tallies.ensures.kept

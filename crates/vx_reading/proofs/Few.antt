@@ -1,0 +1,58 @@
+-- An accepted configuration has few components.
+use Rattle.std.proofs.Common.{◌≡◌, ℕ, ◌+◌, ◌≤◌, inl, inr, Bool, true, false, nat_lt, List, [], ◌∷◌, ◌++◌, Option, Some, None, length, Ok, refl, sym, ◌∙◌, ap, subst, arith}
+use Rattle.std.specs.List.{flat_map}
+use Rattle.std.specs.Prelude.{if◌then◌else◌}
+use Rattle.std.proofs.lemmas.Bool.Decides.{nat_tests}
+use Rattle.vx_value.specs.declared.variable.Variable.{Variable}
+use Rattle.vx_value.specs.Texts.{Word}
+use Rattle.toml.specs.Data.{Data}
+use Rattle.vx_plan.specs.declared.component.Component.{Component}
+use Rattle.vx_plan.specs.declared.plan.Plan.{Plan}
+use Rattle.vx_reading.specs.declared.finding.Finding.{Finding}
+use Rattle.vx_reading.specs.declared.kind.Kind.{Kind}
+use Rattle.vx_reading.specs.Components.{Part, parts, kind_of}
+use Rattle.vx_reading.specs.Findings.{findings, global_findings, count_findings, most_parts}
+use Rattle.vx_reading.specs.Plans.{component, component_of, plan_of}
+use Rattle.vx_reading.specs.Reading.{IsReading, IsPlanOf}
+
+-- a part is at most one component
+one_component : (part : Part) (kind : Option Kind) → length {A = Component} (elim kind [ None ↦ [] | Some k ↦ component part k ∷ [] ]) ≤ 1
+one_component part None = omega arith
+one_component part (Some k) = omega arith
+
+length_joined : {X : Type 0} (xs ys : List X) → length (xs ++ ys) ≡ length xs + length ys
+length_joined [] ys = omega arith
+length_joined (x ∷ xs) ys = omega (arith, length_joined xs ys)
+
+-- so there are no more components than parts
+no_more : (all : List Part) → length (flat_map component_of all) ≤ length all
+no_more [] = omega arith
+no_more (part ∷ rest) =
+    omega (arith, one_component part (kind_of part), no_more rest, length_joined (component_of part) (flat_map component_of rest))
+
+-- what is joined to nothing is nothing
+none_left : {X : Type 0} (xs ys : List X) → xs ++ ys ≡ [] → xs ≡ []
+none_left [] ys is = refl
+none_left (x ∷ xs) ys is = cc
+
+none_right : {X : Type 0} (xs ys : List X) → xs ++ ys ≡ [] → ys ≡ []
+none_right [] ys is = is
+none_right (x ∷ xs) ys is = cc
+
+uncounted : (b : Bool) (finding : Finding) → (if b then finding ∷ [] else []) ≡ [] → b ≡ false
+uncounted true finding is = cc
+uncounted false finding is = refl
+
+-- where nothing is found, there are few parts
+few_parts : (root : Data) → findings root ≡ [] → length (parts root) ≤ 256
+few_parts root none =
+    let rest = none_right (global_findings root) _ none in
+    let here : nat_lt most_parts (length (parts root)) ≡ false = uncounted (nat_lt most_parts (length (parts root))) _ (none_left (count_findings root) _ rest) in
+    grind (arith, nat_tests)
+
+pub few_components : (environment : List Variable) (bytes : Word) (plan : Plan) → IsReading environment bytes (Ok plan) → length plan.components ≤ 256
+few_components environment bytes plan (inl read) =
+    let of : IsPlanOf read.1.root plan = read.1.judged in
+    let few : length (flat_map component_of (parts read.1.root)) ≤ 256 = omega (arith, no_more (parts read.1.root), few_parts read.1.root of.faultless) in
+    subst (λ (p : Plan). length p.components ≤ 256) (sym of.same) few
+few_components environment bytes plan (inr none) = let e = none.1 in cc

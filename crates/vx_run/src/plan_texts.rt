@@ -1,0 +1,92 @@
+ghost use Rattle.std.specs.Prelude.{◌≡◌, IfOk, string_bytes};
+ghost use Rattle.vx_run.specs.Texts.{listed, of_component, graph_text, plan_text};
+
+use std::alloc::{AllocError, Global};
+use vx_graph::GraphFault;
+use vx_reading::PlanFault;
+use vx_value::Text;
+
+/// What is wrong with a configuration, in words for people; nothing for want of memory.
+pub(crate) fn plan_text(alloc: Global, fault: &PlanFault) -> Result<String, AllocError>
+    ensures { IfOk result (λ text. string_bytes text ≡ plan_text fault.now) }
+{
+    match fault {
+        PlanFault::MissingVariable { name, at } => {
+            let name = name.as_str();
+            format!(in alloc; "missing variable {name} at {at}")
+        }
+        PlanFault::NotToml => format!(in alloc; "not a TOML document"),
+        PlanFault::UnknownKind { path } => {
+            let path = path.as_str();
+            format!(in alloc; "unknown kind at {path}")
+        }
+        PlanFault::UnknownOption { path } => {
+            let path = path.as_str();
+            format!(in alloc; "unknown option {path}")
+        }
+        PlanFault::MissingOption { path } => {
+            let path = path.as_str();
+            format!(in alloc; "missing option {path}")
+        }
+        PlanFault::BadValue { path } => {
+            let path = path.as_str();
+            format!(in alloc; "bad value at {path}")
+        }
+        PlanFault::TooMany { path, found, limit } => {
+            let path = path.as_str();
+            format!(in alloc; "too many at {path}: {found}, limit {limit}")
+        }
+        PlanFault::Graph(fault) => graph_text(alloc, fault),
+        PlanFault::WantOfMemory => Ok(String::new(alloc)),
+    }
+}
+
+/// What is wrong with a graph, in words for people; nothing for want of memory.
+fn graph_text(alloc: Global, fault: &GraphFault) -> Result<String, AllocError>
+    ensures { IfOk result (λ text. string_bytes text ≡ graph_text fault.now) }
+{
+    match fault {
+        GraphFault::NoSources => format!(in alloc; "no sources"),
+        GraphFault::NoSinks => format!(in alloc; "no sinks"),
+        GraphFault::NoInputs(name) => {
+            let place = of_component(alloc, name)?;
+            format!(in alloc; "no inputs{place}")
+        }
+        GraphFault::UnknownInput { name, input } => {
+            let input = input.as_str();
+            let place = of_component(alloc, name)?;
+            format!(in alloc; "unknown input {input}{place}")
+        }
+        GraphFault::Cycle(names) => {
+            let names = listed(alloc, names.as_slice())?;
+            format!(in alloc; "cycle {names}")
+        }
+        GraphFault::WantOfMemory => Ok(String::new(alloc)),
+    }
+}
+
+/// Whose inputs a graph's fault is about.
+fn of_component(alloc: Global, name: &Text) -> Result<String, AllocError>
+    ensures { IfOk result (λ place. string_bytes place ≡ of_component name.now) }
+{
+    let name = name.as_str();
+    format!(in alloc; " of component {name}")
+}
+
+/// Names, with a comma and a blank between two of them. They are those of a cycle, which has at most 256.
+fn listed(alloc: Global, names: &[Text]) -> Result<String, AllocError>
+    ensures { IfOk result (λ text. string_bytes text ≡ listed names.now) }
+{
+    match names {
+        [] => Ok(String::new(alloc)),
+        [name] => {
+            let name = name.as_str();
+            format!(in alloc; "{name}")
+        }
+        [name, rest @ ..] => {
+            let name = name.as_str();
+            let rest = listed(alloc, rest)?;
+            format!(in alloc; "{name}, {rest}")
+        }
+    }
+}
