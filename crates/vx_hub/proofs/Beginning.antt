@@ -1,6 +1,7 @@
 -- Seats come and go at the end of a list.
-use Rattle.std.proofs.Common.{◌≡◌, ℕ, zero, suc, ◌+◌, ◌<◌, ◌≤◌, false, List, [], ◌∷◌, ◌++◌, length, Some, IfSome, refl, sym, ap, subst, arith, get_or}
+use Rattle.std.proofs.Common.{◌≡◌, ℕ, zero, suc, ◌+◌, ◌<◌, ◌≤◌, true, false, List, [], ◌∷◌, ◌++◌, length, Some, IfSome, refl, sym, ap, subst, arith, get_or}
 use Rattle.std.specs.Prelude.{remove, ◌^◌, drop, slice_get, Bool}
+use Rattle.vx_hub.proofs.Drying.{taken_none}
 use Rattle.vx_hub.specs.declared.seat.Seat.{Seat}
 use Rattle.vx_hub.specs.declared.facts.Facts.{Facts}
 use Rattle.vx_hub.specs.declared.row.Row.{Row}
@@ -11,7 +12,7 @@ use Rattle.vx_plan.specs.declared.plan.Plan.{Plan}
 use Rattle.vx_plan.specs.declared.component.Component.{Component}
 use Rattle.vx_record.specs.Wirings.{begun}
 use Rattle.vx_record.proofs.FirstWiring.{targets_of_first}
-use Rattle.std.specs.Prelude.{Option, None, IsSomeAnd}
+use Rattle.std.specs.Prelude.{Option, None, IsSome, IsSomeAnd}
 use Rattle.std.proofs.Common.{◌∙◌}
 use Rattle.vx_hub.specs.declared.parts.Named.{Named}
 use Rattle.vx_hub.specs.Stands.{Stands, IsTold, IsKnown, IsRecorded, facts_at, spec_of}
@@ -80,6 +81,16 @@ ports_more G [] new all f (suc i) = tt
 ports_more G (r ∷ rows) new all f zero = all zero
 ports_more G (r ∷ rows) new all f (suc i) = ports_more (λ k. G (suc k)) rows new (λ j. all (suc j)) f i
 
+pub home_more : {P : Type 0} (rows : List (Row P)) (new : Row P) → ((i : ℕ) → i < length rows → IsSome (port_at rows i)) → IsSome (task_port new.task) → (i : ℕ) → i < length (rows ++ new ∷ []) → IsSome (port_at (rows ++ new ∷ []) i)
+home_more [] new all here zero l = here
+home_more [] new all here (suc i) l = absurd (omega arith)
+home_more (r ∷ rows) new all here zero l = all zero (omega arith)
+home_more (r ∷ rows) new all here (suc i) l = home_more rows new (λ j m. all (suc j) (omega (arith, m))) here i (omega arith)
+
+home_some : {P : Type 0} (o : Option P) → IsSome o → o ≡ None → ⊥
+home_some None some none = cc
+home_some (Some p) some none = cc
+
 -- where nothing stands, and nothing at the new instance, nothing stands
 pub places_more : {P : Type 0} (rows : List (Row P)) (new : Row P) → ((p : Place) → copies_at p rows ≡ []) → ((p : Place) → copies_here p new ≡ []) → (p : Place) → copies_at p (rows ++ new ∷ []) ≡ []
 places_more {P} rows new none here p = go rows (owner p) (none p)
@@ -116,17 +127,26 @@ front_of (y ∷ ys) x l at = ap (λ z. z ∷ ys) (sym at)
 untouched_told : (told : Told) (plan : Plan) (once : Bool) (now i : ℕ) → IsUntouched (spec_of (slice_get plan.components i)) told → IsTold told (begun plan once now) i
 untouched_told told plan once now i u = record { taken = u.taken; given = u.given; spec = u.made_for; confirmed = u.confirmed; ended = u.ended; over = λ over. cc; faults = omega arith; refusals = omega arith; idles = omega arith }
 
+never : false ≡ true → ⊥
+never e = cc
+
 -- an instance that begins is as a record of the install alone has it
 new_known : (f : Facts) (plan : Plan) (once : Bool) (now i : ℕ) (o : Option Component) → slice_get plan.components i ≡ o → AreNew f → IsSomeAnd o (λ component. IsFittedTo plan component f) → IsKnown f (begun plan once now) i
 new_known f plan once now i None is n fit = absurd fit
 new_known f plan once now i (Some component) is n fit = record {
-  outlet = fit ∙ ap (λ (targets : List ℕ). targets ∷ []) (sym (targets_of_first plan once now i 0 component is));
+  outlet = fit.0 ∙ ap (λ (targets : List ℕ). targets ∷ []) (sym (targets_of_first plan once now i 0 component is));
   taken = n.taken;
   lost = n.lost;
   failed_starts = n.failed_starts;
   ends = n.ends;
   to_confirm = subst (λ (o : _). IfSome o (λ positions. positions ≡ [])) (sym n.to_confirm) tt;
   confirm_failed = n.confirm_failed;
+  over = n.over;
+  class = subst (λ (o : Option Component). IsSomeAnd o (λ component. f.class ≡ component.class)) (sym is) fit.1;
+  confirms = λ some. absurd (taken_none f.to_confirm n.to_confirm some);
+  done = λ closed. absurd (never (sym n.closed ∙ closed));
+  closed = n.closed;
+  retired = n.retired;
 }
 
 -- what follows from two facts on a value
@@ -145,7 +165,8 @@ begun_stands told_by plan hub b mine first none room few = record {
     facts = λ i. both_mapped _ _ _ (facts_at hub.facts.items i) (λ f n fit. new_known f plan first.once first.now i (slice_get plan.components i) refl n fit) (b.facts i) (b.fitted i);
     bytes = b.bytes;
     next = b.next;
-    order = ((record { first = refl; zeroth = refl; all_new = refl }, λ b w. w), tt);
+    order = ((record { first = refl; zeroth = refl; all_new = refl }, λ b w. w, λ gone. cc), tt);
+    outs = λ i l none. absurd (home_some (port_at hub.rows.items i) (b.home i l) none);
     noticeless = λ b w. w;
     statuses = subst (λ (rs : List OpenBatch). AreRunning (begun plan first.once first.now) rs) (sym b.batches) tt;
     ledger = b.kept;

@@ -10,6 +10,7 @@ use Rattle.vx_record.specs.declared.entry.Entry.{Entry}
 use Rattle.vx_record.specs.declared.entry.Entry.TheVariants.{Idle, SourceLost}
 use Rattle.vx_record.specs.Places.Place.{Waiting, Held}
 use Rattle.std.proofs.lemmas.List.{append_assoc}
+use Rattle.vx_record.specs.Copies.{joined}
 use Rattle.vx_record.specs.Lists.{stands, parcels_at, outputs, held}
 use Rattle.vx_record.specs.Sending.{IsOldest}
 use Rattle.vx_record.specs.Moving.{IsStill, singles}
@@ -27,7 +28,7 @@ use Rattle.vx_hub.specs.Failures.{IsFailureOf}
 use Rattle.vx_hub.specs.Numbers.{numbers_in}
 use Rattle.vx_hub.specs.Stands.{Stands}
 use Rattle.vx_hub.proofs.Ordering.{sound_before}
-use Rattle.vx_hub.proofs.Placing.{conserved, numbers-append}
+use Rattle.vx_hub.proofs.Placing.{conserved, numbers-append, numbers_joined}
 
 -- an entry that moves nothing changes nothing of what a task holds
 pub held_on : {P : Type 0} (told_by : P → Told) (d e : Hub P) (hand : List Copy) (i : ℕ) (role : Role) (entry : Entry) → Stands told_by d hand d.log.history → Noted d.log entry e.log → e.starved ≡ d.starved →
@@ -46,6 +47,10 @@ held_failed told_by d e hand i j role at_start s (inr lost) starved had = held_o
 pub role_same : (role : Role) → role_copies role ≡ parcel_copies (role_parcels role)
 role_same (Source core) = refl
 role_same (Sink core) = refl
+
+-- what is held by a role that the record has
+pub held_numbers : (h : Record) (i : ℕ) (role : Role) → held h i ≡ parcel_numbers (role_parcels role) → numbers_in (role_copies role) ≡ joined (held h i)
+held_numbers h i role is = ap numbers_in (role_same role) ∙ numbers_joined (role_parcels role) ∙ sym (ap joined is)
 
 -- the first of some parcels
 pub is_oldest : (copies : List ℕ) (ps rest : List (List ℕ)) → ps ≡ copies ∷ rest → IsOldest copies ps

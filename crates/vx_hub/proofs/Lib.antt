@@ -15,6 +15,10 @@ pub mod Beginning
 pub mod Remaining
 pub mod Returning
 pub mod Dues
+mod Drying
 mod Ordering
 mod Numbering
 mod Homing
+mod Leaving
+mod Ceasing
+mod Retiring

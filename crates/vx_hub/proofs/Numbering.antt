@@ -1,15 +1,18 @@
 -- The numbers of copies, child by child and copy by copy.
 use Rattle.std.proofs.Common.{◌≡◌, ℕ, zero, suc, ◌+◌, ◌<◌, List, [], ◌∷◌, ◌++◌, length, take, Some, None, sym, ap, ◌∙◌, get_or, arith}
 use Rattle.std.specs.Prelude.{slice_get}
-use Rattle.std.proofs.lemmas.List.{append_assoc}
+use Rattle.std.proofs.lemmas.List.{append_assoc, append-nil}
 use Rattle.vx_ledger.specs.Copies.{Copy}
 use Rattle.vx_ledger.specs.declared.child.Child.{Child}
+use Rattle.vx_ledger.specs.declared.parcel.Parcel.{Parcel}
 use Rattle.vx_plan.specs.declared.component.Component.{Component}
 use Rattle.vx_record.specs.declared.child.Child.{Child as NotedChild}
 use Rattle.vx_record.specs.declared.instance.Instance.{Instance}
 use Rattle.vx_record.specs.declared.instance.Start.TheVariants.{New}
 use Rattle.vx_record.specs.Starting.{first_instances}
 use Rattle.vx_hub.specs.Numbers.{numbers_in, noted_of}
+use Rattle.vx_hub.specs.Rows.{parcel_copies}
+use Rattle.vx_hub.proofs.Placing.{numbers-append}
 
 one_more : (i : ℕ) → suc i ≡ i + 1
 one_more i = omega arith
@@ -30,6 +33,24 @@ pub no_copy : (cs : List Copy) (i : ℕ) → i < length cs → slice_get cs i �
 no_copy [] i l none = omega arith
 no_copy (c ∷ cs) zero l none = cc
 no_copy (c ∷ cs) (suc i) l none = no_copy cs i (omega arith) none
+
+behind_next : (ps : List Parcel) (i : ℕ) (p : Parcel) → slice_get ps i ≡ Some p → numbers_in (parcel_copies (take (suc i) ps)) ≡ numbers_in (parcel_copies (take i ps)) ++ numbers_in p.finalizers
+behind_next [] i p is = cc
+behind_next (q ∷ ps) zero p is = let same : q ≡ p = cc in ap (λ (x : Parcel). numbers_in (x.finalizers ++ [])) same ∙ ap numbers_in (append-nil p.finalizers)
+behind_next (q ∷ ps) (suc i) p is =
+    numbers-append q.finalizers (parcel_copies (take (suc i) ps)) ∙ ap (λ (ns : List ℕ). numbers_in q.finalizers ++ ns) (behind_next ps i p is)
+    ∙ sym (append_assoc (numbers_in q.finalizers) (numbers_in (parcel_copies (take i ps))) (numbers_in p.finalizers))
+    ∙ ap (λ (ns : List ℕ). ns ++ numbers_in p.finalizers) (sym (numbers-append q.finalizers (parcel_copies (take i ps))))
+
+pub behind_step : (now new : List ℕ) (ps : List Parcel) (i : ℕ) (p : Parcel) → slice_get ps i ≡ Some p → now ≡ numbers_in (parcel_copies (take i ps)) → new ≡ now ++ numbers_in p.finalizers →
+    new ≡ numbers_in (parcel_copies (take (i + 1) ps))
+behind_step now new ps i p is so added =
+    added ∙ ap (λ (ns : List ℕ). ns ++ numbers_in p.finalizers) so ∙ sym (behind_next ps i p is) ∙ ap (λ k. numbers_in (parcel_copies (take k ps))) (one_more i)
+
+pub no_parcel : (ps : List Parcel) (i : ℕ) → i < length ps → slice_get ps i ≡ None → ⊥
+no_parcel [] i l none = omega arith
+no_parcel (p ∷ ps) zero l none = cc
+no_parcel (p ∷ ps) (suc i) l none = no_parcel ps i (omega arith) none
 
 noted_next : (cs : List Child) (i : ℕ) (child : Child) → i < length cs → child ≡ get_or cs i child →
     noted_of (take (suc i) cs) ≡ noted_of (take i cs) ++ record { target = child.target; copies = numbers_in child.parcel.finalizers } ∷ []

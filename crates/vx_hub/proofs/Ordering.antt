@@ -24,7 +24,7 @@ use Rattle.vx_ledger.specs.declared.short.Short.{Short}
 use Rattle.vx_ledger.specs.declared.short.Short.TheVariants as short
 use Rattle.vx_record.specs.Records.{Record}
 use Rattle.vx_record.specs.Copies.{counting, children_of, next_copy}
-use Rattle.vx_record.specs.Lists.{outputs}
+use Rattle.vx_record.specs.Lists.{all_waiting, outputs}
 use Rattle.vx_record.specs.Sending.{IsOldest}
 use Rattle.vx_record.specs.Noted.{Noted}
 use Rattle.vx_record.specs.declared.log.Log.{Log}
@@ -38,7 +38,7 @@ use Rattle.vx_hub.specs.declared.fatal.Fatal.{Fatal}
 use Rattle.vx_hub.specs.declared.fatal.Fatal.TheVariants as fatal
 use Rattle.vx_hub.specs.Failures.{fatal_of, abandon_cause, HasReason}
 use Rattle.vx_hub.specs.Numbers.{numbers_in, noted_of}
-use Rattle.vx_hub.specs.Order.{IsBirthOf, IsReadBy, IsGiven, IsSplitOf, IsSpentFor, IsReason, readers_at, reply_behind}
+use Rattle.vx_hub.specs.Order.{IsBirthOf, IsReadBy, IsGiven, IsSplitOf, IsSpentFor, IsReason, readers_at, reply_behind, cause_of}
 use Rattle.vx_hub.specs.Spending.{MaySpend, IsReplied}
 use Rattle.vx_hub.specs.Stands.{Stands, IsSound, IsBalanced}
 use Rattle.vx_hub.proofs.StandsLaws.{unmade}
@@ -90,9 +90,9 @@ pub length_noted : (targets : List ℕ) (first : ℕ) (parcel : Parcel) (childre
 length_noted targets first parcel children are = ap (λ (cs : List Child). length (noted_of cs)) are ∙ ap length (noted_children targets first parcel) ∙ length_children first (length parcel.finalizers) targets
 
 -- a split that the ledger made is in order
-pub split_in_order : (h : Record) (i next : ℕ) (targets : List ℕ) (parcel : Parcel) (children : List Child) → targets ≡ readers_at h i → IsOldest (numbers_in parcel.finalizers) (outputs h i) → next ≡ next_copy h → children ≡ children_for targets next parcel → 0 < length targets →
+pub split_in_order : (h : Record) (i next : ℕ) (targets : List ℕ) (parcel : Parcel) (children : List Child) → all_waiting h i ≡ [] → targets ≡ readers_at h i → IsOldest (numbers_in parcel.finalizers) (outputs h i) → next ≡ next_copy h → children ≡ children_for targets next parcel → 0 < length targets →
     next + length targets * length parcel.finalizers ≤ 2 ^ 63 → IsSplitOf h i (numbers_in parcel.finalizers) (noted_of children)
-split_in_order h i next targets parcel children routed oldest now are some fits =
+split_in_order h i next targets parcel children waits routed oldest now are some fits =
     let m = length parcel.finalizers in
     let many : length (numbers_in parcel.finalizers) ≡ m = length_numbers parcel.finalizers in
     let count : length (noted_of children) ≡ length targets = length_noted targets next parcel children are in
@@ -100,6 +100,7 @@ split_in_order h i next targets parcel children routed oldest now are some fits 
     ap noted_of are ∙ noted_children targets next parcel ∙ ap (λ k. children_of k m targets) now ∙ ap (λ k. children_of (next_copy h) k targets) (sym many) in
     record {
       divides = record { oldest = oldest; made = (targets, made) };
+      none_waits = waits;
       routed = made ∙ ap (λ (ts : List ℕ). children_of (next_copy h) (length (numbers_in parcel.finalizers)) ts) routed;
       some = omega (arith, count, some);
       fits = subst (λ k. k + length (noted_of children) * length (numbers_in parcel.finalizers) ≤ 2 ^ 63) now
@@ -125,16 +126,21 @@ sound_before d e entry noted starved sound = record { whole = (noted.whole sound
 pub spent_on : {P : Type 0} (d e : Hub P) (j copy : ℕ) (spent : Outcome) (i : ℕ) (outcome : Outcome) → Noted d.log (Spent j copy spent) e.log → e.starved ≡ d.starved → MaySpend d i outcome → MaySpend e i outcome
 spent_on d e j copy spent i outcome noted starved may sound =
     let before = may (sound_before d e (Spent j copy spent) noted starved sound) in
-    subst (λ (h : Record). IsSpentFor h i outcome) (sym (noted.whole sound.whole).1) (record { given = before.given; replied = before.replied; given_up = before.given_up; unread = before.unread })
+    subst (λ (h : Record). IsSpentFor h i outcome) (sym (noted.whole sound.whole).1) (record { given = before.given; replied = before.replied; given_up = before.given_up; unread = before.unread; left = before.left })
 
 pub noticed_on : {P : Type 0} (d e : Hub P) (batch : ℕ) (status : _) (i : ℕ) (outcome : Outcome) → Noted d.log (Notice batch status) e.log → e.starved ≡ d.starved → MaySpend d i outcome → MaySpend e i outcome
 noticed_on d e batch status i outcome noted starved may sound =
     let before = may (sound_before d e (Notice batch status) noted starved sound) in
-    subst (λ (h : Record). IsSpentFor h i outcome) (sym (noted.whole sound.whole).1) (record { given = before.given; replied = before.replied; given_up = before.given_up; unread = before.unread })
+    subst (λ (h : Record). IsSpentFor h i outcome) (sym (noted.whole sound.whole).1) (record { given = before.given; replied = before.replied; given_up = before.given_up; unread = before.unread; left = before.left })
+
+-- what has no cause has none
+not_left : {X : Type 0} (cause : Option AbandonCause) → cause ≡ None → IsSome cause → X
+not_left None none some = cc
+not_left (Some c) none some = cc
 
 -- a copy is without a consumer where nobody reads its instance
-pub unread_may : {P : Type 0} (hub : Hub P) (i : ℕ) → (IsSound hub → readers_at hub.log.history i ≡ []) → MaySpend hub i NoConsumer
-unread_may hub i none sound = record { given = tt; replied = λ reply behind. cc; given_up = λ is. cc; unread = λ is. none sound }
+pub unread_may : {P : Type 0} (hub : Hub P) (i : ℕ) → (IsSound hub → cause_of hub.log.history ≡ None) → (IsSound hub → readers_at hub.log.history i ≡ []) → MaySpend hub i NoConsumer
+unread_may hub i goes none sound = record { given = tt; replied = λ reply behind. cc; given_up = λ is. cc; unread = λ is. none sound; left = λ some. not_left (cause_of hub.log.history) (goes sound) some }
 
 -- where no port had a target, there was none
 pub targets_none : (r : Routed) (parcel : Parcel) (targets : List ℕ) → r ≡ routed.NoConsumer parcel → (IsNoConsumer (Ok r) → targets ≡ []) → targets ≡ []
@@ -151,6 +157,7 @@ abandoned_may told_by hub hand i s given_up sound = record {
   replied = λ reply behind. cc;
   given_up = λ is. subst (λ (cause : Option AbandonCause). IsSome cause) (s.recorded sound).cause given_up;
   unread = λ is. cc;
+  left = λ some. refl;
 }
 
 -- what an attempt is answered is the outcome of its copies
@@ -160,13 +167,25 @@ replied_given reply NewestDropped behind = cc
 replied_given reply outcome behind = tt
 
 -- nor one that was attempted
-pub replied_may : {P : Type 0} (hub : Hub P) (i : ℕ) (reply : Reply) (outcome : Outcome) → reply_behind outcome ≡ Some reply → IsReplied hub i reply → MaySpend hub i outcome
-replied_may hub i reply outcome behind last sound = record {
+replied_may : {P : Type 0} (hub : Hub P) (i : ℕ) (reply : Reply) (outcome : Outcome) → (IsSound hub → cause_of hub.log.history ≡ None) → reply_behind outcome ≡ Some reply → IsReplied hub i reply → MaySpend hub i outcome
+replied_may hub i reply outcome goes behind last sound = record {
   given = replied_given reply outcome behind;
   replied = λ answer is. last sound ∙ sym behind ∙ is;
   given_up = λ is. let none : reply_behind outcome ≡ None = ap reply_behind is in cc;
   unread = λ is. let none : reply_behind outcome ≡ None = ap reply_behind is in cc;
+  left = λ some. not_left (cause_of hub.log.history) (goes sound) some;
 }
+
+-- and is abandoned where the run was given up
+pub answered_may : {P : Type 0} (told_by : P → Told) (hub : Hub P) (hand : List Copy) (i : ℕ) (reply : Reply) (outcome : Outcome) → Stands told_by hub hand hub.log.history → (hub.abandoned ≡ None → reply_behind outcome ≡ Some reply) →
+    (IsSome hub.abandoned → outcome ≡ Abandoned) → IsReplied hub i reply → MaySpend hub i outcome
+answered_may {P} told_by hub hand i reply outcome s going given_up last = go hub.abandoned refl
+  where
+    go : (a : Option AbandonCause) → hub.abandoned ≡ a → MaySpend hub i outcome
+    go None is = replied_may hub i reply outcome (λ sound. sym (s.recorded sound).cause ∙ is) (going is) last
+    go (Some c) is =
+        let some : IsSome hub.abandoned = subst (λ (a : Option AbandonCause). IsSome a) (sym is) refl in
+        subst (λ (o : Outcome). MaySpend hub i o) (sym (given_up some)) (abandoned_may told_by hub hand i s some)
 
 -- the reason of a landing stays, behind its end
 pub reason_home : (h : Record) (i : ℕ) (cause : AbandonCause) → IsReason h cause → IsReason (Home i ∷ h) cause

@@ -1,5 +1,5 @@
 -- What is left when each instance ended.
-use Rattle.std.proofs.Common.{◌≡◌, ℕ, zero, suc, ◌+◌, List, [], ◌∷◌, ◌++◌, length, Option, Some, None, IfSome, IsSome, IsSomeAnd, true, false, refl, sym, ap, subst, ◌∙◌, arith}
+use Rattle.std.proofs.Common.{◌≡◌, ℕ, zero, suc, ◌+◌, ◌<◌, List, [], ◌∷◌, ◌++◌, length, Option, Some, None, IfSome, IsSome, IsSomeAnd, true, false, refl, sym, ap, subst, ◌∙◌, arith}
 use Rattle.std.specs.Prelude.{All, ◌↔◌}
 use Rattle.std.proofs.lemmas.List.Elements.{All-head, All-tail}
 use Rattle.vx_ends.specs.Told.{Told}
@@ -9,7 +9,7 @@ use Rattle.vx_hub.specs.declared.row.Row.{Row}
 use Rattle.vx_hub.specs.declared.task.Task.{Task}
 use Rattle.vx_hub.specs.declared.parts.Numbered.{Numbered}
 use Rattle.vx_hub.specs.Rows.{IsBare, row_at, task_port, port_at}
-use Rattle.vx_hub.specs.Stands.{IsGone, IsShut, IsTold, facts_at}
+use Rattle.vx_hub.specs.Stands.{IsGone, IsShut, IsTold, IsKnown, facts_at}
 use Rattle.vx_record.specs.Places.{Place, owner}
 use Rattle.vx_record.specs.Moving.{IsConserved}
 use Rattle.vx_record.specs.Batches.{NoNoticeDue}
@@ -22,7 +22,7 @@ use Rattle.vx_record.proofs.After.{accounted_tells}
 use Rattle.vx_hub.proofs.Noticing.{accounted}
 use Rattle.vx_record.proofs.OnePlace.{conserved_place}
 use Rattle.vx_record.proofs.Hands.{nowhere}
-use Rattle.vx_hub.specs.Order.{IsOrderly}
+use Rattle.vx_hub.specs.Order.{IsOrderly, IsClosing}
 use Rattle.vx_hub.specs.Places.{copies_at, copies_if, all_numbers, IsPlaced}
 use Rattle.vx_hub.proofs.Beginning.{unused_here}
 use Rattle.vx_hub.proofs.Placing.{conserved, places_all}
@@ -145,3 +145,22 @@ all_noticed h order quiet spent = record {
   where
     all : {k : Record} → k ≡ h → IsAccounted k
     all is = subst IsAccounted (sym is) (accounted h order)
+
+-- where all instances ended, each source takes no more
+pub all_done : {P : Type 0} (h : Record) (fs : List Facts) (rows : List (Row P)) (i : ℕ) → i < length fs → All (λ f. f.retired ≡ true) fs →
+    IfSome (facts_at fs i) (IsGone rows i) → IfSome (facts_at fs i) (λ f. IsKnown f h i) → IsClosing h i
+all_done {P} h fs rows i l over gone known = there (facts_at fs i) (is_there fs i l) (retired_at fs i over) gone known
+  where
+    is_there : (gs : List Facts) (k : ℕ) → k < length gs → IsSome (facts_at gs k)
+    is_there [] k less = absurd (omega arith)
+    is_there (g ∷ gs) zero less = refl
+    is_there (g ∷ gs) (suc k) less = is_there gs k (omega arith)
+
+    retired_at : (gs : List Facts) (k : ℕ) → All (λ f. f.retired ≡ true) gs → IfSome (facts_at gs k) (λ f. f.retired ≡ true)
+    retired_at [] k all = tt
+    retired_at (g ∷ gs) zero all = All-head (λ f. f.retired ≡ true) g gs all
+    retired_at (g ∷ gs) (suc k) all = retired_at gs k (All-tail (λ f. f.retired ≡ true) g gs all)
+
+    there : (o : Option Facts) → IsSome o → IfSome o (λ f. f.retired ≡ true) → IfSome o (IsGone rows i) → IfSome o (λ f. IsKnown f h i) → IsClosing h i
+    there None some retired went knows = cc
+    there (Some f) some retired went knows = knows.done (went retired).0

@@ -8,6 +8,7 @@ use Rattle.vx_record.specs.Reads.{taken}
 use Rattle.vx_record.specs.Encoding.{given}
 use Rattle.vx_record.specs.Confirms.{confirmed, born_positions}
 use Rattle.vx_record.specs.PortCounts.{fault_count, refusal_count, idle_count}
+use Rattle.vx_hub.specs.Order.{IsConfirmOf}
 use Rattle.vx_hub.specs.declared.hub.Hub.{Hub}
 use Rattle.vx_hub.specs.declared.work.Work.{Work}
 use Rattle.vx_hub.specs.declared.work.Landing.{Landing}
@@ -18,10 +19,10 @@ use Rattle.vx_record.specs.Places.Place.{Outputs}
 use Rattle.vx_hub.specs.Places.{parcel_numbers, numbers_at}
 use Rattle.vx_hub.specs.Rows.{role_copies, role_parcels, IsOutAt}
 use Rattle.vx_hub.specs.declared.confirming.Confirmed.{Confirmed}
-use Rattle.vx_hub.specs.Works.{Did, Reports, Names, NamesBy, IsReading, event_count_of, taken_by, given_by, ended_by, confirmed_by, confirm_faults, faults_by, refusals_by, idles_by}
+use Rattle.vx_hub.specs.Works.{Did, Reports, Names, NamesBy, IsReading, IsAttempted, IsSending, event_count_of, taken_by, given_by, ended_by, confirmed_by, confirm_faults, faults_by, refusals_by, idles_by}
 use Rattle.vx_ends.specs.declared.port_spec.PortSpec.{PortSpec}
 use Rattle.vx_hub.specs.declared.work.Job.TheVariants as job
-use Rattle.vx_hub.specs.Stands.{Stands, IsTold, IsUnlost, spec_at}
+use Rattle.vx_hub.specs.Stands.{Stands, IsTold, IsUnlost, MayShut, IsSinkAt, spec_at}
 use Rattle.vx_hub.specs.Leases.{IsLeased, IsBack, IsOpenAt, Adds, Brings}
 use Rattle.vx_hub.proofs.Touching.{not_true}
 
@@ -56,12 +57,12 @@ brings_of old new confirm (Attempted bytes reply) h i reports told = adds_of old
 brings_of old new confirm Closed h i reports told = adds_of old new confirm Closed h i reports told
 
 -- what is named is what was given
-named_due : (given : Option (List Position)) (confirm : Option Confirmed) (due : List Position) → Names given confirm → IfSome given (λ positions. positions ≡ due) → IfSome confirm (λ c. c.positions ≡ due)
+named_due : (given : Option (List Position)) (confirm : Option Confirmed) (Due : List Position → Type 0) → Names given confirm → IfSome given Due → IfSome confirm (λ c. Due c.positions)
 named_due given None due names is = tt
 named_due None (Some c) due names is = absurd names
-named_due (Some positions) (Some c) due names is = names ∙ is
+named_due (Some positions) (Some c) due names is = subst due (sym names) is
 
-named_by : (given : Option (List Position)) (confirm : Option Confirmed) (done : Done) (due : List Position) → NamesBy given confirm done → IfSome given (λ positions. positions ≡ due) → IfSome confirm (λ c. c.positions ≡ due)
+named_by : (given : Option (List Position)) (confirm : Option Confirmed) (done : Done) (Due : List Position → Type 0) → NamesBy given confirm done → IfSome given Due → IfSome confirm (λ c. Due c.positions)
 named_by given None done due names is = tt
 named_by given (Some c) Starved due names is = named_due given (Some c) due names is
 named_by given (Some c) Nothing due names is = named_due given (Some c) due names is
@@ -72,8 +73,8 @@ named_by given (Some c) Closed due names is = named_due given (Some c) due names
 -- what was handed out may land
 pub back_of : {P : Type 0} (told_by : P → Told) (hub : Hub P) (work : Work P) (landing : Landing P) → IsLeased told_by hub work → landing.instance ≡ work.instance →
     role_copies landing.task.role ≡ role_copies work.task.role → role_parcels landing.task.role ≡ role_parcels work.task.role → Reports (told_by work.task.port) landing.confirmed landing.done (told_by landing.task.port) → NamesBy work.positions landing.confirmed landing.done → event_count_of landing.done ≤ 65536 →
-    (IsReading landing.done → work.job ≡ job.Read) → IsBack told_by hub landing
-back_of {P} told_by hub work landing leased instance copies parcels reports names events reads = record {
+    (IsReading landing.done → work.job ≡ job.Read) → (landing.done ≡ Closed → work.job ≡ job.Close) → (IsAttempted landing.done → IsSending work.job) → IsBack told_by hub landing
+back_of {P} told_by hub work landing leased instance copies parcels reports names events reads closes sends = record {
   stands = subst (λ (cs : List Copy). Stands told_by hub cs hub.log.history) (sym copies) leased.stands;
   open_at = subst (λ (i : ℕ). IsOpenAt hub i) (sym instance) leased.open_at;
   out = subst (λ (i : ℕ). IsOutAt hub.rows.items i) (sym instance) leased.out;
@@ -82,7 +83,9 @@ back_of {P} told_by hub work landing leased instance copies parcels reports name
   unlost = λ reading. subst (λ (i : ℕ). IsUnlost hub i) (sym instance) (leased.unlost (reads reading));
   held = λ sound. subst (λ (i : ℕ). held hub.log.history i ≡ parcel_numbers (role_parcels landing.task.role)) (sym instance) (leased.held sound ∙ ap parcel_numbers (sym parcels));
   sent = λ reading. subst (λ (i : ℕ). numbers_at (Outputs i) hub.rows.items ≡ []) (sym instance) (leased.sent (reads reading));
-  due = λ sound. subst (λ (i : ℕ). IfSome landing.confirmed (λ c. c.positions ≡ born_positions hub.log.history i)) (sym instance) (named_by work.positions landing.confirmed landing.done _ names (leased.due sound));
+  due = λ sound. subst (λ (i : ℕ). IfSome landing.confirmed (λ c. IsConfirmOf hub.log.history i c.positions)) (sym instance) (named_by work.positions landing.confirmed landing.done (IsConfirmOf hub.log.history work.instance) names (leased.due sound));
+  shut = λ done. subst (λ (i : ℕ). MayShut hub i) (sym instance) (leased.shut (closes done));
+  sink = λ sent. subst (λ (i : ℕ). IsSinkAt hub i) (sym instance) (leased.sink (sends sent));
   events = events;
   closed = λ done. let r : Reports (told_by work.task.port) landing.confirmed Closed (told_by landing.task.port) = subst (λ (d : Done). Reports (told_by work.task.port) landing.confirmed d (told_by landing.task.port)) done reports in
       not_true (told_by landing.task.port).started (r.closed refl);

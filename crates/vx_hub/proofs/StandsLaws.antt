@@ -1,6 +1,6 @@
 -- The steps by which the hub goes on standing for the record.
 use Rattle.std.proofs.Common.{◌≡◌, inr, ℕ, Bool, true, false, IsTrue, List, [], ◌∷◌, ◌++◌, length, Option, Some, None, IfSome, refl, sym, ap, subst, ◌∙◌, arith}
-use Rattle.std.specs.Prelude.{IsSomeAnd, ◌==◌, ◌≢◌, ◌≤◌, map, not, if◌then◌else◌}
+use Rattle.std.specs.Prelude.{IsSome, IsSomeAnd, ◌==◌, ◌≢◌, ◌<◌, ◌≤◌, map, not, if◌then◌else◌}
 use Rattle.std.proofs.lemmas.Bool.Decides.{nat_tests}
 use Rattle.vx_ends.specs.Told.{Told}
 use Rattle.vx_ledger.specs.Copies.{Copy, copies_of}
@@ -10,13 +10,14 @@ use Rattle.vx_record.specs.Records.{Record}
 use Rattle.vx_record.specs.Noted.{Noted}
 use Rattle.vx_record.specs.declared.log.Log.{Log}
 use Rattle.vx_record.specs.declared.entry.Entry.{Entry}
-use Rattle.vx_record.specs.declared.entry.Entry.TheVariants.{Install, Read, Idle, SourceLost, Born, Attempt, Spent, Notice, Confirm, Abandon}
+use Rattle.vx_record.specs.declared.entry.Entry.TheVariants.{Install, Home, Read, Idle, SourceLost, Born, Attempt, Spent, Notice, Confirm, Closed, Retired, Abandon}
 use Rattle.vx_record.specs.declared.abandon_cause.AbandonCause.{AbandonCause}
+use Rattle.vx_hub.proofs.Drying.{closing_on}
 use Rattle.vx_hub.specs.declared.facts.Facts.{Facts}
 use Rattle.vx_hub.specs.declared.row.Row.{Row}
 use Rattle.vx_hub.specs.declared.hub.Hub.{Hub}
 use Rattle.vx_hub.specs.Rows.{port_at, IsBareAt, SamePorts, KeepsBare, KeepsOthersBare, Loses, Gains}
-use Rattle.vx_hub.specs.Stands.{Stands, IsTold, IsKnown, IsRecorded, IsShut, IsGone, IsBalanced, IsSound, IsQuiet, touched, lost_at, IsMute, facts_at, capped, HasBerths, spare_of, cause_of}
+use Rattle.vx_hub.specs.Stands.{Stands, IsTold, IsKnown, AreOut, IsRecorded, IsShut, IsGone, IsBalanced, IsSound, IsQuiet, touched, lost_at, IsMute, facts_at, capped, HasBerths, spare_of, cause_of}
 use Rattle.vx_hub.specs.declared.parts.Numbered.{Numbered}
 use Rattle.vx_value.specs.Filled.{Filled}
 use Rattle.std.proofs.lemmas.List.{append-nil}
@@ -28,6 +29,9 @@ use Rattle.vx_record.specs.Copies.{next_copy, makes}
 use Rattle.vx_record.specs.Confirms.{is_unconfirmed}
 use Rattle.vx_record.specs.Moving.{IsStill, IsConserved}
 use Rattle.vx_hub.specs.Places.{IsPlaced}
+use Rattle.vx_record.specs.Abandoning.{MayStillCome}
+use Rattle.vx_record.specs.Turns.{is_out}
+use Rattle.vx_hub.specs.Away.{IsReturning}
 use Rattle.vx_hub.specs.Order.{IsInOrder, IsOrderly, IsUnknown, IsReason}
 use Rattle.vx_ledger.specs.Ledger.{IsKept}
 use Rattle.vx_status.specs.declared.outcome.Outcome.{Outcome}
@@ -38,6 +42,7 @@ use Rattle.vx_hub.specs.Batching.{AreRunning}
 use Rattle.vx_hub.proofs.Placing.{conserved}
 use Rattle.vx_hub.proofs.Noticing.{in_turn, still_quiet, running_still}
 use Rattle.vx_hub.proofs.Owning.{placed_still}
+use Rattle.vx_hub.proofs.Ceasing.{comes_going, left_out, home_on}
 use Rattle.vx_hub.proofs.Silence.{told_silent, silent_mute, other_test}
 
 -- a quiet entry is mute
@@ -78,6 +83,8 @@ known_quiet f h i (SourceLost j at failed) q k = absurd q
 known_quiet f h i (Born j b place copies events waits stream end) q k = absurd q
 known_quiet f h i (Attempt j copies bytes reply) q k = absurd q
 known_quiet f h i (Confirm j positions made) q k = absurd q
+known_quiet f h i (Closed j) q k = absurd q
+known_quiet f h i (Retired j) q k = absurd q
 known_quiet f h i e q k = record {
   taken = k.taken;
   lost = k.lost;
@@ -86,6 +93,12 @@ known_quiet f h i e q k = record {
   to_confirm = to_confirm_on f h i e refl k.to_confirm;
   confirm_failed = k.confirm_failed;
   outlet = k.outlet;
+  over = k.over;
+  class = k.class;
+  confirms = k.confirms;
+  done = λ closed. closing_on h i e refl (k.done closed);
+  closed = k.closed;
+  retired = k.retired;
 }
 
 pub bytes_mute : (h : Record) (e : Entry) → IsMute e → bytes_of_all (e ∷ h) ≡ bytes_of_all h
@@ -120,6 +133,8 @@ pub record Passes {P : Type 0} (d e : Hub P) (hand after : List Copy) (entry : E
   pub quiet : IsQuiet entry
   pub next : d.batches.next ≡ next_copy d.log.history → e.batches.next ≡ next_copy (entry ∷ d.log.history)
   pub order : IsSound d → IsInOrder d.log.history entry
+  pub comes : IsSound d → MayStillCome d.log.history entry
+  pub outs : IsSound d → (i : ℕ) → port_at d.rows.items i ≡ None → is_out d.log.history i ≡ true → is_out (entry ∷ d.log.history) i ≡ true
   pub places : IsSound d → IsConserved (entry ∷ d.log.history) → IsPlaced d.rows.items hand d.log.history → IsPlaced e.rows.items after (entry ∷ d.log.history)
   pub due : IsSound d → NoNoticeDue (entry ∷ d.log.history)
   pub statuses : IsSound d → AreRunning d.log.history d.batches.open_rows → AreRunning (entry ∷ d.log.history) e.batches.open_rows
@@ -172,14 +187,15 @@ stands_quiet {P} told_by d e hand after entry s balanced facts ports bare size n
                 (some_mapped _ _ (facts_at d.facts.items i) (λ f k. known_quiet f d.log.history i entry quiet k) (r.facts i));
             bytes = bytes ∙ r.bytes ∙ ap capped (sym (bytes_quiet d.log.history entry quiet));
             next = passes.next r.next;
-            order = ((passes.order fine, in_turn d.log.history entry r.noticeless), r.order);
+            order = ((passes.order fine, in_turn d.log.history entry r.noticeless, passes.comes fine), r.order);
+            outs = λ i l none. let was : port_at d.rows.items i ≡ None = sym (ports i) ∙ none in passes.outs fine i was (r.outs i (subst (λ n. i < n) size l) was);
             noticeless = passes.due fine;
             statuses = passes.statuses fine r.statuses;
             ledger = passes.ledger r.ledger;
             unknown = λ i past. unknown_mute entry d.log.history i (mute_of_quiet entry quiet) (r.unknown i (subst (λ n. n ≤ i) size past));
             cause = ap (λ (t : _). t.1) berths ∙ r.cause ∙ sym (cause_quiet d.log.history entry quiet);
             installed = force_quiet d.log.history entry quiet ∙ r.installed ∙ ap Some (sym (ap (λ (t : _). t.2) berths));
-            places = passes.places fine (conserved (entry ∷ d.log.history) ((passes.order fine, in_turn d.log.history entry r.noticeless), r.order)) r.places;
+            places = passes.places fine (conserved (entry ∷ d.log.history) ((passes.order fine, in_turn d.log.history entry r.noticeless, passes.comes fine), r.order)) r.places;
           });
       shut = λ i. subst (λ (fs : List Facts). IfSome (facts_at fs i) (IsShut told_by e.rows.items i)) (sym (ap (λ (v : _). v.items) facts))
           (some_mapped _ _ (facts_at d.facts.items i) (λ f shut closed. subst (λ (p : Option P). IsSomeAnd p (λ port. (told_by port).started ≡ false)) (sym (ports i)) (shut closed)) (s.shut i));
@@ -234,6 +250,7 @@ stands_moved {P} told_by d e hand after s balanced facts ports bare size batches
         bytes = bytes ∙ r.bytes;
         next = ap (λ (l : Ledger). l.next) batches ∙ r.next;
         order = r.order;
+        outs = λ i l none. r.outs i (subst (λ n. i < n) size l) (sym (ports i) ∙ none);
         noticeless = r.noticeless;
         statuses = subst (λ (l : Ledger). AreRunning d.log.history l.open_rows) (sym batches) r.statuses;
         ledger = subst IsKept (sym batches) r.ledger;
@@ -311,6 +328,12 @@ known_abandoned f h i cause k = record {
   to_confirm = to_confirm_on f h i (Abandon cause) refl k.to_confirm;
   confirm_failed = k.confirm_failed;
   outlet = k.outlet;
+  over = k.over;
+  class = k.class;
+  confirms = k.confirms;
+  done = λ closed. closing_on h i (Abandon cause) refl (k.done closed);
+  closed = k.closed;
+  retired = k.retired;
 }
 
 -- a run is abandoned
@@ -328,7 +351,8 @@ stands_abandoned {P} told_by d log cause s once reason noted = record {
         facts = λ i. some_mapped _ _ (facts_at d.facts.items i) (λ f k. known_abandoned f d.log.history i cause k) (r.facts i);
         bytes = r.bytes;
         next = same_next d.batches d.batches d.log.history (Abandon cause) refl refl r.next;
-        order = ((record { first = sym r.cause ∙ once; reason = reason fine }, r.noticeless), r.order);
+        order = ((record { first = sym r.cause ∙ once; reason = reason fine }, r.noticeless, comes_going d.log.history (Abandon cause) (sym r.cause ∙ once)), r.order);
+        outs = r.outs;
         noticeless = λ b w. w;
         statuses = running_still d.log.history (Abandon cause) d.batches.open_rows tt r.statuses;
         ledger = r.ledger;
@@ -350,27 +374,40 @@ stands_counted {P} told_by d e hand same s = subst (λ (x : Hub P). Stands told_
   balanced = s.balanced;
   recorded = λ sound.
       let r : IsRecorded told_by d hand d.log.history = s.recorded (record { whole = sound.whole; fed = sound.fed }) in
-      record { ports = r.ports; facts = r.facts; bytes = r.bytes; next = r.next; order = r.order; unknown = r.unknown; cause = r.cause; installed = r.installed; noticeless = r.noticeless; statuses = r.statuses; ledger = r.ledger; places = r.places };
+      record { ports = r.ports; facts = r.facts; bytes = r.bytes; next = r.next; order = r.order; unknown = r.unknown; cause = r.cause; installed = r.installed; noticeless = r.noticeless; statuses = r.statuses; ledger = r.ledger; places = r.places; outs = r.outs };
   shut = s.shut;
   gone = s.gone;
   size = s.size;
   berths = s.berths;
 })
 
--- an entry that says nothing is noted, and then whether the hub goes on
-pub stands_settled : {P : Type 0} (told_by : P → Told) (d e : Hub P) (log : Log) (entry : Entry) → Stands told_by d [] d.log.history → Noted d.log entry log → IsQuiet entry → IsStill entry → makes entry ≡ 0 → IsInOrder d.log.history entry →
-    e ≡ record d { log = log; fatal = e.fatal } → Stands told_by e [] e.log.history
-stands_settled {P} told_by d e log entry s noted quiet still none order same = subst (λ (x : Hub P). Stands told_by x [] x.log.history) (sym same)
-    (stands_quiet told_by d (record d { log = log; fatal = e.fatal }) [] [] entry s s.balanced refl (λ i. refl) (bare_stays d.facts.items d.rows.items) refl noted
-    (record { quiet = quiet; next = same_next d.batches d.batches d.log.history entry none refl; order = λ sound. order; places = λ fine kept. placed_still d.rows.items [] d.log.history entry still kept.1; due = λ fine. still_quiet d.log.history entry still; statuses = λ fine. running_still d.log.history entry d.batches.open_rows still; ledger = λ kept. kept }) refl refl refl)
+-- an instance at home is told to be there, and then whether the hub goes on
+pub stands_home : {P : Type 0} (told_by : P → Told) (d e : Hub P) (log : Log) (i : ℕ) → Stands told_by d [] d.log.history → Noted d.log (Home i) log → IsReturning d i → e ≡ record d { log = log; fatal = e.fatal } → Stands told_by e [] e.log.history
+stands_home {P} told_by d e log i s noted back same = subst (λ (x : Hub P). Stands told_by x [] x.log.history) (sym same)
+    (stands_quiet told_by d (record d { log = log; fatal = e.fatal }) [] [] (Home i) s s.balanced refl (λ k. refl) (bare_stays d.facts.items d.rows.items) refl noted
+    (record {
+      quiet = tt;
+      next = same_next d.batches d.batches d.log.history (Home i) refl refl;
+      order = back.away;
+      comes = λ fine. left_out d.log.history i (s.recorded fine).order (back.away fine);
+      outs = λ fine k none out. home_on (i == k) (is_out d.log.history k) (other_test i k (λ e. let at : IsSome (port_at d.rows.items k) = subst (λ (n : ℕ). IsSome (port_at d.rows.items n)) (sym e) back.home in not_none (port_at d.rows.items k) none at)) out;
+      places = λ fine kept. placed_still d.rows.items [] d.log.history (Home i) tt kept.1;
+      due = λ fine. still_quiet d.log.history (Home i) tt;
+      statuses = λ fine. running_still d.log.history (Home i) d.batches.open_rows tt;
+      ledger = λ kept. kept;
+    }) refl refl refl)
+  where
+    not_none : (o : Option P) → o ≡ None → IsSome o → ⊥
+    not_none None none some = cc
+    not_none (Some p) none some = cc
 
 -- a copy is spent, and its batch gets its notice
 pub stands_noticed : {P : Type 0} (told_by : P → Told) (d e : Hub P) (hand after : List Copy) (i c : ℕ) (outcome : Outcome) (batch : ℕ) (status : BatchStatus) (mid : Log) →
     Stands told_by d hand d.log.history → IsBalanced e.batches e.rows.items after → e.facts ≡ d.facts → e.rows ≡ d.rows → Noted d.log (Spent i c outcome) mid → Noted mid (Notice batch status) e.log →
-    e.batches.next ≡ d.batches.next → (IsSound d → IsInOrder d.log.history (Spent i c outcome)) → (IsSound d → IsPlaced d.rows.items after (Spent i c outcome ∷ d.log.history)) →
+    e.batches.next ≡ d.batches.next → (IsSound d → IsInOrder d.log.history (Spent i c outcome)) → (IsSound d → MayStillCome d.log.history (Spent i c outcome)) → (IsSound d → IsPlaced d.rows.items after (Spent i c outcome ∷ d.log.history)) →
     (IsSound d → IsNoticedSo (Spent i c outcome ∷ d.log.history) batch status) → (IsSound d → AreRunning (Spent i c outcome ∷ d.log.history) e.batches.open_rows) → IsKept e.batches →
     e.starved ≡ d.starved → e.bytes ≡ d.bytes → spare_of e ≡ spare_of d → Stands told_by e after e.log.history
-stands_noticed {P} told_by d e hand after i c outcome batch status mid s balanced facts rows spent noticed next order places so statuses ledger starved bytes berths =
+stands_noticed {P} told_by d e hand after i c outcome batch status mid s balanced facts rows spent noticed next order comes places so statuses ledger starved bytes berths =
     let first : Entry = Spent i c outcome in
     let second : Entry = Notice batch status in
     let h = d.log.history in
@@ -382,7 +419,7 @@ stands_noticed {P} told_by d e hand after i c outcome batch status mid s balance
           let w₁ = spent.whole w₂.0 in
           let fine : IsSound d = record { whole = w₁.0; fed = sym starved ∙ sound.fed } in
           let r : IsRecorded told_by d hand h = s.recorded fine in
-          let ordered : IsOrderly (first ∷ h) = ((order fine, in_turn h first r.noticeless), r.order) in
+          let ordered : IsOrderly (first ∷ h) = ((order fine, in_turn h first r.noticeless, comes fine), r.order) in
           subst (λ (k : Record). IsRecorded told_by e after k) (sym (w₂.1 ∙ ap (λ (k : Record). second ∷ k) w₁.1)) (record {
             ports = λ j. subst (λ (v : _). IfSome (port_at v.items j) (λ port. IsTold (told_by port) (second ∷ first ∷ h) j)) (sym rows)
                 (some_mapped _ _ (port_at d.rows.items j) (λ port t. told_quiet (told_by port) (first ∷ h) j second tt (told_quiet (told_by port) h j first tt t)) (r.ports j));
@@ -390,7 +427,8 @@ stands_noticed {P} told_by d e hand after i c outcome batch status mid s balance
                 (some_mapped _ _ (facts_at d.facts.items j) (λ f k. known_quiet f (first ∷ h) j second tt (known_quiet f h j first tt k)) (r.facts j));
             bytes = bytes ∙ r.bytes;
             next = same_next d.batches e.batches (first ∷ h) second refl next (same_next d.batches d.batches h first refl refl r.next);
-            order = ((so fine, tt), ordered);
+            order = ((so fine, tt, λ gone. refl), ordered);
+            outs = subst (λ (v : _). AreOut v.items (second ∷ first ∷ h)) (sym rows) r.outs;
             noticeless = λ b w. w;
             statuses = running_still (first ∷ h) second e.batches.open_rows tt (statuses fine);
             ledger = ledger;

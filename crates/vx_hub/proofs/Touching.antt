@@ -9,7 +9,7 @@ use Rattle.vx_ledger.specs.Ledger.{Ledger, live_count}
 use Rattle.vx_ledger.proofs.CopyLaws.{copies_of-append}
 use Rattle.vx_record.specs.Records.{Record}
 use Rattle.vx_ends.specs.declared.trouble.Reply.{Reply}
-use Rattle.vx_record.specs.Reads.{taken, bytes_of_all}
+use Rattle.vx_record.specs.Reads.{taken, bytes_of_all, is_end, all_ended}
 use Rattle.vx_record.specs.Installs.{in_force}
 use Rattle.vx_record.specs.Encoding.{given}
 use Rattle.vx_record.specs.Confirms.{confirmed, is_unconfirmed}
@@ -19,18 +19,23 @@ use Rattle.vx_record.specs.Noted.{Noted}
 use Rattle.vx_record.specs.declared.log.Log.{Log}
 use Rattle.vx_record.specs.declared.entry.Entry.{Entry}
 use Rattle.vx_record.specs.declared.entry.Entry.TheVariants.{Install, Read, Idle, SourceLost, Born, Attempt, Confirm, Abandon}
+use Rattle.vx_hub.proofs.Drying.{closing_on, unended}
 use Rattle.vx_hub.specs.declared.facts.Facts.{Facts}
 use Rattle.vx_hub.specs.declared.row.Row.{Row}
 use Rattle.vx_hub.specs.declared.hub.Hub.{Hub}
 use Rattle.vx_hub.specs.Rows.{port_at, port_of, task_port, row_at, copies_in, IsBareAt, IsOutAt, SameOtherPorts, KeepsOthersBare, KeepsBare, Gains, Loses}
 use Rattle.vx_hub.specs.Works.{IsClosedBy}
 use Rattle.vx_hub.specs.declared.task.Task.{Task}
-use Rattle.vx_hub.specs.Stands.{Stands, IsTold, IsKnown, IsRecorded, IsSound, IsShut, IsGone, facts_at, lost_at, spec_at, capped, touched, IsBalanced, IsMute, spare_of, cause_of}
+use Rattle.vx_hub.specs.Stands.{Stands, IsTold, IsKnown, AreOut, IsRecorded, IsSound, IsShut, IsGone, facts_at, lost_at, spec_at, capped, touched, IsBalanced, IsMute, spare_of, cause_of}
 use Rattle.vx_hub.proofs.StandsLaws.{some_mapped, some_all, berths_kept, ends_on, to_confirm_on, told_mute, bytes_mute, force_mute, same_next, unknown_on, unknown_mute}
-use Rattle.vx_record.specs.Copies.{next_copy, makes}
+use Rattle.vx_record.specs.Copies.{next_copy, makes, joined}
+use Rattle.vx_record.specs.Lists.{held}
 use Rattle.vx_record.specs.Moving.{IsStill, IsConserved}
 use Rattle.vx_hub.specs.Places.{IsPlaced, SamePlaces}
-use Rattle.vx_hub.specs.Order.{IsInOrder, readers_at}
+use Rattle.vx_record.specs.Abandoning.{MayStillCome}
+use Rattle.vx_record.specs.Turns.{is_out}
+use Rattle.vx_hub.proofs.Ceasing.{left_out, comes_left, out_touched}
+use Rattle.vx_hub.specs.Order.{IsAttemptOf, IsInOrder, readers_at}
 use Rattle.vx_ledger.specs.Routing.{targets_of}
 use Rattle.vx_hub.proofs.Ordering.{first_targets}
 use Rattle.vx_ledger.specs.Ledger.{IsKept}
@@ -60,6 +65,12 @@ known_other f h i j (Read k stream took) t other s =
       to_confirm = to_confirm_on f h j (Read k stream took) (refl) s.to_confirm;
       confirm_failed = s.confirm_failed;
       outlet = s.outlet;
+      over = s.over ∙ sym (unended (k == j) (is_end took) (all_ended h j) test);
+      class = s.class;
+      confirms = s.confirms;
+      done = λ closed. closing_on h j (Read k stream took) refl (s.done closed);
+      closed = s.closed;
+      retired = s.retired;
     }
 known_other f h i j (Idle k failed) t other s =
     let k_is : k ≡ i = cc in
@@ -72,6 +83,12 @@ known_other f h i j (Idle k failed) t other s =
       to_confirm = to_confirm_on f h j (Idle k failed) (refl) s.to_confirm;
       confirm_failed = s.confirm_failed;
       outlet = s.outlet;
+      over = s.over;
+      class = s.class;
+      confirms = s.confirms;
+      done = λ closed. closing_on h j (Idle k failed) refl (s.done closed);
+      closed = s.closed;
+      retired = s.retired;
     }
 known_other f h i j (SourceLost k at failed) t other s =
     let k_is : k ≡ i = cc in
@@ -84,6 +101,12 @@ known_other f h i j (SourceLost k at failed) t other s =
       to_confirm = to_confirm_on f h j (SourceLost k at failed) (refl) s.to_confirm;
       confirm_failed = s.confirm_failed;
       outlet = s.outlet;
+      over = s.over;
+      class = s.class;
+      confirms = s.confirms;
+      done = λ closed. closing_on h j (SourceLost k at failed) refl (s.done closed);
+      closed = s.closed;
+      retired = s.retired;
     }
 known_other f h i j (Attempt k copies bytes reply) t other s =
     record {
@@ -94,6 +117,12 @@ known_other f h i j (Attempt k copies bytes reply) t other s =
       to_confirm = to_confirm_on f h j (Attempt k copies bytes reply) (refl) s.to_confirm;
       confirm_failed = s.confirm_failed;
       outlet = s.outlet;
+      over = s.over;
+      class = s.class;
+      confirms = s.confirms;
+      done = λ closed. closing_on h j (Attempt k copies bytes reply) refl (s.done closed);
+      closed = s.closed;
+      retired = s.retired;
     }
 known_other f h i j (Confirm k positions made) t other s =
     let k_is : k ≡ i = cc in
@@ -106,6 +135,12 @@ known_other f h i j (Confirm k positions made) t other s =
       to_confirm = to_confirm_on f h j (Confirm k positions made) (refl) s.to_confirm;
       confirm_failed = known_chosen (k == j) (not made) (is_unconfirmed h j) f.confirm_failed test s.confirm_failed;
       outlet = s.outlet;
+      over = s.over;
+      class = s.class;
+      confirms = s.confirms;
+      done = λ closed. closing_on h j (Confirm k positions made) refl (s.done closed);
+      closed = s.closed;
+      retired = s.retired;
     }
 known_other f h i j (Born k b place copies events waits stream end) t other s =
     let k_is : k ≡ i = cc in
@@ -118,6 +153,12 @@ known_other f h i j (Born k b place copies events waits stream end) t other s =
       to_confirm = to_confirm_on f h j (Born k b place copies events waits stream end) (sym (known_chosen (k == j) (record { batch = b; waits = waits; stream = stream; end = end } ∷ []) [] [] test refl)) s.to_confirm;
       confirm_failed = s.confirm_failed;
       outlet = s.outlet;
+      over = s.over;
+      class = s.class;
+      confirms = s.confirms;
+      done = λ closed. closing_on h j (Born k b place copies events waits stream end) refl (s.done closed);
+      closed = s.closed;
+      retired = s.retired;
     }
 known_other f h i j e t other s = cc
 
@@ -219,7 +260,8 @@ stands_touched {P} told_by d e hand entry i f g s out within at written closed r
                 (λ k other. some_mapped _ _ (facts_at d.facts.items k) (λ x t. known_other x d.log.history i k entry touch other t) (r.facts k)) j);
             bytes = bytes r.bytes;
             next = same_next d.batches e.batches d.log.history entry none_made (ap (λ (l : Ledger). l.next) batches) r.next;
-            order = ((order fine mine, in_turn d.log.history entry r.noticeless), r.order);
+            order = ((order fine mine, in_turn d.log.history entry r.noticeless, comes_left d.log.history entry i touch still (left_out d.log.history i r.order (r.outs i (subst (λ n. i < n) s.size within) none))), r.order);
+            outs = subst (λ (v : _). AreOut v.items (entry ∷ d.log.history)) (sym rows) (λ k l away. out_touched d.log.history entry i k touch ∙ r.outs k l away);
             noticeless = still_quiet d.log.history entry still;
             statuses = subst (λ (l : Ledger). AreRunning (entry ∷ d.log.history) l.open_rows) (sym batches) (running_still d.log.history entry d.batches.open_rows still r.statuses);
             ledger = subst IsKept (sym batches) r.ledger;
@@ -247,15 +289,15 @@ pub stands_marked : {P : Type 0} (told_by : P → Told) (d e : Hub P) (hand afte
     Stands told_by d hand d.log.history → i < length d.facts.items → f ≡ get_or d.facts.items i f →
     e.facts.items ≡ slice_set d.facts.items i g →
     e.rows ≡ d.rows → spare_of e ≡ spare_of d → IsBalanced e.batches d.rows.items after → e.starved ≡ d.starved → e.bytes ≡ d.bytes → Noted d.log entry e.log → IsMute entry →
-    (d.batches.next ≡ next_copy d.log.history → e.batches.next ≡ next_copy (entry ∷ d.log.history)) → (IsSound d → IsInOrder d.log.history entry) →
+    (d.batches.next ≡ next_copy d.log.history → e.batches.next ≡ next_copy (entry ∷ d.log.history)) → (IsSound d → IsInOrder d.log.history entry) → (IsSound d → MayStillCome d.log.history entry) → ((k : ℕ) → is_out d.log.history k ≡ true → is_out (entry ∷ d.log.history) k ≡ true) →
     cause_of (entry ∷ d.log.history) ≡ cause_of d.log.history →
-    (IsKnown f d.log.history i → IsKnown g (entry ∷ d.log.history) i) →
+    (IsSound d → IsKnown f d.log.history i → IsKnown g (entry ∷ d.log.history) i) →
     ((x : Facts) (k : ℕ) → k ≢ i → IsKnown x d.log.history k → IsKnown x (entry ∷ d.log.history) k) →
     IsShut told_by d.rows.items i g → IsGone d.rows.items i g →
     (IsSound d → IsConserved (entry ∷ d.log.history) → IsPlaced d.rows.items hand d.log.history → IsPlaced d.rows.items after (entry ∷ d.log.history)) →
     NoNoticeDue (entry ∷ d.log.history) → (IsSound d → IsAccounted d.log.history → AreRunning d.log.history d.batches.open_rows → AreRunning (entry ∷ d.log.history) e.batches.open_rows) → (IsKept d.batches → IsKept e.batches) →
     Stands told_by e after e.log.history
-stands_marked {P} told_by d e hand after entry i f g s within at written rows berths balanced starved bytes noted mute next order cause known others shut gone places due statuses ledger =
+stands_marked {P} told_by d e hand after entry i f g s within at written rows berths balanced starved bytes noted mute next order comes outs cause known others shut gone places due statuses ledger =
     let was : facts_at d.facts.items i ≡ Some f = facts_read d.facts.items i f within at in
     record {
       history = refl;
@@ -270,11 +312,12 @@ stands_marked {P} told_by d e hand after entry i f g s within at written rows be
                 (some_mapped _ _ (port_at d.rows.items j) (λ port t. told_mute (told_by port) d.log.history j entry mute t) (r.ports j));
             facts = λ j. subst (λ (fs : List Facts). IfSome (facts_at fs j) (λ x. IsKnown x (entry ∷ d.log.history) j)) (sym written)
                 (facts_keep (λ k o. IfSome o (λ x. IsKnown x (entry ∷ d.log.history) k)) d.facts.items i g within
-                (known mine)
+                (known fine mine)
                 (λ k other. some_mapped _ _ (facts_at d.facts.items k) (λ x t. others x k other t) (r.facts k)) j);
             bytes = bytes ∙ r.bytes ∙ ap capped (sym (bytes_mute d.log.history entry mute));
             next = next r.next;
-            order = ((order fine, in_turn d.log.history entry r.noticeless), r.order);
+            order = ((order fine, in_turn d.log.history entry r.noticeless, comes fine), r.order);
+            outs = subst (λ (v : _). AreOut v.items (entry ∷ d.log.history)) (sym rows) (λ k l away. outs k (r.outs k l away));
             noticeless = due;
             statuses = statuses fine (accounted d.log.history r.order) r.statuses;
             ledger = ledger r.ledger;
@@ -282,7 +325,7 @@ stands_marked {P} told_by d e hand after entry i f g s within at written rows be
             cause = ap (λ (t : _). t.1) berths ∙ r.cause ∙ sym cause;
             installed = force_mute d.log.history entry mute ∙ r.installed ∙ ap Some (sym (ap (λ (t : _). t.2) berths));
             places = subst (λ (v : _). IsPlaced v.items after (entry ∷ d.log.history)) (sym rows)
-                (places fine (conserved (entry ∷ d.log.history) ((order fine, in_turn d.log.history entry r.noticeless), r.order)) r.places);
+                (places fine (conserved (entry ∷ d.log.history) ((order fine, in_turn d.log.history entry r.noticeless, comes fine), r.order)) r.places);
           });
       shut = λ j. subst (λ (v : _). IfSome (facts_at e.facts.items j) (IsShut told_by v.items j)) (sym rows)
           (subst (λ (fs : List Facts). IfSome (facts_at fs j) (IsShut told_by d.rows.items j)) (sym written)
@@ -317,6 +360,8 @@ stands_brought {P} told_by d e copies port i s unclosed told balanced here ports
             bytes = bytes ∙ r.bytes;
             next = ap (λ (l : Ledger). l.next) batches ∙ r.next;
             order = r.order;
+            outs = other_number (λ k. k < length e.rows.items → port_at e.rows.items k ≡ None → is_out d.log.history k ≡ true) i (λ l none. let no : Some port ≡ None = sym here ∙ none in cc)
+                (λ k other l none. r.outs k (subst (λ n. k < n) size l) (sym (ports k other) ∙ none));
             noticeless = r.noticeless;
             statuses = subst (λ (l : Ledger). AreRunning d.log.history l.open_rows) (sym batches) r.statuses;
             ledger = subst IsKept (sym batches) r.ledger;
@@ -412,6 +457,11 @@ port_is F K None new f home keep = cc
 port_is F K (Some o) None f home keep = absurd f
 port_is F K (Some o) (Some n) f home keep = keep o n f
 
+some_stays : {P : Type 0} (F : P → P → Type 0) (old new : Option P) → IfSome old (λ o. IsSomeAnd new (F o)) → IsSome old → new ≡ None → ⊥
+some_stays F None new f home none = cc
+some_stays F (Some o) None f home none = f
+some_stays F (Some o) (Some n) f home none = cc
+
 -- the port of an instance at home is closed
 pub stands_shut : {P : Type 0} (told_by : P → Told) (d e : Hub P) (i : ℕ) →
     Stands told_by d [] d.log.history → IsSome (port_at d.rows.items i) →
@@ -436,6 +486,9 @@ stands_shut {P} told_by d e i s home becomes loses ports bare size batches facts
             bytes = bytes ∙ r.bytes;
             next = ap (λ (l : Ledger). l.next) batches ∙ r.next;
             order = r.order;
+            outs = other_number (λ k. k < length e.rows.items → port_at e.rows.items k ≡ None → is_out d.log.history k ≡ true) i
+                (λ l none. absurd (some_stays (λ o n. IsClosedBy (told_by o) (told_by n)) (port_at d.rows.items i) (port_at e.rows.items i) becomes home none))
+                (λ k other l none. r.outs k (subst (λ n. k < n) size l) (sym (ports k other) ∙ none));
             noticeless = r.noticeless;
             statuses = subst (λ (l : Ledger). AreRunning d.log.history l.open_rows) (sym batches) r.statuses;
             ledger = subst IsKept (sym batches) r.ledger;
@@ -468,13 +521,19 @@ known_attempt f h i j copies bytes reply k = record {
   to_confirm = to_confirm_on f h j (Attempt i copies bytes reply) refl k.to_confirm;
   confirm_failed = k.confirm_failed;
   outlet = k.outlet;
+  over = k.over;
+  class = k.class;
+  confirms = k.confirms;
+  done = λ closed. closing_on h j (Attempt i copies bytes reply) refl (k.done closed);
+  closed = k.closed;
+  retired = k.retired;
 }
 
 -- an attempt of an instance that is out is told
 pub stands_attempted : {P : Type 0} (told_by : P → Told) (d : Hub P) (log : Log) (hand : List Copy) (i : ℕ) (copies bytes : List ℕ) (reply : Reply) →
-    Stands told_by d hand d.log.history → i < length d.rows.items → IsOutAt d.rows.items i → Noted d.log (Attempt i copies bytes reply) log →
+    Stands told_by d hand d.log.history → i < length d.rows.items → IsOutAt d.rows.items i → (IsSound d → IsAttemptOf d.log.history i copies) → Noted d.log (Attempt i copies bytes reply) log →
     Stands told_by (record d { log = log }) hand log.history
-stands_attempted {P} told_by d log hand i copies bytes reply s within out noted =
+stands_attempted {P} told_by d log hand i copies bytes reply s within out names noted =
     let e : Entry = Attempt i copies bytes reply in
     let none : port_at d.rows.items i ≡ None = out_port (row_at d.rows.items i) out in
     record {
@@ -490,7 +549,8 @@ stands_attempted {P} told_by d log hand i copies bytes reply s within out noted 
             facts = λ j. some_mapped _ _ (facts_at d.facts.items j) (λ f k. known_attempt f d.log.history i j copies bytes reply k) (r.facts j);
             bytes = r.bytes;
             next = same_next d.batches d.batches d.log.history e refl refl r.next;
-            order = ((tt, r.noticeless), r.order);
+            order = ((names (record { whole = w.0; fed = sound.fed }), r.noticeless, left_out d.log.history i r.order (r.outs i within none)), r.order);
+            outs = r.outs;
             noticeless = λ b w. w;
             statuses = running_still d.log.history e d.batches.open_rows tt r.statuses;
             ledger = r.ledger;
@@ -528,9 +588,9 @@ pub stands_out : {P : Type 0} (told_by : P → Told) (d e : Hub P) (copies : Lis
     Stands told_by d [] d.log.history → IsSomeAnd (facts_at d.facts.items i) (λ f. f.closed ≡ false) →
     IsBalanced e.batches e.rows.items copies → port_at e.rows.items i ≡ None → SameOtherPorts i d.rows.items e.rows.items → KeepsOthersBare i d.rows.items e.rows.items →
     length e.rows.items ≡ length d.rows.items → e.batches ≡ d.batches → e.facts ≡ d.facts → e.log ≡ d.log → e.starved ≡ d.starved → e.bytes ≡ d.bytes → spare_of e ≡ spare_of d →
-    (IsConserved d.log.history → IsPlaced d.rows.items [] d.log.history → IsPlaced e.rows.items copies d.log.history) →
+    (IsConserved d.log.history → IsPlaced d.rows.items [] d.log.history → IsPlaced e.rows.items copies d.log.history) → (IsSound d → is_out d.log.history i ≡ true) →
     Stands told_by e copies e.log.history
-stands_out {P} told_by d e copies i s unclosed balanced away ports bare size batches facts log starved bytes berths places =
+stands_out {P} told_by d e copies i s unclosed balanced away ports bare size batches facts log starved bytes berths places leased =
     record {
       history = refl;
       balanced = balanced;
@@ -545,6 +605,8 @@ stands_out {P} told_by d e copies i s unclosed balanced away ports bare size bat
             bytes = bytes ∙ r.bytes;
             next = ap (λ (l : Ledger). l.next) batches ∙ r.next;
             order = r.order;
+            outs = other_number (λ k. k < length e.rows.items → port_at e.rows.items k ≡ None → is_out d.log.history k ≡ true) i (λ l none. leased fine)
+                (λ k other l none. r.outs k (subst (λ n. k < n) size l) (sym (ports k other) ∙ none));
             noticeless = r.noticeless;
             statuses = subst (λ (l : Ledger). AreRunning d.log.history l.open_rows) (sym batches) r.statuses;
             ledger = subst IsKept (sym batches) r.ledger;

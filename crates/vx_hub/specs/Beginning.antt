@@ -1,5 +1,5 @@
 -- A hub whose instances are still being seated.
-use Rattle.std.specs.Prelude.{◌≡◌, ℕ, ◌+◌, ◌≤◌, [], length, vec_capacity, slice_get, Bool, None, IfSome, IsSomeAnd}
+use Rattle.std.specs.Prelude.{◌≡◌, ℕ, ◌+◌, ◌<◌, ◌≤◌, [], length, vec_capacity, slice_get, Bool, None, IfSome, IsSome, IsSomeAnd}
 use Rattle.vx_ends.specs.Told.{Told}
 use Rattle.vx_ledger.specs.Ledger.{IsKept}
 use Rattle.vx_plan.specs.declared.plan.Plan.{Plan}
@@ -47,6 +47,7 @@ pub record Begins {P : Type 0} (told_by : P → Told) (plan : Plan) (hub : Hub P
   pub kept : IsKept hub.batches
   pub copies : (batch place : ℕ) → copies_in batch place hub.rows.items ≡ 0
   pub places : (p : Place) → copies_at p hub.rows.items ≡ []
+  pub home : (i : ℕ) → i < length hub.rows.items → IsSome (port_at hub.rows.items i)
   pub ports : (i : ℕ) → IfSome (port_at hub.rows.items i) (λ port. IsUntouched (spec_of (slice_get plan.components i)) (told_by port))
   pub facts : (i : ℕ) → IfSome (facts_at hub.facts.items i) AreNew
   pub fitted : (i : ℕ) → IfSome (facts_at hub.facts.items i) (λ f. IsSomeAnd (slice_get plan.components i) (λ component. IsFittedTo plan component f))

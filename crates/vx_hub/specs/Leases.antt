@@ -4,7 +4,7 @@ use Rattle.vx_ends.specs.Told.{Told}
 use Rattle.vx_record.specs.Records.{Record}
 use Rattle.vx_record.specs.Records.{capped}
 use Rattle.vx_record.specs.Reads.{taken, all_ended, ended_streams}
-use Rattle.vx_record.specs.Confirms.{confirmed, born_positions}
+use Rattle.vx_record.specs.Confirms.{confirmed}
 use Rattle.vx_record.specs.PortCounts.{fault_count, refusal_count, idle_count}
 use Rattle.vx_record.specs.Encoding.{given}
 use Rattle.vx_hub.specs.declared.hub.Hub.{Hub}
@@ -18,9 +18,10 @@ use Rattle.vx_hub.specs.Births.{IsHeldBy}
 use Rattle.vx_hub.specs.Rows.{role_copies, IsOutAt}
 use Rattle.vx_hub.specs.declared.confirming.Confirmed.{Confirmed}
 use Rattle.vx_hub.specs.Turns.{NothingLeft}
-use Rattle.vx_hub.specs.Works.{taken_by, given_by, ended_by, ends_all_by, confirmed_by, confirm_faults, faults_by, refusals_by, idles_by, event_count_of, IsReading}
+use Rattle.vx_hub.specs.Works.{taken_by, given_by, ended_by, ends_all_by, confirmed_by, confirm_faults, faults_by, refusals_by, idles_by, event_count_of, IsReading, IsAttempted, IsSending}
 use Rattle.vx_hub.specs.declared.work.Job.TheVariants as job
-use Rattle.vx_hub.specs.Stands.{Stands, IsTold, IsSound, IsUnlost, facts_at, spec_at}
+use Rattle.vx_hub.specs.Order.{IsConfirmOf}
+use Rattle.vx_hub.specs.Stands.{Stands, IsTold, IsSound, IsUnlost, MayShut, IsSinkAt, facts_at, spec_at}
 
 -- an instance that is there, and whose port isn't closed for good
 pub record IsOpenAt {P : Type 0} (hub : Hub P) (i : ℕ) : Type 0 where
@@ -36,7 +37,9 @@ pub record IsLeased {P : Type 0} (told_by : P → Told) (hub : Hub P) (work : Wo
   pub held : IsHeldBy hub work.instance work.task.role
   pub unlost : work.job ≡ job.Read → IsUnlost hub work.instance
   pub sent : work.job ≡ job.Read → numbers_at (Outputs work.instance) hub.rows.items ≡ []
-  pub due : IsSound hub → IfSome work.positions (λ positions. positions ≡ born_positions hub.log.history work.instance)
+  pub due : IsSound hub → IfSome work.positions (IsConfirmOf hub.log.history work.instance)
+  pub shut : work.job ≡ job.Close → MayShut hub work.instance
+  pub sink : IsSending work.job → IsSinkAt hub work.instance
 
 -- what the port tells now is what the record has, and behind it what was confirmed and done
 pub record Adds (told : Told) (h : Record) (i : ℕ) (confirm : Option Confirmed) (done : Done) : Type 0 where
@@ -64,6 +67,8 @@ pub record IsBack {P : Type 0} (told_by : P → Told) (hub : Hub P) (landing : L
   pub held : IsHeldBy hub landing.instance landing.task.role
   pub unlost : IsReading landing.done → IsUnlost hub landing.instance
   pub sent : IsReading landing.done → numbers_at (Outputs landing.instance) hub.rows.items ≡ []
-  pub due : IsSound hub → IfSome landing.confirmed (λ confirmed. confirmed.positions ≡ born_positions hub.log.history landing.instance)
+  pub due : IsSound hub → IfSome landing.confirmed (λ confirmed. IsConfirmOf hub.log.history landing.instance confirmed.positions)
+  pub shut : landing.done ≡ Closed → MayShut hub landing.instance
+  pub sink : IsAttempted landing.done → IsSinkAt hub landing.instance
   pub events : event_count_of landing.done ≤ 65536
   pub closed : landing.done ≡ Closed → (told_by landing.task.port).started ≡ false

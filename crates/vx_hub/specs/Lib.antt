@@ -8,6 +8,7 @@ pub mod Numbers
 pub mod Works
 pub mod Stands
 pub mod Births
+pub mod Away
 pub mod Leases
 pub mod Spending
 pub mod Making

@@ -14,6 +14,7 @@ use Rattle.vx_hub.specs.Rows.{role_parcels}
 -- the facts of an instance that begins
 pub record AreNew (f : Facts) : Type 0 where
   pub taken : f.taken ≡ 0
+  pub over : f.over ≡ false
   pub lost : f.lost ≡ None
   pub failed_starts : f.failed_starts ≡ 0
   pub ends : f.ends ≡ []
@@ -33,9 +34,9 @@ abbrev pub AreUnused : List Seat → Type 0
 AreUnused [] = Unit {0}
 AreUnused (seat ∷ seats) = IsUnused seat × AreUnused seats
 
--- an instance sends to the readers of its component
+-- an instance is of the class of its component, and sends to the readers of that
 abbrev pub IsFittedTo : Plan → Component → Facts → Type 0
-IsFittedTo plan component f = f.outlet ≡ reader_numbers plan component.name 0 ∷ []
+IsFittedTo plan component f = (f.outlet ≡ reader_numbers plan component.name 0 ∷ []) × (f.class ≡ component.class)
 
 -- each seat is for the component in its place
 abbrev pub AreFitted : Plan → List Component → List Seat → Type 0

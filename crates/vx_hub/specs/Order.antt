@@ -1,5 +1,5 @@
 -- What is proved of each entry of a run's record, given the entries before it.
-use Rattle.std.specs.Prelude.{◌≡◌, ℕ, ◌+◌, ◌*◌, ◌<◌, ◌≤◌, ◌^◌, Bool, true, false, List, [], ◌∷◌, length, Option, Some, None, IsSome, if◌then◌else◌, ◌==◌}
+use Rattle.std.specs.Prelude.{◌≡◌, ℕ, ◌+◌, ◌*◌, ◌<◌, ◌≤◌, ◌^◌, Bool, true, false, List, [], ◌∷◌, length, Option, Some, None, IfSome, IsSome, IsSomeAnd, slice_get, ◌⊎◌, if◌then◌else◌, ◌==◌}
 use Rattle.vx_ends.specs.declared.trouble.Reply.{Reply}
 use Rattle.vx_ends.specs.declared.trouble.Reply.TheVariants as reply
 use Rattle.vx_status.specs.declared.outcome.Outcome.{Outcome}
@@ -9,20 +9,27 @@ use Rattle.vx_record.specs.Records.{Record, capped}
 use Rattle.vx_record.specs.Copies.{count, joined, counting, children_of, next_copy, IsLive}
 use Rattle.vx_record.specs.Places.{Place, owner}
 use Rattle.vx_record.specs.Places.Place.{Outputs, Held}
-use Rattle.vx_record.specs.Lists.{waiting, contents, stands, parcels_at}
+use Rattle.vx_record.specs.Lists.{waiting, all_waiting, contents, held, stands, parcels_at, is_bare}
 use Rattle.vx_record.specs.Sending.{IsOldest}
 use Rattle.vx_record.specs.Moving.{Divides}
 use Rattle.vx_record.specs.Accounting.{IsNoticedSo, IsInTurn}
+use Rattle.vx_record.specs.Abandoning.{MayStillCome}
+use Rattle.vx_record.specs.Turns.{is_out}
 use Rattle.vx_record.specs.Starting.{MayInstall}
-use Rattle.vx_record.specs.Installs.{wired}
+use Rattle.vx_record.specs.Installs.{wired, in_force, is_closed, is_retired}
 use Rattle.vx_record.specs.Routing.{wired_targets}
 use Rattle.vx_record.specs.declared.child.Child.{Child}
-use Rattle.vx_record.specs.Reads.{bytes_taken}
+use Rattle.vx_ends.specs.declared.position.Position.{Position}
+use Rattle.vx_plan.specs.declared.class.Class.{Class}
+use Rattle.vx_plan.specs.declared.class.Class.TheVariants.{Source, Sink}
+use Rattle.vx_plan.specs.declared.component.Component.{Component}
+use Rattle.vx_plan.specs.declared.plan.Plan.{Plan}
+use Rattle.vx_record.specs.Reads.{bytes_taken, bytes_of_all, all_ended}
 use Rattle.vx_record.specs.Confirms.{born_positions, is_unconfirmed}
 use Rattle.vx_record.specs.Sourcing.{failed_starts}
 pub use Rattle.vx_record.specs.Spending.{last_reply}
 use Rattle.vx_record.specs.declared.entry.Entry.{Entry}
-use Rattle.vx_record.specs.declared.entry.Entry.TheVariants.{Install, Read, Idle, SourceLost, Born, Split, Push, Take, Spent, Notice, Confirm, Abandon}
+use Rattle.vx_record.specs.declared.entry.Entry.TheVariants.{Install, Lease, Home, Read, Idle, SourceLost, Born, Split, Push, Take, Attempt, Spent, Notice, Confirm, Closed, Retired, Abandon}
 use Rattle.vx_record.specs.declared.abandon_cause.AbandonCause.{AbandonCause}
 use Rattle.vx_record.specs.declared.abandon_cause.AbandonCause.TheVariants.{Grace, Numbers, WantOfMemory}
 
@@ -38,14 +45,51 @@ cause_of [] = None
 cause_of (Abandon cause ∷ h) = Some cause
 cause_of (e ∷ h) = cause_of h
 
+-- a source takes no more: it was told the end of all, or was lost, or all sources took 2^48 bytes, or the run was given up
+abbrev pub TakesNoMore : Record → ℕ → Type 0
+TakesNoMore h i = (all_ended h i ≡ true) ⊎ (IsSome (lost_at h i) ⊎ ((2 ^ 48 ≤ bytes_of_all h) ⊎ IsSome (cause_of h)))
+
+-- the component that an instance runs: the numbers of instances are the places of components in the installed plan
+abbrev pub component_in : Option Plan → ℕ → Option Component
+component_in None i = None
+component_in (Some plan) i = slice_get plan.components i
+
+-- the port of an instance may be closed for good: where it is a source, it takes no more
+abbrev pub IsClosing : Record → ℕ → Type 0
+IsClosing h i = IfSome (component_in (in_force h) i) (λ component. component.class ≡ Source → TakesNoMore h i)
+
+-- a port is closed for good once, where it may be
+pub record IsClosureOf (h : Record) (j : ℕ) : Type 0 where
+  pub first : is_closed h j ≡ false
+  pub done : IsClosing h j
+
+-- the component that an instance runs is there, and of that class
+abbrev pub IsOfClass : Record → ℕ → Class → Type 0
+IsOfClass h i class = IsSomeAnd (component_in (in_force h) i) (λ component. component.class ≡ class)
+
+-- what is read is a source that wasn't lost
+pub record IsTurnOf (h : Record) (j : ℕ) : Type 0 where
+  pub unlost : lost_at h j ≡ None
+  pub source : IsOfClass h j Source
+
+-- a confirm is of a source, and names for each stream the end of the last batch that it bore
+pub record IsConfirmOf (h : Record) (j : ℕ) (positions : List Position) : Type 0 where
+  pub all : positions ≡ born_positions h j
+  pub source : IsOfClass h j Source
+
+-- an attempt is of a sink, and names the copies of all that this holds
+pub record IsAttemptOf (h : Record) (j : ℕ) (copies : List ℕ) : Type 0 where
+  pub all : copies ≡ joined (held h j)
+  pub sink : IsOfClass h j Sink
+
 -- a source that wasn't lost may find nothing, and a failed start is told so only where fewer than four stand before it
 pub record IsTryOf (h : Record) (j : ℕ) (failed : Bool) : Type 0 where
-  pub unlost : lost_at h j ≡ None
+  pub turn : IsTurnOf h j
   pub few : failed ≡ true → failed_starts h j < 4
 
 -- a source is lost once, after as many bytes as it took, and by a failed start only where four stand before it
 pub record IsLossOf (h : Record) (j at : ℕ) (failed : Bool) : Type 0 where
-  pub first : lost_at h j ≡ None
+  pub first : IsTurnOf h j
   pub after : at ≡ capped (bytes_taken h j)
   pub many : failed ≡ true → 4 ≤ failed_starts h j
 
@@ -69,10 +113,11 @@ pub record IsBirthOf (h : Record) (i batch : ℕ) (copies : List ℕ) (events : 
 abbrev pub readers_at : Record → ℕ → List ℕ
 readers_at = wired [] (wired_targets 0)
 
--- a split replaces the oldest output of its instance, and makes, for each reader of the instance, one child with a copy
+-- a split replaces the oldest output of its instance, none of whose children waits, and makes, for each reader of the instance, one child with a copy
 -- for each of the copies that it replaces, with the next numbers
 pub record IsSplitOf (h : Record) (i : ℕ) (copies : List ℕ) (children : List Child) : Type 0 where
   pub divides : Divides h i copies children
+  pub none_waits : all_waiting h i ≡ []
   pub routed : children ≡ children_of (next_copy h) (length copies) (readers_at h i)
   pub some : 0 < length children
   pub fits : next_copy h + length children * length copies ≤ 2 ^ 63
@@ -91,12 +136,14 @@ IsGiven NewestDropped = ⊥
 IsGiven other = Unit {0}
 
 -- an outcome that an attempt gives is what the instance's last attempt was answered, whichever copies that had; none is
--- spent as abandoned before the run was given up, and as without a consumer only where nobody reads the instance
+-- spent as abandoned before the run was given up, and each behind that; and as without a consumer only where nobody
+-- reads the instance
 pub record IsSpentFor (h : Record) (i : ℕ) (outcome : Outcome) : Type 0 where
   pub given : IsGiven outcome
   pub replied : (reply : Reply) → reply_behind outcome ≡ Some reply → last_reply h i ≡ Some reply
   pub given_up : outcome ≡ Abandoned → IsSome (cause_of h)
   pub unread : outcome ≡ NoConsumer → readers_at h i ≡ []
+  pub left : IsSome (cause_of h) → outcome ≡ Abandoned
 
 -- where a copy stands that is spent so: put out by its instance where nobody reads it, anywhere at it where the run was
 -- given up, and else held by it
@@ -128,26 +175,42 @@ pub record IsGivenUp (h : Record) (cause : AbandonCause) : Type 0 where
   pub first : cause_of h ≡ None
   pub reason : IsReason h cause
 
+-- an instance whose port isn't closed for good is leased, and it isn't retired
+pub record IsLeaseOf (h : Record) (j polls : ℕ) : Type 0 where
+  pub unclosed : is_closed h j ≡ false
+  pub unretired : is_retired h j ≡ false
+  pub unpolled : polls ≡ 0
+
+-- an instance is retired once, when its port is closed for good and nothing stands at it
+pub record IsEndOf (h : Record) (j : ℕ) : Type 0 where
+  pub unretired : is_retired h j ≡ false
+  pub port_closed : is_closed h j ≡ true
+  pub bare : is_bare h j ≡ true
+
 -- what is proved of an entry
 abbrev pub IsInOrder : Record → Entry → Type 0
 IsInOrder h (Install version plan once instances now) = MayInstall h version plan instances
-IsInOrder h (Read j stream took) = lost_at h j ≡ None
+IsInOrder h (Lease j worker now polls) = IsLeaseOf h j polls
+IsInOrder h (Home j) = is_out h j ≡ true
+IsInOrder h (Read j stream took) = IsTurnOf h j
 IsInOrder h (Idle j failed) = IsTryOf h j failed
 IsInOrder h (SourceLost j at failed) = IsLossOf h j at failed
 IsInOrder h (Born j batch place copies events waits stream end) = IsBirthOf h j batch copies events waits
 IsInOrder h (Split j ports copies event children) = IsSplitOf h j copies children
 IsInOrder h (Push j t s copies) = IsOldest copies (waiting h j t)
 IsInOrder h (Take j s copies) = IsOldest copies (contents h j s)
+IsInOrder h (Attempt j copies bytes reply) = IsAttemptOf h j copies
 IsInOrder h (Spent j c outcome) = IsSpending h j c outcome
 IsInOrder h (Notice batch status) = IsNoticedSo h batch status
-IsInOrder h (Confirm j positions made) = positions ≡ born_positions h j
+IsInOrder h (Confirm j positions made) = IsConfirmOf h j positions
+IsInOrder h (Closed j) = IsClosureOf h j
+IsInOrder h (Retired j) = IsEndOf h j
 IsInOrder h (Abandon cause) = IsGivenUp h cause
-IsInOrder h other = Unit {0}
 
--- each entry is in order, and where a notice is due nothing else stands
+-- each entry is in order, where a notice is due nothing else stands, and behind an abandonment only what may still come
 abbrev pub IsOrderly : Record → Type 0
 IsOrderly [] = Unit {0}
-IsOrderly (e ∷ h) = (IsInOrder h e × IsInTurn h e) × IsOrderly h
+IsOrderly (e ∷ h) = (IsInOrder h e × IsInTurn h e × MayStillCome h e) × IsOrderly h
 
 -- an instance that isn't there: it was never lost, and no confirm of it failed
 pub record IsUnknown (h : Record) (i : ℕ) : Type 0 where

@@ -1,5 +1,5 @@
 -- What a hub leaves behind.
-use Rattle.std.specs.Prelude.{◌≡◌, ◌↔◌, ℕ, ◌+◌, ◌<◌, List, [], ◌∷◌, ◌++◌, length, Option, Some, None, false}
+use Rattle.std.specs.Prelude.{◌≡◌, ◌↔◌, ℕ, ◌+◌, ◌<◌, List, [], ◌∷◌, ◌++◌, length, Option, Some, None, true, false}
 use Rattle.vx_ends.specs.Told.{Told}
 use Rattle.vx_record.specs.Records.{Record}
 use Rattle.vx_status.specs.declared.batch_status.BatchStatus.{BatchStatus}
@@ -10,6 +10,7 @@ use Rattle.vx_record.specs.Batches.{batches, AwaitsNotice}
 use Rattle.vx_record.specs.Statuses.{batch_status, AllGood}
 use Rattle.vx_record.specs.Laws.{times_noticed}
 use Rattle.vx_record.specs.Lists.{places}
+use Rattle.vx_record.specs.Installs.{is_closed, is_retired}
 use Rattle.vx_hub.specs.declared.row.Row.{Row}
 use Rattle.vx_hub.specs.declared.parts.Numbered.{Numbered}
 use Rattle.vx_hub.specs.Rows.{IsBare, task_port}
@@ -32,6 +33,10 @@ pub record HasNotices (h : Record) : Type 0 where
   pub due : (later earlier : Record) (b : ℕ) (status : BatchStatus) → later ++ Notice b status ∷ earlier ≡ h → AwaitsNotice earlier b
   pub folded : (later earlier : Record) (b : ℕ) (status : BatchStatus) → later ++ Notice b status ∷ earlier ≡ h → status ≡ batch_status earlier b
   pub good : (later earlier : Record) (b : ℕ) (status : BatchStatus) → later ++ Notice b status ∷ earlier ≡ h → (status ≡ Delivered) ↔ AllGood h b
+
+-- the port of each of so many instances was closed, and each was retired
+abbrev pub HasEnds : ℕ → Record → Type 0
+HasEnds n h = (i : ℕ) → i < n → (is_closed h i ≡ true) × (is_retired h i ≡ true)
 
 -- nothing stands at any instance, and each is at home
 abbrev pub AreBare : {P : Type 0} → List (Row P) → Type 0

@@ -1,5 +1,5 @@
 -- What the hub's state means for a record.
-use Rattle.std.specs.Prelude.{◌≡◌, ℕ, zero, suc, ◌+◌, ◌<◌, ◌≤◌, ◌^◌, Bool, true, false, IsTrue, List, [], ◌∷◌, length, Option, Some, None, IfSome, IsSomeAnd, slice_get}
+use Rattle.std.specs.Prelude.{◌≡◌, ℕ, zero, suc, ◌+◌, ◌<◌, ◌≤◌, ◌^◌, Bool, true, false, IsTrue, List, [], ◌∷◌, length, Option, Some, None, IfSome, IsSome, IsSomeAnd, slice_get, ◌⊎◌}
 use Rattle.vx_ends.specs.Told.{Told}
 use Rattle.vx_ledger.specs.Copies.{Copy, copies_of}
 use Rattle.vx_ledger.specs.Ledger.{Ledger, IsKept, live_count}
@@ -8,10 +8,11 @@ use Rattle.vx_record.specs.Records.{Record}
 use Rattle.vx_record.specs.Reads.{taken, bytes_taken, bytes_of_all, all_ended, ended_streams}
 use Rattle.vx_record.specs.Confirms.{confirmed, born_positions, is_unconfirmed}
 use Rattle.vx_record.specs.Sourcing.{failed_starts}
+use Rattle.vx_record.specs.Turns.{is_out}
 use Rattle.vx_record.specs.PortCounts.{fault_count, refusal_count, idle_count}
 use Rattle.vx_record.specs.Encoding.{given}
 use Rattle.vx_record.specs.declared.entry.Entry.{Entry}
-use Rattle.vx_record.specs.declared.entry.Entry.TheVariants.{Install, Read, Idle, SourceLost, Born, Attempt, Confirm, Abandon}
+use Rattle.vx_record.specs.declared.entry.Entry.TheVariants.{Install, Read, Idle, SourceLost, Born, Attempt, Confirm, Closed, Retired, Abandon}
 use Rattle.vx_record.specs.declared.abandon_cause.AbandonCause.{AbandonCause}
 use Rattle.vx_hub.specs.declared.facts.Facts.{Facts}
 use Rattle.vx_hub.specs.declared.row.Row.{Row}
@@ -23,19 +24,15 @@ use Rattle.vx_record.specs.Batches.{NoNoticeDue}
 use Rattle.vx_hub.specs.Batching.{AreRunning}
 use Rattle.vx_hub.specs.Places.{IsPlaced}
 use Rattle.vx_hub.specs.Turns.{NothingLeft}
-pub use Rattle.vx_hub.specs.Order.{lost_at, cause_of}
+pub use Rattle.vx_hub.specs.Order.{lost_at, cause_of, component_in, IsClosing}
 use Rattle.vx_hub.specs.Order.{IsOrderly, IsUnknown, readers_at}
 use Rattle.vx_record.specs.Copies.{next_copy}
-use Rattle.vx_record.specs.Installs.{in_force}
+use Rattle.vx_record.specs.Installs.{in_force, is_closed, is_retired}
 use Rattle.vx_ends.specs.declared.port_spec.PortSpec.{PortSpec}
+use Rattle.vx_plan.specs.declared.class.Class.TheVariants.{Source, Sink}
 use Rattle.vx_plan.specs.declared.plan.Plan.{Plan}
 use Rattle.vx_plan.specs.declared.component.Component.{Component}
 use Rattle.vx_plan.specs.Ports.{port_of}
-
--- the component that an instance runs: the numbers of instances are the places of components in the installed plan
-abbrev pub component_in : Option Plan → ℕ → Option Component
-component_in None i = None
-component_in (Some plan) i = slice_get plan.components i
 
 -- what the port of an instance is made for
 abbrev pub spec_of : Option Component → Option PortSpec
@@ -73,11 +70,21 @@ pub record IsKnown (f : Facts) (h : Record) (i : ℕ) : Type 0 where
   pub to_confirm : IfSome f.to_confirm (λ positions. positions ≡ born_positions h i)
   pub confirm_failed : f.confirm_failed ≡ is_unconfirmed h i
   pub outlet : f.outlet ≡ readers_at h i ∷ []
+  pub over : f.over ≡ all_ended h i
+  pub class : IsSomeAnd (component_in (in_force h) i) (λ component. f.class ≡ component.class)
+  pub confirms : IsSome f.to_confirm → f.class ≡ Source
+  pub done : f.closed ≡ true → IsClosing h i
+  pub closed : f.closed ≡ is_closed h i
+  pub retired : f.retired ≡ is_retired h i
 
 -- whatever is live stands at an instance or in the hand
 abbrev pub IsBalanced : {P : Type 0} → Ledger → List (Row P) → List Copy → Type 0
 IsBalanced ledger rows hand =
     (batch place : ℕ) → live_count batch place ledger.open_rows ≡ copies_in batch place rows + copies_of batch place hand
+
+-- an instance whose port isn't at home was leased, and hasn't come home since
+abbrev pub AreOut : {P : Type 0} → List (Row P) → Record → Type 0
+AreOut rows h = (i : ℕ) → i < length rows → port_at rows i ≡ None → is_out h i ≡ true
 
 -- what is known, told and stands where, if the record has all that happened
 pub record IsRecorded {P : Type 0} (told_by : P → Told) (hub : Hub P) (hand : List Copy) (h : Record) : Type 0 where
@@ -93,11 +100,24 @@ pub record IsRecorded {P : Type 0} (told_by : P → Told) (hub : Hub P) (hand : 
   pub statuses : AreRunning h hub.batches.open_rows
   pub ledger : IsKept hub.batches
   pub places : IsPlaced hub.rows.items hand h
+  pub outs : AreOut hub.rows.items h
 
 -- whether the record has all that happened
 pub record IsSound {P : Type 0} (hub : Hub P) : Type 0 where
   pub whole : IsTrue hub.log.whole
   pub fed : hub.starved ≡ false
+
+-- the port of an instance may be closed for good, where the record has all that happened
+abbrev pub MayShut : {P : Type 0} → Hub P → ℕ → Type 0
+MayShut hub i = IsSound hub → IsClosing hub.log.history i
+
+-- a source was told the end of all, or was lost, or all sources took 2^48 bytes
+abbrev pub IsSpent : Facts → ℕ → Type 0
+IsSpent f bytes = (f.over ≡ true) ⊎ (IsSome f.lost ⊎ (2 ^ 48 ≤ bytes))
+
+-- an instance is no source, or takes no more, by what the hub knows
+abbrev pub IsDry : {P : Type 0} → Hub P → ℕ → Type 0
+IsDry hub i = IfSome (facts_at hub.facts.items i) (λ f. f.class ≡ Source → IsSpent f hub.bytes)
 
 -- an instance whose port is closed for good is at home, and the port isn't started
 abbrev pub IsShut : {P : Type 0} → (P → Told) → List (Row P) → ℕ → Facts → Type 0
@@ -137,7 +157,7 @@ IsMute (Attempt i copies bytes reply) = ⊥
 IsMute (Confirm i positions made) = ⊥
 IsMute other = Unit {0}
 
--- an entry that installs nothing, tells nothing of any port, bears no batch and abandons nothing
+-- an entry that installs nothing, tells nothing of any port, bears no batch, abandons nothing and ends no instance
 abbrev pub IsQuiet : Entry → Type 0
 IsQuiet (Install version plan once instances now) = ⊥
 IsQuiet (Read i stream took) = ⊥
@@ -146,6 +166,8 @@ IsQuiet (SourceLost i at failed) = ⊥
 IsQuiet (Born i batch place copies events waits stream end) = ⊥
 IsQuiet (Attempt i copies bytes reply) = ⊥
 IsQuiet (Confirm i positions made) = ⊥
+IsQuiet (Closed i) = ⊥
+IsQuiet (Retired i) = ⊥
 IsQuiet (Abandon cause) = ⊥
 IsQuiet other = Unit {0}
 
@@ -161,9 +183,13 @@ pub record IsOpenTarget {P : Type 0} (hub : Hub P) (target : ℕ) : Type 0 where
   pub room : HasRoom hub.rows.items target
   pub running : IsSomeAnd (facts_at hub.facts.items target) (λ f. f.retired ≡ false)
 
+-- a sink, by what the hub knows
+abbrev pub IsSinkAt : {P : Type 0} → Hub P → ℕ → Type 0
+IsSinkAt hub i = IsSomeAnd (facts_at hub.facts.items i) (λ f. f.class ≡ Sink)
+
 -- a source that wasn't lost
 abbrev pub IsUnlost : {P : Type 0} → Hub P → ℕ → Type 0
-IsUnlost hub i = IsSomeAnd (facts_at hub.facts.items i) (λ f. f.lost ≡ None)
+IsUnlost hub i = IsSomeAnd (facts_at hub.facts.items i) (λ f. (f.lost ≡ None) × (f.class ≡ Source))
 
 -- the instance of whose port or births an entry tells
 abbrev pub touched : Entry → Option ℕ

@@ -11,6 +11,8 @@ use Rattle.vx_hub.specs.declared.source.Turned.TheVariants.{Failed, Idle}
 use Rattle.vx_hub.specs.declared.confirming.Confirmed.{Confirmed}
 use Rattle.vx_hub.specs.declared.work.Done.{Done}
 use Rattle.vx_hub.specs.declared.work.Done.TheVariants.{Read, Attempted, Closed, Starved}
+use Rattle.vx_hub.specs.declared.work.Job.{Job}
+use Rattle.vx_hub.specs.declared.work.Job.TheVariants as job
 
 -- the bytes of a stream that it took
 abbrev pub taken_by : Done → ℕ → List ℕ
@@ -110,6 +112,17 @@ Names given confirmed = ⊥
 abbrev pub NamesBy : Option (List Position) → Option Confirmed → Done → Type 0
 NamesBy given None Starved = Unit {0}
 NamesBy given confirmed done = Names given confirmed
+
+-- whether it is an attempt
+abbrev pub IsAttempted : Done → Type 0
+IsAttempted (Attempted bytes reply) = Unit {0}
+IsAttempted other = ⊥
+
+-- a job that a sink has while it isn't closed
+abbrev pub IsSending : Job → Type 0
+IsSending job.Collect = Unit {0}
+IsSending job.Attempt = Unit {0}
+IsSending other = ⊥
 
 -- whether it is what a source's turn brought
 abbrev pub IsReading : Done → Type 0

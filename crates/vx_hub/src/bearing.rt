@@ -1,5 +1,6 @@
-ghost use Rattle.std.specs.Prelude.{◌≡◌, ◌<◌, ◌≤◌, ◌+◌, ◌++◌, ℕ, [], length, List, IfOk, IfErr, OnErr, IsSomeAnd};
+ghost use Rattle.std.specs.Prelude.{◌≡◌, ◌<◌, ◌≤◌, ◌+◌, ◌++◌, ℕ, [], length, List, None, IfOk, IfErr, OnErr, IsSomeAnd};
 ghost use Rattle.vx_ledger.specs.Copies.{Copy};
+ghost use Rattle.vx_hub.specs.Away.{IsReturning};
 ghost use Rattle.vx_hub.specs.Stands.{Stands, IsSound, facts_at};
 ghost use Rattle.vx_record.specs.Places.Place.{Outputs};
 ghost use Rattle.vx_hub.specs.Places.{numbers_at};
@@ -27,7 +28,7 @@ pub struct Ends {
 }
 
 impl<P: Port> Hub<P> {
-    /// Opens a batch of some events, if there is any, and puts each of them out.
+    /// Opens a batch of some events, if there is any and the run wasn't given up, and puts each of them out.
     pub(crate) fn give_birth(
         &mut self,
         instance: u32,
@@ -43,8 +44,9 @@ impl<P: Port> Hub<P> {
         ensures size { length self.new.rows.items ≡ length self.old.rows.items }
         ensures plan { self.new.plan ≡ self.old.plan }
         ensures reason { IfErr result (HasReason self.new) }
+        ensures returning { (i : ℕ) → IsReturning self.old i → IsReturning self.new i }
     {
-        if events.is_empty() {
+        if events.is_empty() || !self.goes_on() {
             return Ok(());
         }
         let n = events.len();
@@ -68,6 +70,7 @@ impl<P: Port> Hub<P> {
         requires stands { Stands P.told self.old [] self.old.log.history }
         requires open { IsOpenAt self.old instance }
         requires read { HasRead self.old instance }
+        requires going { self.old.abandoned ≡ None }
         requires some { 0 < length events }
         requires few { length events ≤ 65536 }
         requires room { HasOutputRoom self.old.rows.items instance (length events) }
@@ -77,6 +80,7 @@ impl<P: Port> Hub<P> {
         ensures size { length self.new.rows.items ≡ length self.old.rows.items }
         ensures plan { self.new.plan ≡ self.old.plan }
         ensures reason { IfErr result (HasReason self.new) }
+        ensures returning { (i : ℕ) → IsReturning self.old i → IsReturning self.new i }
     {
         let finalizers = self.open_batch(instance, &events, position, ends)?;
         self.count_batch(instance);
@@ -106,6 +110,7 @@ impl<P: Port> Hub<P> {
         requires stands { Stands P.told self.old [] self.old.log.history }
         requires open { IsOpenAt self.old instance }
         requires read { HasRead self.old instance }
+        requires going { self.old.abandoned ≡ None }
         requires some { 0 < length events.now }
         requires few { length events.now ≤ 65536 }
         requires sent { numbers_at (Outputs instance) self.old.rows.items ≡ [] }
@@ -118,6 +123,7 @@ impl<P: Port> Hub<P> {
         ensures plan { self.new.plan ≡ self.old.plan }
         ensures same { OnErr result (self.new ≡ self.old) }
         ensures reason { IfErr result (HasReason self.new) }
+        ensures returning { (i : ℕ) → IsReturning self.old i → IsReturning self.new i }
     {
         let n = events.len();
         let (batch, finalizers) = match self.batches.born(instance, n as u32) {
@@ -164,6 +170,7 @@ impl<P: Port> Hub<P> {
         ensures size { length self.new.rows.items ≡ length self.old.rows.items }
         ensures plan { self.new.plan ≡ self.old.plan }
         ensures reason { IfErr result (HasReason self.new) }
+        ensures returning { (i : ℕ) → IsReturning self.old i → IsReturning self.new i }
     {
         let (mut events, mut finalizers) = (events, finalizers);
         while let Some(event) = events.pop() {
@@ -192,6 +199,7 @@ impl<P: Port> Hub<P> {
         ensures facts { self.new.facts ≡ self.old.facts }
         ensures size { length self.new.rows.items ≡ length self.old.rows.items }
         ensures plan { self.new.plan ≡ self.old.plan }
+        ensures returning { (i : ℕ) → IsReturning self.old i → IsReturning self.new i }
     {
         push_output(
             &mut self.rows,

@@ -73,6 +73,7 @@ impl<P: Port> Hub<P> {
         requires stands { Stands P.told self.old [] self.old.log.history }
         requires within { instance < length self.old.facts.items }
         requires closed { IsSomeAnd (facts_at self.old.facts.items instance) (λ f. f.closed ≡ true) }
+        requires unretired { IsSomeAnd (facts_at self.old.facts.items instance) (λ f. f.retired ≡ false) }
         requires bare { IsBareAt self.old.rows.items instance }
         ensures stands { Stands P.told self.new [] self.new.log.history }
         ensures rows { self.new.rows ≡ self.old.rows }
@@ -144,11 +145,13 @@ impl<P: Port> Hub<P> {
     }
 
     /// Whether the port of an instance is closed for good.
-    fn is_closed(&self, i: usize) -> bool {
-        match self.facts.get(i) {
-            Some(facts) => facts.closed,
-            None => true,
+    fn is_closed(&self, i: usize) -> bool
+        ensures { result ≡ false → IsSomeAnd (facts_at self.now.facts.items i) (λ f. f.closed ≡ false) }
+    {
+        if i >= self.facts.len() {
+            return true;
         }
+        self.facts[i].closed
     }
 
     /// Whether an instance is at home.
@@ -216,7 +219,9 @@ impl<P: Port> Hub<P> {
     fn shut_down(&mut self, instance: u32)
         requires stands { Stands P.told self.old [] self.old.log.history }
         requires within { instance < length self.old.rows.items }
+        requires unclosed { IsSomeAnd (facts_at self.old.facts.items instance) (λ f. f.closed ≡ false) }
         requires home { IsSome (port_at self.old.rows.items instance) }
+        requires given_up { IsSome self.old.abandoned }
         ensures stands { Stands P.told self.new [] self.new.log.history }
         ensures size { length self.new.rows.items ≡ length self.old.rows.items }
         ensures plan { self.new.plan ≡ self.old.plan }
@@ -233,6 +238,7 @@ impl<P: Port> Hub<P> {
         requires home { IsSome (port_at self.old.rows.items i) }
         ensures stands { Stands P.told self.new [] self.new.log.history }
         ensures shut { IsSomeAnd (port_at self.new.rows.items i) (λ port. (P.told port).started ≡ false) }
+        ensures facts { self.new.facts ≡ self.old.facts }
         ensures size { length self.new.rows.items ≡ length self.old.rows.items }
         ensures plan { self.new.plan ≡ self.old.plan }
         ensures abandoned { self.new.abandoned ≡ self.old.abandoned }

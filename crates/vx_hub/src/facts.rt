@@ -13,6 +13,8 @@ pub struct Facts {
     pub outlet: Outlet,
     /// How many bytes it took, at most 2^64 - 1.
     pub taken: u64,
+    /// Whether it was told the end of all.
+    pub over: bool,
     /// After how many bytes it was lost.
     pub lost: Option<u64>,
     /// How often in a row its port failed to start, at most 4.
@@ -32,8 +34,6 @@ pub struct Facts {
 /// How far a source has come.
 #[derive(Clone, Copy, Debug)]
 pub struct Progress {
-    /// Whether it was told the end of all.
-    pub over: bool,
     /// How many of its batches have no notice yet.
     pub unnoticed: u64,
 }

@@ -1,11 +1,11 @@
-ghost use Rattle.std.specs.Prelude.{◌≡◌, ℕ, ◌<◌, ◌≤◌, ◌++◌, List, [], length, IfSome, IsSomeAnd, Some, None, false, true, IsTrue, OnOk, OnErr, IfErr};
+ghost use Rattle.std.specs.Prelude.{◌≡◌, ℕ, ◌<◌, ◌≤◌, ◌++◌, List, [], length, IfSome, IsSome, IsSomeAnd, Some, None, false, true, IsTrue, OnOk, OnErr, IfErr};
 ghost use Rattle.vx_ledger.specs.Copies.{Copy};
-ghost use Rattle.vx_record.specs.Confirms.{born_positions};
 ghost use Rattle.vx_record.specs.Noted.{Noted};
-ghost use Rattle.vx_hub.specs.Order.{reply_behind, IsPlaceFor};
+ghost use Rattle.vx_hub.specs.Order.{reply_behind, IsPlaceFor, IsConfirmOf};
 ghost use Rattle.vx_hub.specs.Failures.{HasReason};
 ghost use Rattle.vx_hub.specs.Spending.{MaySpend, IsReplied, HasRead};
-ghost use Rattle.vx_hub.specs.Stands.{Stands, IsTold, IsSound, IsUnlost};
+ghost use Rattle.vx_hub.specs.Away.{IsReturning};
+ghost use Rattle.vx_hub.specs.Stands.{Stands, IsTold, IsSound, IsUnlost, MayShut, IsSinkAt, facts_at};
 ghost use Rattle.vx_hub.specs.Leases.{IsBack, IsOpenAt, Adds};
 ghost use Rattle.vx_hub.specs.Turns.{event_count};
 ghost use Rattle.vx_record.specs.Places.Place.{Outputs, Held};
@@ -54,6 +54,7 @@ impl<P: Port> Hub<P> {
         ensures reason { IfErr result (HasReason self.new) }
         ensures size { length self.new.rows.items ≡ length self.old.rows.items }
         ensures plan { self.new.plan ≡ self.old.plan }
+        ensures returning { IsReturning self.new landing.instance }
     {
         let Landing {
             instance,
@@ -91,6 +92,7 @@ impl<P: Port> Hub<P> {
         ensures none { result.confirmed ≡ None }
         ensures size { length self.new.rows.items ≡ length self.old.rows.items }
         ensures plan { self.new.plan ≡ self.old.plan }
+        ensures instance { result.instance ≡ landing.instance }
     {
         let Landing {
             instance,
@@ -121,7 +123,7 @@ impl<P: Port> Hub<P> {
     fn note_confirm(&mut self, instance: u32, confirmed: Confirmed)
         requires out { IsOutAt self.old.rows.items instance }
         requires within { instance < length self.old.facts.items }
-        requires due { IsSound self.old → confirmed.positions ≡ born_positions self.old.log.history instance }
+        requires due { IsSound self.old → IsConfirmOf self.old.log.history instance confirmed.positions }
         ensures stands { (hand : List Copy) → Stands P.told self.old hand self.old.log.history → Stands P.told self.new hand self.new.log.history }
         ensures noted { Noted self.old.log (Entry.Confirm instance confirmed.positions confirmed.made) self.new.log }
         ensures rows { self.new.rows ≡ self.old.rows }
@@ -129,6 +131,8 @@ impl<P: Port> Hub<P> {
         ensures starved { self.new.starved ≡ self.old.starved }
         ensures open { IsOpenAt self.old instance → IsOpenAt self.new instance }
         ensures unlost { IsUnlost self.old instance → IsUnlost self.new instance }
+        ensures shut { MayShut self.old instance → MayShut self.new instance }
+        ensures sink { IsSinkAt self.old instance → IsSinkAt self.new instance }
     {
         let Confirmed { positions, made } = confirmed;
         let facts = &mut self.facts[instance as usize];
@@ -171,8 +175,10 @@ impl<P: Port> Hub<P> {
         ensures log { self.new.log ≡ self.old.log }
         ensures read { (i : ℕ) → HasRead self.old i → HasRead self.new i }
         ensures outputs { (i : ℕ) → numbers_at (Outputs i) self.new.rows.items ≡ numbers_at (Outputs i) self.old.rows.items }
+        ensures shut { MayShut self.old instance → MayShut self.new instance }
         ensures size { length self.new.rows.items ≡ length self.old.rows.items }
         ensures plan { self.new.plan ≡ self.old.plan }
+        ensures returning { IsReturning self.new instance }
     {
         put_task(&mut self.rows, instance as usize, task);
     }
@@ -185,6 +191,7 @@ impl<P: Port> Hub<P> {
         ensures stands { Stands P.told self.new [] self.new.log.history }
         ensures size { length self.new.rows.items ≡ length self.old.rows.items }
         ensures plan { self.new.plan ≡ self.old.plan }
+        ensures returning { IsReturning self.new instance }
     {
         self.starved = true;
         put_task(&mut self.rows, instance as usize, task);
@@ -194,11 +201,14 @@ impl<P: Port> Hub<P> {
     pub(crate) fn mark_closed(&mut self, instance: u32)
         requires stands { Stands P.told self.old [] self.old.log.history }
         requires within { instance < length self.old.rows.items }
+        requires unclosed { IsSomeAnd (facts_at self.old.facts.items instance) (λ f. f.closed ≡ false) }
         requires shut { IsSomeAnd (port_at self.old.rows.items instance) (λ port. (P.told port).started ≡ false) }
+        requires may { MayShut self.old instance }
         ensures stands { Stands P.told self.new [] self.new.log.history }
         ensures rows { self.new.rows ≡ self.old.rows }
         ensures plan { self.new.plan ≡ self.old.plan }
         ensures abandoned { self.new.abandoned ≡ self.old.abandoned }
+        ensures returning { (i : ℕ) → IsReturning self.old i → IsReturning self.new i }
     {
         self.log.note(Ok(Entry::Closed { instance }));
         self.facts[instance as usize].closed = true;
@@ -210,12 +220,14 @@ impl<P: Port> Hub<P> {
         requires open { IsOpenAt self.old instance }
         requires out { IsOutAt self.old.rows.items instance }
         requires brings { IsSound self.old → Adds (P.told task.port) self.old.log.history instance None (Done.Attempted bytes reply) }
+        requires sink { IsSinkAt self.old instance }
         requires held { IsHeldBy self.old instance task.role }
         ensures stands { Stands P.told self.new [] self.new.log.history }
         ensures replied { IsReplied self.new instance reply }
         ensures facts { self.new.facts ≡ self.old.facts }
         ensures size { length self.new.rows.items ≡ length self.old.rows.items }
         ensures plan { self.new.plan ≡ self.old.plan }
+        ensures returning { IsReturning self.new instance }
     {
         note_attempt(
             self.alloc,
@@ -228,7 +240,7 @@ impl<P: Port> Hub<P> {
         self.bring(instance, task);
     }
 
-    /// Spends what a sink at home holds, as its last attempt was answered.
+    /// Spends what a sink at home holds, as its last attempt was answered, or as abandoned.
     fn spend_attempted(&mut self, instance: u32, reply: Reply)
         requires stands { Stands P.told self.old [] self.old.log.history }
         requires replied { IsReplied self.old instance reply }
@@ -236,8 +248,21 @@ impl<P: Port> Hub<P> {
         ensures stands { Stands P.told self.new [] self.new.log.history }
         ensures size { length self.new.rows.items ≡ length self.old.rows.items }
         ensures plan { self.new.plan ≡ self.old.plan }
+        ensures returning { (i : ℕ) → IsReturning self.old i → IsReturning self.new i }
     {
-        self.spend_held(instance, outcome_of(reply));
+        let outcome = self.outcome_now(reply);
+        self.spend_held(instance, outcome);
+    }
+
+    /// What becomes of the copies of a sink batch that was attempted.
+    fn outcome_now(&self, reply: Reply) -> Outcome
+        ensures going { self.now.abandoned ≡ None → reply_behind result ≡ Some reply }
+        ensures given_up { IsSome self.now.abandoned → result ≡ Outcome.Abandoned }
+    {
+        match self.abandoned {
+            None => outcome_of(reply),
+            Some(_) => Outcome::Abandoned,
+        }
     }
 
     /// Spends what a sink at home holds.
@@ -250,6 +275,7 @@ impl<P: Port> Hub<P> {
         ensures facts { self.new.facts ≡ self.old.facts }
         ensures size { length self.new.rows.items ≡ length self.old.rows.items }
         ensures plan { self.new.plan ≡ self.old.plan }
+        ensures returning { (i : ℕ) → IsReturning self.old i → IsReturning self.new i }
     {
         for _ in 0..u64::MAX {
             if !self.spend_first(instance, outcome) {
@@ -269,6 +295,7 @@ impl<P: Port> Hub<P> {
         ensures facts { self.new.facts ≡ self.old.facts }
         ensures size { length self.new.rows.items ≡ length self.old.rows.items }
         ensures plan { self.new.plan ≡ self.old.plan }
+        ensures returning { (i : ℕ) → IsReturning self.old i → IsReturning self.new i }
     {
         match pop_held(&mut self.rows, instance as usize) {
             Some(parcel) => {
@@ -280,7 +307,7 @@ impl<P: Port> Hub<P> {
     }
 }
 
-/// What becomes of the copies of a sink batch that was attempted. No attempt is made again so far.
+/// What an answer makes of the copies of a sink batch. No attempt is made again so far.
 fn outcome_of(reply: Reply) -> Outcome
     ensures { reply_behind result ≡ Some reply }
 {

@@ -1,7 +1,10 @@
-ghost use Rattle.std.specs.Prelude.{◌≡◌, ◌≢◌, ◌<◌, ℕ, [], length, IfSome, IfNone, IsTrue, false};
-ghost use Rattle.vx_record.specs.Confirms.{born_positions};
-ghost use Rattle.vx_hub.specs.Stands.{Stands, IsSound, IsUnlost};
+ghost use Rattle.std.specs.Prelude.{◌≡◌, ◌≢◌, ◌<◌, ℕ, [], length, None, IfSome, IfNone, IsSome, IsSomeAnd, IsTrue, true, false};
+ghost use Rattle.vx_plan.specs.declared.class.Class.TheVariants.{Source};
+ghost use Rattle.vx_hub.specs.Order.{IsConfirmOf};
+ghost use Rattle.vx_hub.specs.Stands.{Stands, IsSound, IsUnlost, MayShut, IsDry, IsSinkAt, facts_at};
+ghost use Rattle.vx_hub.specs.Works.{IsSending};
 ghost use Rattle.vx_hub.specs.Leases.{IsLeased, IsOpenAt};
+ghost use Rattle.vx_hub.specs.Away.{IsAway};
 ghost use Rattle.vx_hub.specs.Rows.{CanHold};
 ghost use Rattle.vx_record.specs.Places.Place.{Outputs};
 ghost use Rattle.vx_hub.specs.Places.{numbers_at};
@@ -39,7 +42,7 @@ impl<P: Port> Hub<P> {
         ensures plan { self.new.plan ≡ self.old.plan }
         ensures fatal { self.new.fatal ≡ self.old.fatal }
     {
-        if self.fatal || self.abandoned.is_some() || !self.log.whole {
+        if self.fatal || !self.goes_on() || !self.log.whole {
             return None;
         }
         let Ready { instance, job } = self.ready(now)?;
@@ -57,13 +60,18 @@ impl<P: Port> Hub<P> {
     fn note_lease(&mut self, instance: u32, worker: u32, now: u64) -> Option<PositionList>
         requires stands { Stands P.told self.old [] self.old.log.history }
         requires open { IsOpenAt self.old instance }
+        requires going { self.old.abandoned ≡ None }
         ensures stands { Stands P.told self.new [] self.new.log.history }
         ensures open { IsOpenAt self.new instance }
         ensures unlost { IsUnlost self.old instance → IsUnlost self.new instance }
-        ensures due { IsSound self.new → IfSome result (λ positions. positions ≡ born_positions self.new.log.history instance) }
+        ensures due { IsSound self.new → IfSome result (IsConfirmOf self.new.log.history instance) }
+        ensures shut { MayShut self.old instance → MayShut self.new instance }
+        ensures sink { IsSinkAt self.old instance → IsSinkAt self.new instance }
         ensures rows { self.new.rows ≡ self.old.rows }
         ensures plan { self.new.plan ≡ self.old.plan }
         ensures fatal { self.new.fatal ≡ self.old.fatal }
+        ensures abandoned { self.new.abandoned ≡ self.old.abandoned }
+        ensures away { IsAway self.new instance }
     {
         self.log.note(Ok(Entry::Lease {
             instance,
@@ -84,9 +92,12 @@ impl<P: Port> Hub<P> {
     ) -> Option<Work<P>>
         requires stands { Stands P.told self.old [] self.old.log.history }
         requires open { IsOpenAt self.old instance }
+        requires away { IsAway self.old instance }
         requires unlost { job ≡ Job.Read → IsUnlost self.old instance }
         requires sent { job ≡ Job.Read → numbers_at (Outputs instance) self.old.rows.items ≡ [] }
-        requires due { IsSound self.old → IfSome positions (λ positions. positions ≡ born_positions self.old.log.history instance) }
+        requires due { IsSound self.old → IfSome positions (IsConfirmOf self.old.log.history instance) }
+        requires shut { job ≡ Job.Close → MayShut self.old instance }
+        requires sink { IsSending job → IsSinkAt self.old instance }
         ensures leased { IfSome result (IsLeased P.told self.new) }
         ensures none { IfNone result (Stands P.told self.new [] self.new.log.history) }
         ensures size { length self.new.rows.items ≡ length self.old.rows.items }
@@ -107,6 +118,8 @@ impl<P: Port> Hub<P> {
         ensures open { IfSome result (λ ready. IsOpenAt self.now ready.instance) }
         ensures unlost { IfSome result (λ ready. ready.job ≡ Job.Read → IsUnlost self.now ready.instance) }
         ensures sent { IfSome result (λ ready. ready.job ≡ Job.Read → numbers_at (Outputs ready.instance) self.now.rows.items ≡ []) }
+        ensures dry { IfSome result (λ ready. ready.job ≡ Job.Close → IsDry self.now ready.instance) }
+        ensures sink { IfSome result (λ ready. IsSending ready.job → IsSinkAt self.now ready.instance) }
     {
         for i in (0..self.rows.len()).rev() {
             if let Some(job) = self.job(i, now) {
@@ -125,6 +138,8 @@ impl<P: Port> Hub<P> {
         ensures open { IfSome result (λ job. IsOpenAt self.now i) }
         ensures unlost { IfSome result (λ job. job ≡ Job.Read → IsUnlost self.now i) }
         ensures sent { IfSome result (λ job. job ≡ Job.Read → numbers_at (Outputs i) self.now.rows.items ≡ []) }
+        ensures dry { IfSome result (λ job. job ≡ Job.Close → IsDry self.now i) }
+        ensures sink { IfSome result (λ job. IsSending job → IsSinkAt self.now i) }
     {
         if i >= self.facts.len() || self.facts[i].closed || self.rows[i].task.is_none() {
             return None;
@@ -141,14 +156,17 @@ impl<P: Port> Hub<P> {
     fn source_job(&self, i: usize) -> Option<Job>
         requires rows { i < length self.now.rows.items }
         requires facts { i < length self.now.facts.items }
+        requires source { IsSomeAnd (facts_at self.now.facts.items i) (λ f. f.class ≡ Source) }
         ensures unlost { IfSome result (λ job. job ≡ Job.Read → IsUnlost self.now i) }
         ensures sent { IfSome result (λ job. job ≡ Job.Read → numbers_at (Outputs i) self.now.rows.items ≡ []) }
+        ensures dry { IfSome result (λ job. job ≡ Job.Close → IsDry self.now i) }
+        ensures unsent { IfSome result (λ job. IsSending job → ⊥) }
     {
         if self.can_read(i) {
             Some(Job::Read)
         } else if self.facts[i].to_confirm.is_some() {
             Some(Job::Confirm)
-        } else if self.has_sent(i) && self.unnoticed(i) == 0 {
+        } else if self.is_dry(i) && self.has_sent(i) && self.unnoticed(i) == 0 {
             Some(Job::Close)
         } else {
             None
@@ -159,6 +177,7 @@ impl<P: Port> Hub<P> {
     fn can_read(&self, i: usize) -> bool
         requires rows { i < length self.now.rows.items }
         requires facts { i < length self.now.facts.items }
+        requires source { IsSomeAnd (facts_at self.now.facts.items i) (λ f. f.class ≡ Source) }
         ensures unlost { IsTrue result → IsUnlost self.now i }
         ensures sent { IsTrue result → numbers_at (Outputs i) self.now.rows.items ≡ [] }
     {
@@ -168,10 +187,19 @@ impl<P: Port> Hub<P> {
         self.has_sent(i) && !self.is_dry(i)
     }
 
+    /// Whether a source was told the end of all.
+    fn has_ended(&self, i: usize) -> bool
+        requires { i < length self.now.facts.items }
+        ensures { IsTrue result → IsSomeAnd (facts_at self.now.facts.items i) (λ f. f.over ≡ true) }
+    {
+        self.facts[i].over
+    }
+
     /// Whether a source was lost.
     fn is_lost(&self, i: usize) -> bool
         requires { i < length self.now.facts.items }
-        ensures { result ≡ false → IsUnlost self.now i }
+        ensures unlost { result ≡ false → IsSomeAnd (facts_at self.now.facts.items i) (λ f. f.lost ≡ None) }
+        ensures lost { IsTrue result → IsSomeAnd (facts_at self.now.facts.items i) (λ f. IsSome f.lost) }
     {
         self.facts[i].lost.is_some()
     }
@@ -196,13 +224,17 @@ impl<P: Port> Hub<P> {
     fn collect(&mut self, instance: u32, now: u64)
         requires stands { Stands P.told self.old [] self.old.log.history }
         requires open { IsOpenAt self.old instance }
+        requires going { self.old.abandoned ≡ None }
         ensures stands { Stands P.told self.new [] self.new.log.history }
         ensures open { IsOpenAt self.new instance }
         ensures facts { self.new.facts ≡ self.old.facts }
         ensures outputs { (i : ℕ) → numbers_at (Outputs i) self.new.rows.items ≡ numbers_at (Outputs i) self.old.rows.items }
+        ensures shut { MayShut self.old instance → MayShut self.new instance }
         ensures size { length self.new.rows.items ≡ length self.old.rows.items }
         ensures plan { self.new.plan ≡ self.old.plan }
         ensures fatal { self.new.fatal ≡ self.old.fatal }
+        ensures abandoned { self.new.abandoned ≡ self.old.abandoned }
+        ensures away { (i : ℕ) → IsAway self.old i → IsAway self.new i }
     {
         for _ in 0..TAKES {
             if !self.take(instance, now) {
@@ -215,12 +247,16 @@ impl<P: Port> Hub<P> {
     fn take(&mut self, instance: u32, now: u64) -> bool
         requires stands { Stands P.told self.old [] self.old.log.history }
         requires open { IsOpenAt self.old instance }
+        requires going { self.old.abandoned ≡ None }
         ensures stands { Stands P.told self.new [] self.new.log.history }
         ensures facts { self.new.facts ≡ self.old.facts }
         ensures outputs { (i : ℕ) → numbers_at (Outputs i) self.new.rows.items ≡ numbers_at (Outputs i) self.old.rows.items }
+        ensures shut { MayShut self.old instance → MayShut self.new instance }
         ensures size { length self.new.rows.items ≡ length self.old.rows.items }
         ensures plan { self.new.plan ≡ self.old.plan }
         ensures fatal { self.new.fatal ≡ self.old.fatal }
+        ensures abandoned { self.new.abandoned ≡ self.old.abandoned }
+        ensures away { (i : ℕ) → IsAway self.old i → IsAway self.new i }
     {
         if !self.can_hold(instance as usize) {
             return false;
@@ -236,7 +272,9 @@ impl<P: Port> Hub<P> {
     /// What is to be done once parcels were taken.
     fn decided(&self, i: usize, job: Job, now: u64) -> Job
         requires { i < length self.now.rows.items }
-        ensures { result ≡ Job.Read → job ≡ Job.Read }
+        ensures read { result ≡ Job.Read → job ≡ Job.Read }
+        ensures close { result ≡ Job.Close → job ≡ Job.Close }
+        ensures sending { IsSending result → IsSending job }
     {
         if job == Job::Collect && self.is_batch_closed(i, now) {
             Job::Attempt
@@ -313,16 +351,11 @@ impl<P: Port> Hub<P> {
     }
 
     /// Whether a source takes no more bytes: it was told the end of all, or lost, or all sources took enough.
-    pub(crate) fn is_dry(&self, i: usize) -> bool {
-        let over = match self.progress.get(i) {
-            Some(progress) => progress.over,
-            None => true,
-        };
-        let lost = match self.facts.get(i) {
-            Some(facts) => facts.lost.is_some(),
-            None => true,
-        };
-        over || lost || self.bytes >= MOST_BYTES
+    pub(crate) fn is_dry(&self, i: usize) -> bool
+        requires { i < length self.now.facts.items }
+        ensures { IsTrue result → IsDry self.now i }
+    {
+        self.has_ended(i) || self.is_lost(i) || self.bytes >= MOST_BYTES
     }
 
     /// Whether nothing more comes to an instance: every source is dry, and no parcel is on its way to it.

@@ -202,10 +202,7 @@ impl<P: Port> Hub<P> {
             role,
         } = seat;
         self.facts.push_reserved(facts);
-        self.progress.push_reserved(Progress {
-            over: false,
-            unnoticed: 0,
-        });
+        self.progress.push_reserved(Progress { unnoticed: 0 });
         self.rows.push_reserved(Row {
             outputs,
             waiting: Vec::new(self.alloc),

@@ -1,6 +1,7 @@
 // The entries that have lists: each is noted, or the log isn't whole any more.
-ghost use Rattle.std.specs.Prelude.{ℕ, List, false};
+ghost use Rattle.std.specs.Prelude.{false};
 ghost use Rattle.vx_hub.specs.Numbers.{numbers_in, noted_of};
+ghost use Rattle.vx_hub.specs.Rows.{role_copies};
 ghost use Rattle.vx_record.specs.Noted.{Noted};
 
 use crate::numbers::{noted_children, numbers_held, numbers_of};
@@ -82,7 +83,7 @@ pub(crate) fn note_attempt(
     bytes: Bytes,
     reply: Reply,
 )
-    ensures { (copies : List ℕ) × Noted log.old (Entry.Attempt instance copies bytes reply) log.new }
+    ensures { Noted log.old (Entry.Attempt instance (numbers_in (role_copies role.now)) bytes reply) log.new }
 {
     match numbers_held(alloc, role) {
         Ok(copies) => log.note(Ok(Entry::Attempt {

@@ -1,12 +1,13 @@
 // The numbers of copies, as entries of the record have them.
 ghost use Rattle.std.specs.Prelude.{◌≡◌, ◌∷◌, ◌++◌, [], IfOk, OnOk};
 ghost use Rattle.vx_hub.specs.Numbers.{numbers_in, noted_of};
+ghost use Rattle.vx_hub.specs.Rows.{role_copies, parcel_copies};
 
 use crate::task::Role;
 use std::alloc::Global;
-use vx_ledger::{Child, Finalizers};
+use vx_ledger::{Child, Finalizers, Parcel};
 use vx_record::ChildList;
-use vx_value::{NumberList, WantOfMemory};
+use vx_value::{NumberList, Queue, WantOfMemory};
 
 /// Adds the numbers of some copies.
 fn append(numbers: &mut NumberList, finalizers: &Finalizers) -> Result<(), WantOfMemory>
@@ -40,13 +41,23 @@ pub(crate) fn numbers_of(alloc: Global, finalizers: &Finalizers) -> Result<Numbe
 }
 
 /// The numbers of the copies that a task holds.
-pub(crate) fn numbers_held(alloc: Global, role: &Role) -> Result<NumberList, WantOfMemory> {
+pub(crate) fn numbers_held(alloc: Global, role: &Role) -> Result<NumberList, WantOfMemory>
+    ensures { IfOk result (λ numbers. numbers ≡ numbers_in (role_copies role.now)) }
+{
+    match role {
+        Role::Source(_) => Ok(NumberList::new(alloc)),
+        Role::Sink(core) => numbers_behind(alloc, &core.held),
+    }
+}
+
+/// The numbers of the copies behind some parcels, the oldest first.
+fn numbers_behind(alloc: Global, parcels: &Queue<Parcel>) -> Result<NumberList, WantOfMemory>
+    ensures { IfOk result (λ numbers. numbers ≡ numbers_in (parcel_copies parcels.now.items)) }
+{
     let mut numbers = NumberList::new(alloc);
-    if let Role::Sink(core) = role {
-        for i in 0..core.held.len() {
-            if let Some(parcel) = core.held.get(i) {
-                append(&mut numbers, &parcel.finalizers)?;
-            }
+    for i in 0..parcels.len() {
+        if let Some(parcel) = parcels.get(i) {
+            append(&mut numbers, &parcel.finalizers)?;
         }
     }
     Ok(numbers)

@@ -1,4 +1,4 @@
-ghost use Rattle.std.specs.Prelude.{◌≡◌, ◌<◌, [], length, IfSome, IsTrue, IfOk, IfErr, IfNone, OnErr, true, false};
+ghost use Rattle.std.specs.Prelude.{◌≡◌, ◌<◌, [], length, None, IfSome, IsTrue, IfOk, IfErr, IfNone, OnErr, true, false};
 ghost use Rattle.vx_record.specs.Noted.{Noted};
 ghost use Rattle.std.specs.Bool.{IsFalse};
 ghost use Rattle.vx_record.specs.declared.entry.Entry.{Entry};
@@ -39,7 +39,7 @@ impl<P: Port> Hub<P> {
     pub fn pending(&self) -> Option<u32>
         ensures { IfSome result (λ i. i < length self.now.rows.items) }
     {
-        if self.fatal || self.abandoned.is_some() || !self.log.whole {
+        if self.fatal || !self.goes_on() || !self.log.whole {
             return None;
         }
         for i in 0..self.rows.len() {
@@ -50,7 +50,8 @@ impl<P: Port> Hub<P> {
         None
     }
 
-    /// Splits and pushes the parcels of an instance, as `pending` named it. Gives how many children entered a buffer.
+    /// Splits and pushes the parcels of an instance, as `pending` named it. Gives how many children entered a buffer,
+    /// none after an abandonment.
     pub fn push_pending(&mut self, instance: u32) -> Result<u32, Fatal>
         requires stands { Stands P.told self.old [] self.old.log.history }
         requires within { instance < length self.old.rows.items }
@@ -60,6 +61,9 @@ impl<P: Port> Hub<P> {
         ensures fatal { OnErr result (self.new.fatal ≡ true) }
         ensures reason { IfErr result (HasReason self.new) }
     {
+        if !self.goes_on() {
+            return Ok(0);
+        }
         let mut pushed: u32 = 0;
         for _ in 0..STEPS {
             if let Some(next) = self.pushable(instance as usize) {
@@ -119,7 +123,9 @@ impl<P: Port> Hub<P> {
         requires child { HasChild self.old.rows.items instance next.place }
         requires first { IsFirstChild self.old.rows.items instance next.target next.place }
         requires target { IsOpenTarget self.old next.target }
+        requires going { self.old.abandoned ≡ None }
         ensures stands { Stands P.told self.new [] self.new.log.history }
+        ensures abandoned { self.new.abandoned ≡ self.old.abandoned }
         ensures size { length self.new.rows.items ≡ length self.old.rows.items }
         ensures plan { self.new.plan ≡ self.old.plan }
     {
@@ -140,7 +146,9 @@ impl<P: Port> Hub<P> {
         requires stands { Stands P.told self.old [] self.old.log.history }
         requires within { instance < length self.old.rows.items }
         requires none { NoneWaits self.old.rows.items instance }
+        requires going { self.old.abandoned ≡ None }
         ensures stands { Stands P.told self.new [] self.new.log.history }
+        ensures abandoned { self.new.abandoned ≡ self.old.abandoned }
         ensures size { length self.new.rows.items ≡ length self.old.rows.items }
         ensures plan { self.new.plan ≡ self.old.plan }
         ensures fatal { OnErr result (self.new.fatal ≡ true) }

@@ -1,6 +1,7 @@
-ghost use Rattle.std.specs.Prelude.{◌≡◌, ◌<◌, ◌≤◌, ◌+◌, ℕ, [], length, List, None, IfErr, IsSomeAnd, true, if◌then◌else◌};
+ghost use Rattle.std.specs.Prelude.{◌≡◌, ◌<◌, ◌≤◌, ◌+◌, ◌||◌, ℕ, [], length, List, None, IfErr, IsSomeAnd, true, if◌then◌else◌};
 ghost use Rattle.vx_ledger.specs.Copies.{Copy};
 ghost use Rattle.vx_record.specs.Noted.{Noted};
+ghost use Rattle.vx_hub.specs.Away.{IsReturning};
 ghost use Rattle.vx_hub.specs.Stands.{Stands, IsTold, IsSound, IsUnlost, facts_at};
 ghost use Rattle.vx_hub.specs.Leases.{IsOpenAt, Adds};
 ghost use Rattle.vx_hub.specs.Spending.{HasRead};
@@ -11,7 +12,7 @@ ghost use Rattle.vx_hub.specs.Turns.{event_count};
 ghost use Rattle.vx_hub.specs.Failures.{IsFailureOf, HasReason};
 ghost use Rattle.vx_hub.specs.declared.work.Done.TheVariants.{Read};
 ghost use Rattle.vx_hub.specs.Rows.{role_copies, IsOutAt};
-ghost use Rattle.vx_record.specs.Reads.{bytes_of};
+ghost use Rattle.vx_record.specs.Reads.{bytes_of, is_end};
 
 use crate::fatal::Fatal;
 use crate::hub::Hub;
@@ -44,6 +45,7 @@ impl<P: Port> Hub<P> {
         ensures reason { IfErr result (HasReason self.new) }
         ensures size { length self.new.rows.items ≡ length self.old.rows.items }
         ensures plan { self.new.plan ≡ self.old.plan }
+        ensures returning { IsReturning self.new instance }
     {
         match turned {
             Turned::Lines {
@@ -72,7 +74,6 @@ impl<P: Port> Hub<P> {
             } => {
                 self.note_end(instance, stream, Taken::AllEnded);
                 self.bring(instance, task);
-                self.mark_over(instance);
                 self.give_birth(instance, events, Position { stream, end })
             }
             Turned::Idle => {
@@ -129,6 +130,7 @@ impl<P: Port> Hub<P> {
     {
         let facts = &mut self.facts[instance as usize];
         facts.failed_starts = 0;
+        facts.over = ends_all(&taken, facts.over);
         self.log.note(Ok(Entry::Read {
             instance,
             stream,
@@ -198,16 +200,6 @@ impl<P: Port> Hub<P> {
             start_failed,
         }));
     }
-
-    /// Marks that a source was told the end of all.
-    fn mark_over(&mut self, instance: u32)
-        ensures rest { self.new ≡ record self.old { progress = self.new.progress } }
-        ensures read { (i : ℕ) → HasRead self.old i → HasRead self.new i }
-    {
-        if let Some(progress) = self.progress.get_mut(instance as usize) {
-            progress.over = true;
-        }
-    }
 }
 
 /// How often in a row a port failed to start, after one more time or a time when it had nothing.
@@ -216,4 +208,11 @@ fn starts_after(before: u32, start_failed: bool) -> u32
     ensures { result ≡ (if start_failed then before + 1 else 0) }
 {
     if start_failed { before + 1 } else { 0 }
+}
+
+/// Whether a source was told the end of all: by this read, or before it.
+fn ends_all(taken: &Taken, before: bool) -> bool
+    ensures { result ≡ (is_end taken.now || before) }
+{
+    matches!(taken, Taken::AllEnded) || before
 }

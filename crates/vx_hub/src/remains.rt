@@ -1,8 +1,8 @@
-ghost use Rattle.std.specs.Prelude.{◌≡◌, [], length, All, Some, true};
+ghost use Rattle.std.specs.Prelude.{◌≡◌, ◌<◌, ℕ, [], length, All, Some, true};
 ghost use Rattle.vx_hub.specs.Rows.{IsBare, task_port};
 ghost use Rattle.vx_hub.specs.Stands.{Stands, IsSound, HasBerths};
-ghost use Rattle.vx_hub.specs.Remains.{AreBare, ports_in, AreNumbered, AreClosed, AreTold, HasOnePlace, AllSpent, HasNotices};
-ghost use Rattle.vx_hub.specs.Order.{IsOrderly};
+ghost use Rattle.vx_hub.specs.Remains.{AreBare, ports_in, AreNumbered, AreClosed, AreTold, HasOnePlace, AllSpent, HasNotices, HasEnds};
+ghost use Rattle.vx_hub.specs.Order.{IsOrderly, IsClosing};
 ghost use Rattle.vx_record.specs.Installs.{in_force};
 
 use crate::hub::Hub;
@@ -35,9 +35,11 @@ impl<P: Port> Hub<P> {
         ensures told { IsSound self → AreTold P.told result.history result.ports }
         ensures installed { IsSound self → in_force result.history ≡ Some self.plan }
         ensures order { IsSound self → IsOrderly result.history }
+        ensures done { IsSound self → (i : ℕ) → i < length self.rows.items → IsClosing result.history i }
         ensures one_place { IsSound self → HasOnePlace result.history }
         ensures spent { IsSound self → AllSpent result.history }
         ensures notices { IsSound self → HasNotices result.history }
+        ensures ends { IsSound self → HasEnds (length self.rows.items) result.history }
     {
         let Hub {
             alloc: _,

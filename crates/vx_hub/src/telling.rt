@@ -1,4 +1,4 @@
-ghost use Rattle.std.specs.Prelude.{◌≡◌, ◌<◌, ◌^◌, ◌-◌, min, length, [], None, IsTrue, IsSomeAnd, false};
+ghost use Rattle.std.specs.Prelude.{◌≡◌, ◌<◌, ◌^◌, ◌-◌, min, length, [], None, IsTrue, IsSome, IsSomeAnd, false};
 ghost use Rattle.std.specs.Option.{option_copied};
 ghost use Rattle.vx_hub.specs.Stands.{facts_at, lost_of, unconfirmed_of};
 
@@ -55,6 +55,14 @@ impl<P: Port> Hub<P> {
         ensures settled { self.now.abandoned ≡ None → result ≡ false → self.now.batches.open_rows ≡ [] }
     {
         self.abandoned.is_none() && !self.batches.is_settled()
+    }
+
+    /// Whether the run wasn't given up.
+    pub(crate) fn goes_on(&self) -> bool
+        ensures going { IsTrue result → self.now.abandoned ≡ None }
+        ensures given_up { result ≡ false → IsSome self.now.abandoned }
+    {
+        self.abandoned.is_none()
     }
 
     /// Whether memory was wanting where the record can't tell what was done.

@@ -1,6 +1,6 @@
-ghost use Rattle.std.specs.Prelude.{◌≡◌, ◌≤◌, None};
+ghost use Rattle.std.specs.Prelude.{◌≡◌, ◌≢◌, ◌≤◌, None};
 ghost use Rattle.vx_hub.specs.Rows.{role_copies, role_parcels};
-ghost use Rattle.vx_hub.specs.Works.{Reports, NamesBy, IsReading, event_count_of};
+ghost use Rattle.vx_hub.specs.Works.{Reports, NamesBy, IsReading, IsAttempted, IsSending, event_count_of};
 ghost use Rattle.vx_hub.specs.Leases.{IsLeased, IsBack};
 ghost use Rattle.vx_hub.specs.declared.hub.Hub.{Hub};
 ghost use Rattle.vx_hub.specs.declared.work.Done.{Done};
@@ -71,6 +71,8 @@ impl<P: Port> Work<P> {
         ensures reports { Reports (P.told self.task.port) result.confirmed result.done (P.told result.task.port) }
         ensures names { NamesBy self.positions result.confirmed result.done }
         ensures reads { IsReading result.done → self.job ≡ Job.Read }
+        ensures closes { result.done ≡ Done.Closed → self.job ≡ Job.Close }
+        ensures sends { IsAttempted result.done → IsSending self.job }
         ensures events { event_count_of result.done ≤ 65536 }
         ensures back { (hub : Hub P) → IsLeased P.told hub self → IsBack P.told hub result }
     {
@@ -111,6 +113,8 @@ fn confirm_and_act<P: Port>(
     ensures reports { Reports (P.told port.old) result.confirmed result.done (P.told port.new) }
     ensures names { NamesBy positions result.confirmed result.done }
     ensures reads { IsReading result.done → job ≡ Job.Read }
+    ensures closes { result.done ≡ Done.Closed → job ≡ Job.Close }
+    ensures sends { IsAttempted result.done → IsSending job }
     ensures events { event_count_of result.done ≤ 65536 }
 {
     match confirm(port, positions) {
@@ -132,6 +136,8 @@ fn act<P: Port>(alloc: Global, job: Job, port: &mut P, role: &mut Role) -> Done
     ensures reports { Reports (P.told port.old) None result (P.told port.new) }
     ensures events { event_count_of result ≤ 65536 }
     ensures reads { IsReading result → job ≡ Job.Read }
+    ensures closes { result ≡ Done.Closed → job ≡ Job.Close }
+    ensures sends { IsAttempted result → IsSending job }
 {
     match (job, role) {
         (Job::Read, Role::Source(core)) => read(port, core),
@@ -162,6 +168,8 @@ fn close<P: Port>(port: &mut P) -> Done
 fn read<P: Port>(port: &mut P, core: &mut SourceCore) -> Done
     ensures reports { Reports (P.told port.old) None result (P.told port.new) }
     ensures events { event_count_of result ≤ 65536 }
+    ensures unsent { IsAttempted result → ⊥ }
+    ensures unclosed { result ≢ Done.Closed }
 {
     match core.turn(port) {
         Ok(turned) => Done::Read(turned),
@@ -174,6 +182,7 @@ fn send<P: Port>(alloc: Global, port: &mut P, core: &SinkCore) -> Done
     ensures reports { Reports (P.told port.old) None result (P.told port.new) }
     ensures events { event_count_of result ≤ 65536 }
     ensures unread { IsReading result → ⊥ }
+    ensures unclosed { result ≢ Done.Closed }
 {
     let Ok(mut bytes) = encode(alloc, core) else {
         return Done::Starved;

@@ -1,10 +1,13 @@
 -- What was counted, whatever fault is told in the end.
-use Rattle.std.proofs.Common.{◌≡◌, ◌⊎◌, inl, inr, ℕ, List, [], ◌∷◌, ◌++◌, Option, Some, None, sym, subst, arith}
+use Rattle.std.proofs.Common.{◌≡◌, ◌⊎◌, inl, inr, ℕ, zero, suc, ◌<◌, ◌≤◌, Bool, true, false, nat_lt, List, [], ◌∷◌, ◌++◌, length, Option, Some, None, IfSome, IsSome, refl, sym, subst, arith}
 use Rattle.vx_ends.specs.Told.{Told}
-use Rattle.std.specs.Prelude.{IsSomeAnd}
+use Rattle.std.specs.Prelude.{IsSomeAnd, slice_get, ◌^◌}
+use Rattle.std.proofs.lemmas.Bool.Decides.{nat_tests}
 use Rattle.vx_value.specs.Texts.{Word}
 use Rattle.vx_value.specs.declared.variable.Variable.{Variable}
 use Rattle.vx_ends.specs.declared.world.Config.{Config}
+use Rattle.vx_plan.specs.declared.class.Class.TheVariants.{Source}
+use Rattle.vx_plan.specs.declared.component.Component.{Component}
 use Rattle.vx_plan.specs.declared.plan.Plan.{Plan}
 use Rattle.vx_status.specs.declared.batch_status.BatchStatus.{BatchStatus}
 use Rattle.vx_record.specs.declared.entry.Entry.TheVariants.{Notice}
@@ -14,12 +17,13 @@ use Rattle.vx_record.specs.TallyLists.{tallies_of}
 use Rattle.vx_record.specs.declared.tally.Tally.{Tally}
 use Rattle.vx_hub.specs.declared.parts.Numbered.{Numbered}
 use Rattle.vx_hub.specs.declared.hub.Hub.{Hub}
-use Rattle.vx_hub.specs.Order.{IsOrderly}
-use Rattle.vx_hub.specs.Remains.{AreTold, HasOnePlace, AllSpent, HasNotices}
+use Rattle.vx_record.specs.Reads.{bytes_of_all, all_ended}
+use Rattle.vx_hub.specs.Order.{IsOrderly, IsClosing, TakesNoMore, component_in, lost_at, cause_of}
+use Rattle.vx_hub.specs.Remains.{AreTold, HasOnePlace, AllSpent, HasNotices, HasEnds}
 use Rattle.vx_hub.specs.Stands.{IsSound}
 use Rattle.vx_run.specs.Judging.{IsSure}
-use Rattle.vx_run.specs.Answers.{IsReady, IsAnswer, IsJudged}
-use Rattle.vx_run.specs.Running.{IsTrueTo, HasInstalled, IsInForce, AreKept, AreNoticed, IsCounted, HasAll, HasEach, NoneMissing}
+use Rattle.vx_run.specs.Answers.{IsReady, IsAnswer, IsJudged, NoneLost, WentOn, component_at}
+use Rattle.vx_run.specs.Running.{IsTrueTo, HasInstalled, IsInForce, AreKept, AreNoticed, AllRead, AllReadOrLost, IsReadOut, AreEnded, IsCounted, HasAll, HasEach, NoneMissing}
 use Rattle.vx_run.specs.Telling.{IsKept}
 use Rattle.vx_run.specs.declared.fault.Fault.{Fault}
 use Rattle.vx_run.specs.declared.fault.Fault.TheVariants.{Usage, ConfigRead, ConfigRefused, Numbers, TooLong, SourceFailed, ConfirmFailed, WantOfMemory}
@@ -238,3 +242,127 @@ noticed_none h (Some (Numbers next wanted)) none = subst HasNotices (sym none) n
 noticed_none h (Some TooLong) none = subst HasNotices (sym none) none_noticed
 noticed_none h (Some (SourceFailed name at)) none = subst HasNotices (sym none) none_noticed
 noticed_none h (Some (ConfirmFailed name)) none = subst HasNotices (sym none) none_noticed
+
+-- nothing stands past the end of a list
+none_past : {X : Type 0} (xs : List X) (i : ℕ) → length xs ≤ i → slice_get xs i ≡ None
+none_past [] i l = refl
+none_past (x ∷ xs) zero l = absurd (omega arith)
+none_past (x ∷ xs) (suc i) l = none_past xs i (omega arith)
+
+-- what holds of each component of a plan
+each_there : (plan : Plan) (h : Record) (n : ℕ) (P : Component → ℕ → Type 0) → in_force h ≡ Some plan → n ≡ length plan.components →
+    ((i : ℕ) → i < n → IfSome (component_in (in_force h) i) (λ component. P component i)) → (i : ℕ) → IfSome (component_at h i) (λ component. P component i)
+each_there plan h n P force size all i = go (nat_lt i n) refl
+  where
+    go : (b : Bool) → nat_lt i n ≡ b → IfSome (component_at h i) (λ component. P component i)
+    go true e = all i (grind (arith, nat_tests))
+    go false e =
+        let beyond : n ≤ i = grind (arith, nat_tests) in
+        let past : length plan.components ≤ i = omega (arith, beyond, size) in
+        subst (λ (found : Option Plan). IfSome (component_in found i) (λ component. P component i)) (sym force)
+        (subst (λ (o : Option Component). IfSome o (λ component. P component i)) (sym (none_past plan.components i past)) tt)
+
+not_there : {X : Type 0} (o : Option X) → o ≡ None → IsSome o → ⊥
+not_there None is some = cc
+not_there (Some x) is some = cc
+
+-- a source that takes no more was told the end of all, unless it was lost, or there were too many bytes, or the run was given up
+only_ended : (h : Record) (i : ℕ) → WentOn h → bytes_of_all h < 2 ^ 48 → TakesNoMore h i → (all_ended h i ≡ true) ⊎ IsSome (lost_at h i)
+only_ended h i goes few (inl ended) = inl ended
+only_ended h i goes few (inr (inl lost)) = inr lost
+only_ended h i goes few (inr (inr (inl many))) = absurd (omega arith)
+only_ended h i goes few (inr (inr (inr given))) = absurd (not_there (cause_of h) goes given)
+
+not_lost : (h : Record) (i : ℕ) → NoneLost h → (all_ended h i ≡ true) ⊎ IsSome (lost_at h i) → all_ended h i ≡ true
+not_lost h i none (inl ended) = ended
+not_lost h i none (inr lost) = absurd (not_there (lost_at h i) (none i) lost)
+
+read_or_lost : (h : Record) (i : ℕ) → WentOn h → bytes_of_all h < 2 ^ 48 → (o : Option Component) → IfSome o (λ component. component.class ≡ Source → TakesNoMore h i) →
+    IfSome o (λ component. component.class ≡ Source → (all_ended h i ≡ true) ⊎ IsSome (lost_at h i))
+read_or_lost h i goes few None closing = tt
+read_or_lost h i goes few (Some component) closing = λ source. only_ended h i goes few (closing source)
+
+read_whole : (h : Record) (i : ℕ) → WentOn h → bytes_of_all h < 2 ^ 48 → NoneLost h → (o : Option Component) → IfSome o (λ component. component.class ≡ Source → TakesNoMore h i) →
+    IfSome o (λ component. component.class ≡ Source → all_ended h i ≡ true)
+read_whole h i goes few none None closing = tt
+read_whole h i goes few none (Some component) closing = λ source. not_lost h i none (only_ended h i goes few (closing source))
+
+all_read : (plan : Plan) (h : Record) (n : ℕ) → in_force h ≡ Some plan → n ≡ length plan.components → ((i : ℕ) → i < n → IsClosing h i) → WentOn h → bytes_of_all h < 2 ^ 48 → NoneLost h → AllRead h
+all_read plan h n force size done goes few none =
+    each_there plan h n (λ component i. component.class ≡ Source → all_ended h i ≡ true) force size (λ i l. read_whole h i goes few none (component_in (in_force h) i) (done i l))
+
+all_read_or_lost : (plan : Plan) (h : Record) (n : ℕ) → in_force h ≡ Some plan → n ≡ length plan.components → ((i : ℕ) → i < n → IsClosing h i) → WentOn h → bytes_of_all h < 2 ^ 48 → AllReadOrLost h
+all_read_or_lost plan h n force size done goes few =
+    each_there plan h n (λ component i. component.class ≡ Source → (all_ended h i ≡ true) ⊎ IsSome (lost_at h i)) force size (λ i l. read_or_lost h i goes few (component_in (in_force h) i) (done i l))
+
+-- but for want of memory a run that was judged read its input
+pub read_of : {P : Type 0} (hub : Hub P) (plan : Plan) (h : Record) (n : ℕ) (fault : Option Fault) → IsSure hub fault → (IsSound hub → in_force h ≡ Some plan) → n ≡ length plan.components →
+    (IsSound hub → (i : ℕ) → i < n → IsClosing h i) → IsJudged h fault → IsReadOut h fault
+read_of hub plan h n None sure force size done judged = all_read plan h n (force sure) size (done sure) judged.0 judged.1.0 judged.1.1.0
+read_of hub plan h n (Some WantOfMemory) sure force size done judged = tt
+read_of hub plan h n (Some Usage) sure force size done judged = tt
+read_of hub plan h n (Some (ConfigRead path)) sure force size done judged = tt
+read_of hub plan h n (Some (ConfigRefused f)) sure force size done judged = tt
+read_of hub plan h n (Some (Numbers next wanted)) sure force size done judged = tt
+read_of hub plan h n (Some TooLong) sure force size done judged = tt
+read_of hub plan h n (Some (SourceFailed name at)) sure force size done judged = all_read_or_lost plan h n (force sure) size (done sure) judged.0 judged.1.0
+read_of hub plan h n (Some (ConfirmFailed name)) sure force size done judged = all_read plan h n (force sure) size (done sure) judged.0 judged.1.0 judged.1.1.0
+
+pub read_short : (h : Record) (fault counted : Option Fault) → (counted ≡ fault) ⊎ (counted ≡ Some WantOfMemory) → IsReadOut h fault → IsReadOut h counted
+read_short h fault counted (inl same) read = subst (λ (f : Option Fault). IsReadOut h f) (sym same) read
+read_short h fault counted (inr short) read = subst (λ (f : Option Fault). IsReadOut h f) (sym short) tt
+
+-- the fault that is told says no more of it
+pub read_told : (h : Record) (fault told : Option Fault) → IsKept fault told → IsReadOut h fault → IsReadOut h told
+read_told h fault None kept read = subst (λ (f : Option Fault). IsReadOut h f) kept read
+read_told h fault (Some WantOfMemory) kept read = tt
+read_told h fault (Some Usage) kept read = tt
+read_told h fault (Some (ConfigRead path)) kept read = tt
+read_told h fault (Some (ConfigRefused f)) kept read = tt
+read_told h fault (Some (Numbers next wanted)) kept read = tt
+read_told h fault (Some TooLong) kept read = tt
+read_told h fault (Some (SourceFailed name at)) kept read = subst (λ (f : Option Fault). IsReadOut h f) kept read
+read_told h fault (Some (ConfirmFailed name)) kept read = subst (λ (f : Option Fault). IsReadOut h f) kept read
+
+-- of an empty record there is no source
+pub read_none : (h : Record) (fault : Option Fault) → h ≡ [] → IsReadOut h fault
+read_none h fault none = subst (λ (k : Record). IsReadOut k fault) (sym none) (empty fault)
+  where
+    empty : (f : Option Fault) → IsReadOut [] f
+    empty None = λ i. tt
+    empty (Some WantOfMemory) = tt
+    empty (Some Usage) = tt
+    empty (Some (ConfigRead path)) = tt
+    empty (Some (ConfigRefused f)) = tt
+    empty (Some (Numbers next wanted)) = tt
+    empty (Some TooLong) = tt
+    empty (Some (SourceFailed name at)) = λ i. tt
+    empty (Some (ConfirmFailed name)) = λ i. tt
+
+-- but for want of memory each instance ended
+pub ended_of : {P : Type 0} (hub : Hub P) (h : Record) (n : ℕ) (fault : Option Fault) → IsSure hub fault → (IsSound hub → HasEnds n h) → AreEnded h n fault
+ended_of hub h n None sure has = has sure
+ended_of hub h n (Some WantOfMemory) sure has = tt
+ended_of hub h n (Some Usage) sure has = has sure
+ended_of hub h n (Some (ConfigRead path)) sure has = has sure
+ended_of hub h n (Some (ConfigRefused f)) sure has = has sure
+ended_of hub h n (Some (Numbers next wanted)) sure has = has sure
+ended_of hub h n (Some TooLong) sure has = has sure
+ended_of hub h n (Some (SourceFailed name at)) sure has = has sure
+ended_of hub h n (Some (ConfirmFailed name)) sure has = has sure
+
+pub ended_short : (h : Record) (n : ℕ) (fault counted : Option Fault) → (counted ≡ fault) ⊎ (counted ≡ Some WantOfMemory) → AreEnded h n fault → AreEnded h n counted
+ended_short h n fault counted (inl same) ended = subst (λ (f : Option Fault). AreEnded h n f) (sym same) ended
+ended_short h n fault counted (inr short) ended = subst (λ (f : Option Fault). AreEnded h n f) (sym short) tt
+
+-- where there is no port, each ended
+pub ended_none : (h : Record) (n : ℕ) (fault : Option Fault) → n ≡ 0 → AreEnded h n fault
+ended_none h n (Some WantOfMemory) none = tt
+ended_none h n None none = λ i l. absurd (omega (arith, l, none))
+ended_none h n (Some Usage) none = λ i l. absurd (omega (arith, l, none))
+ended_none h n (Some (ConfigRead path)) none = λ i l. absurd (omega (arith, l, none))
+ended_none h n (Some (ConfigRefused f)) none = λ i l. absurd (omega (arith, l, none))
+ended_none h n (Some (Numbers next wanted)) none = λ i l. absurd (omega (arith, l, none))
+ended_none h n (Some TooLong) none = λ i l. absurd (omega (arith, l, none))
+ended_none h n (Some (SourceFailed name at)) none = λ i l. absurd (omega (arith, l, none))
+ended_none h n (Some (ConfirmFailed name)) none = λ i l. absurd (omega (arith, l, none))

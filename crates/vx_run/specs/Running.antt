@@ -1,20 +1,22 @@
 -- What a run leaves behind.
-use Rattle.std.specs.Prelude.{◌≡◌, ◌⊎◌, ℕ, List, [], length, Option, Some, IsSomeAnd}
+use Rattle.std.specs.Prelude.{◌≡◌, ◌⊎◌, ℕ, true, List, [], length, Option, Some, None, IfSome, IsSome, IsSomeAnd}
 use Rattle.vx_value.specs.Texts.{Word}
 use Rattle.vx_value.specs.declared.variable.Variable.{Variable}
 use Rattle.vx_ends.specs.Told.{Told}
 use Rattle.vx_ends.specs.declared.world.Config.{Config}
+use Rattle.vx_plan.specs.declared.class.Class.TheVariants.{Source}
 use Rattle.vx_plan.specs.declared.plan.Plan.{Plan}
 use Rattle.vx_record.specs.Records.{Record}
 use Rattle.vx_record.specs.Installs.{in_force}
+use Rattle.vx_record.specs.Reads.{all_ended}
 use Rattle.vx_record.specs.TallyLists.{tallies_of}
 use Rattle.vx_record.specs.declared.tally.Tally.{Tally}
 use Rattle.vx_hub.specs.declared.parts.Numbered.{Numbered}
-use Rattle.vx_hub.specs.Order.{IsOrderly}
-use Rattle.vx_hub.specs.Remains.{AreTold, HasOnePlace, AllSpent, HasNotices}
-use Rattle.vx_run.specs.Answers.{IsReady}
+use Rattle.vx_hub.specs.Order.{IsOrderly, lost_at}
+use Rattle.vx_hub.specs.Remains.{AreTold, HasOnePlace, AllSpent, HasNotices, HasEnds}
+use Rattle.vx_run.specs.Answers.{IsReady, component_at}
 use Rattle.vx_run.specs.declared.fault.Fault.{Fault}
-use Rattle.vx_run.specs.declared.fault.Fault.TheVariants.{Usage, ConfigRead, ConfigRefused, WantOfMemory}
+use Rattle.vx_run.specs.declared.fault.Fault.TheVariants.{Usage, ConfigRead, ConfigRefused, SourceFailed, ConfirmFailed, WantOfMemory}
 
 -- but for want of memory, the ports tell what the record has, and each entry of the record is in order
 abbrev pub IsTrueTo : {P : Type 0} → (P → Told) → Record → List (Numbered P) → Option Fault → Type 0
@@ -45,6 +47,26 @@ HasInstalled words environment texts h (Some (ConfigRead path)) = Unit {0}
 HasInstalled words environment texts h (Some (ConfigRefused fault)) = Unit {0}
 HasInstalled words environment texts h (Some WantOfMemory) = Unit {0}
 HasInstalled words environment texts h other = IsInstalled words environment texts h
+
+-- but for want of memory, the port of each instance was closed for good, and the instance was retired
+abbrev pub AreEnded : Record → ℕ → Option Fault → Type 0
+AreEnded h n (Some WantOfMemory) = Unit {0}
+AreEnded h n fault = HasEnds n h
+
+-- each source was told the end of all
+abbrev pub AllRead : Record → Type 0
+AllRead h = (i : ℕ) → IfSome (component_at h i) (λ component. component.class ≡ Source → all_ended h i ≡ true)
+
+-- each source was told the end of all, or was lost
+abbrev pub AllReadOrLost : Record → Type 0
+AllReadOrLost h = (i : ℕ) → IfSome (component_at h i) (λ component. component.class ≡ Source → (all_ended h i ≡ true) ⊎ IsSome (lost_at h i))
+
+-- the input was read to its end, but for sources that were lost; a run that took too many bytes, or was given up, left some
+abbrev pub IsReadOut : Record → Option Fault → Type 0
+IsReadOut h None = AllRead h
+IsReadOut h (Some (ConfirmFailed name)) = AllRead h
+IsReadOut h (Some (SourceFailed name at)) = AllReadOrLost h
+IsReadOut h other = Unit {0}
 
 -- a run that didn't begin has no record and no port
 abbrev pub IsUnbegun : {P : Type 0} → Record → List (Numbered P) → Type 0

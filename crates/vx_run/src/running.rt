@@ -3,7 +3,7 @@ ghost use Rattle.vx_hub.specs.Making.{AreUntouched};
 ghost use Rattle.vx_hub.specs.Stands.{Stands};
 ghost use Rattle.vx_hub.specs.Remains.{AreNumbered, AreClosed};
 ghost use Rattle.vx_run.specs.Answers.{IsAnswer, IsJudged};
-ghost use Rattle.vx_run.specs.Running.{IsTrueTo, HasInstalled, IsInForce, AreKept, AreNoticed, IsCounted, HasEach, NoneMissing};
+ghost use Rattle.vx_run.specs.Running.{IsTrueTo, HasInstalled, IsInForce, AreKept, AreNoticed, IsReadOut, AreEnded, IsCounted, HasEach, NoneMissing};
 
 use crate::driver::drive;
 use crate::fault::Fault;
@@ -40,6 +40,8 @@ pub(crate) fn run<R: Wait, W: World, C: Clock>(
     ensures installed { HasInstalled words.now environment.now (W.texts world.old) result.history result.fault }
     ensures copies { AreKept result.history result.fault }
     ensures notices { AreNoticed result.history result.fault }
+    ensures read { IsReadOut result.history result.fault }
+    ensures ended { AreEnded result.history (length result.ports) result.fault }
     ensures counted { IsCounted result.history (length result.ports) result.tallies result.fault }
     ensures closed { AreClosed W.Port.told result.ports }
     ensures numbers { AreNumbered 0 result.ports }
@@ -60,6 +62,8 @@ fn unbegun<P>(alloc: Global, fault: Fault) -> Outcome<P>
     ensures ports { result.ports ≡ [] }
     ensures copies { AreKept result.history result.fault }
     ensures notices { AreNoticed result.history result.fault }
+    ensures read { IsReadOut result.history result.fault }
+    ensures ended { AreEnded result.history (length result.ports) result.fault }
     ensures counted { IsCounted result.history (length result.ports) result.tallies result.fault }
 {
     Outcome {
@@ -85,6 +89,8 @@ fn begin<R: Wait, P: Port, C: Clock>(
     ensures installed { IsInForce parts.plan result.history result.fault }
     ensures copies { AreKept result.history result.fault }
     ensures notices { AreNoticed result.history result.fault }
+    ensures read { IsReadOut result.history result.fault }
+    ensures ended { AreEnded result.history (length result.ports) result.fault }
     ensures counted { IsCounted result.history (length result.ports) result.tallies result.fault }
     ensures closed { AreClosed P.told result.ports }
     ensures numbers { AreNumbered 0 result.ports }
@@ -115,6 +121,8 @@ fn finish<R: Wait, P: Port, C: Clock>(
     ensures installed { IsInForce plan.now result.history result.fault }
     ensures copies { AreKept result.history result.fault }
     ensures notices { AreNoticed result.history result.fault }
+    ensures read { IsReadOut result.history result.fault }
+    ensures ended { AreEnded result.history (length result.ports) result.fault }
     ensures counted { IsCounted result.history (length result.ports) result.tallies result.fault }
     ensures closed { AreClosed P.told result.ports }
     ensures numbers { AreNumbered 0 result.ports }

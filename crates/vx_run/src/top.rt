@@ -2,7 +2,7 @@ ghost use Rattle.std.specs.Prelude.{◌≡◌, length};
 ghost use Rattle.vx_hub.specs.Remains.{AreNumbered, AreClosed};
 ghost use Rattle.vx_run.specs.Answers.{IsAnswer};
 ghost use Rattle.vx_run.specs.Faults.{ended_status};
-ghost use Rattle.vx_run.specs.Running.{IsTrueTo, HasInstalled, AreKept, AreNoticed, IsCounted, NoneMissing};
+ghost use Rattle.vx_run.specs.Running.{IsTrueTo, HasInstalled, AreKept, AreNoticed, IsReadOut, AreEnded, IsCounted, NoneMissing};
 ghost use Rattle.vx_run.specs.Telling.{IsSaid};
 
 use crate::ended::Ended;
@@ -31,6 +31,8 @@ pub fn vector<R: Wait, W: World, C: Clock, P: Printer, L: Printer>(
     ensures installed { HasInstalled words.now environment.now (W.texts world) result.history result.fault }
     ensures copies { AreKept result.history result.fault }
     ensures notices { AreNoticed result.history result.fault }
+    ensures read { IsReadOut result.history result.fault }
+    ensures ended { AreEnded result.history (length result.ports) result.fault }
     ensures counted { IsCounted result.history (length result.ports) result.tallies result.fault }
     ensures closed { AreClosed W.Port.told result.ports }
     ensures numbers { AreNumbered 0 result.ports }

@@ -21,6 +21,7 @@ loop-seats-init g c =
         kept = c.requires.room.kept;
         copies = λ batch place. ap (copies_in batch place) c.requires.room.rows;
         places = λ p. none_at c.args.room.rows.items p c.requires.room.rows;
+        home = λ i l. absurd (omega (arith, none, l));
         ports = λ i. subst (λ (rows : List (Row _)). IfSome (port_at rows i) (λ port. IsUntouched (spec_of (slice_get c.args.plan.components i)) (g.P.Port.told port))) (sym c.requires.room.rows) tt;
         facts = λ i. subst (λ (fs : List Facts). IfSome (facts_at fs i) AreNew) (sym c.requires.room.facts) tt;
         fitted = λ i. subst (λ (fs : List Facts). IfSome (facts_at fs i) (λ f. IsSomeAnd (slice_get c.args.plan.components i) (λ component. IsFittedTo c.args.plan component f))) (sym c.requires.room.facts) tt;

@@ -3,7 +3,8 @@ use Rattle.vx_record.specs.Records.{Record}
 use Rattle.vx_hub.specs.Order.{IsOrderly}
 use Rattle.vx_run.specs.Answers.{IsJudged}
 use Rattle.vx_run.specs.Running.{IsCounted}
-use Rattle.vx_run.proofs.Counting.{judged_short, true_short, true_of, kept_short, kept_of, force_short, force_of, noticed_short, noticed_of}
+use Rattle.vx_run.proofs.Counting.{judged_short, true_short, true_of, kept_short, kept_of, force_short, force_of, noticed_short, noticed_of, read_short, read_of, ended_short, ended_of}
+use Rattle.vx_hub.specs.Remains.{HasEnds}
 use Rattle.vx_run.proofs.running.finish.Goals as goal
 
 pub returns-clause-judged : goal.returns-clause-judged
@@ -32,3 +33,14 @@ returns-clause-installed g c = force_short c.args.plan.now c.end-ports.result.hi
 pub returns-clause-notices : goal.returns-clause-notices
 returns-clause-notices g c = noticed_short c.end-ports.result.history c.judge-fault.result c.count-tallies.result.fault c.count-tallies.ensures.kept
     (noticed_of c.drive.new.hub c.end-ports.result.history c.judge-fault.result c.judge-fault.ensures.sure c.end-ports.ensures.notices)
+
+pub returns-clause-read : goal.returns-clause-read
+returns-clause-read g c = read_short c.end-ports.result.history c.judge-fault.result c.count-tallies.result.fault c.count-tallies.ensures.kept
+    (read_of c.drive.new.hub c.args.plan.now c.end-ports.result.history (length c.drive.new.hub.rows.items) c.judge-fault.result c.judge-fault.ensures.sure
+    (λ sound. c.end-ports.ensures.installed sound ∙ ap Some (c.drive.ensures.plan ∙ c.requires.plan)) (c.drive.ensures.size ∙ c.requires.size) c.end-ports.ensures.done
+    (subst (λ (h : Record). IsJudged h c.judge-fault.result) (sym c.end-ports.ensures.history) c.judge-fault.ensures.judged))
+
+pub returns-clause-ended : goal.returns-clause-ended
+returns-clause-ended g c = ended_short c.end-ports.result.history (length c.end-ports.result.ports) c.judge-fault.result c.count-tallies.result.fault c.count-tallies.ensures.kept
+    (ended_of c.drive.new.hub c.end-ports.result.history (length c.end-ports.result.ports) c.judge-fault.result c.judge-fault.ensures.sure
+    (λ sound. subst (λ n. HasEnds n c.end-ports.result.history) (sym c.end-ports.ensures.count) (c.end-ports.ensures.ends sound)))

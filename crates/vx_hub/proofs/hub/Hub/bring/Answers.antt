@@ -8,6 +8,10 @@ use Rattle.vx_hub.proofs.Touching.{stands_brought}
 use Rattle.vx_hub.proofs.Owning.{placed_home}
 use Rattle.vx_hub.proofs.Homing.{role_same}
 use Rattle.vx_hub.specs.Places.{all_numbers}
+use Rattle.std.proofs.Common.{sym, Option, Some}
+use Rattle.std.specs.Prelude.{IsSome}
+use Rattle.vx_hub.specs.Rows.{row_at}
+use Rattle.vx_hub.proofs.Touching.{out_port}
 use Rattle.vx_hub.proofs.hub.Hub.bring.Goals as goal
 
 pub returns-clause-stands : goal.returns-clause-stands
@@ -22,3 +26,11 @@ returns-clause-stands g c =
 
 pub returns-clause-outputs : goal.returns-clause-outputs
 returns-clause-outputs g c i = ap all_numbers (c.put_task.ensures.places.others (Outputs i) refl)
+
+pub returns-clause-returning : goal.returns-clause-returning
+returns-clause-returning g c =
+    let d = c.args.self.now in
+    record {
+      home = subst (λ (o : Option _). IsSome o) (sym c.put_task.ensures.port) refl;
+      away = λ sound. (c.requires.stands.recorded (record { whole = sound.whole; fed = sound.fed })).outs c.args.instance c.requires.open.within (out_port (row_at d.rows.items c.args.instance) c.requires.out);
+    }

@@ -3,14 +3,22 @@ use Rattle.std.specs.Prelude.{if◌then◌else◌}
 use Rattle.vx_record.specs.Records.{Record}
 use Rattle.vx_record.specs.declared.log.Log.{Log}
 use Rattle.vx_hub.specs.Order.{last_reply}
+use Rattle.vx_hub.specs.Numbers.{numbers_in}
 use Rattle.vx_hub.specs.Rows.{role_copies}
+use Rattle.vx_hub.specs.Stands.{facts_at}
+use Rattle.vx_hub.proofs.Drying.{sink_known}
+use Rattle.vx_hub.proofs.Homing.{held_numbers}
 use Rattle.vx_hub.proofs.Silence.{same_test}
 use Rattle.vx_hub.proofs.Touching.{stands_attempted}
 use Rattle.vx_hub.proofs.hub.Hub.bring_attempt.Goals as goal
 
 pub bring-requires-clause-stands : goal.bring-requires-clause-stands
 bring-requires-clause-stands g c =
-    stands_attempted g.P.Port.told c.args.self.now c.note_attempt.new.log (role_copies c.args.task.role) c.args.instance c.note_attempt.ensures.0 c.args.bytes c.args.reply c.requires.stands c.requires.open.within c.requires.out c.note_attempt.ensures.1
+    stands_attempted g.P.Port.told c.args.self.now c.note_attempt.new.log (role_copies c.args.task.role) c.args.instance (numbers_in (role_copies c.args.task.role)) c.args.bytes c.args.reply c.requires.stands c.requires.open.within c.requires.out
+    (λ fine. record {
+      all = held_numbers c.args.self.now.log.history c.args.instance c.args.task.role (c.requires.held fine);
+      sink = sink_known c.args.self.now.log.history c.args.instance (facts_at c.args.self.now.facts.items c.args.instance) c.requires.sink ((c.requires.stands.recorded fine).facts c.args.instance);
+    }) c.note_attempt.ensures
 
 pub returns-clause-replied : goal.returns-clause-replied
 returns-clause-replied g c sound =
@@ -19,5 +27,5 @@ returns-clause-replied g c sound =
     let same = c.bring.ensures.log in
     let whole : IsTrue c.note_attempt.new.log.whole = subst (λ (l : Log). IsTrue l.whole) same sound.whole in
     subst (λ (l : Log). last_reply l.history i ≡ Some reply) (sym same)
-    (subst (λ (h : Record). last_reply h i ≡ Some reply) (sym (c.note_attempt.ensures.1.whole whole).1)
+    (subst (λ (h : Record). last_reply h i ≡ Some reply) (sym (c.note_attempt.ensures.whole whole).1)
     (ap (λ t. if t then Some reply else last_reply c.args.self.now.log.history i) (same_test i)))

@@ -23,4 +23,4 @@ pub give_birth-requires-in-StreamEnded-clause-read : goal.give_birth-requires-in
 give_birth-requires-in-StreamEnded-clause-read g c = c.bring-in-StreamEnded.ensures.read c.args.instance c.note_end.ensures.read
 
 pub give_birth-requires-in-AllEnded-clause-read : goal.give_birth-requires-in-AllEnded-clause-read
-give_birth-requires-in-AllEnded-clause-read g c = c.mark_over.ensures.read c.args.instance (c.bring-in-AllEnded.ensures.read c.args.instance c.note_end-in-AllEnded.ensures.read)
+give_birth-requires-in-AllEnded-clause-read g c = c.bring-in-AllEnded.ensures.read c.args.instance c.note_end-in-AllEnded.ensures.read

@@ -1,7 +1,8 @@
-use Rattle.std.proofs.Common.{ap, ◌∙◌, subst, sym, List, length}
+use Rattle.std.proofs.Common.{ap, ◌∙◌, ◌<◌, arith, subst, sym, List, length, ℕ}
 use Rattle.vx_hub.specs.declared.parts.Numbered.{Numbered}
-use Rattle.vx_hub.specs.Remains.{AreNumbered, AreClosed, AreTold}
-use Rattle.vx_hub.proofs.Remaining.{all_bare, all_shut, ports_told, all_numbered, all_counted, one_place, all_spent, all_noticed}
+use Rattle.vx_hub.specs.Remains.{AreNumbered, AreClosed, AreTold, HasEnds}
+use Rattle.vx_hub.proofs.Remaining.{all_bare, all_shut, ports_told, all_numbered, all_counted, one_place, all_spent, all_noticed, all_done}
+use Rattle.vx_hub.proofs.Retiring.{all_ends}
 use Rattle.vx_hub.proofs.hub.Hub.end.Goals as goal
 
 pub ports_of-requires-clause-bare : goal.ports_of-requires-clause-bare
@@ -36,8 +37,17 @@ returns-clause-spent g c sound =
 pub returns-clause-installed : goal.returns-clause-installed
 returns-clause-installed g c sound = (c.requires.stands.recorded sound).installed
 
+pub returns-clause-done : goal.returns-clause-done
+returns-clause-done g c sound i l =
+    let within : i < length c.args.self.facts.items = omega (arith, l, c.requires.stands.size) in
+    all_done c.args.self.log.history c.args.self.facts.items c.args.self.rows.items i within c.requires.over (c.requires.stands.gone i) ((c.requires.stands.recorded sound).facts i)
+
 pub returns-clause-notices : goal.returns-clause-notices
 returns-clause-notices g c sound =
     let r = c.requires.stands.recorded sound in
     all_noticed c.args.self.log.history r.order r.noticeless
     (all_spent c.args.self.rows.items c.args.self.log.history r.order r.places (all_bare c.args.self.facts.items c.args.self.rows.items c.requires.stands.size c.requires.over c.requires.stands.gone))
+
+pub returns-clause-ends : goal.returns-clause-ends
+returns-clause-ends g c sound = subst (λ (n : ℕ). HasEnds n c.args.self.log.history) c.requires.stands.size
+    (all_ends c.args.self.log.history c.args.self.facts.items c.args.self.rows.items c.requires.over c.requires.stands.gone (c.requires.stands.recorded sound).facts)

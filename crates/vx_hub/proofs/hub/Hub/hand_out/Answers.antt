@@ -25,7 +25,8 @@ returns-clause-leased g c =
           (hand_balanced d.batches d.rows.items rows (role_copies role) s.balanced (c.in_ok-task.ensures.loses))
           (out_port (row_at rows i) c.take_task.ensures.out) c.take_task.ensures.ports c.take_task.ensures.bare c.take_task.ensures.size refl refl refl refl refl refl
           (λ kept placed. subst (λ (cs : List Copy). IsPlaced rows cs d.log.history) (sym (role_same role))
-          (placed_leased d.rows.items rows d.log.history i (role_parcels role) kept placed c.in_ok-task.ensures.held c.take_task.ensures.places));
+          (placed_leased d.rows.items rows d.log.history i (role_parcels role) kept placed c.in_ok-task.ensures.held c.take_task.ensures.places))
+          c.requires.away;
       open_at = record { within = subst (λ n. i < n) (sym c.take_task.ensures.size) c.requires.open.within; unclosed = c.requires.open.unclosed };
       out = c.take_task.ensures.out;
       told = λ sound. taken_told (λ port. IsTold (g.P.Port.told port) d.log.history i) (port_at d.rows.items i) task.port c.in_ok-task.ensures.port
@@ -34,4 +35,6 @@ returns-clause-leased g c =
       unlost = c.requires.unlost;
       sent = λ read. ap all_numbers (c.take_task.ensures.places.others (Outputs i) refl) ∙ c.requires.sent read;
       due = λ sound. c.requires.due (record { whole = sound.whole; fed = sound.fed });
+      sink = c.requires.sink;
+      shut = λ close sound. c.requires.shut close (record { whole = sound.whole; fed = sound.fed });
     }

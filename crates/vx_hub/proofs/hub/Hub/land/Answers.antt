@@ -1,13 +1,15 @@
-use Rattle.vx_hub.proofs.StandsLaws.{stands_settled}
-use Rattle.std.proofs.Common.{ap, refl, sym, subst}
+use Rattle.vx_hub.proofs.StandsLaws.{stands_home}
+use Rattle.std.proofs.Common.{ℕ, ap, refl, sym, subst}
 use Rattle.vx_record.specs.Noted.{Noted}
 use Rattle.vx_record.specs.declared.entry.Entry.TheVariants.{Home}
+use Rattle.vx_hub.specs.Away.{IsReturning}
 use Rattle.vx_hub.proofs.Ordering.{landed_reason}
 use Rattle.vx_hub.proofs.hub.Hub.land.Goals as goal
 
 pub returns-clause-stands : goal.returns-clause-stands
 returns-clause-stands g c =
-    stands_settled g.P.Port.told c.land_done-landed.new.self c.settled.new.self c.note.new.self _ c.land_done-landed.ensures.stands c.note.ensures.noted tt tt refl tt c.settled.ensures.rest
+    stands_home g.P.Port.told c.land_done-landed.new.self c.settled.new.self c.note.new.self c.args.landing.instance c.land_done-landed.ensures.stands c.note.ensures.noted
+    (subst (λ (i : ℕ). IsReturning c.land_done-landed.new.self i) c.land_confirm-landing.ensures.instance c.land_done-landed.ensures.returning) c.settled.ensures.rest
 
 pub returns-clause-reason : goal.returns-clause-reason
 returns-clause-reason g c =

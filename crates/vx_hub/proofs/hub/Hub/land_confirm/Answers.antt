@@ -28,6 +28,8 @@ returns-in-Some-clause-back g c =
       held = held_on g.P.Port.told c.args.self.now c.note_confirm.new.self (role_copies c.args.landing.task.role) i c.args.landing.task.role _ c.requires.stands c.note_confirm.ensures.noted c.note_confirm.ensures.starved tt c.requires.held;
       sent = λ reading. subst (λ (r : _). numbers_at (Outputs i) r.items ≡ []) (sym c.note_confirm.ensures.rows) (c.requires.sent reading);
       due = λ sound. tt;
+      shut = λ closed. c.note_confirm.ensures.shut (c.requires.shut closed);
+      sink = λ sent. c.note_confirm.ensures.sink (c.requires.sink sent);
       events = c.requires.events;
       closed = c.requires.closed;
     }

@@ -1,20 +1,28 @@
-use Rattle.std.proofs.Common.{refl, [], true, ◌≡◌}
-use Rattle.vx_hub.specs.Stands.{IsShut}
-use Rattle.vx_hub.proofs.StandsLaws.{known_quiet, same_next}
+use Rattle.std.proofs.Common.{refl, [], true, false, ◌≡◌}
+use Rattle.vx_hub.specs.Stands.{IsShut, IsKnown}
+use Rattle.vx_hub.proofs.StandsLaws.{same_next}
 use Rattle.vx_hub.proofs.Touching.{stands_marked, facts_has, facts_surely, facts_get}
 use Rattle.vx_record.specs.declared.entry.Entry.TheVariants.{Retired}
 use Rattle.vx_hub.proofs.Owning.{placed_still}
 use Rattle.vx_hub.proofs.Noticing.{running_still}
+use Rattle.vx_hub.proofs.Retiring.{known_retired, known_retired_other, end_in_order}
 use Rattle.vx_hub.proofs.hub.Hub.mark_retired.Goals as goal
 
 pub returns-clause-stands : goal.returns-clause-stands
 returns-clause-stands g c =
-    stands_marked g.P.Port.told c.args.self.now _ [] [] _ c.args.instance c.index_mut.result.now _ c.requires.stands c.requires.within c.index_mut.ensures.value
-    refl refl refl c.requires.stands.balanced refl refl c.note.ensures.noted tt (same_next c.args.self.now.batches c.args.self.now.batches c.args.self.now.log.history (Retired c.args.instance) refl refl) (λ fine. tt) refl (λ known. known_quiet _ c.args.self.now.log.history c.args.instance _ tt (record { taken = known.taken; lost = known.lost; failed_starts = known.failed_starts; ends = known.ends; to_confirm = known.to_confirm; confirm_failed = known.confirm_failed; outlet = known.outlet })) (λ x k other known. known_quiet x c.args.self.now.log.history k _ tt known)
-    (facts_has (IsShut g.P.Port.told c.args.self.now.rows.items c.args.instance) c.args.self.now.facts.items c.args.instance c.index_mut.result.now c.requires.within c.index_mut.ensures.value (c.requires.stands.shut c.args.instance))
-    (λ retired. (facts_surely (λ f. f.closed ≡ true) c.args.self.now.facts.items c.args.instance c.index_mut.result.now c.requires.within c.index_mut.ensures.value c.requires.closed, c.requires.bare))
-    (λ fine kept placed. placed_still c.args.self.now.rows.items [] c.args.self.now.log.history (Retired c.args.instance) tt kept.1 placed)
-    (λ b w. w) (λ fine sound. running_still c.args.self.now.log.history (Retired c.args.instance) c.args.self.now.batches.open_rows tt) (λ ledger. ledger)
+    let d = c.args.self.now in
+    let i = c.args.instance in
+    let f = c.index_mut.result.now in
+    let closed : f.closed ≡ true = facts_surely (λ x. x.closed ≡ true) d.facts.items i f c.requires.within c.index_mut.ensures.value c.requires.closed in
+    let unretired : f.retired ≡ false = facts_surely (λ x. x.retired ≡ false) d.facts.items i f c.requires.within c.index_mut.ensures.value c.requires.unretired in
+    stands_marked g.P.Port.told d _ [] [] _ i f _ c.requires.stands c.requires.within c.index_mut.ensures.value
+    refl refl refl c.requires.stands.balanced refl refl c.note.ensures.noted tt (same_next d.batches d.batches d.log.history (Retired i) refl refl)
+    (λ fine. end_in_order g.P.Port.told d i f c.requires.stands fine (facts_has (λ x. IsKnown x d.log.history i) d.facts.items i f c.requires.within c.index_mut.ensures.value ((c.requires.stands.recorded fine).facts i)) closed unretired c.requires.bare)
+    (λ fine gone. refl) (λ k out. out) refl (λ fine known. known_retired f d.log.history i known) (λ x k other known. known_retired_other x d.log.history i k other known)
+    (facts_has (IsShut g.P.Port.told d.rows.items i) d.facts.items i f c.requires.within c.index_mut.ensures.value (c.requires.stands.shut i))
+    (λ retired. (closed, c.requires.bare))
+    (λ fine kept placed. placed_still d.rows.items [] d.log.history (Retired i) tt kept.1 placed)
+    (λ b w. w) (λ fine sound. running_still d.log.history (Retired i) d.batches.open_rows tt) (λ ledger. ledger)
 
 pub returns-clause-retired : goal.returns-clause-retired
 returns-clause-retired g c = facts_get (λ f. f.retired ≡ true) c.args.self.now.facts.items c.args.instance _ c.requires.within refl

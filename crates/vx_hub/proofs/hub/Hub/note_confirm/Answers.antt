@@ -2,6 +2,8 @@ use Rattle.std.proofs.Common.{refl, false, ◌≡◌, ap, sym, None}
 use Rattle.std.specs.Prelude.{if◌then◌else◌, not}
 use Rattle.vx_record.specs.Confirms.{is_unconfirmed}
 use Rattle.vx_record.specs.declared.entry.Entry.TheVariants as entry
+use Rattle.vx_plan.specs.declared.class.Class.TheVariants.{Source, Sink}
+use Rattle.vx_hub.proofs.Drying.{closing_on}
 use Rattle.vx_hub.proofs.StandsLaws.{ends_on, to_confirm_on}
 use Rattle.vx_hub.proofs.Silence.{same_test}
 use Rattle.vx_hub.proofs.Touching.{stands_touched, facts_surely, facts_get}
@@ -19,6 +21,12 @@ returns-clause-stands g c hand s =
       to_confirm = to_confirm_on c.index_mut-facts.result.now c.args.self.now.log.history c.args.instance (entry.Confirm c.args.instance c.args.confirmed.positions c.args.confirmed.made) refl known.to_confirm;
       confirm_failed = sym (ap (λ t. if t then not c.args.confirmed.made else is_unconfirmed c.args.self.now.log.history c.args.instance) (same_test c.args.instance));
       outlet = known.outlet;
+      over = known.over;
+      class = known.class;
+      confirms = known.confirms;
+      done = λ closed. closing_on c.args.self.now.log.history c.args.instance (entry.Confirm c.args.instance c.args.confirmed.positions c.args.confirmed.made) refl (known.done closed);
+      closed = known.closed;
+      retired = known.retired;
     })
     (λ bytes. bytes)
     refl (λ fine known. c.requires.due fine)
@@ -31,5 +39,9 @@ returns-clause-open g c open_at = record {
 }
 
 pub returns-clause-unlost : goal.returns-clause-unlost
-returns-clause-unlost g c unlost = facts_get (λ f. f.lost ≡ None) c.args.self.now.facts.items c.args.instance _ c.requires.within
-    (facts_surely (λ f. f.lost ≡ None) c.args.self.now.facts.items c.args.instance c.index_mut-facts.result.now c.requires.within c.index_mut-facts.ensures.value unlost)
+returns-clause-unlost g c unlost = facts_get (λ f. (f.lost ≡ None) × (f.class ≡ Source)) c.args.self.now.facts.items c.args.instance _ c.requires.within
+    (facts_surely (λ f. (f.lost ≡ None) × (f.class ≡ Source)) c.args.self.now.facts.items c.args.instance c.index_mut-facts.result.now c.requires.within c.index_mut-facts.ensures.value unlost)
+
+pub returns-clause-sink : goal.returns-clause-sink
+returns-clause-sink g c sink = facts_get (λ f. f.class ≡ Sink) c.args.self.now.facts.items c.args.instance _ c.requires.within
+    (facts_surely (λ f. f.class ≡ Sink) c.args.self.now.facts.items c.args.instance c.index_mut-facts.result.now c.requires.within c.index_mut-facts.ensures.value sink)

@@ -1,10 +1,12 @@
 use Rattle.std.proofs.Common.{refl, false, true, ◌≡◌, ◌∙◌, ap, sym, None, subst}
 use Rattle.std.specs.Prelude.{if◌then◌else◌, ◌==◌}
 use Rattle.vx_record.specs.Sourcing.{failed_starts}
-use Rattle.vx_record.specs.Reads.{bytes_of, bytes_taken, bytes_of_all}
+use Rattle.vx_record.specs.Reads.{bytes_of, bytes_taken, bytes_of_all, is_end, all_ended}
 use Rattle.vx_record.specs.declared.entry.Entry.TheVariants as entry
 use Rattle.vx_record.specs.Records.{Record}
 use Rattle.vx_hub.specs.Order.{IsReadBy}
+use Rattle.vx_plan.specs.declared.class.Class.TheVariants.{Source}
+use Rattle.vx_hub.proofs.Drying.{turn_of, closing_on, ended_here}
 use Rattle.vx_hub.proofs.StandsLaws.{ends_on, to_confirm_on}
 use Rattle.vx_hub.proofs.Silence.{same_test}
 use Rattle.vx_hub.proofs.Touching.{stands_touched, facts_surely, facts_get, no_bytes}
@@ -22,9 +24,15 @@ returns-clause-stands g c hand s =
       to_confirm = to_confirm_on c.index_mut-facts.result.now c.args.self.now.log.history c.args.instance (entry.Read c.args.instance c.args.stream c.args.taken) refl known.to_confirm;
       confirm_failed = known.confirm_failed;
       outlet = known.outlet;
+      over = ended_here (c.args.instance == c.args.instance) (is_end c.args.taken) _ (all_ended c.args.self.now.log.history c.args.instance) c.ends_all-facts.result (same_test c.args.instance) c.ends_all-facts.ensures known.over;
+      class = known.class;
+      confirms = known.confirms;
+      done = λ closed. closing_on c.args.self.now.log.history c.args.instance (entry.Read c.args.instance c.args.stream c.args.taken) refl (known.done closed);
+      closed = known.closed;
+      retired = known.retired;
     })
     (λ bytes. bytes ∙ no_bytes true (bytes_of_all c.args.self.now.log.history) (bytes_of c.args.taken) c.requires.end)
-    refl (λ fine known. sym known.lost ∙ facts_surely (λ f. f.lost ≡ None) c.args.self.now.facts.items c.args.instance c.index_mut-facts.result.now c.requires.within c.index_mut-facts.ensures.value c.requires.unlost)
+    refl (λ fine known. turn_of c.args.self.now.log.history c.args.instance c.index_mut-facts.result.now known (facts_surely (λ f. (f.lost ≡ None) × (f.class ≡ Source)) c.args.self.now.facts.items c.args.instance c.index_mut-facts.result.now c.requires.within c.index_mut-facts.ensures.value c.requires.unlost))
 
 pub returns-clause-open : goal.returns-clause-open
 returns-clause-open g c open_at = record {

@@ -2,6 +2,8 @@ use Rattle.std.proofs.Common.{refl, false, ◌≡◌, ◌+◌, ◌<◌, ◌∙�
 use Rattle.std.specs.Prelude.{if◌then◌else◌}
 use Rattle.vx_record.specs.Sourcing.{failed_starts}
 use Rattle.vx_record.specs.declared.entry.Entry.TheVariants as entry
+use Rattle.vx_plan.specs.declared.class.Class.TheVariants.{Source}
+use Rattle.vx_hub.proofs.Drying.{turn_of, closing_on}
 use Rattle.vx_hub.proofs.StandsLaws.{ends_on, to_confirm_on}
 use Rattle.vx_hub.proofs.Silence.{same_test}
 use Rattle.vx_hub.proofs.Touching.{stands_touched, facts_surely, facts_get}
@@ -19,9 +21,15 @@ returns-clause-stands g c hand s =
       to_confirm = to_confirm_on c.index_mut-facts.result.now c.args.self.now.log.history c.args.instance (entry.Idle c.args.instance c.args.start_failed) refl known.to_confirm;
       confirm_failed = known.confirm_failed;
       outlet = known.outlet;
+      over = known.over;
+      class = known.class;
+      confirms = known.confirms;
+      done = λ closed. closing_on c.args.self.now.log.history c.args.instance (entry.Idle c.args.instance c.args.start_failed) refl (known.done closed);
+      closed = known.closed;
+      retired = known.retired;
     })
     (λ bytes. bytes)
-    refl (λ fine known. record { unlost = sym known.lost ∙ facts_surely (λ f. f.lost ≡ None) c.args.self.now.facts.items c.args.instance c.index_mut-facts.result.now c.requires.within c.index_mut-facts.ensures.value c.requires.unlost; few = λ failed. subst (λ n. n < 4) known.failed_starts (facts_surely (λ f. f.failed_starts < 4) c.args.self.now.facts.items c.args.instance c.index_mut-facts.result.now c.requires.within c.index_mut-facts.ensures.value (c.requires.few failed)) })
+    refl (λ fine known. record { turn = turn_of c.args.self.now.log.history c.args.instance c.index_mut-facts.result.now known (facts_surely (λ f. (f.lost ≡ None) × (f.class ≡ Source)) c.args.self.now.facts.items c.args.instance c.index_mut-facts.result.now c.requires.within c.index_mut-facts.ensures.value c.requires.unlost); few = λ failed. subst (λ n. n < 4) known.failed_starts (facts_surely (λ f. f.failed_starts < 4) c.args.self.now.facts.items c.args.instance c.index_mut-facts.result.now c.requires.within c.index_mut-facts.ensures.value (c.requires.few failed)) })
 
 pub returns-clause-open : goal.returns-clause-open
 returns-clause-open g c open_at = record {

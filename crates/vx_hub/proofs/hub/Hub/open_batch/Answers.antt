@@ -3,6 +3,7 @@ use Rattle.vx_record.specs.Confirms.{moved_to}
 use Rattle.vx_hub.specs.Numbers.{numbers_in}
 use Rattle.vx_hub.specs.Stands.{IsShut, IsGone}
 use Rattle.vx_hub.specs.Ending.{AreMovedTo}
+use Rattle.vx_hub.proofs.Drying.{closing_on, read_class}
 use Rattle.vx_hub.proofs.Dues.{born_more}
 use Rattle.vx_hub.proofs.Ordering.{birth_in_order, length_numbers}
 use Rattle.vx_hub.proofs.Touching.{stands_marked, known_other, facts_surely, facts_get, facts_has, length_numbered}
@@ -19,6 +20,8 @@ use Rattle.vx_ledger.specs.declared.open_batch.OpenBatch.{OpenBatch}
 use Rattle.vx_record.specs.declared.entry.Entry.TheVariants.{Born}
 use Rattle.vx_hub.specs.Batching.{AreRunning}
 use Rattle.vx_hub.proofs.Noticing.{running_on, running_more, born_status}
+use Rattle.vx_hub.proofs.Ceasing.{hub_comes}
+use Rattle.vx_hub.proofs.Leaving.{returning_noted}
 use Rattle.vx_hub.proofs.hub.Hub.open_batch.Goals as goal
 
 pub returns-clause-stands : goal.returns-clause-stands
@@ -37,8 +40,9 @@ returns-clause-stands g c =
     (λ now. omega (arith, now, c.in-Ok.ensures.next, length_numbers copies, many))
     (λ fine. birth_in_order h c.args.instance next c.len-n.result c.in-Ok.born.0 copies c.args.events.now (c.requires.read fine) (s.recorded fine).next c.in-Ok.ensures.number c.in-Ok.ensures.copies (sym c.len-n.ensures)
     (omega (arith, c.requires.some, c.len-n.ensures)) (omega (arith, c.born.ensures.kept.numbers, c.in-Ok.ensures.next)))
-    refl
-    (λ known. record {
+    (hub_comes g.P.Port.told c.args.self.now [] (Born c.args.instance c.in-Ok.born.0 c.in-Ok.born.0 (numbers_in copies) c.args.events.now false c.args.position.stream c.args.position.end) s c.requires.going)
+    (λ k out. out) refl
+    (λ fine known. record {
       taken = known.taken;
       lost = known.lost;
       failed_starts = known.failed_starts;
@@ -46,6 +50,12 @@ returns-clause-stands g c =
       to_confirm = moves.to_confirm ∙ ap (λ ps. moved_to c.args.position.stream c.args.position.end ps) known.ends ∙ more;
       confirm_failed = known.confirm_failed;
       outlet = known.outlet;
+      over = known.over;
+      class = known.class;
+      confirms = λ some. read_class h c.args.instance c.index_mut-facts.result.now (s.recorded (record { whole = fine.whole; fed = fine.fed })).order (c.requires.read (record { whole = fine.whole; fed = fine.fed })) known;
+      done = λ closed. closing_on c.args.self.now.log.history c.args.instance (Born c.args.instance c.in-Ok.born.0 c.in-Ok.born.0 (numbers_in copies) c.args.events.now false c.args.position.stream c.args.position.end) refl (known.done closed);
+      closed = known.closed;
+      retired = known.retired;
     })
     (λ x k other known. known_other x h c.args.instance k _ refl other known)
     (facts_has (IsShut g.P.Port.told c.args.self.now.rows.items c.args.instance) c.args.self.now.facts.items c.args.instance c.index_mut-facts.result.now within c.index_mut-facts.ensures.value (s.shut c.args.instance))
@@ -87,3 +97,6 @@ returns-clause-lined g c sound =
     (omega (arith, c.requires.some, c.len-n.ensures)) (omega (arith, c.born.ensures.kept.numbers, c.in-Ok.ensures.next)) in
     subst (λ (k : Record). (done : List ℕ) × (outputs k c.args.instance ≡ singles (numbers_in copies ++ done))) (sym w.1)
     (lined_born d.rows.items h c.args.instance c.in-Ok.born.0 c.in-Ok.born.0 (numbers_in copies) c.args.events.now false c.args.position.stream c.args.position.end (order.next, conserved h (s.recorded fine).order) (s.recorded fine).places.standing c.requires.sent)
+
+pub returns-clause-returning : goal.returns-clause-returning
+returns-clause-returning g c = returning_noted c.args.self.now _ (Born c.args.instance c.in-Ok.born.0 c.in-Ok.born.0 (numbers_in c.in-Ok.born.1) c.args.events.now false c.args.position.stream c.args.position.end) (λ i. refl) c.note_born.ensures refl (λ h k out. out)

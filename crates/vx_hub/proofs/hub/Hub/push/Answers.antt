@@ -9,6 +9,7 @@ use Rattle.vx_hub.specs.Numbers.{numbers_in}
 use Rattle.vx_hub.proofs.StandsLaws.{stands_quiet, moved_balanced, bare_running, same_next}
 use Rattle.std.proofs.Common.{◌∷◌}
 use Rattle.vx_hub.proofs.Noticing.{running_on}
+use Rattle.vx_hub.proofs.Ceasing.{hub_comes}
 use Rattle.vx_hub.proofs.hub.Hub.push.Goals as goal
 
 pub returns-clause-stands : goal.returns-clause-stands
@@ -29,6 +30,8 @@ returns-clause-stands g c =
       quiet = tt;
       next = same_next d.batches d.batches d.log.history (Push c.args.instance c.take_child-target.result.target 0 (numbers_in copies)) refl refl;
       order = λ fine. is_oldest (numbers_in copies) _ _ (oldest_is (Waiting c.args.instance target) copies d.rows.items c.take_child-target.new.rows.items d.log.history (s.recorded fine).places.standing takes);
+      outs = λ fine i none out. out;
+      comes = hub_comes g.P.Port.told d [] (Push c.args.instance target 0 (numbers_in copies)) s c.requires.going;
       places = λ fine kept placed. placed_pushed d.rows.items c.take_child-target.new.rows.items c.push_buffer.new.rows.items d.log.history c.args.instance target copies kept placed takes
           (subst (λ t. PutsLast (Contents t 0) copies c.take_child-target.new.rows.items c.push_buffer.new.rows.items) (sym first.0) c.push_buffer.ensures.last);
       due = λ fine b w. w;

@@ -1,4 +1,4 @@
-use Rattle.std.proofs.Common.{◌≡◌, length, []}
+use Rattle.std.proofs.Common.{◌≡◌, length, [], None}
 use Rattle.vx_hub.specs.Stands.{Stands}
 use Rattle.vx_hub.proofs.hub.Hub.push_pending.Given as goal
 
@@ -7,4 +7,5 @@ invariant-loop g l = record {
   stands : Stands g.P.Port.told l.self [] l.self.log.history;
   size : length l.self.rows.items ≡ length l.fn.self.rows.items;
   plan : l.self.plan ≡ l.fn.self.plan;
+  going : l.self.abandoned ≡ None;
 }

@@ -2,6 +2,7 @@ use Rattle.std.proofs.Common.{refl}
 use Rattle.vx_hub.proofs.StandsLaws.{stands_moved}
 use Rattle.vx_hub.proofs.Touching.{rest_balanced, bare_unclosed}
 use Rattle.vx_hub.proofs.Owning.{placed_put}
+use Rattle.vx_hub.proofs.Leaving.{returning_moved}
 use Rattle.vx_hub.proofs.hub.Hub.put_one.Goals as goal
 
 pub returns-clause-stands : goal.returns-clause-stands
@@ -12,3 +13,6 @@ returns-clause-stands g c rest s next =
     c.push_output.ensures.size refl refl refl refl refl
     (λ fine kept placed. let n = next fine in
     placed_put c.args.self.now.rows.items c.push_output.new.rows.items c.args.self.now.log.history c.args.instance rest c.args.finalizers n.number n.done kept n.single n.lined c.push_output.ensures.oldest placed)
+
+pub returns-clause-returning : goal.returns-clause-returning
+returns-clause-returning g c = returning_moved c.args.self.now _ c.push_output.ensures.ports refl refl

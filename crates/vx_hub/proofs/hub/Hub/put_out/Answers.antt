@@ -33,6 +33,7 @@ loop-event-preserved g c =
           (lined_rest c.loop-event.self.log.history c.args.instance c.loop-event.finalizers c.take_last.new.self c.in-Ok-Some.copy some one (inv.lined before));
       room = c.put_one.ensures.room (length c.pop.new.self) (subst (λ n. HasOutputRoom c.loop-event.self.rows.items c.args.instance n) shorter inv.room);
       size = c.put_one.ensures.size ∙ inv.size;
+      returning = λ i back. c.put_one.ensures.returning i (inv.returning i back);
       plan = c.put_one.ensures.plan ∙ inv.plan;
     }
 

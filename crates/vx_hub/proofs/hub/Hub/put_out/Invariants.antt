@@ -1,5 +1,6 @@
-use Rattle.std.proofs.Common.{◌≡◌, length}
+use Rattle.std.proofs.Common.{◌≡◌, ℕ, length}
 use Rattle.vx_hub.specs.Stands.{Stands}
+use Rattle.vx_hub.specs.Away.{IsReturning}
 use Rattle.vx_hub.specs.Births.{IsLinedUp}
 use Rattle.vx_hub.specs.Leases.{IsOpenAt}
 use Rattle.vx_hub.specs.Rows.{HasOutputRoom}
@@ -14,6 +15,7 @@ invariant-loop-event g l = record {
   room : HasOutputRoom l.self.rows.items l.instance (length l.events);
   size : length l.self.rows.items ≡ length l.fn.self.rows.items;
   plan : l.self.plan ≡ l.fn.self.plan;
+  returning : (i : ℕ) → IsReturning l.fn.self i → IsReturning l.self i;
 }
 
 abbrev pub decreases-loop-event : goal.decreases-loop-event

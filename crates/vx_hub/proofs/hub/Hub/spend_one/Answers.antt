@@ -9,10 +9,15 @@ use Rattle.vx_hub.proofs.Noticing.{in_turn, spent_statuses, spent_quietly, spent
 use Rattle.std.proofs.Common.{Option}
 use Rattle.vx_record.specs.Moving.{IsConserved}
 use Rattle.vx_hub.specs.Order.{IsInOrder}
+use Rattle.vx_record.specs.Abandoning.{MayStillCome}
+use Rattle.vx_hub.proofs.Ceasing.{spent_comes}
 use Rattle.vx_hub.specs.Places.{IsPlaced}
 use Rattle.vx_hub.specs.Stands.{Stands, IsSound}
 use Rattle.vx_hub.specs.declared.hub.Hub.{Hub}
 use Rattle.vx_hub.proofs.Standing.{spending, from_spent, from_noticed}
+use Rattle.vx_record.specs.declared.entry.Entry.TheVariants.{Notice}
+use Rattle.vx_hub.specs.Rows.{port_at}
+use Rattle.vx_hub.proofs.Leaving.{returning_noted}
 use Rattle.vx_hub.proofs.hub.Hub.spend_one.Goals as goal
 
 pub returns-in_default-clause-stands : goal.returns-in_default-clause-stands
@@ -23,16 +28,19 @@ returns-in_default-clause-stands g c rest s =
     let n = c.number-copy.result in
     let balanced = spent_balanced d.batches c.spend-notice.new.self d.rows.items rest f s.balanced c.spend-notice.ensures.exchange in
     let order : IsSound d → IsInOrder h (Spent c.args.instance n c.args.outcome) = λ fine. spending h c.args.instance f n c.args.outcome c.number-copy.ensures (spent_live d.rows.items h rest f n c.number-copy.ensures (s.recorded fine).places.standing) (c.requires.cause fine) (c.requires.from fine) in
+    let comes : IsSound d → MayStillCome h (Spent c.args.instance n c.args.outcome) = λ fine. spent_comes h c.args.instance n c.args.outcome (c.requires.cause fine) in
     stands_quiet g.P.Port.told d _ (rest ++ f ∷ []) rest (Spent c.args.instance n c.args.outcome) s balanced
     refl (λ i. refl) (bare_stays d.facts.items d.rows.items) refl c.note.ensures.noted
     (record {
       quiet = tt;
       next = same_next d.batches c.spend-notice.new.self h (Spent c.args.instance n c.args.outcome) refl c.spend-notice.ensures.next;
       order = order;
+      comes = comes;
+      outs = λ fine i none out. out;
       places = λ fine kept placed. placed_spent d.rows.items h c.args.instance rest f n c.args.outcome c.number-copy.ensures kept placed;
       due = λ fine.
           let r = s.recorded fine in
-          let kept = conserved (Spent c.args.instance n c.args.outcome ∷ h) ((order fine, in_turn h (Spent c.args.instance n c.args.outcome) r.noticeless), r.order) in
+          let kept = conserved (Spent c.args.instance n c.args.outcome ∷ h) ((order fine, in_turn h (Spent c.args.instance n c.args.outcome) r.noticeless, comes fine), r.order) in
           spent_quietly c.spend-notice.new.self d.rows.items rest h c.args.instance n c.args.outcome f c.number-copy.ensures (last_mine h rest f r.places.owned) kept
           (placed_spent d.rows.items h c.args.instance rest f n c.args.outcome c.number-copy.ensures kept r.places) balanced
           (λ none. none_there c.spend-notice.result c.in_default.is (c.spend-notice.ensures.last.1 none));
@@ -49,13 +57,14 @@ returns-in-Some-clause-stands g c rest s =
     let n = c.number-copy.result in
     let balanced = spent_balanced d.batches c.spend-notice.new.self d.rows.items rest f s.balanced c.spend-notice.ensures.exchange in
     let order : IsSound d → IsInOrder h (Spent c.args.instance n c.args.outcome) = λ fine. spending h c.args.instance f n c.args.outcome c.number-copy.ensures (spent_live d.rows.items h rest f n c.number-copy.ensures (s.recorded fine).places.standing) (c.requires.cause fine) (c.requires.from fine) in
+    let comes : IsSound d → MayStillCome h (Spent c.args.instance n c.args.outcome) = λ fine. spent_comes h c.args.instance n c.args.outcome (c.requires.cause fine) in
     let kept : IsSound d → IsConserved (Spent c.args.instance n c.args.outcome ∷ h) = λ fine. let r = s.recorded fine in
-    conserved (Spent c.args.instance n c.args.outcome ∷ h) ((order fine, in_turn h (Spent c.args.instance n c.args.outcome) r.noticeless), r.order) in
+    conserved (Spent c.args.instance n c.args.outcome ∷ h) ((order fine, in_turn h (Spent c.args.instance n c.args.outcome) r.noticeless, comes fine), r.order) in
     let places : IsSound d → IsPlaced d.rows.items rest (Spent c.args.instance n c.args.outcome ∷ h) = λ fine.
     placed_spent d.rows.items h c.args.instance rest f n c.args.outcome c.number-copy.ensures (kept fine) (s.recorded fine).places in
     subst (λ (x : Hub _). Stands g.P.Port.told x rest x.log.history) (sym c.tell.ensures.rest)
     (stands_noticed g.P.Port.told d _ (rest ++ f ∷ []) rest c.args.instance n c.args.outcome c.in-Some.notice.batch c.in-Some.notice.status c.note.new.self s balanced refl refl c.note.ensures.noted c.tell.ensures.noted
-    c.spend-notice.ensures.next order places
+    c.spend-notice.ensures.next order comes places
     (λ fine. let r = s.recorded fine in
     spent_last d.batches c.spend-notice.new.self d.rows.items rest h c.args.instance n c.args.outcome f c.in-Some.notice c.number-copy.ensures (last_mine h rest f r.places.owned) (kept fine) (places fine) balanced r.statuses
     (c.spend-notice.ensures.last.0 (subst (λ (o : Option _). IsSome o) (sym c.in-Some.is) refl)) (sym c.spend-notice.ensures.notice ∙ c.in-Some.is))
@@ -81,3 +90,13 @@ pub returns-in-Some-clause-from : goal.returns-in-Some-clause-from
 returns-in-Some-clause-from g c rest s from =
     from_noticed g.P.Port.told c.args.self.now (record c.args.self.now { batches = c.spend-notice.new.self; log = c.note.new.self }) c.tell.new.self c.args.instance rest c.args.finalizer c.number-copy.result c.args.outcome
     c.in-Some.notice.batch c.in-Some.notice.status c.number-copy.ensures s from c.note.ensures.noted refl c.tell.ensures.noted (ap (λ (x : Hub _). x.starved) c.tell.ensures.rest)
+
+pub returns-in_default-clause-returning : goal.returns-in_default-clause-returning
+returns-in_default-clause-returning g c =
+    returning_noted c.args.self.now (record c.args.self.now { batches = c.spend-notice.new.self; log = c.note.new.self }) (Spent c.args.instance c.number-copy.result c.args.outcome) (λ i. refl) c.note.ensures.noted refl (λ h k out. out)
+
+pub returns-in-Some-clause-returning : goal.returns-in-Some-clause-returning
+returns-in-Some-clause-returning g c i back =
+    let mid : Hub _ = record c.args.self.now { batches = c.spend-notice.new.self; log = c.note.new.self } in
+    returning_noted mid c.tell.new.self (Notice c.in-Some.notice.batch c.in-Some.notice.status) (λ k. ap (λ (x : Hub _). port_at x.rows.items k) c.tell.ensures.rest) c.tell.ensures.noted (ap (λ (x : Hub _). x.starved) c.tell.ensures.rest) (λ h k out. out) i
+    (returning_noted c.args.self.now mid (Spent c.args.instance c.number-copy.result c.args.outcome) (λ k. refl) c.note.ensures.noted refl (λ h k out. out) i back)

@@ -25,6 +25,8 @@ use Rattle.vx_status.specs.declared.outcome.Outcome.TheVariants.{NoConsumer}
 use Rattle.vx_hub.specs.Places.{TakesFrom}
 use Rattle.vx_hub.proofs.Standing.{taken_from}
 use Rattle.vx_hub.proofs.Touching.{routed_as}
+use Rattle.vx_hub.proofs.Retiring.{none_waiting}
+use Rattle.vx_hub.proofs.Ceasing.{going_on, hub_comes}
 use Rattle.vx_hub.proofs.hub.Hub.split.Goals as goal
 
 pub returns-in-Ok-Children-clause-stands : goal.returns-in-Ok-Children-clause-stands
@@ -52,11 +54,14 @@ returns-in-Ok-Children-clause-stands g c =
       quiet = tt;
       next = split_next d.log.history d.batches.next c.route.new.batches.next targets parcel cs are more;
       order = λ fine. split_in_order d.log.history c.args.instance d.batches.next targets parcel cs
+          (none_waiting d.rows.items d.log.history c.args.instance (s.recorded fine).places.standing c.requires.none)
           (routed_as g.P.Port.told d c.args.instance c.index.result.now s c.requires.within c.index.ensures fine)
           (is_oldest (numbers_in parcel.finalizers) _ _ (oldest_is (Outputs c.args.instance) parcel.finalizers d.rows.items c.pop_output.new.rows.items d.log.history (s.recorded fine).places.standing c.in-Some.ensures.oldest))
           (s.recorded fine).next are
           (targets_some c.in-Ok-Children.field-0 made targets c.in-Ok-Children.field-0-is c.in-Ok-Children.ensures.no_consumer.1)
           (subst (λ n. n ≤ 2 ^ 63) more c.in-Ok-Children.ensures.kept.numbers);
+      outs = λ fine i none out. out;
+      comes = hub_comes g.P.Port.told d [] (Split c.args.instance 1 (numbers_in parcel.finalizers) noted.0 (noted_of cs)) s c.requires.going;
       places = λ fine kept placed. placed_split d.rows.items c.pop_output.new.rows.items c.put_children.new.rows.items d.log.history c.args.instance 1 parcel.finalizers noted.0 cs
           (oldest_some d.log.history (Outputs c.args.instance) (numbers_in parcel.finalizers) _ (oldest_is (Outputs c.args.instance) parcel.finalizers d.rows.items c.pop_output.new.rows.items d.log.history placed.standing c.in-Some.ensures.oldest))
           kept placed c.in-Some.ensures.oldest (λ t. none_wait d.rows.items c.args.instance t c.requires.none)
@@ -115,5 +120,6 @@ spend-requires-clause-from g c =
 
 pub spend-requires-clause-cause : goal.spend-requires-clause-cause
 spend-requires-clause-cause g c = unread_may _ c.args.instance
+    (λ fine. going_on g.P.Port.told c.args.self.now [] c.requires.stands c.requires.going (record { whole = fine.whole; fed = fine.fed }))
     (λ fine. sym (routed_as g.P.Port.told c.args.self.now c.args.instance c.index.result.now c.requires.stands c.requires.within c.index.ensures (record { whole = fine.whole; fed = fine.fed }))
     ∙ targets_none c.in-Ok-NoConsumer.field-0 c.in-Ok-NoConsumer.parcel (targets_of 1 c.index.result.now.outlet) c.in-Ok-NoConsumer.field-0-is c.in-Ok-NoConsumer.ensures.no_consumer.0)

@@ -9,6 +9,8 @@ use Rattle.vx_hub.proofs.Homing.{is_oldest}
 use Rattle.vx_hub.specs.Places.{all_numbers}
 use Rattle.std.proofs.Common.{◌∷◌}
 use Rattle.vx_hub.proofs.Noticing.{running_on}
+use Rattle.vx_hub.proofs.Ceasing.{hub_comes}
+use Rattle.vx_hub.proofs.Leaving.{away_noted, away_same}
 use Rattle.vx_hub.proofs.hub.Hub.take.Goals as goal
 
 pub returns-in_default-clause-stands : goal.returns-in_default-clause-stands
@@ -30,6 +32,8 @@ returns-clause-stands g c =
       quiet = tt;
       next = same_next c.args.self.now.batches c.args.self.now.batches c.args.self.now.log.history (Take c.args.instance 0 (numbers_in c.in-Some.parcel.finalizers)) refl refl;
       order = λ fine. is_oldest (numbers_in c.in-Some.parcel.finalizers) _ _ (oldest_is (Contents c.args.instance 0) c.in-Some.parcel.finalizers c.args.self.now.rows.items c.pop_buffer.new.rows.items c.args.self.now.log.history (c.requires.stands.recorded fine).places.standing c.in-Some.ensures.oldest);
+      outs = λ fine i none out. out;
+      comes = hub_comes g.P.Port.told c.args.self.now [] (Take c.args.instance 0 (numbers_in c.in-Some.parcel.finalizers)) c.requires.stands c.requires.going;
       places = λ fine kept placed. placed_held c.args.self.now.rows.items c.pop_buffer.new.rows.items c.hold.new.rows.items c.args.self.now.log.history c.args.instance c.in-Some.parcel.finalizers kept placed c.in-Some.ensures.oldest c.hold.ensures.last;
       due = λ fine b w. w;
       statuses = λ fine. running_on c.args.self.now.log.history (Take c.args.instance 0 (numbers_in c.in-Some.parcel.finalizers) ∷ c.args.self.now.log.history) c.args.self.now.batches.open_rows (λ b. refl);
@@ -41,3 +45,9 @@ returns-in_default-clause-outputs g c i = ap all_numbers (c.in_default.ensures.n
 
 pub returns-clause-outputs : goal.returns-clause-outputs
 returns-clause-outputs g c i = ap all_numbers (c.hold.ensures.last.others (Outputs i) refl ∙ c.in-Some.ensures.oldest.others (Outputs i) refl)
+
+pub returns-in_default-clause-away : goal.returns-in_default-clause-away
+returns-in_default-clause-away g c = away_same c.args.self.now _ refl refl
+
+pub returns-clause-away : goal.returns-clause-away
+returns-clause-away g c = away_noted c.args.self.now _ (Take c.args.instance 0 (numbers_in c.in-Some.parcel.finalizers)) c.note_take.ensures refl (λ h k out. out)

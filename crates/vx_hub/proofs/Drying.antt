@@ -1,0 +1,155 @@
+-- What takes no more takes no more later.
+use Rattle.std.proofs.Common.{◌≡◌, ◌⊎◌, inl, inr, ℕ, ◌+◌, ◌≤◌, Bool, true, false, ◌&&◌, ◌||◌, List, [], ◌∷◌, Option, Some, None, IfSome, IsSome, IsSomeAnd, length, refl, sym, ◌∙◌, ap, subst, arith}
+use Rattle.std.specs.Prelude.{◌^◌, if◌then◌else◌, ◌==◌}
+use Rattle.vx_ends.specs.Told.{Told}
+use Rattle.vx_ends.specs.declared.position.Position.{Position}
+use Rattle.vx_plan.specs.declared.class.Class.{Class}
+use Rattle.vx_plan.specs.declared.class.Class.TheVariants.{Source, Sink}
+use Rattle.vx_plan.specs.declared.component.Component.{Component}
+use Rattle.vx_plan.specs.declared.plan.Plan.{Plan}
+use Rattle.vx_ledger.specs.Copies.{Copy}
+use Rattle.vx_record.specs.Records.{Record, capped}
+use Rattle.vx_record.specs.Noted.{Noted}
+use Rattle.vx_record.specs.Installs.{in_force}
+use Rattle.vx_record.specs.Confirms.{born_positions}
+use Rattle.vx_record.specs.Reads.{bytes_of, bytes_of_all, is_end, all_ended}
+use Rattle.vx_record.specs.declared.entry.Entry.{Entry}
+use Rattle.vx_record.specs.declared.entry.Entry.TheVariants.{Read, SourceLost, Abandon}
+use Rattle.vx_hub.specs.declared.hub.Hub.{Hub}
+use Rattle.vx_hub.specs.declared.facts.Facts.{Facts}
+use Rattle.vx_hub.specs.Order.{lost_at, cause_of, TakesNoMore, IsOfClass, IsTurnOf, IsConfirmOf, IsReadBy, IsOrderly}
+use Rattle.vx_hub.specs.Stands.{Stands, IsSound, IsKnown, IsClosing, MayShut, IsSpent, IsDry, component_in, facts_at}
+
+-- another read tells no end
+pub unended : (a b r : Bool) → a ≡ false → ((a && b) || r) ≡ r
+unended true b r e = cc
+unended false b r e = refl
+
+-- a read that tells no end
+pub not_ended : (a r : Bool) → ((a && false) || r) ≡ r
+not_ended true r = refl
+not_ended false r = refl
+
+or_true : (a r : Bool) → r ≡ true → (a || r) ≡ true
+or_true true r e = refl
+or_true false r e = e
+
+ended_on : (h : Record) (i : ℕ) (e : Entry) → all_ended h i ≡ true → all_ended (e ∷ h) i ≡ true
+ended_on h i (Read j stream took) is = or_true ((j == i) && is_end took) (all_ended h i) is
+ended_on h i e is = is
+
+either_some : (t : Bool) (at : ℕ) (o : Option ℕ) → IsSome o → IsSome (if t then Some at else o)
+either_some true at o is = refl
+either_some false at o is = is
+
+lost_on : (h : Record) (i : ℕ) (e : Entry) → IsSome (lost_at h i) → IsSome (lost_at (e ∷ h) i)
+lost_on h i (SourceLost j at failed) is = either_some (j == i) at (lost_at h i) is
+lost_on h i e is = is
+
+bytes_on : (h : Record) (e : Entry) → 2 ^ 48 ≤ bytes_of_all h → 2 ^ 48 ≤ bytes_of_all (e ∷ h)
+bytes_on h (Read j stream took) many = omega (arith, many)
+bytes_on h e many = many
+
+cause_on : (h : Record) (e : Entry) → IsSome (cause_of h) → IsSome (cause_of (e ∷ h))
+cause_on h (Abandon cause) is = refl
+cause_on h e is = is
+
+pub more_on : (h : Record) (i : ℕ) (e : Entry) → TakesNoMore h i → TakesNoMore (e ∷ h) i
+more_on h i e (inl ended) = inl (ended_on h i e ended)
+more_on h i e (inr (inl lost)) = inr (inl (lost_on h i e lost))
+more_on h i e (inr (inr (inl many))) = inr (inr (inl (bytes_on h e many)))
+more_on h i e (inr (inr (inr given))) = inr (inr (inr (cause_on h e given)))
+
+weaker : (h : Record) (i : ℕ) (e : Entry) (o : Option Component) → IfSome o (λ component. component.class ≡ Source → TakesNoMore h i) → IfSome o (λ component. component.class ≡ Source → TakesNoMore (e ∷ h) i)
+weaker h i e None closing = tt
+weaker h i e (Some component) closing = λ source. more_on h i e (closing source)
+
+-- a port that may be closed may be closed behind an entry that installs nothing
+pub closing_on : (h : Record) (i : ℕ) (e : Entry) → in_force (e ∷ h) ≡ in_force h → IsClosing h i → IsClosing (e ∷ h) i
+closing_on h i e same closing =
+    subst (λ (p : Option Plan). IfSome (component_in p i) (λ component. component.class ≡ Source → TakesNoMore (e ∷ h) i)) (sym same) (weaker h i e (component_in (in_force h) i) closing)
+
+-- and where the hub noted such an entry
+pub shut_on : {P : Type 0} (d e : Hub P) (i : ℕ) (entry : Entry) → Noted d.log entry e.log → in_force (entry ∷ d.log.history) ≡ in_force d.log.history → e.starved ≡ d.starved → MayShut d i → MayShut e i
+shut_on d e i entry noted same starved may sound =
+    let w = noted.whole sound.whole in
+    subst (λ (h : Record). IsClosing h i) (sym w.1) (closing_on d.log.history i entry same (may (record { whole = w.0; fed = sym starved ∙ sound.fed })))
+
+-- the end of all, of this read or of one before
+pub ended_here : (t e b r : Bool) (over : Bool) → t ≡ true → over ≡ (e || b) → b ≡ r → over ≡ ((t && e) || r)
+ended_here true e b r over is so same = so ∙ ap (λ x. e || x) same
+ended_here false e b r over is so same = cc
+
+-- a source that is dry by what is known takes no more
+dry_source : (h : Record) (i bytes : ℕ) (f : Facts) → IsKnown f h i → bytes ≡ capped (bytes_of_all h) → IsSpent f bytes → TakesNoMore h i
+dry_source h i bytes f known same (inl over) = inl (sym known.over ∙ over)
+dry_source h i bytes f known same (inr (inl lost)) = inr (inl (subst IsSome known.lost lost))
+dry_source h i bytes f known same (inr (inr many)) = inr (inr (inl (omega (arith, same, many))))
+
+closing_by : (h : Record) (i bytes : ℕ) (f : Facts) (o : Option Component) → IsKnown f h i → bytes ≡ capped (bytes_of_all h) → IsSomeAnd o (λ component. f.class ≡ component.class) →
+    (f.class ≡ Source → IsSpent f bytes) → IfSome o (λ component. component.class ≡ Source → TakesNoMore h i)
+closing_by h i bytes f None known same class dry = tt
+closing_by h i bytes f (Some component) known same class dry = λ source. dry_source h i bytes f known same (dry (class ∙ source))
+
+closing_if : (h : Record) (i bytes : ℕ) (o : Option Facts) → IsSome o → IfSome o (λ f. IsKnown f h i) → bytes ≡ capped (bytes_of_all h) → IfSome o (λ f. f.class ≡ Source → IsSpent f bytes) → IsClosing h i
+closing_if h i bytes None there known same dry = cc
+closing_if h i bytes (Some f) there known same dry = closing_by h i bytes f (component_in (in_force h) i) known same known.class dry
+
+-- an instance that is dry by what the hub knows may be closed
+pub shut_of_dry : {P : Type 0} (told_by : P → Told) (hub : Hub P) (hand : List Copy) (i : ℕ) → Stands told_by hub hand hub.log.history → IsSome (facts_at hub.facts.items i) → IsDry hub i → MayShut hub i
+shut_of_dry told_by hub hand i stands there dry sound =
+    let r = stands.recorded sound in
+    closing_if hub.log.history i hub.bytes (facts_at hub.facts.items i) there (r.facts i) r.bytes dry
+
+-- an instance of a run that was given up may be closed
+given_closing : (h : Record) (i : ℕ) (o : Option Component) → IsSome (cause_of h) → IfSome o (λ component. component.class ≡ Source → TakesNoMore h i)
+given_closing h i None given = tt
+given_closing h i (Some component) given = λ source. inr (inr (inr given))
+
+pub shut_given_up : {P : Type 0} (told_by : P → Told) (hub : Hub P) (hand : List Copy) (i : ℕ) → Stands told_by hub hand hub.log.history → IsSome hub.abandoned → MayShut hub i
+shut_given_up told_by hub hand i stands given sound =
+    given_closing hub.log.history i (component_in (in_force hub.log.history) i) (subst IsSome (stands.recorded sound).cause given)
+
+-- the class of an instance by what is known of it
+class_is : (o : Option Component) (x y : Class) → IsSomeAnd o (λ component. x ≡ component.class) → x ≡ y → IsSomeAnd o (λ component. component.class ≡ y)
+class_is None x y same is = absurd same
+class_is (Some component) x y same is = sym same ∙ is
+
+pub class_known : (h : Record) (i : ℕ) (f : Facts) → IsKnown f h i → f.class ≡ Source → IsOfClass h i Source
+class_known h i f known source = class_is (component_in (in_force h) i) f.class Source known.class source
+
+pub sink_known : (h : Record) (i : ℕ) (o : Option Facts) → IsSomeAnd o (λ f. f.class ≡ Sink) → IfSome o (λ f. IsKnown f h i) → IsOfClass h i Sink
+sink_known h i None sink known = absurd sink
+sink_known h i (Some f) sink known = class_is (component_in (in_force h) i) f.class Sink known.class sink
+
+pub turn_of : (h : Record) (i : ℕ) (f : Facts) → IsKnown f h i → (f.lost ≡ None) × (f.class ≡ Source) → IsTurnOf h i
+turn_of h i f known is = record { unlost = sym known.lost ∙ is.0; source = class_known h i f known is.1 }
+
+-- what is known, by the component of the instance
+known_class : (o : Option Component) (x y : Class) → IsSomeAnd o (λ component. x ≡ component.class) → IsSomeAnd o (λ component. component.class ≡ y) → x ≡ y
+known_class None x y same is = absurd same
+known_class (Some component) x y same is = same ∙ is
+
+-- what was read just now is a source
+pub read_class : (h : Record) (i : ℕ) (f : Facts) → IsOrderly h → IsReadBy h i → IsKnown f h i → f.class ≡ Source
+read_class [] i f order read known = absurd read
+read_class (Read j stream took ∷ h) i f order read known =
+    known_class (component_in (in_force h) i) f.class Source known.class (subst (λ (k : ℕ). IsOfClass h k Source) read order.0.0.source)
+read_class (e ∷ h) i f order read known = absurd read
+
+-- a confirm is of a source
+pub confirm_of : (h : Record) (i : ℕ) (f : Facts) → IsKnown f h i → IfSome f.to_confirm (IsConfirmOf h i)
+confirm_of h i f known = go f.to_confirm known.to_confirm known.confirms
+  where
+    go : (o : Option (List Position)) → IfSome o (λ positions. positions ≡ born_positions h i) → (IsSome o → f.class ≡ Source) → IfSome o (IsConfirmOf h i)
+    go None all source = tt
+    go (Some positions) all source = record { all = all; source = class_known h i f known (source refl) }
+
+-- and stays one behind an entry that bears and installs nothing
+pub confirm_on : (h : Record) (i : ℕ) (e : Entry) (o : Option (List Position)) → born_positions h i ≡ born_positions (e ∷ h) i → in_force (e ∷ h) ≡ in_force h → IfSome o (IsConfirmOf h i) → IfSome o (IsConfirmOf (e ∷ h) i)
+confirm_on h i e None born same is = tt
+confirm_on h i e (Some positions) born same is = record { all = is.all ∙ born; source = subst (λ (p : Option Plan). IsSomeAnd (component_in p i) (λ component. component.class ≡ Source)) (sym same) is.source }
+
+pub taken_none : (o : Option (List Position)) → o ≡ None → IsSome o → ⊥
+taken_none None is some = cc
+taken_none (Some positions) is some = cc

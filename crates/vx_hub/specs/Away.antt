@@ -1,0 +1,15 @@
+-- An instance that was leased and comes home.
+use Rattle.std.specs.Prelude.{◌≡◌, ℕ, true, IsSome}
+use Rattle.vx_record.specs.Turns.{is_out}
+use Rattle.vx_hub.specs.declared.hub.Hub.{Hub}
+use Rattle.vx_hub.specs.Rows.{port_at}
+use Rattle.vx_hub.specs.Stands.{IsSound}
+
+-- where the record has all that happened, the instance was leased there, and hasn't come home since
+abbrev pub IsAway : {P : Type 0} → Hub P → ℕ → Type 0
+IsAway hub i = IsSound hub → is_out hub.log.history i ≡ true
+
+-- the instance's task is at home already, and the record doesn't tell it yet
+pub record IsReturning {P : Type 0} (hub : Hub P) (i : ℕ) : Type 0 where
+  pub home : IsSome (port_at hub.rows.items i)
+  pub away : IsAway hub i
