@@ -1,0 +1,30 @@
+-- A list of words is at most one command.
+use Rattle.std.proofs.Common.{◌≡◌, ◌∙◌, sym, ap, subst, List, ◌∷◌, codes}
+use Rattle.std.proofs.lemmas.Option.{same_Some}
+use Rattle.vx_value.specs.Texts.{Word}
+use Rattle.vx_cli.specs.Commands.{HasValue, IsCommand, IsNoCommand, IsValidate}
+use Rattle.vx_cli.specs.Grammars.{validate_grammar}
+use Rattle.vx_cli.specs.declared.command.Command.{Command}
+use Rattle.vx_cli.specs.declared.command.Command.TheVariants.{Run, Validate}
+
+-- the words behind the first are no others
+same_rest : (w : Word) (s t : List Word) → w ∷ s ≡ w ∷ t → s ≡ t
+same_rest w s t e = cc
+
+-- the file to judge is no other
+same_path : (words : List Word) (a b : Word) → IsValidate words a → IsValidate words b → a ≡ b
+same_path words a b p q =
+    let rest : p.rest ≡ q.rest = same_rest _ _ _ (sym p.named ∙ q.named) in
+    let path = subst (λ (rest : List Word). HasValue validate_grammar rest (codes "path") a) rest p.path in
+    same_Some a b (sym path ∙ q.path)
+
+pub one_command : (words : List Word) (a b : Command) → IsCommand words a → IsCommand words b → a ≡ b
+one_command words (Run a) (Run b) p q = ap Run (same_Some a b (sym p.config ∙ q.config))
+one_command words (Run a) (Validate b) p q = absurd (p.unnamed q.rest q.named)
+one_command words (Validate a) (Run b) p q = absurd (q.unnamed p.rest p.named)
+one_command words (Validate a) (Validate b) p q = ap Validate (same_path words a b p q)
+
+-- what is in no grammar is no command
+pub never_both : (words : List Word) (command : Command) → IsNoCommand words → IsCommand words command → ⊥
+never_both words (Run file) outside is = outside.run is.unnamed is.taken
+never_both words (Validate file) outside is = outside.validate is.rest is.named is.taken

@@ -1,0 +1,182 @@
+-- How the words of a command are spelled, and lists of words that are none.
+use Rattle.std.proofs.Common.{◌≡◌, ◌≢◌, ℕ, ◌==◌, ap, subst, refl, Bool, true, false, List, [], ◌∷◌, ◌++◌, codes, arith}
+use Rattle.std.proofs.lemmas.Bool.Decides.{nat_tests}
+use Rattle.clap.specs.Words.{App, Kinds, fault_of}
+use Rattle.clap.proofs.OnLiterals.{clap_on_literals}
+use Rattle.vx_value.specs.Texts.{Word}
+use Rattle.vx_cli.specs.Commands.{HasValue, IsCommand, IsNoCommand, IsRun, IsTaken, IsValidate, NamesValidate}
+use Rattle.vx_cli.specs.Grammars.{run_grammar, validate_grammar}
+use Rattle.vx_cli.specs.Spellings.{IsPlain}
+use Rattle.vx_cli.specs.declared.command.Command.TheVariants.{Run, Validate}
+
+-- two numbers are apart by the test
+apart : (a b : ℕ) → (a ≡ b → ⊥) → (a == b) ≡ false
+apart a b h = grind (arith, nat_tests)
+
+-- a plain word's first byte is no hyphen
+no_hyphen : (b : ℕ) (word : Word) → IsPlain (b ∷ word) → (b == 45) ≡ false
+no_hyphen b word plain = apart b 45 (λ e. plain word (ap (λ x. x ∷ word) e))
+
+-- the first byte of the first word
+abbrev first_byte : List Word → ℕ
+first_byte [] = 0
+first_byte ([] ∷ ws) = 0
+first_byte ((b ∷ w) ∷ ws) = b
+
+-- words that begin with another byte than `validate` don't name it
+unnamed : (words : List Word) → (first_byte words == 118) ≡ false → (rest : List Word) → NamesValidate words rest → ⊥
+unnamed words other rest e =
+    let same : first_byte words ≡ 118 = ap first_byte e in
+    let P : ℕ → Type 0 = λ n. (n == 118) ≡ false in
+    let bad : true ≡ false = subst P same other in cc
+
+-- what a run needs
+run_of : (words : List Word) (file : Word) → (first_byte words == 118) ≡ false → IsTaken run_grammar words
+    → HasValue run_grammar words (codes "config") file → IsRun words file
+run_of words file other taken value = record { unnamed = unnamed words other; taken = taken; config = value }
+
+-- what a judging needs
+validate_of : (rest : List Word) (file : Word) → IsTaken validate_grammar rest
+    → HasValue validate_grammar rest (codes "path") file → IsValidate (codes "validate" ∷ rest) file
+validate_of rest file taken value = record { rest = rest; named = refl; taken = taken; path = value }
+
+-- ---- files
+
+long-taken : (file : Word) → IsPlain file → IsTaken run_grammar (codes "--config" ∷ file ∷ [])
+unfolding clap_on_literals
+long-taken [] plain = refl
+long-taken (b ∷ word) plain = simp (no_hyphen b word plain)
+
+long-value : (file : Word) → IsPlain file → HasValue run_grammar (codes "--config" ∷ file ∷ []) (codes "config") file
+unfolding clap_on_literals
+long-value [] plain = refl
+long-value (b ∷ word) plain = simp (no_hyphen b word plain)
+
+short-taken : (file : Word) → IsPlain file → IsTaken run_grammar (codes "-c" ∷ file ∷ [])
+unfolding clap_on_literals
+short-taken [] plain = refl
+short-taken (b ∷ word) plain = simp (no_hyphen b word plain)
+
+short-value : (file : Word) → IsPlain file → HasValue run_grammar (codes "-c" ∷ file ∷ []) (codes "config") file
+unfolding clap_on_literals
+short-value [] plain = refl
+short-value (b ∷ word) plain = simp (no_hyphen b word plain)
+
+validate-taken : (file : Word) → IsPlain file → IsTaken validate_grammar (file ∷ [])
+unfolding clap_on_literals
+validate-taken [] plain = refl
+validate-taken (b ∷ word) plain = simp (no_hyphen b word plain)
+
+validate-value : (file : Word) → IsPlain file → HasValue validate_grammar (file ∷ []) (codes "path") file
+unfolding clap_on_literals
+validate-value [] plain = refl
+validate-value (b ∷ word) plain = simp (no_hyphen b word plain)
+
+pub long : (file : Word) → IsPlain file → IsCommand (codes "--config" ∷ file ∷ []) (Run file)
+long file plain = run_of _ file refl (long-taken file plain) (long-value file plain)
+
+pub long_sign : (file : Word) → IsCommand ((codes "--config=" ++ file) ∷ []) (Run file)
+unfolding clap_on_literals
+long_sign file = run_of _ file refl refl refl
+
+pub short : (file : Word) → IsPlain file → IsCommand (codes "-c" ∷ file ∷ []) (Run file)
+short file plain = run_of _ file refl (short-taken file plain) (short-value file plain)
+
+pub short_sign : (file : Word) → IsCommand ((codes "-c=" ++ file) ∷ []) (Run file)
+unfolding clap_on_literals
+short_sign file = run_of _ file refl refl refl
+
+pub short_at_once : (b : ℕ) (rest : Word) → b ≢ 61 → IsCommand ((codes "-c" ++ b ∷ rest) ∷ []) (Run (b ∷ rest))
+unfolding clap_on_literals
+short_at_once b rest other = run_of _ _ refl (simp (apart b 61 other)) (simp (apart b 61 other))
+
+pub validate : (file : Word) → IsPlain file → IsCommand (codes "validate" ∷ file ∷ []) (Validate file)
+validate file plain = validate_of _ file (validate-taken file plain) (validate-value file plain)
+
+pub behind_dashes : (file : Word) → IsCommand (codes "validate" ∷ codes "--" ∷ file ∷ []) (Validate file)
+unfolding clap_on_literals
+behind_dashes file = validate_of _ file refl refl
+
+-- ---- refusals
+
+-- whether there is a fault
+abbrev is_faulty : Kinds → Bool
+is_faulty [] = false
+is_faulty (k ∷ ks) = true
+
+not_taken : (grammar : App) (words : List Word) → is_faulty (fault_of grammar words) ≡ true → IsTaken grammar words → ⊥
+not_taken grammar words faulty taken =
+    let P : Kinds → Type 0 = λ ks. is_faulty ks ≡ true in
+    let bad : false ≡ true = subst P taken faulty in cc
+
+no_run : (words : List Word) → (first_byte words == 118) ≡ false → is_faulty (fault_of run_grammar words) ≡ true → IsNoCommand words
+no_run words other faulty = record {
+  run = λ _. not_taken run_grammar words faulty;
+  validate = λ rest named _. unnamed words other rest named;
+}
+
+no_validate : (rest : List Word) → is_faulty (fault_of validate_grammar rest) ≡ true → IsNoCommand (codes "validate" ∷ rest)
+no_validate rest faulty = record {
+  run = λ unnamed _. unnamed rest refl;
+  validate = λ others named taken.
+      let same : others ≡ rest = cc (named) in
+      not_taken validate_grammar rest faulty (subst (λ (words : List Word). IsTaken validate_grammar words) same taken);
+}
+
+pub none : IsNoCommand []
+unfolding clap_on_literals
+none = no_run [] refl refl
+
+pub long_alone : IsNoCommand (codes "--config" ∷ [])
+unfolding clap_on_literals
+long_alone = no_run _ refl refl
+
+pub short_alone : IsNoCommand (codes "-c" ∷ [])
+unfolding clap_on_literals
+short_alone = no_run _ refl refl
+
+pub option_as_file : IsNoCommand (codes "--config" ∷ codes "--config" ∷ [])
+unfolding clap_on_literals
+option_as_file = no_run _ refl refl
+
+pub twice : (file other : Word) → IsNoCommand ((codes "--config=" ++ file) ∷ (codes "--config=" ++ other) ∷ [])
+unfolding clap_on_literals
+twice file other = no_run _ refl refl
+
+pub twice_short : (file other : Word) → IsNoCommand ((codes "--config=" ++ file) ∷ (codes "-c=" ++ other) ∷ [])
+unfolding clap_on_literals
+twice_short file other = no_run _ refl refl
+
+more-faulty : (file word : Word) → IsPlain word → is_faulty (fault_of run_grammar ((codes "--config=" ++ file) ∷ word ∷ [])) ≡ true
+unfolding clap_on_literals
+more-faulty file [] plain = refl
+more-faulty file (b ∷ word) plain = simp (no_hyphen b word plain)
+
+pub more : (file word : Word) → IsPlain word → IsNoCommand ((codes "--config=" ++ file) ∷ word ∷ [])
+more file word plain = no_run _ refl (more-faulty file word plain)
+
+pub validate_alone : IsNoCommand (codes "validate" ∷ [])
+unfolding clap_on_literals
+validate_alone = no_validate [] refl
+
+two-faulty : (file word : Word) → IsPlain file → IsPlain word → is_faulty (fault_of validate_grammar (file ∷ word ∷ [])) ≡ true
+unfolding clap_on_literals
+two-faulty [] [] p q = refl
+two-faulty [] (b ∷ word) p q = simp (no_hyphen b word q)
+two-faulty (a ∷ file) [] p q = simp (no_hyphen a file p)
+two-faulty (a ∷ file) (b ∷ word) p q = simp (no_hyphen a file p, no_hyphen b word q)
+
+pub validate_two : (file word : Word) → IsPlain file → IsPlain word → IsNoCommand (codes "validate" ∷ file ∷ word ∷ [])
+validate_two file word p q = no_validate _ (two-faulty file word p q)
+
+pub validate_option : (file : Word) → IsNoCommand (codes "validate" ∷ (codes "--config=" ++ file) ∷ [])
+unfolding clap_on_literals
+validate_option file = no_validate _ refl
+
+pub help : IsNoCommand (codes "--help" ∷ []) × IsNoCommand (codes "-h" ∷ [])
+unfolding clap_on_literals
+help = (no_run _ refl refl, no_run _ refl refl)
+
+pub version : IsNoCommand (codes "--version" ∷ []) × IsNoCommand (codes "-V" ∷ [])
+unfolding clap_on_literals
+version = (no_run _ refl refl, no_run _ refl refl)

@@ -1,0 +1,18 @@
+use Rattle.vx_cli.proofs.Spelled.{none, long_alone, short_alone, option_as_file, twice, twice_short, more, validate_alone, validate_two, validate_option, help, version}
+use Rattle.vx_cli.proofs.laws.refusals.Goals as goal
+
+pub returns : goal.returns
+returns c = record {
+  none = none;
+  long_alone = long_alone;
+  short_alone = short_alone;
+  option_as_file = option_as_file;
+  twice = twice;
+  twice_short = twice_short;
+  more = more;
+  validate_alone = validate_alone;
+  validate_two = validate_two;
+  validate_option = validate_option;
+  help = help;
+  version = version;
+}

@@ -1,0 +1,13 @@
+use Rattle.vx_cli.proofs.Spelled.{long, long_sign, short, short_sign, short_at_once, validate, behind_dashes}
+use Rattle.vx_cli.proofs.laws.spellings.Goals as goal
+
+pub returns : goal.returns
+returns c = record {
+  long = long;
+  long_sign = long_sign;
+  short = short;
+  short_sign = short_sign;
+  short_at_once = short_at_once;
+  validate = validate;
+  behind_dashes = behind_dashes;
+}

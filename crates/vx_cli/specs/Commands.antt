@@ -1,0 +1,44 @@
+-- Which command a list of words is.
+use Rattle.std.specs.Prelude.{◌≡◌, Some, List, [], ◌∷◌, codes}
+use Rattle.clap.specs.Walk.{first_of}
+use Rattle.clap.specs.Simple.{App, matches_of}
+use Rattle.clap.specs.Faults.{fault_of}
+use Rattle.vx_value.specs.Texts.{Word}
+use Rattle.vx_cli.specs.Grammars.{run_grammar, validate_grammar}
+use Rattle.vx_cli.specs.declared.command.Command.{Command}
+use Rattle.vx_cli.specs.declared.command.Command.TheVariants.{Run, Validate}
+
+-- the words name the command `validate`, and the rest is its words
+abbrev pub NamesValidate : List Word → List Word → Type 0
+NamesValidate words rest = words ≡ codes "validate" ∷ rest
+
+-- a grammar has the words
+abbrev pub IsTaken : App → List Word → Type 0
+IsTaken grammar words = fault_of grammar words ≡ []
+
+-- the value of an argument, by its name, in words that a grammar has
+abbrev pub HasValue : App → List Word → Word → Word → Type 0
+HasValue grammar words name value = first_of name (matches_of grammar words) ≡ Some value
+
+-- the words run the pipeline of a file
+pub record IsRun (words : List Word) (file : Word) : Type 0 where
+  pub unnamed : (rest : List Word) → NamesValidate words rest → ⊥
+  pub taken : IsTaken run_grammar words
+  pub config : HasValue run_grammar words (codes "config") file
+
+-- the words judge the configuration in a file
+pub record IsValidate (words : List Word) (file : Word) : Type 0 where
+  pub rest : List Word
+  pub named : NamesValidate words rest
+  pub taken : IsTaken validate_grammar rest
+  pub path : HasValue validate_grammar rest (codes "path") file
+
+-- the words are that command
+abbrev pub IsCommand : List Word → Command → Type 0
+IsCommand words (Run config) = IsRun words config
+IsCommand words (Validate path) = IsValidate words path
+
+-- the words are in no command's grammar
+pub record IsNoCommand (words : List Word) : Type 0 where
+  pub run : ((rest : List Word) → NamesValidate words rest → ⊥) → IsTaken run_grammar words → ⊥
+  pub validate : (rest : List Word) → NamesValidate words rest → IsTaken validate_grammar rest → ⊥

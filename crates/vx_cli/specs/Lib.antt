@@ -1,0 +1,5 @@
+pub mod Building
+pub mod Commands
+pub mod Faults
+pub mod Grammars
+pub mod Spellings
