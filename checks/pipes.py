@@ -176,9 +176,16 @@ def ends_that_fail():
 
 def refusals():
     """Words, files and configurations that aren't accepted, with their texts and statuses."""
-    for words in [[], ["--config"], ["--config", FIRST, "more"], ["-x"], ["--konfig", FIRST], [b"--config", b"\xff"]]:
+    for words in [
+        [], ["--config"], ["--config", FIRST, "more"], ["-x"], ["--konfig", FIRST], [b"--config", b"\xff"],
+        ["-c", FIRST, "-c", FIRST], ["--config", "--config"], ["--help"], ["-V"],
+        ["validate"], ["validate", FIRST, FIRST], ["validate", "--config", FIRST], ["--config", FIRST, "validate"],
+    ]:
         seen = run(b"a\n", words)
-        check(f"words {words!r:.40}", seen == (64, b"", USAGE), seen)
+        check(f"words {[str(word)[-20:] for word in words]}", seen == (64, b"", USAGE), seen)
+    for words in [["-c", FIRST], [f"-c{FIRST}"], [f"--config={FIRST}"]]:
+        seen = run(b"a\n", words)
+        check(f"words {[word[:10] for word in words]}", seen == (0, b"a\n", b""), seen)
     with tempfile.TemporaryDirectory() as folder:
         seen = run(b"a\n", ["--config", "none.toml"], cwd=folder)
         check("no such file", seen == (74, b"", b"vector: cannot read none.toml\n"), seen)
@@ -214,6 +221,21 @@ def consoles():
         check("255 consoles", (seen[0], sorted(seen[1].split()), seen[2]) == (0, [b"a"] * 255 + [b"b"] * 255, b""), seen[0])
 
 
+def judgements():
+    """The command that judges a configuration, and runs nothing."""
+    seen = run(b"a\n", ["validate", TWO])
+    check("a judged configuration", seen == (0, b"valid: 1 sources, 0 transforms, 2 sinks\n", b""), seen)
+    seen = run(b"a\n", ["validate", TWO], variables={b"SECOND": b"nowhere"})
+    check("a judged configuration that is refused", seen == (78, b"", b"vector: configuration refused: bad value at sinks.second.target\n"), seen)
+    seen = run(b"a\n", ["validate", "/none.toml"])
+    check("a judged configuration that isn't there", seen == (74, b"", b"vector: cannot read /none.toml\n"), seen)
+    with open("/dev/full", "wb") as full:
+        ran = subprocess.run([PROGRAM, "validate", TWO], stdin=subprocess.DEVNULL, stdout=full, stderr=subprocess.PIPE, timeout=PATIENCE)
+    check("a judgement that can't be printed", (ran.returncode, ran.stderr) == (74, b""), (ran.returncode, ran.stderr[:200]))
+    ran = subprocess.run(["sh", "-c", f'exec "{PROGRAM}" validate "{TWO}" >&-'], stdin=subprocess.DEVNULL, stderr=subprocess.PIPE, timeout=PATIENCE)
+    check("a judgement onto a closed output", (ran.returncode, ran.stderr) == (74, b""), (ran.returncode, ran.stderr[:200]))
+
+
 def built():
     """Has the program built where it has to be, however long that takes, and says whether it stands."""
     ran = subprocess.run([PROGRAM], stdin=subprocess.DEVNULL, capture_output=True)
@@ -226,7 +248,7 @@ def main():
     if not built():
         print("0 passed, 1 failed")
         return 1
-    for part in [refusals, consoles, inputs, bytes_of_all_kinds, lines_as_they_come, a_reader_that_leaves, ends_that_fail, many_lines]:
+    for part in [refusals, consoles, judgements, inputs, bytes_of_all_kinds, lines_as_they_come, a_reader_that_leaves, ends_that_fail, many_lines]:
         part()
     failed = results.count(False)
     print(f"{results.count(True)} passed, {failed} failed")

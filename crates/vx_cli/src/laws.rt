@@ -13,8 +13,8 @@ pub fn one_command()
 
 /// How a file is named: by each spelling of the option, and to `validate`.
 ///
-/// Behind `=`, and behind the `--` of `validate`, it is any word. Else it doesn't begin with a hyphen; and right
-/// behind `-c` it has a byte, and doesn't begin with `=`.
+/// Behind `=`, and behind the `--` of `validate`, it is any word. Right behind `-c` it has a byte, and doesn't begin
+/// with `=`. As a word of its own it is shown here only where it doesn't begin with a hyphen.
 pub fn spellings()
     ensures long { (file : Word) → IsPlain file → IsCommand (codes "--config" ∷ file ∷ []) (Run file) }
     ensures long_sign { (file : Word) → IsCommand ((codes "--config=" ++ file) ∷ []) (Run file) }

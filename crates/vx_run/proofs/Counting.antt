@@ -26,7 +26,7 @@ use Rattle.vx_run.specs.Answers.{IsReady, IsAnswer, IsJudged, NoneLost, WentOn, 
 use Rattle.vx_run.specs.Running.{IsTrueTo, HasInstalled, IsInForce, AreKept, AreNoticed, AllRead, AllReadOrLost, IsReadOut, AreEnded, IsCounted, HasAll, HasEach, NoneMissing}
 use Rattle.vx_run.specs.Telling.{IsKept}
 use Rattle.vx_run.specs.declared.fault.Fault.{Fault}
-use Rattle.vx_run.specs.declared.fault.Fault.TheVariants.{Usage, ConfigRead, ConfigRefused, Numbers, TooLong, SourceFailed, ConfirmFailed, WantOfMemory}
+use Rattle.vx_run.specs.declared.fault.Fault.TheVariants.{Usage, ConfigRead, ConfigRefused, Numbers, TooLong, SourceFailed, ConfirmFailed, PrintFailed, WantOfMemory}
 
 -- what is counted of a record is what is counted, whatever the fault
 pub counted_so : (h : Record) (n : ℕ) (tallies : List Tally) (fault : Option Fault) → tallies ≡ tallies_of h n → IsCounted h n tallies fault
@@ -37,6 +37,7 @@ counted_so h n tallies (Some (ConfigRead path)) so = so
 counted_so h n tallies (Some (ConfigRefused f)) so = so
 counted_so h n tallies (Some (Numbers next wanted)) so = so
 counted_so h n tallies (Some TooLong) so = so
+counted_so h n tallies (Some PrintFailed) so = so
 counted_so h n tallies (Some (SourceFailed name at)) so = so
 counted_so h n tallies (Some (ConfirmFailed name)) so = so
 
@@ -49,6 +50,7 @@ counted_short h n tallies (Some (ConfigRead path)) so = inl so
 counted_short h n tallies (Some (ConfigRefused f)) so = inl so
 counted_short h n tallies (Some (Numbers next wanted)) so = inl so
 counted_short h n tallies (Some TooLong) so = inl so
+counted_short h n tallies (Some PrintFailed) so = inl so
 counted_short h n tallies (Some (SourceFailed name at)) so = inl so
 counted_short h n tallies (Some (ConfirmFailed name)) so = inl so
 
@@ -60,6 +62,7 @@ counted_kept h n tallies fault (Some (ConfigRead path)) kept so = subst (λ (f :
 counted_kept h n tallies fault (Some (ConfigRefused f)) kept so = subst (λ (f : Option Fault). IsCounted h n tallies f) kept so
 counted_kept h n tallies fault (Some (Numbers next wanted)) kept so = subst (λ (f : Option Fault). IsCounted h n tallies f) kept so
 counted_kept h n tallies fault (Some TooLong) kept so = subst (λ (f : Option Fault). IsCounted h n tallies f) kept so
+counted_kept h n tallies fault (Some PrintFailed) kept so = subst (λ (f : Option Fault). IsCounted h n tallies f) kept so
 counted_kept h n tallies fault (Some (SourceFailed name at)) kept so = subst (λ (f : Option Fault). IsCounted h n tallies f) kept so
 counted_kept h n tallies fault (Some (ConfirmFailed name)) kept so = subst (λ (f : Option Fault). IsCounted h n tallies f) kept so
 
@@ -82,6 +85,7 @@ true_of told_by hub h ports (Some (ConfigRead path)) sure told order = (told sur
 true_of told_by hub h ports (Some (ConfigRefused f)) sure told order = (told sure, order sure)
 true_of told_by hub h ports (Some (Numbers next wanted)) sure told order = (told sure, order sure)
 true_of told_by hub h ports (Some TooLong) sure told order = (told sure, order sure)
+true_of told_by hub h ports (Some PrintFailed) sure told order = (told sure, order sure)
 true_of told_by hub h ports (Some (SourceFailed name at)) sure told order = (told sure, order sure)
 true_of told_by hub h ports (Some (ConfirmFailed name)) sure told order = (told sure, order sure)
 
@@ -94,6 +98,7 @@ kept_of hub h (Some (ConfigRead path)) sure one spent = (one sure, spent sure)
 kept_of hub h (Some (ConfigRefused f)) sure one spent = (one sure, spent sure)
 kept_of hub h (Some (Numbers next wanted)) sure one spent = (one sure, spent sure)
 kept_of hub h (Some TooLong) sure one spent = (one sure, spent sure)
+kept_of hub h (Some PrintFailed) sure one spent = (one sure, spent sure)
 kept_of hub h (Some (SourceFailed name at)) sure one spent = (one sure, spent sure)
 kept_of hub h (Some (ConfirmFailed name)) sure one spent = (one sure, spent sure)
 
@@ -118,6 +123,7 @@ kept_none h (Some (ConfigRead path)) none = (subst HasOnePlace (sym none) none_p
 kept_none h (Some (ConfigRefused f)) none = (subst HasOnePlace (sym none) none_placed, subst AllSpent (sym none) none_spent)
 kept_none h (Some (Numbers next wanted)) none = (subst HasOnePlace (sym none) none_placed, subst AllSpent (sym none) none_spent)
 kept_none h (Some TooLong) none = (subst HasOnePlace (sym none) none_placed, subst AllSpent (sym none) none_spent)
+kept_none h (Some PrintFailed) none = (subst HasOnePlace (sym none) none_placed, subst AllSpent (sym none) none_spent)
 kept_none h (Some (SourceFailed name at)) none = (subst HasOnePlace (sym none) none_placed, subst AllSpent (sym none) none_spent)
 kept_none h (Some (ConfirmFailed name)) none = (subst HasOnePlace (sym none) none_placed, subst AllSpent (sym none) none_spent)
 
@@ -129,6 +135,7 @@ kept_told h fault (Some (ConfigRead path)) same kept = subst (λ (f : Option Fau
 kept_told h fault (Some (ConfigRefused f)) same kept = subst (λ (f : Option Fault). AreKept h f) same kept
 kept_told h fault (Some (Numbers next wanted)) same kept = subst (λ (f : Option Fault). AreKept h f) same kept
 kept_told h fault (Some TooLong) same kept = subst (λ (f : Option Fault). AreKept h f) same kept
+kept_told h fault (Some PrintFailed) same kept = subst (λ (f : Option Fault). AreKept h f) same kept
 kept_told h fault (Some (SourceFailed name at)) same kept = subst (λ (f : Option Fault). AreKept h f) same kept
 kept_told h fault (Some (ConfirmFailed name)) same kept = subst (λ (f : Option Fault). AreKept h f) same kept
 
@@ -141,6 +148,7 @@ force_of hub plan h (Some (ConfigRead path)) sure is = is sure
 force_of hub plan h (Some (ConfigRefused f)) sure is = is sure
 force_of hub plan h (Some (Numbers next wanted)) sure is = is sure
 force_of hub plan h (Some TooLong) sure is = is sure
+force_of hub plan h (Some PrintFailed) sure is = is sure
 force_of hub plan h (Some (SourceFailed name at)) sure is = is sure
 force_of hub plan h (Some (ConfirmFailed name)) sure is = is sure
 
@@ -150,16 +158,17 @@ force_short plan h fault counted (inr short) is = subst (λ (f : Option Fault). 
 
 -- and so the plan that the words ask for
 pub installed_for : (words : List Word) (environment : List Variable) (texts : Option (List Config)) (plan : Plan) (h : Record) (fault : Option Fault) →
-    IsReady words environment texts plan → IsInForce plan h fault → HasInstalled words environment texts h fault
-installed_for words environment texts plan h None ready is = record { plan = plan; ready = ready; installed = is }
-installed_for words environment texts plan h (Some WantOfMemory) ready is = tt
-installed_for words environment texts plan h (Some Usage) ready is = tt
-installed_for words environment texts plan h (Some (ConfigRead path)) ready is = tt
-installed_for words environment texts plan h (Some (ConfigRefused f)) ready is = tt
-installed_for words environment texts plan h (Some (Numbers next wanted)) ready is = record { plan = plan; ready = ready; installed = is }
-installed_for words environment texts plan h (Some TooLong) ready is = record { plan = plan; ready = ready; installed = is }
-installed_for words environment texts plan h (Some (SourceFailed name at)) ready is = record { plan = plan; ready = ready; installed = is }
-installed_for words environment texts plan h (Some (ConfirmFailed name)) ready is = record { plan = plan; ready = ready; installed = is }
+    IsReady words environment texts plan → IsJudged h fault → IsInForce plan h fault → HasInstalled words environment texts h fault
+installed_for words environment texts plan h None ready judged is = inl (record { plan = plan; ready = ready; installed = is })
+installed_for words environment texts plan h (Some WantOfMemory) ready judged is = tt
+installed_for words environment texts plan h (Some Usage) ready judged is = tt
+installed_for words environment texts plan h (Some (ConfigRead path)) ready judged is = tt
+installed_for words environment texts plan h (Some (ConfigRefused f)) ready judged is = tt
+installed_for words environment texts plan h (Some (Numbers next wanted)) ready judged is = record { plan = plan; ready = ready; installed = is }
+installed_for words environment texts plan h (Some TooLong) ready judged is = record { plan = plan; ready = ready; installed = is }
+installed_for words environment texts plan h (Some PrintFailed) ready judged is = absurd judged
+installed_for words environment texts plan h (Some (SourceFailed name at)) ready judged is = record { plan = plan; ready = ready; installed = is }
+installed_for words environment texts plan h (Some (ConfirmFailed name)) ready judged is = record { plan = plan; ready = ready; installed = is }
 
 -- what is judged of a run that began is its answer
 pub answered : (words : List Word) (environment : List Variable) (texts : Option (List Config)) (before now : ℕ) (h : Record) (fault : Option Fault) →
@@ -171,6 +180,7 @@ answered words environment texts before now h (Some (ConfigRead path)) judged = 
 answered words environment texts before now h (Some (ConfigRefused f)) judged = absurd judged
 answered words environment texts before now h (Some (Numbers next wanted)) judged = judged
 answered words environment texts before now h (Some TooLong) judged = judged
+answered words environment texts before now h (Some PrintFailed) judged = absurd judged
 answered words environment texts before now h (Some (SourceFailed name at)) judged = judged
 answered words environment texts before now h (Some (ConfirmFailed name)) judged = judged
 
@@ -180,7 +190,7 @@ there plan h ports is all = subst (λ (found : Option Plan). IsSomeAnd found (Ha
 
 pub none_missing_for : {P : Type 0} (words : List Word) (environment : List Variable) (texts : Option (List Config)) (plan : Plan) (h : Record) (ports : List (Numbered P)) (fault : Option Fault) →
     IsReady words environment texts plan → IsJudged h fault → IsInForce plan h fault → HasEach plan h ports fault → NoneMissing words environment texts h ports fault
-none_missing_for words environment texts plan h ports None ready judged is each = there plan h ports is each
+none_missing_for words environment texts plan h ports None ready judged is each = inl (there plan h ports is each)
 none_missing_for words environment texts plan h ports (Some WantOfMemory) ready judged is (inl unbegun) = inl unbegun
 none_missing_for words environment texts plan h ports (Some WantOfMemory) ready judged is (inr all) = inr (record { plan = plan; ready = ready; each = all })
 none_missing_for words environment texts plan h ports (Some Usage) ready judged is each = absurd judged
@@ -188,6 +198,7 @@ none_missing_for words environment texts plan h ports (Some (ConfigRead path)) r
 none_missing_for words environment texts plan h ports (Some (ConfigRefused f)) ready judged is each = absurd judged
 none_missing_for words environment texts plan h ports (Some (Numbers next wanted)) ready judged is each = there plan h ports is each
 none_missing_for words environment texts plan h ports (Some TooLong) ready judged is each = there plan h ports is each
+none_missing_for words environment texts plan h ports (Some PrintFailed) ready judged is each = absurd judged
 none_missing_for words environment texts plan h ports (Some (SourceFailed name at)) ready judged is each = there plan h ports is each
 none_missing_for words environment texts plan h ports (Some (ConfirmFailed name)) ready judged is each = there plan h ports is each
 
@@ -200,6 +211,7 @@ each_of plan h ports (Some (ConfigRead path)) all = all
 each_of plan h ports (Some (ConfigRefused f)) all = all
 each_of plan h ports (Some (Numbers next wanted)) all = all
 each_of plan h ports (Some TooLong) all = all
+each_of plan h ports (Some PrintFailed) all = all
 each_of plan h ports (Some (SourceFailed name at)) all = all
 each_of plan h ports (Some (ConfirmFailed name)) all = all
 
@@ -212,6 +224,7 @@ noticed_of hub h (Some (ConfigRead path)) sure has = has sure
 noticed_of hub h (Some (ConfigRefused f)) sure has = has sure
 noticed_of hub h (Some (Numbers next wanted)) sure has = has sure
 noticed_of hub h (Some TooLong) sure has = has sure
+noticed_of hub h (Some PrintFailed) sure has = has sure
 noticed_of hub h (Some (SourceFailed name at)) sure has = has sure
 noticed_of hub h (Some (ConfirmFailed name)) sure has = has sure
 
@@ -240,6 +253,7 @@ noticed_none h (Some (ConfigRead path)) none = subst HasNotices (sym none) none_
 noticed_none h (Some (ConfigRefused f)) none = subst HasNotices (sym none) none_noticed
 noticed_none h (Some (Numbers next wanted)) none = subst HasNotices (sym none) none_noticed
 noticed_none h (Some TooLong) none = subst HasNotices (sym none) none_noticed
+noticed_none h (Some PrintFailed) none = subst HasNotices (sym none) none_noticed
 noticed_none h (Some (SourceFailed name at)) none = subst HasNotices (sym none) none_noticed
 noticed_none h (Some (ConfirmFailed name)) none = subst HasNotices (sym none) none_noticed
 
@@ -305,6 +319,7 @@ read_of hub plan h n (Some (ConfigRead path)) sure force size done judged = tt
 read_of hub plan h n (Some (ConfigRefused f)) sure force size done judged = tt
 read_of hub plan h n (Some (Numbers next wanted)) sure force size done judged = tt
 read_of hub plan h n (Some TooLong) sure force size done judged = tt
+read_of hub plan h n (Some PrintFailed) sure force size done judged = tt
 read_of hub plan h n (Some (SourceFailed name at)) sure force size done judged = all_read_or_lost plan h n (force sure) size (done sure) judged.0 judged.1.0
 read_of hub plan h n (Some (ConfirmFailed name)) sure force size done judged = all_read plan h n (force sure) size (done sure) judged.0 judged.1.0 judged.1.1.0
 
@@ -321,6 +336,7 @@ read_told h fault (Some (ConfigRead path)) kept read = tt
 read_told h fault (Some (ConfigRefused f)) kept read = tt
 read_told h fault (Some (Numbers next wanted)) kept read = tt
 read_told h fault (Some TooLong) kept read = tt
+read_told h fault (Some PrintFailed) kept read = tt
 read_told h fault (Some (SourceFailed name at)) kept read = subst (λ (f : Option Fault). IsReadOut h f) kept read
 read_told h fault (Some (ConfirmFailed name)) kept read = subst (λ (f : Option Fault). IsReadOut h f) kept read
 
@@ -336,6 +352,7 @@ read_none h fault none = subst (λ (k : Record). IsReadOut k fault) (sym none) (
     empty (Some (ConfigRefused f)) = tt
     empty (Some (Numbers next wanted)) = tt
     empty (Some TooLong) = tt
+    empty (Some PrintFailed) = tt
     empty (Some (SourceFailed name at)) = λ i. tt
     empty (Some (ConfirmFailed name)) = λ i. tt
 
@@ -348,6 +365,7 @@ ended_of hub h n (Some (ConfigRead path)) sure has = has sure
 ended_of hub h n (Some (ConfigRefused f)) sure has = has sure
 ended_of hub h n (Some (Numbers next wanted)) sure has = has sure
 ended_of hub h n (Some TooLong) sure has = has sure
+ended_of hub h n (Some PrintFailed) sure has = has sure
 ended_of hub h n (Some (SourceFailed name at)) sure has = has sure
 ended_of hub h n (Some (ConfirmFailed name)) sure has = has sure
 
@@ -364,5 +382,10 @@ ended_none h n (Some (ConfigRead path)) none = λ i l. absurd (omega (arith, l, 
 ended_none h n (Some (ConfigRefused f)) none = λ i l. absurd (omega (arith, l, none))
 ended_none h n (Some (Numbers next wanted)) none = λ i l. absurd (omega (arith, l, none))
 ended_none h n (Some TooLong) none = λ i l. absurd (omega (arith, l, none))
+ended_none h n (Some PrintFailed) none = λ i l. absurd (omega (arith, l, none))
 ended_none h n (Some (SourceFailed name at)) none = λ i l. absurd (omega (arith, l, none))
 ended_none h n (Some (ConfirmFailed name)) none = λ i l. absurd (omega (arith, l, none))
+
+-- what is judged of a run is no failed print
+pub judged_unprinted : (h : Record) (fault : Option Fault) → IsJudged h fault → (fault ≡ Some PrintFailed → ⊥)
+judged_unprinted h fault judged is = subst (λ (f : Option Fault). IsJudged h f) is judged

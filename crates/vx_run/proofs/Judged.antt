@@ -12,7 +12,7 @@ use Rattle.vx_hub.specs.declared.hub.Hub.{Hub}
 use Rattle.vx_hub.specs.declared.facts.Facts.{Facts}
 use Rattle.vx_hub.specs.Stands.{Stands, IsSound, IsKnown, component_in, facts_at, lost_of, lost_at, unconfirmed_of, cause_of}
 use Rattle.vx_run.specs.declared.fault.Fault.{Fault}
-use Rattle.vx_run.specs.declared.fault.Fault.TheVariants.{Usage, ConfigRead, ConfigRefused, Numbers, TooLong, SourceFailed, ConfirmFailed, WantOfMemory}
+use Rattle.vx_run.specs.declared.fault.Fault.TheVariants.{Usage, ConfigRead, ConfigRefused, Numbers, TooLong, SourceFailed, ConfirmFailed, PrintFailed, WantOfMemory}
 use Rattle.vx_run.specs.Answers.{component_at, IsJudged, NoneLost, AllConfirmed, WentOn}
 use Rattle.std.specs.Prelude.{nat_lt, Bool}
 use Rattle.std.proofs.lemmas.Bool.Decides.{nat_tests}
@@ -65,6 +65,7 @@ judged_lost h plan i at (ConfigRead path) force goes few lost least named = absu
 judged_lost h plan i at (ConfigRefused f) force goes few lost least named = absurd named
 judged_lost h plan i at (Numbers next wanted) force goes few lost least named = absurd named
 judged_lost h plan i at TooLong force goes few lost least named = absurd named
+judged_lost h plan i at PrintFailed force goes few lost least named = absurd named
 judged_lost h plan i at (SourceFailed name n) force goes few lost least named =
     (goes, (few, (i, record { least = least; lost = lost ∙ subst (λ (m : ℕ). Some at ≡ Some m) (sym named.0) refl; named = named_there h plan i name force named.1 })))
 judged_lost h plan i at (ConfirmFailed name) force goes few lost least named = absurd named
@@ -97,6 +98,7 @@ judged_unconfirmed h plan i (ConfigRead path) force goes few kept failed least n
 judged_unconfirmed h plan i (ConfigRefused f) force goes few kept failed least named = absurd named
 judged_unconfirmed h plan i (Numbers next wanted) force goes few kept failed least named = absurd named
 judged_unconfirmed h plan i TooLong force goes few kept failed least named = absurd named
+judged_unconfirmed h plan i PrintFailed force goes few kept failed least named = absurd named
 judged_unconfirmed h plan i (SourceFailed name n) force goes few kept failed least named = absurd named
 judged_unconfirmed h plan i (ConfirmFailed name) force goes few kept failed least named = (goes, (few, (kept, (i, record { failed = failed; least = least; named = named_there h plan i name force named }))))
 judged_unconfirmed h plan i WantOfMemory force goes few kept failed least named = tt
@@ -132,5 +134,6 @@ sure_of hub (Some (ConfigRead path)) sound = sound
 sure_of hub (Some (ConfigRefused f)) sound = sound
 sure_of hub (Some (Numbers next wanted)) sound = sound
 sure_of hub (Some TooLong) sound = sound
+sure_of hub (Some PrintFailed) sound = sound
 sure_of hub (Some (SourceFailed name at)) sound = sound
 sure_of hub (Some (ConfirmFailed name)) sound = sound

@@ -1,3 +1,3 @@
 pub mod Judged
 pub mod Prepared
-mod Counting
+pub mod Counting

@@ -1,5 +1,5 @@
 -- What each answer of a run says.
-use Rattle.std.specs.Prelude.{◌≡◌, ◌≢◌, ℕ, ◌<◌, ◌≤◌, ◌^◌, true, false, List, Option, Some, None, IsSomeAnd, Ok, Err}
+use Rattle.std.specs.Prelude.{◌≡◌, ◌≢◌, ℕ, ◌<◌, ◌≤◌, ◌^◌, ◌⊎◌, true, false, List, Option, Some, None, IsSomeAnd, Ok, Err}
 use Rattle.vx_value.specs.Texts.{Word}
 use Rattle.vx_value.specs.declared.variable.Variable.{Variable}
 use Rattle.vx_ends.specs.Told.{Rose}
@@ -17,27 +17,44 @@ use Rattle.vx_record.specs.Confirms.{is_unconfirmed}
 use Rattle.vx_record.specs.declared.abandon_cause.AbandonCause.TheVariants as cause
 use Rattle.vx_hub.specs.Stands.{component_in, lost_at, cause_of}
 use Rattle.vx_run.specs.declared.fault.Fault.{Fault}
-use Rattle.vx_run.specs.declared.fault.Fault.TheVariants.{Usage, ConfigRead, ConfigRefused, Numbers, TooLong, SourceFailed, ConfirmFailed, WantOfMemory}
-use Rattle.vx_run.specs.Words.{IsRun, AsksRun}
+use Rattle.vx_run.specs.declared.fault.Fault.TheVariants.{Usage, ConfigRead, ConfigRefused, Numbers, TooLong, SourceFailed, ConfirmFailed, PrintFailed, WantOfMemory}
+use Rattle.vx_cli.specs.Commands.{IsCommand, IsNoCommand}
+use Rattle.vx_cli.specs.declared.command.Command.TheVariants.{Run, Validate}
 
--- the words ask for a run of a file, which has these bytes where the world tells its texts
-pub record IsAsked (words : List Word) (texts : Option (List Config)) (bytes : Word) : Type 0 where
-  pub file : Word
-  pub asked : IsRun words file
+-- the words ask for a run of a file, or for a judgement of it
+abbrev pub NamesFile : List Word → Word → Type 0
+NamesFile words file = IsCommand words (Run file) ⊎ IsCommand words (Validate file)
+
+-- a file, whose bytes these are where the world tells its texts, stands for this plan
+pub record IsPlanAt (environment : List Variable) (texts : Option (List Config)) (file : Word) (plan : Plan) : Type 0 where
+  pub bytes : Word
   pub text : IsTextAt texts file bytes
+  pub read : IsReading environment bytes (Ok plan)
+
+-- a file stands for no plan, for this reason, which isn't want of memory
+pub record IsFaultAt (environment : List Variable) (texts : Option (List Config)) (file : Word) (fault : PlanFault) : Type 0 where
+  pub bytes : Word
+  pub text : IsTextAt texts file bytes
+  pub read : IsReading environment bytes (Err fault)
+  pub found : fault ≢ plan_fault.WantOfMemory
 
 -- the words ask for a run of a file that stands for this plan
 pub record IsReady (words : List Word) (environment : List Variable) (texts : Option (List Config)) (plan : Plan) : Type 0 where
-  pub bytes : Word
-  pub asked : IsAsked words texts bytes
-  pub read : IsReading environment bytes (Ok plan)
+  pub file : Word
+  pub asked : IsCommand words (Run file)
+  pub stands : IsPlanAt environment texts file plan
 
--- the words ask for a run of a file that stands for no plan, for this reason, which isn't want of memory
+-- the words ask for a judgement of a file that stands for this plan
+pub record IsValid (words : List Word) (environment : List Variable) (texts : Option (List Config)) (plan : Plan) : Type 0 where
+  pub file : Word
+  pub asked : IsCommand words (Validate file)
+  pub stands : IsPlanAt environment texts file plan
+
+-- the words name a file that stands for no plan, for this reason
 pub record IsRefused (words : List Word) (environment : List Variable) (texts : Option (List Config)) (fault : PlanFault) : Type 0 where
-  pub bytes : Word
-  pub asked : IsAsked words texts bytes
-  pub read : IsReading environment bytes (Err fault)
-  pub found : fault ≢ plan_fault.WantOfMemory
+  pub file : Word
+  pub asked : NamesFile words file
+  pub refused : IsFaultAt environment texts file fault
 
 -- what a failed read of a configuration says
 abbrev pub IsUnread : Word → ℕ → ℕ → Fault → Type 0
@@ -51,13 +68,12 @@ IsMisread environment bytes (ConfigRefused fault) = IsReading environment bytes 
 IsMisread environment bytes WantOfMemory = Unit {0}
 IsMisread environment bytes other = ⊥
 
--- what it says where a run doesn't begin
-abbrev pub IsUnready : List Word → List Variable → Option (List Config) → ℕ → ℕ → Fault → Type 0
-IsUnready words environment texts before now Usage = AsksRun words → ⊥
-IsUnready words environment texts before now (ConfigRead path) = IsRun words path × Rose before now
-IsUnready words environment texts before now (ConfigRefused fault) = IsRefused words environment texts fault
-IsUnready words environment texts before now WantOfMemory = Unit {0}
-IsUnready words environment texts before now other = ⊥
+-- what it says where a file gives no plan
+abbrev pub IsUnready : List Variable → Option (List Config) → Word → ℕ → ℕ → Fault → Type 0
+IsUnready environment texts file before now (ConfigRead path) = (path ≡ file) × Rose before now
+IsUnready environment texts file before now (ConfigRefused fault) = IsFaultAt environment texts file fault
+IsUnready environment texts file before now WantOfMemory = Unit {0}
+IsUnready environment texts file before now other = ⊥
 
 -- the component in the place of an instance in the plan in force
 abbrev pub component_at : Record → ℕ → Option Component
@@ -99,8 +115,9 @@ IsJudged h (Some other) = ⊥
 
 -- what each answer says: of the words, of the world's texts and its count of faults, and of the record
 abbrev pub IsAnswer : List Word → List Variable → Option (List Config) → ℕ → ℕ → Record → Option Fault → Type 0
-IsAnswer words environment texts before now h (Some Usage) = AsksRun words → ⊥
-IsAnswer words environment texts before now h (Some (ConfigRead path)) = IsRun words path × Rose before now
+IsAnswer words environment texts before now h (Some Usage) = IsNoCommand words
+IsAnswer words environment texts before now h (Some (ConfigRead path)) = NamesFile words path × Rose before now
 IsAnswer words environment texts before now h (Some (ConfigRefused fault)) = IsRefused words environment texts fault
+IsAnswer words environment texts before now h (Some PrintFailed) = (file : Word) × IsCommand words (Validate file)
 IsAnswer words environment texts before now h (Some WantOfMemory) = Unit {0}
 IsAnswer words environment texts before now h fault = IsJudged h fault

@@ -4,4 +4,4 @@ pub mod Judging
 pub mod Running
 pub mod Telling
 pub mod Texts
-pub mod Words
+pub mod Showing

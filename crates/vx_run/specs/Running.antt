@@ -14,9 +14,9 @@ use Rattle.vx_record.specs.declared.tally.Tally.{Tally}
 use Rattle.vx_hub.specs.declared.parts.Numbered.{Numbered}
 use Rattle.vx_hub.specs.Order.{IsOrderly, lost_at}
 use Rattle.vx_hub.specs.Remains.{AreTold, HasOnePlace, AllSpent, HasNotices, HasEnds}
-use Rattle.vx_run.specs.Answers.{IsReady, component_at}
+use Rattle.vx_run.specs.Answers.{IsReady, IsValid, component_at}
 use Rattle.vx_run.specs.declared.fault.Fault.{Fault}
-use Rattle.vx_run.specs.declared.fault.Fault.TheVariants.{Usage, ConfigRead, ConfigRefused, SourceFailed, ConfirmFailed, WantOfMemory}
+use Rattle.vx_run.specs.declared.fault.Fault.TheVariants.{Usage, ConfigRead, ConfigRefused, SourceFailed, ConfirmFailed, PrintFailed, WantOfMemory}
 
 -- but for want of memory, the ports tell what the record has, and each entry of the record is in order
 abbrev pub IsTrueTo : {P : Type 0} → (P → Told) → Record → List (Numbered P) → Option Fault → Type 0
@@ -40,11 +40,19 @@ pub record IsInstalled (words : List Word) (environment : List Variable) (texts 
   pub ready : IsReady words environment texts plan
   pub installed : in_force h ≡ Some plan
 
--- a run that began has that plan in force, but for want of memory
+-- a configuration was judged and stands for a plan, and nothing began
+pub record IsOnlyJudged (words : List Word) (environment : List Variable) (texts : Option (List Config)) (h : Record) : Type 0 where
+  pub plan : Plan
+  pub valid : IsValid words environment texts plan
+  pub unbegun : h ≡ []
+
+-- a run that began has that plan in force, but for want of memory; or the words ask for a judgement alone
 abbrev pub HasInstalled : List Word → List Variable → Option (List Config) → Record → Option Fault → Type 0
+HasInstalled words environment texts h None = IsInstalled words environment texts h ⊎ IsOnlyJudged words environment texts h
 HasInstalled words environment texts h (Some Usage) = Unit {0}
 HasInstalled words environment texts h (Some (ConfigRead path)) = Unit {0}
 HasInstalled words environment texts h (Some (ConfigRefused fault)) = Unit {0}
+HasInstalled words environment texts h (Some PrintFailed) = IsOnlyJudged words environment texts h
 HasInstalled words environment texts h (Some WantOfMemory) = Unit {0}
 HasInstalled words environment texts h other = IsInstalled words environment texts h
 
@@ -61,7 +69,8 @@ AllRead h = (i : ℕ) → IfSome (component_at h i) (λ component. component.cla
 abbrev pub AllReadOrLost : Record → Type 0
 AllReadOrLost h = (i : ℕ) → IfSome (component_at h i) (λ component. component.class ≡ Source → (all_ended h i ≡ true) ⊎ IsSome (lost_at h i))
 
--- the input was read to its end, but for sources that were lost; a run that took too many bytes, or was given up, left some
+-- the input was read to its end, but for sources that were lost; of a run that took too many bytes, or was given up,
+-- nothing is said
 abbrev pub IsReadOut : Record → Option Fault → Type 0
 IsReadOut h None = AllRead h
 IsReadOut h (Some (ConfirmFailed name)) = AllRead h
@@ -94,6 +103,8 @@ HasEach plan h ports fault = HasAll ports plan
 
 -- no port is missing
 abbrev pub NoneMissing : {P : Type 0} → List Word → List Variable → Option (List Config) → Record → List (Numbered P) → Option Fault → Type 0
+NoneMissing words environment texts h ports None = IsSomeAnd (in_force h) (HasAll ports) ⊎ (IsOnlyJudged words environment texts h × IsUnbegun h ports)
+NoneMissing words environment texts h ports (Some PrintFailed) = IsUnbegun h ports
 NoneMissing words environment texts h ports (Some Usage) = IsUnbegun h ports
 NoneMissing words environment texts h ports (Some (ConfigRead path)) = IsUnbegun h ports
 NoneMissing words environment texts h ports (Some (ConfigRefused fault)) = IsUnbegun h ports

@@ -7,7 +7,7 @@ use Rattle.vx_graph.specs.declared.graph_fault.GraphFault.TheVariants as graph
 use Rattle.vx_reading.specs.declared.plan_fault.PlanFault.{PlanFault}
 use Rattle.vx_reading.specs.declared.plan_fault.PlanFault.TheVariants as plan
 use Rattle.vx_run.specs.declared.fault.Fault.{Fault}
-use Rattle.vx_run.specs.declared.fault.Fault.TheVariants.{Usage, ConfigRead, ConfigRefused, Numbers, TooLong, SourceFailed, ConfirmFailed, WantOfMemory}
+use Rattle.vx_run.specs.declared.fault.Fault.TheVariants.{Usage, ConfigRead, ConfigRefused, Numbers, TooLong, SourceFailed, ConfirmFailed, PrintFailed, WantOfMemory}
 
 -- where a source failed
 abbrev pub failed_after : ℕ → Word
@@ -55,6 +55,7 @@ reason_of (Numbers next wanted) =
 reason_of TooLong = codes "too many bytes in one run"
 reason_of (SourceFailed name at) = codes "source " ++ (name ++ failed_after at)
 reason_of (ConfirmFailed name) = codes "source " ++ (name ++ codes " could not be confirmed")
+reason_of PrintFailed = []
 reason_of WantOfMemory = []
 
 -- how the program is called
@@ -62,9 +63,11 @@ abbrev pub usage : Word
 usage =
     codes "vector: usage: vector --config FILE [options]\nvector: usage: vector validate FILE\n"
 
--- all that is printed of a fault: how the program is called, nothing for want of memory, or a line with the reason
+-- all that is printed of a fault: how the program is called, nothing for a failed print or want of memory, or a line with
+-- the reason
 abbrev pub text_of : Fault → Word
 text_of Usage = usage
+text_of PrintFailed = []
 text_of WantOfMemory = []
 text_of (ConfigRefused plan.WantOfMemory) = []
 text_of (ConfigRefused (plan.Graph graph.WantOfMemory)) = []

@@ -20,16 +20,17 @@ pub(crate) fn drive<R: Wait, P: Port, C: Clock>(rt: &R, alloc: Global, hub: &mut
     ensures size { length hub.new.rows.items ≡ length hub.old.rows.items }
     ensures plan { hub.new.plan ≡ hub.old.plan }
 {
+    let mut last = 0;
     for _ in rt.forever() {
         if hub.over() {
             return;
         }
-        turn(alloc, hub, clock);
+        turn(alloc, hub, clock, &mut last);
     }
 }
 
 /// One turn: gives up a run whose record isn't whole, ends an instance, moves parcels, or does an instance's work.
-fn turn<P: Port, C: Clock>(alloc: Global, hub: &mut Hub<P>, clock: &C)
+fn turn<P: Port, C: Clock>(alloc: Global, hub: &mut Hub<P>, clock: &C, last: &mut u64)
     requires { Stands P.told hub.old [] hub.old.log.history }
     ensures stands { Stands P.told hub.new [] hub.new.log.history }
     ensures size { length hub.new.rows.items ≡ length hub.old.rows.items }
@@ -43,7 +44,7 @@ fn turn<P: Port, C: Clock>(alloc: Global, hub: &mut Hub<P>, clock: &C)
     }
     match hub.pending() {
         Some(instance) => push(hub, instance),
-        None => lease(alloc, hub, clock),
+        None => lease(alloc, hub, clock, last),
     }
 }
 
@@ -60,14 +61,16 @@ fn push<P: Port>(hub: &mut Hub<P>, instance: u32)
     }
 }
 
-/// Hands out a task, if one has work, does its work, and brings it home.
-fn lease<P: Port, C: Clock>(alloc: Global, hub: &mut Hub<P>, clock: &C)
+/// Hands out a task, if one has work, does its work, and brings it home. Where the clock went back, it is the last
+/// moment still.
+fn lease<P: Port, C: Clock>(alloc: Global, hub: &mut Hub<P>, clock: &C, last: &mut u64)
     requires { Stands P.told hub.old [] hub.old.log.history }
     ensures stands { Stands P.told hub.new [] hub.new.log.history }
     ensures size { length hub.new.rows.items ≡ length hub.old.rows.items }
     ensures plan { hub.new.plan ≡ hub.old.plan }
 {
-    if let Some(work) = hub.lease(WORKER, clock.now()) {
+    *last = clock.now().max(*last);
+    if let Some(work) = hub.lease(WORKER, *last) {
         land(alloc, hub, work, clock);
     }
 }

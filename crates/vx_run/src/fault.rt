@@ -22,6 +22,8 @@ pub enum Fault {
     SourceFailed { name: Text, at: u64 },
     /// The last confirm that was due at that source failed.
     ConfirmFailed { name: Text },
+    /// What a configuration was judged to be couldn't be printed to standard output.
+    PrintFailed,
     /// No memory was found.
     WantOfMemory,
 }
@@ -39,6 +41,7 @@ impl Fault {
             Fault::ConfigRead { path: _ } => 74,
             Fault::ConfirmFailed { name: _ } => 74,
             Fault::TooLong => 74,
+            Fault::PrintFailed => 74,
             Fault::ConfigRefused(PlanFault::WantOfMemory) => 71,
             Fault::ConfigRefused(PlanFault::Graph(GraphFault::WantOfMemory)) => 71,
             Fault::ConfigRefused(_) => 78,

@@ -1,4 +1,4 @@
-//! The run of a pipeline: the words that ask for it, the faults that it may end with, and the top call.
+//! The run of a pipeline and the judgement of a configuration: the faults that they may end with, and the top call.
 #![tactic(auto)]
 
 mod driver;
@@ -13,10 +13,9 @@ mod telling;
 mod tests;
 mod texts;
 mod top;
-mod words;
+mod validating;
 
 pub use ended::Ended;
 pub use fault::Fault;
 pub use texts::fault_text;
 pub use top::vector;
-pub use words::read_words;

@@ -4,36 +4,31 @@ ghost use Rattle.vx_ends.specs.Told.{Rose};
 ghost use Rattle.vx_plan.specs.Ports.{port_of};
 ghost use Rattle.vx_hub.specs.Making.{IsUntouched, AreUntouched};
 ghost use Rattle.vx_reading.specs.Reading.{IsReading};
-ghost use Rattle.vx_run.specs.Answers.{IsUnready, IsReady, IsUnread, IsMisread};
+ghost use Rattle.vx_run.specs.Answers.{IsPlanAt, IsUnready, IsUnread, IsMisread};
 
 use crate::fault::Fault;
-use crate::words::read_words;
 use std::alloc::Global;
 use vx_ends::{Port, PortSpec, Trouble, World};
 use vx_hub::{Named, NamedList, Parts};
 use vx_plan::{Component, Plan};
 use vx_reading::{PlanFault, read_plan};
-use vx_value::{Bytes, Text, TextList, VariableList, WantOfMemory};
+use vx_value::{Bytes, Text, VariableList, WantOfMemory};
 
-/// What a run is made of: the plan of the configuration that the words name, and a port for each component.
+/// What a run of a configuration is made of: its plan, and a port for each component.
 pub(crate) fn prepare<W: World>(
     alloc: Global,
-    words: &TextList,
+    file: &Text,
     environment: &VariableList,
     world: &mut W,
 ) -> Result<Parts<W::Port>, Fault>
-    ensures ready { IfOk result (λ parts. IsReady words.now environment.now (W.texts world.old) parts.plan) }
+    ensures stands { IfOk result (λ parts. IsPlanAt environment.now (W.texts world.old) file.now parts.plan) }
     ensures few { IfOk result (λ parts. length parts.plan.components < 2 ^ 32) }
     ensures ports { IfOk result (λ parts. length parts.ports ≡ length parts.plan.components) }
     ensures untouched { IfOk result (λ parts. AreUntouched W.Port.told parts.plan.components parts.ports) }
-    ensures unready { IfErr result (IsUnready words.now environment.now (W.texts world.old) (W.faults world.old) (W.faults world.new)) }
+    ensures unready { IfErr result (IsUnready environment.now (W.texts world.old) file.now (W.faults world.old) (W.faults world.new)) }
     ensures texts { W.texts world.new ≡ W.texts world.old }
 {
-    let Some(file) = read_words(words) else {
-        return Err(Fault::Usage);
-    };
-    let bytes = config(alloc, file, world)?;
-    let plan = plan_of(alloc, &bytes, environment)?;
+    let plan = plan_at(alloc, file, environment, world)?;
     match ports(alloc, &plan, world) {
         Ok(ports) => Ok(Parts {
             plan,
@@ -42,6 +37,22 @@ pub(crate) fn prepare<W: World>(
         }),
         Err(WantOfMemory) => Err(Fault::WantOfMemory),
     }
+}
+
+/// The plan of the configuration at a path.
+pub(crate) fn plan_at<W: World>(
+    alloc: Global,
+    file: &Text,
+    environment: &VariableList,
+    world: &mut W,
+) -> Result<Plan, Fault>
+    ensures stands { IfOk result (IsPlanAt environment.now (W.texts world.old) file.now) }
+    ensures few { IfOk result (λ plan. length plan.components < 2 ^ 32) }
+    ensures unready { IfErr result (IsUnready environment.now (W.texts world.old) file.now (W.faults world.old) (W.faults world.new)) }
+    ensures texts { W.texts world.new ≡ W.texts world.old }
+{
+    let bytes = config(alloc, file, world)?;
+    plan_of(alloc, &bytes, environment)
 }
 
 /// The bytes of the configuration at a path.

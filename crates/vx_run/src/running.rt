@@ -1,21 +1,27 @@
-ghost use Rattle.std.specs.Prelude.{◌≡◌, ◌⊎◌, ◌<◌, ◌^◌, [], length, Some};
+ghost use Rattle.std.specs.Prelude.{◌≡◌, ◌≢◌, ◌⊎◌, List, ◌<◌, ◌^◌, [], length, Some};
 ghost use Rattle.vx_hub.specs.Making.{AreUntouched};
 ghost use Rattle.vx_hub.specs.Stands.{Stands};
 ghost use Rattle.vx_hub.specs.Remains.{AreNumbered, AreClosed};
+ghost use Rattle.vx_value.specs.Texts.{Word};
+ghost use Rattle.vx_cli.specs.Commands.{IsCommand};
+ghost use Rattle.vx_cli.specs.declared.command.Command.TheVariants.{Run};
 ghost use Rattle.vx_run.specs.Answers.{IsAnswer, IsJudged};
+ghost use Rattle.vx_run.specs.Showing.{IsShown};
 ghost use Rattle.vx_run.specs.Running.{IsTrueTo, HasInstalled, IsInForce, AreKept, AreNoticed, IsReadOut, AreEnded, IsCounted, HasEach, NoneMissing};
 
 use crate::driver::drive;
 use crate::fault::Fault;
 use crate::judging::judge;
 use crate::preparing::prepare;
+use crate::validating::validate;
 use std::alloc::Global;
 use std::sync::Wait;
-use vx_ends::{Clock, Port, World};
+use vx_cli::{CliFault, Command, read_words};
+use vx_ends::{Clock, Port, Printer, World};
 use vx_hub::{Hub, NumberedList, Parts, Remains};
 use vx_plan::Plan;
 use vx_record::{Record, TallyList, tallies};
-use vx_value::{TextList, VariableList, WantOfMemory};
+use vx_value::{Text, TextList, VariableList, WantOfMemory};
 
 /// A run that ended, before its fault is told.
 #[derive(Drop)]
@@ -26,16 +32,18 @@ pub(crate) struct Outcome<P> {
     pub ports: NumberedList<P>,
 }
 
-/// Runs what the words ask for.
-pub(crate) fn run<R: Wait, W: World, C: Clock>(
+/// Does what the words ask for.
+pub(crate) fn perform<R: Wait, W: World, C: Clock, P: Printer>(
     rt: &R,
     alloc: Global,
     words: &TextList,
     environment: &VariableList,
     world: &mut W,
     clock: &C,
+    out: &mut P,
 ) -> Outcome<W::Port>
     ensures answer { IsAnswer words.now environment.now (W.texts world.old) (W.faults world.old) (W.faults world.new) result.history result.fault }
+    ensures shown { IsShown words.now environment.now (W.texts world.old) (out.new ≡ out.old) (P.printed out.old) (P.printed out.new) (P.faults out.old) (P.faults out.new) result.fault }
     ensures told { IsTrueTo W.Port.told result.history result.ports result.fault }
     ensures installed { HasInstalled words.now environment.now (W.texts world.old) result.history result.fault }
     ensures copies { AreKept result.history result.fault }
@@ -48,15 +56,48 @@ pub(crate) fn run<R: Wait, W: World, C: Clock>(
     ensures none_missing { NoneMissing words.now environment.now (W.texts world.old) result.history result.ports result.fault }
     ensures texts { W.texts world.new ≡ W.texts world.old }
 {
-    match prepare(alloc, words, environment, world) {
+    match read_words(alloc, words) {
+        Ok(Command::Run { config }) => run(rt, alloc, &config, environment, world, clock),
+        Ok(Command::Validate { path }) => {
+            unbegun(alloc, validate(alloc, &path, environment, world, out))
+        }
+        Err(CliFault::Usage) => unbegun(alloc, Some(Fault::Usage)),
+        Err(CliFault::WantOfMemory) => unbegun(alloc, Some(Fault::WantOfMemory)),
+    }
+}
+
+/// Runs the configuration at a path.
+fn run<R: Wait, W: World, C: Clock>(
+    rt: &R,
+    alloc: Global,
+    file: &Text,
+    environment: &VariableList,
+    world: &mut W,
+    clock: &C,
+) -> Outcome<W::Port>
+    ensures answer { (words : List Word) → IsCommand words (Run file.now) → IsAnswer words environment.now (W.texts world.old) (W.faults world.old) (W.faults world.new) result.history result.fault }
+    ensures told { IsTrueTo W.Port.told result.history result.ports result.fault }
+    ensures installed { (words : List Word) → IsCommand words (Run file.now) → HasInstalled words environment.now (W.texts world.old) result.history result.fault }
+    ensures copies { AreKept result.history result.fault }
+    ensures notices { AreNoticed result.history result.fault }
+    ensures read { IsReadOut result.history result.fault }
+    ensures ended { AreEnded result.history (length result.ports) result.fault }
+    ensures counted { IsCounted result.history (length result.ports) result.tallies result.fault }
+    ensures closed { AreClosed W.Port.told result.ports }
+    ensures numbers { AreNumbered 0 result.ports }
+    ensures none_missing { (words : List Word) → IsCommand words (Run file.now) → NoneMissing words environment.now (W.texts world.old) result.history result.ports result.fault }
+    ensures unprinted { result.fault ≢ Some Fault.PrintFailed }
+    ensures texts { W.texts world.new ≡ W.texts world.old }
+{
+    match prepare(alloc, file, environment, world) {
         Ok(parts) => begin(rt, alloc, parts, clock),
-        Err(fault) => unbegun(alloc, fault),
+        Err(fault) => unbegun(alloc, Some(fault)),
     }
 }
 
 /// A run that didn't begin.
-fn unbegun<P>(alloc: Global, fault: Fault) -> Outcome<P>
-    ensures fault { result.fault ≡ Some fault }
+fn unbegun<P>(alloc: Global, fault: Option<Fault>) -> Outcome<P>
+    ensures fault { result.fault ≡ fault }
     ensures history { result.history ≡ [] }
     ensures tallies { result.tallies ≡ [] }
     ensures ports { result.ports ≡ [] }
@@ -67,7 +108,7 @@ fn unbegun<P>(alloc: Global, fault: Fault) -> Outcome<P>
     ensures counted { IsCounted result.history (length result.ports) result.tallies result.fault }
 {
     Outcome {
-        fault: Some(fault),
+        fault,
         history: Record::new(alloc),
         tallies: TallyList::new(alloc),
         ports: NumberedList::new(alloc),
@@ -97,11 +138,11 @@ fn begin<R: Wait, P: Port, C: Clock>(
     ensures none_missing { HasEach parts.plan result.history result.ports result.fault }
 {
     let Ok(plan) = parts.plan.copy(alloc) else {
-        return unbegun(alloc, Fault::WantOfMemory);
+        return unbegun(alloc, Some(Fault::WantOfMemory));
     };
     match Hub::new(alloc, parts, clock.now()) {
         Ok(hub) => finish(rt, alloc, &plan, hub, clock),
-        Err(_) => unbegun(alloc, Fault::WantOfMemory),
+        Err(_) => unbegun(alloc, Some(Fault::WantOfMemory)),
     }
 }
 

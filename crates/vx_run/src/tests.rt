@@ -3,3 +3,4 @@ mod faults;
 mod plans;
 mod runs;
 mod tallies;
+mod validates;

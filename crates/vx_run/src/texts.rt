@@ -13,7 +13,8 @@ const USAGE: &str = "vector: usage: vector --config FILE [options]
 vector: usage: vector validate FILE
 ";
 
-/// Appends what is printed of a fault: lines that end with a line feed, or nothing for want of memory.
+/// Appends what is printed of a fault: lines that end with a line feed, or nothing for a failed print and for want of
+/// memory.
 ///
 /// Where no memory is found `out` is as before.
 pub fn fault_text(alloc: Global, fault: &Fault, out: &mut Bytes) -> Result<(), WantOfMemory>
@@ -22,7 +23,8 @@ pub fn fault_text(alloc: Global, fault: &Fault, out: &mut Bytes) -> Result<(), W
 {
     match fault {
         Fault::Usage => out.push_slice(USAGE.as_bytes()),
-        Fault::WantOfMemory
+        Fault::PrintFailed
+        | Fault::WantOfMemory
         | Fault::ConfigRefused(PlanFault::WantOfMemory)
         | Fault::ConfigRefused(PlanFault::Graph(GraphFault::WantOfMemory)) => Ok(()),
         _ => {
@@ -59,7 +61,7 @@ fn reason(alloc: Global, fault: &Fault) -> Result<String, AllocError>
             let name = name.as_str();
             format!(in alloc; "source {name} could not be confirmed")
         }
-        Fault::Usage | Fault::WantOfMemory => Ok(String::new(alloc)),
+        Fault::Usage | Fault::PrintFailed | Fault::WantOfMemory => Ok(String::new(alloc)),
     }
 }
 

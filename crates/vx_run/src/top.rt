@@ -3,19 +3,20 @@ ghost use Rattle.vx_hub.specs.Remains.{AreNumbered, AreClosed};
 ghost use Rattle.vx_run.specs.Answers.{IsAnswer};
 ghost use Rattle.vx_run.specs.Faults.{ended_status};
 ghost use Rattle.vx_run.specs.Running.{IsTrueTo, HasInstalled, AreKept, AreNoticed, IsReadOut, AreEnded, IsCounted, NoneMissing};
+ghost use Rattle.vx_run.specs.Showing.{IsShown};
 ghost use Rattle.vx_run.specs.Telling.{IsSaid};
 
 use crate::ended::Ended;
-use crate::running::{Outcome, run};
+use crate::running::{Outcome, perform};
 use crate::telling::{status_of, tell};
 use std::alloc::Global;
 use std::sync::Wait;
 use vx_ends::{Clock, Printer, World};
 use vx_value::{TextList, VariableList};
 
-/// Runs the pipeline that the words ask for, and prints why it didn't end well.
+/// Runs the pipeline of a configuration, or judges one, as the words ask for, and prints why that didn't end well.
 ///
-/// `words` are the program's words without its own name. The run ends once its input has ended and all that was taken
+/// `words` are the program's words without its own name. A run ends once its input has ended and all that was taken
 /// is delivered, dropped or given up; it may wait for as long as a port has nothing.
 pub fn vector<R: Wait, W: World, C: Clock, P: Printer, L: Printer>(
     rt: &R,
@@ -24,7 +25,7 @@ pub fn vector<R: Wait, W: World, C: Clock, P: Printer, L: Printer>(
     environment: &VariableList,
     world: W,
     clock: &C,
-    _out: &mut P,
+    out: &mut P,
     err: &mut L,
 ) -> Ended<W>
     ensures told { IsTrueTo W.Port.told result.history result.ports result.fault }
@@ -40,7 +41,7 @@ pub fn vector<R: Wait, W: World, C: Clock, P: Printer, L: Printer>(
     ensures answer { IsAnswer words.now environment.now (W.texts world) (W.faults world) (W.faults result.world) result.history result.fault }
     ensures status { result.status ≡ ended_status result.fault }
     ensures said { IsSaid (err.new ≡ err.old) (L.printed err.old) (L.printed err.new) (L.faults err.old) (L.faults err.new) result.fault }
-    ensures unprinted { _out.new ≡ _out.old }
+    ensures shown { IsShown words.now environment.now (W.texts world) (out.new ≡ out.old) (P.printed out.old) (P.printed out.new) (P.faults out.old) (P.faults out.new) result.fault }
     ensures texts { W.texts result.world ≡ W.texts world }
 {
     let mut world = world;
@@ -49,7 +50,7 @@ pub fn vector<R: Wait, W: World, C: Clock, P: Printer, L: Printer>(
         history,
         tallies,
         ports,
-    } = run(rt, alloc, words, environment, &mut world, clock);
+    } = perform(rt, alloc, words, environment, &mut world, clock, out);
     let fault = tell(alloc, fault, err);
     Ended {
         status: status_of(&fault),

@@ -1,4 +1,4 @@
-use crate::{Fault, fault_text, read_words};
+use crate::{Fault, fault_text};
 use std::alloc::Global;
 use std::process::Abort;
 use std::test::Fail;
@@ -19,24 +19,6 @@ fn printed(alloc: Global, fault: &Fault) -> Result<Bytes, WantOfMemory> {
     let mut out = Bytes::copy_of(alloc, b"> ")?;
     fault_text(alloc, fault, &mut out)?;
     Ok(out)
-}
-
-#[test]
-fn only_config_and_a_file_are_words(rt: HostRuntime) -> Result<(), Fail> {
-    let alloc = rt.alloc();
-    let words = words_of(alloc, &["--config", "first.toml"])?;
-    let file = read_words(&words).map_or("", |file| file.as_str());
-    assert_eq!(rt; file, "first.toml");
-    for others in [
-        words_of(alloc, &[])?,
-        words_of(alloc, &["--config"])?,
-        words_of(alloc, &["--config", "a", "b"])?,
-        words_of(alloc, &["-c", "first.toml"])?,
-        words_of(alloc, &["first.toml", "--config"])?,
-    ] {
-        assert!(rt; read_words(&others).is_none());
-    }
-    Ok(())
 }
 
 #[test]
@@ -91,6 +73,8 @@ fn faults_say_what_happened(rt: HostRuntime) -> Result<(), Fail> {
         said.as_slice(),
         "> vector: source in could not be confirmed\n".as_bytes()
     );
+    let said = printed(alloc, &Fault::PrintFailed)?;
+    assert_eq!(rt; said.as_slice(), "> ".as_bytes());
     let said = printed(alloc, &Fault::WantOfMemory)?;
     assert_eq!(rt; said.as_slice(), "> ".as_bytes());
     Ok(())
@@ -189,5 +173,6 @@ fn statuses_are_those_of_sysexits(rt: HostRuntime) {
     assert_eq!(rt; Fault::Usage.status(), 64);
     assert_eq!(rt; Fault::ConfigRefused(PlanFault::NotToml).status(), 78);
     assert_eq!(rt; Fault::TooLong.status(), 74);
+    assert_eq!(rt; Fault::PrintFailed.status(), 74);
     assert_eq!(rt; Fault::WantOfMemory.status(), 71);
 }

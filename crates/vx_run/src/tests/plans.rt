@@ -7,7 +7,7 @@ use vx_status::BatchStatus;
 use vx_value::{Text, Variable, VariableList, WantOfMemory};
 
 /// A source, and two consoles that read it: one by its name, and one on standard error by a pattern.
-const TWO_SINKS: &str = "[sources.in]
+pub(crate) const TWO_SINKS: &str = "[sources.in]
 type = \"stdin\"
 
 [sinks.s1]

@@ -24,9 +24,17 @@ pub(crate) fn add<T: Drop>(list: &mut ItemList<T>, item: T) -> Result<(), WantOf
 }
 
 pub(crate) fn words(alloc: Global, file: &str) -> Result<TextList, WantOfMemory> {
+    two_words(alloc, "--config", file)
+}
+
+pub(crate) fn two_words(
+    alloc: Global,
+    first: &str,
+    second: &str,
+) -> Result<TextList, WantOfMemory> {
     let mut words = TextList::new(alloc);
-    add(&mut words, Text::copy_of(alloc, "--config")?)?;
-    add(&mut words, Text::copy_of(alloc, file)?)?;
+    add(&mut words, Text::copy_of(alloc, first)?)?;
+    add(&mut words, Text::copy_of(alloc, second)?)?;
     Ok(words)
 }
 
@@ -116,21 +124,25 @@ pub(crate) fn run_within<R: Wait + Abort>(
 ) -> Ended<MemoryWorld> {
     let mut out = MemoryPrinter::new(alloc, None);
     let mut err = MemoryPrinter::new(alloc, None);
-    let clock = MemoryClock::new();
-    let ended = vector(
-        rt,
-        alloc,
-        words,
-        environment,
-        world,
-        &clock,
-        &mut out,
-        &mut err,
-    );
+    let ended = run_onto(rt, alloc, words, environment, world, &mut out, &mut err);
     assert_eq!(rt; ended.status, status);
     assert!(rt; err.printed() == printed.as_bytes());
     assert!(rt; out.printed().is_empty());
     ended
+}
+
+/// Runs those words in that world, and prints to these printers.
+pub(crate) fn run_onto<R: Wait + Abort>(
+    rt: &R,
+    alloc: Global,
+    words: &TextList,
+    environment: &VariableList,
+    world: MemoryWorld,
+    out: &mut MemoryPrinter,
+    err: &mut MemoryPrinter,
+) -> Ended<MemoryWorld> {
+    let clock = MemoryClock::new();
+    vector(rt, alloc, words, environment, world, &clock, out, err)
 }
 
 /// Runs the first configuration on these steps, and checks what `out` was given.
