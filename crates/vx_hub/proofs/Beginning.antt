@@ -29,6 +29,9 @@ use Rattle.vx_record.specs.Places.{Place, owner}
 use Rattle.vx_record.specs.Places.Place.{Outputs, Waiting, Contents, Held}
 use Rattle.vx_hub.specs.Places.{copies_at, copies_here, copies_if, parcel_lists, stacked_lists, waiting_lists}
 use Rattle.vx_hub.proofs.Owning.{placed_none}
+use Rattle.vx_ledger.specs.declared.parcel.Parcel.{Parcel}
+use Rattle.vx_ledger.specs.declared.child.Child.{Child}
+use Rattle.vx_hub.specs.Events.{IsSaid, Each, EachChild, HasEach, AreSaid}
 use Rattle.vx_hub.proofs.StandsLaws.{some_mapped}
 
 pub unused_more : (seats : List Seat) (seat : Seat) → AreUnused seats → IsUnused seat → AreUnused (seats ++ seat ∷ [])
@@ -86,6 +89,19 @@ home_more [] new all here zero l = here
 home_more [] new all here (suc i) l = absurd (omega arith)
 home_more (r ∷ rows) new all here zero l = all zero (omega arith)
 home_more (r ∷ rows) new all here (suc i) l = home_more rows new (λ j m. all (suc j) (omega (arith, m))) here i (omega arith)
+
+-- the record has the event of each parcel, where there is none
+pub said_none : {P : Type 0} (h : Record) (rows : List (Row P)) → rows ≡ [] → AreSaid h rows
+said_none h [] is i = tt
+said_none h (r ∷ rows) is i = cc
+
+pub said_more : {P : Type 0} (h : Record) (rows : List (Row P)) (new : Row P) → AreSaid h rows → new.outputs.items ≡ [] → new.waiting.items ≡ [] → new.buffer.items ≡ [] → task_parcels new.task ≡ [] → AreSaid h (rows ++ new ∷ [])
+said_more h rows new all outputs waiting buffer held = rows_more (HasEach (IsSaid h)) rows new all (record {
+  outputs = subst (λ (ps : List Parcel). Each (IsSaid h) ps) (sym outputs) tt;
+  waiting = subst (λ (cs : List Child). EachChild (IsSaid h) cs) (sym waiting) tt;
+  buffer = subst (λ (ps : List Parcel). Each (IsSaid h) ps) (sym buffer) tt;
+  held = subst (λ (ps : List Parcel). Each (IsSaid h) ps) (sym held) tt;
+})
 
 home_some : {P : Type 0} (o : Option P) → IsSome o → o ≡ None → ⊥
 home_some None some none = cc
@@ -166,6 +182,7 @@ begun_stands told_by plan hub b mine first none room few = record {
     bytes = b.bytes;
     next = b.next;
     order = ((record { first = refl; zeroth = refl; all_new = refl }, λ b w. w, λ gone. cc), tt);
+    said = b.said (begun plan first.once first.now);
     outs = λ i l none. absurd (home_some (port_at hub.rows.items i) (b.home i l) none);
     noticeless = λ b w. w;
     statuses = subst (λ (rs : List OpenBatch). AreRunning (begun plan first.once first.now) rs) (sym b.batches) tt;

@@ -5,6 +5,7 @@ use Rattle.vx_ends.specs.Told.{Told}
 use Rattle.vx_status.specs.declared.outcome.Outcome.{Outcome}
 use Rattle.vx_ledger.specs.Copies.{Copy}
 use Rattle.vx_record.specs.Records.{Record}
+use Rattle.vx_record.specs.declared.abandon_cause.AbandonCause.{AbandonCause}
 use Rattle.vx_record.specs.Abandoning.{abandoned, at_abandon, gives_up, MayStillCome}
 use Rattle.vx_record.specs.declared.entry.Entry.{Entry}
 use Rattle.vx_record.specs.declared.entry.Entry.TheVariants.{Lease, Home, Read, Idle, SourceLost, Born, Attempt, Spent, Confirm, Abandon}
@@ -25,6 +26,11 @@ has_cause : (h : Record) → abandoned h ≡ true → IsSome (cause_of h)
 has_cause [] is = cc
 has_cause (Abandon cause ∷ h) is = refl
 has_cause (e ∷ h) is = has_cause h is
+
+has_abandoned : (h : Record) → IsSome (cause_of h) → abandoned h ≡ true
+has_abandoned [] some = cc
+has_abandoned (Abandon cause ∷ h) some = refl
+has_abandoned (e ∷ h) some = has_abandoned h some
 
 -- before an abandonment anything may come
 pub comes_going : (h : Record) (e : Entry) → cause_of h ≡ None → MayStillCome h e
@@ -77,3 +83,7 @@ going_on told_by d hand s none sound = sym (s.recorded sound).cause ∙ none
 
 pub hub_comes : {P : Type 0} (told_by : P → Told) (d : Hub P) (hand : List Copy) (e : Entry) → Stands told_by d hand d.log.history → d.abandoned ≡ None → IsSound d → MayStillCome d.log.history e
 hub_comes told_by d hand e s none sound = comes_going d.log.history e (going_on told_by d hand s none sound)
+
+-- and one that was given up for a record that was
+pub gave_up : {P : Type 0} (told_by : P → Told) (d : Hub P) (hand : List Copy) → Stands told_by d hand d.log.history → IsSome d.abandoned → IsSound d → abandoned d.log.history ≡ true
+gave_up told_by d hand s some sound = has_abandoned d.log.history (subst (λ (o : Option AbandonCause). IsSome o) (s.recorded sound).cause some)

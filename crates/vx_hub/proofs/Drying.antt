@@ -11,13 +11,14 @@ use Rattle.vx_ledger.specs.Copies.{Copy}
 use Rattle.vx_record.specs.Records.{Record, capped}
 use Rattle.vx_record.specs.Noted.{Noted}
 use Rattle.vx_record.specs.Installs.{in_force}
+use Rattle.vx_record.specs.Turns.{is_out}
 use Rattle.vx_record.specs.Confirms.{born_positions}
 use Rattle.vx_record.specs.Reads.{bytes_of, bytes_of_all, is_end, all_ended}
 use Rattle.vx_record.specs.declared.entry.Entry.{Entry}
 use Rattle.vx_record.specs.declared.entry.Entry.TheVariants.{Read, SourceLost, Abandon}
 use Rattle.vx_hub.specs.declared.hub.Hub.{Hub}
 use Rattle.vx_hub.specs.declared.facts.Facts.{Facts}
-use Rattle.vx_hub.specs.Order.{lost_at, cause_of, TakesNoMore, IsOfClass, IsTurnOf, IsConfirmOf, IsReadBy, IsOrderly}
+use Rattle.vx_hub.specs.Order.{lost_at, cause_of, TakesNoMore, IsOfClass, IsTurnOf, IsDueOf, IsReadBy, IsOrderly}
 use Rattle.vx_hub.specs.Stands.{Stands, IsSound, IsKnown, IsClosing, MayShut, IsSpent, IsDry, component_in, facts_at}
 
 -- another read tells no end
@@ -122,8 +123,8 @@ pub sink_known : (h : Record) (i : ℕ) (o : Option Facts) → IsSomeAnd o (λ f
 sink_known h i None sink known = absurd sink
 sink_known h i (Some f) sink known = class_is (component_in (in_force h) i) f.class Sink known.class sink
 
-pub turn_of : (h : Record) (i : ℕ) (f : Facts) → IsKnown f h i → (f.lost ≡ None) × (f.class ≡ Source) → IsTurnOf h i
-turn_of h i f known is = record { unlost = sym known.lost ∙ is.0; source = class_known h i f known is.1 }
+pub turn_of : (h : Record) (i : ℕ) (f : Facts) → is_out h i ≡ true → IsKnown f h i → (f.lost ≡ None) × (f.class ≡ Source) → IsTurnOf h i
+turn_of h i f out known is = record { out = out; unlost = sym known.lost ∙ is.0; source = class_known h i f known is.1 }
 
 -- what is known, by the component of the instance
 known_class : (o : Option Component) (x y : Class) → IsSomeAnd o (λ component. x ≡ component.class) → IsSomeAnd o (λ component. component.class ≡ y) → x ≡ y
@@ -138,15 +139,15 @@ read_class (Read j stream took ∷ h) i f order read known =
 read_class (e ∷ h) i f order read known = absurd read
 
 -- a confirm is of a source
-pub confirm_of : (h : Record) (i : ℕ) (f : Facts) → IsKnown f h i → IfSome f.to_confirm (IsConfirmOf h i)
+pub confirm_of : (h : Record) (i : ℕ) (f : Facts) → IsKnown f h i → IfSome f.to_confirm (IsDueOf h i)
 confirm_of h i f known = go f.to_confirm known.to_confirm known.confirms
   where
-    go : (o : Option (List Position)) → IfSome o (λ positions. positions ≡ born_positions h i) → (IsSome o → f.class ≡ Source) → IfSome o (IsConfirmOf h i)
+    go : (o : Option (List Position)) → IfSome o (λ positions. positions ≡ born_positions h i) → (IsSome o → f.class ≡ Source) → IfSome o (IsDueOf h i)
     go None all source = tt
     go (Some positions) all source = record { all = all; source = class_known h i f known (source refl) }
 
 -- and stays one behind an entry that bears and installs nothing
-pub confirm_on : (h : Record) (i : ℕ) (e : Entry) (o : Option (List Position)) → born_positions h i ≡ born_positions (e ∷ h) i → in_force (e ∷ h) ≡ in_force h → IfSome o (IsConfirmOf h i) → IfSome o (IsConfirmOf (e ∷ h) i)
+pub confirm_on : (h : Record) (i : ℕ) (e : Entry) (o : Option (List Position)) → born_positions h i ≡ born_positions (e ∷ h) i → in_force (e ∷ h) ≡ in_force h → IfSome o (IsDueOf h i) → IfSome o (IsDueOf (e ∷ h) i)
 confirm_on h i e None born same is = tt
 confirm_on h i e (Some positions) born same is = record { all = is.all ∙ born; source = subst (λ (p : Option Plan). IsSomeAnd (component_in p i) (λ component. component.class ≡ Source)) (sym same) is.source }
 

@@ -1,5 +1,5 @@
 -- An instance that comes home goes on doing so, until the record tells it.
-use Rattle.std.proofs.Common.{◌≡◌, ℕ, true, ◌∷◌, sym, ap, subst, ◌∙◌}
+use Rattle.std.proofs.Common.{◌≡◌, ℕ, true, ◌∷◌, sym, subst, ◌∙◌}
 use Rattle.std.specs.Prelude.{IsSome, IsTrue, Option}
 use Rattle.vx_record.specs.Records.{Record}
 use Rattle.vx_record.specs.Noted.{Noted}
@@ -8,8 +8,7 @@ use Rattle.vx_record.specs.declared.log.Log.{Log}
 use Rattle.vx_record.specs.declared.entry.Entry.{Entry}
 use Rattle.vx_hub.specs.declared.hub.Hub.{Hub}
 use Rattle.vx_hub.specs.Away.{IsAway, IsReturning}
-use Rattle.vx_hub.specs.Rows.{port_at, SamePorts}
-use Rattle.vx_hub.specs.Stands.{IsSound}
+use Rattle.vx_hub.specs.Rows.{SamePorts}
 use Rattle.vx_hub.proofs.Ordering.{sound_before}
 
 -- behind an entry that brings nobody home

@@ -20,5 +20,8 @@ mod Ordering
 mod Numbering
 mod Homing
 mod Leaving
+mod Writing
+pub mod EventLaws
+mod Saids
 mod Ceasing
 mod Retiring

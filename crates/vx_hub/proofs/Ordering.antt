@@ -38,6 +38,7 @@ use Rattle.vx_hub.specs.declared.fatal.Fatal.{Fatal}
 use Rattle.vx_hub.specs.declared.fatal.Fatal.TheVariants as fatal
 use Rattle.vx_hub.specs.Failures.{fatal_of, abandon_cause, HasReason}
 use Rattle.vx_hub.specs.Numbers.{numbers_in, noted_of}
+use Rattle.vx_hub.specs.Events.{IsSaid}
 use Rattle.vx_hub.specs.Order.{IsBirthOf, IsReadBy, IsGiven, IsSplitOf, IsSpentFor, IsReason, readers_at, reply_behind, cause_of}
 use Rattle.vx_hub.specs.Spending.{MaySpend, IsReplied}
 use Rattle.vx_hub.specs.Stands.{Stands, IsSound, IsBalanced}
@@ -91,8 +92,8 @@ length_noted targets first parcel children are = ap (λ (cs : List Child). lengt
 
 -- a split that the ledger made is in order
 pub split_in_order : (h : Record) (i next : ℕ) (targets : List ℕ) (parcel : Parcel) (children : List Child) → all_waiting h i ≡ [] → targets ≡ readers_at h i → IsOldest (numbers_in parcel.finalizers) (outputs h i) → next ≡ next_copy h → children ≡ children_for targets next parcel → 0 < length targets →
-    next + length targets * length parcel.finalizers ≤ 2 ^ 63 → IsSplitOf h i (numbers_in parcel.finalizers) (noted_of children)
-split_in_order h i next targets parcel children waits routed oldest now are some fits =
+    next + length targets * length parcel.finalizers ≤ 2 ^ 63 → IsSaid h parcel → IsSplitOf h i (numbers_in parcel.finalizers) parcel.event (noted_of children)
+split_in_order h i next targets parcel children waits routed oldest now are some fits said =
     let m = length parcel.finalizers in
     let many : length (numbers_in parcel.finalizers) ≡ m = length_numbers parcel.finalizers in
     let count : length (noted_of children) ≡ length targets = length_noted targets next parcel children are in
@@ -101,6 +102,7 @@ split_in_order h i next targets parcel children waits routed oldest now are some
     record {
       divides = record { oldest = oldest; made = (targets, made) };
       none_waits = waits;
+      same_event = said.event;
       routed = made ∙ ap (λ (ts : List ℕ). children_of (next_copy h) (length (numbers_in parcel.finalizers)) ts) routed;
       some = omega (arith, count, some);
       fits = subst (λ k. k + length (noted_of children) * length (numbers_in parcel.finalizers) ≤ 2 ^ 63) now
@@ -108,10 +110,11 @@ split_in_order h i next targets parcel children waits routed oldest now are some
     }
 
 -- a split is noted, or the log isn't whole
-pub noted_split : (old new : Log) (i : ℕ) (apart : Result (List ℕ × Event) WantOfMemory) (numbers : List ℕ) (event : Event) (children : List NotedChild) → IfOk apart (λ a. a.0 ≡ numbers) →
-    IfOk apart (λ a. Noted old (Split i 1 a.0 a.1 children) new) → OnErr apart (IsFalse new.whole × (new.history ≡ old.history)) → (e : Event) × Noted old (Split i 1 numbers e children) new
-noted_split old new i (Ok a) numbers event children are noted none = (a.1, subst (λ (ns : List ℕ). Noted old (Split i 1 ns a.1 children) new) are noted)
-noted_split old new i (Err e) numbers event children are noted none = (event, unmade old (Split i 1 numbers event children) new none.0 none.1)
+pub noted_split : (old new : Log) (i : ℕ) (apart : Result (List ℕ × Event) WantOfMemory) (numbers : List ℕ) (event : Event) (children : List NotedChild) → IfOk apart (λ a. a.0 ≡ numbers) → IfOk apart (λ a. a.1 ≡ event) →
+    IfOk apart (λ a. Noted old (Split i 1 a.0 a.1 children) new) → OnErr apart (IsFalse new.whole × (new.history ≡ old.history)) → Noted old (Split i 1 numbers event children) new
+noted_split old new i (Ok a) numbers event children are is noted none =
+    subst (λ (e : Event). Noted old (Split i 1 numbers e children) new) is (subst (λ (ns : List ℕ). Noted old (Split i 1 ns a.1 children) new) are noted)
+noted_split old new i (Err e) numbers event children are is noted none = unmade old (Split i 1 numbers event children) new none.0 none.1
 
 -- numbers that the ledger refused are a reason to give up
 pub short_reason : (h : Record) (next wanted : ℕ) (cause : Short) → next ≡ next_copy h → IsShort next wanted cause → IsReason h (abandon_cause (fatal_of cause))

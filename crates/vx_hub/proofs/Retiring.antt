@@ -1,13 +1,11 @@
 -- An instance is closed, and retired.
 use Rattle.std.proofs.Common.{◌≡◌, ℕ, zero, suc, ◌<◌, Bool, true, false, List, [], ◌∷◌, length, Option, Some, None, IfSome, refl, sym, ap, subst, ◌∙◌, arith}
-use Rattle.std.specs.Prelude.{◌==◌, ◌≢◌, ◌||◌, ◌&&◌, if◌then◌else◌, IsSomeAnd, IsTrue, All}
+use Rattle.std.specs.Prelude.{◌==◌, ◌≢◌, ◌||◌, ◌&&◌, if◌then◌else◌, IsTrue, All}
 use Rattle.std.proofs.lemmas.Bool.Decides.{nat_tests}
 use Rattle.std.proofs.lemmas.List.Elements.{All-head, All-tail}
 use Rattle.vx_value.specs.Texts.{is_empty}
 use Rattle.vx_ends.specs.Told.{Told}
-use Rattle.vx_ledger.specs.Copies.{Copy}
 use Rattle.vx_record.specs.Records.{Record}
-use Rattle.vx_record.specs.declared.entry.Entry.{Entry}
 use Rattle.vx_record.specs.declared.entry.Entry.TheVariants.{Closed, Retired}
 use Rattle.vx_record.specs.Installs.{is_closed, is_retired}
 use Rattle.vx_record.specs.Places.{Place, Put, owner, same_place}

@@ -8,7 +8,7 @@ use Rattle.vx_record.specs.Reads.{taken}
 use Rattle.vx_record.specs.Encoding.{given}
 use Rattle.vx_record.specs.Confirms.{confirmed, born_positions}
 use Rattle.vx_record.specs.PortCounts.{fault_count, refusal_count, idle_count}
-use Rattle.vx_hub.specs.Order.{IsConfirmOf}
+use Rattle.vx_hub.specs.Order.{IsDueOf}
 use Rattle.vx_hub.specs.declared.hub.Hub.{Hub}
 use Rattle.vx_hub.specs.declared.work.Work.{Work}
 use Rattle.vx_hub.specs.declared.work.Landing.{Landing}
@@ -24,6 +24,8 @@ use Rattle.vx_ends.specs.declared.port_spec.PortSpec.{PortSpec}
 use Rattle.vx_hub.specs.declared.work.Job.TheVariants as job
 use Rattle.vx_hub.specs.Stands.{Stands, IsTold, IsUnlost, MayShut, IsSinkAt, spec_at}
 use Rattle.vx_hub.specs.Leases.{IsLeased, IsBack, IsOpenAt, Adds, Brings}
+use Rattle.vx_ledger.specs.declared.parcel.Parcel.{Parcel}
+use Rattle.vx_hub.specs.Events.{IsSaid, Each, IsWrittenOf}
 use Rattle.vx_hub.proofs.Touching.{not_true}
 
 -- what was told, and what is told after more
@@ -73,8 +75,8 @@ named_by given (Some c) Closed due names is = named_due given (Some c) due names
 -- what was handed out may land
 pub back_of : {P : Type 0} (told_by : P → Told) (hub : Hub P) (work : Work P) (landing : Landing P) → IsLeased told_by hub work → landing.instance ≡ work.instance →
     role_copies landing.task.role ≡ role_copies work.task.role → role_parcels landing.task.role ≡ role_parcels work.task.role → Reports (told_by work.task.port) landing.confirmed landing.done (told_by landing.task.port) → NamesBy work.positions landing.confirmed landing.done → event_count_of landing.done ≤ 65536 →
-    (IsReading landing.done → work.job ≡ job.Read) → (landing.done ≡ Closed → work.job ≡ job.Close) → (IsAttempted landing.done → IsSending work.job) → IsBack told_by hub landing
-back_of {P} told_by hub work landing leased instance copies parcels reports names events reads closes sends = record {
+    (IsReading landing.done → work.job ≡ job.Read) → (landing.done ≡ Closed → work.job ≡ job.Close) → (IsAttempted landing.done → IsSending work.job) → IsWrittenOf (role_parcels work.task.role) landing.done → IsBack told_by hub landing
+back_of {P} told_by hub work landing leased instance copies parcels reports names events reads closes sends writes = record {
   stands = subst (λ (cs : List Copy). Stands told_by hub cs hub.log.history) (sym copies) leased.stands;
   open_at = subst (λ (i : ℕ). IsOpenAt hub i) (sym instance) leased.open_at;
   out = subst (λ (i : ℕ). IsOutAt hub.rows.items i) (sym instance) leased.out;
@@ -82,8 +84,10 @@ back_of {P} told_by hub work landing leased instance copies parcels reports name
       (subst (λ (i : ℕ). IsTold (told_by work.task.port) hub.log.history i) (sym instance) (leased.told sound));
   unlost = λ reading. subst (λ (i : ℕ). IsUnlost hub i) (sym instance) (leased.unlost (reads reading));
   held = λ sound. subst (λ (i : ℕ). held hub.log.history i ≡ parcel_numbers (role_parcels landing.task.role)) (sym instance) (leased.held sound ∙ ap parcel_numbers (sym parcels));
+  said = λ sound. subst (λ (ps : List Parcel). Each (IsSaid hub.log.history) ps) (sym parcels) (leased.said sound);
+  writes = subst (λ (ps : List Parcel). IsWrittenOf ps landing.done) (sym parcels) writes;
   sent = λ reading. subst (λ (i : ℕ). numbers_at (Outputs i) hub.rows.items ≡ []) (sym instance) (leased.sent (reads reading));
-  due = λ sound. subst (λ (i : ℕ). IfSome landing.confirmed (λ c. IsConfirmOf hub.log.history i c.positions)) (sym instance) (named_by work.positions landing.confirmed landing.done (IsConfirmOf hub.log.history work.instance) names (leased.due sound));
+  due = λ sound. subst (λ (i : ℕ). IfSome landing.confirmed (λ c. IsDueOf hub.log.history i c.positions)) (sym instance) (named_by work.positions landing.confirmed landing.done (IsDueOf hub.log.history work.instance) names (leased.due sound));
   shut = λ done. subst (λ (i : ℕ). MayShut hub i) (sym instance) (leased.shut (closes done));
   sink = λ sent. subst (λ (i : ℕ). IsSinkAt hub i) (sym instance) (leased.sink (sends sent));
   events = events;

@@ -1,5 +1,5 @@
 -- Copies are spent where they stand.
-use Rattle.std.proofs.Common.{◌≡◌, ℕ, ◌+◌, ◌<◌, ◌≤◌, false, List, [], ◌∷◌, ◌++◌, Option, Some, None, IfSome, refl, sym, ap, ◌∙◌, subst, arith}
+use Rattle.std.proofs.Common.{◌≡◌, ℕ, ◌+◌, ◌≤◌, List, [], ◌∷◌, ◌++◌, Option, Some, None, IfSome, refl, sym, ap, ◌∙◌, subst, arith}
 use Rattle.std.specs.Prelude.{IsTrue, IsSome}
 use Rattle.vx_record.specs.declared.abandon_cause.AbandonCause.{AbandonCause}
 use Rattle.vx_ends.specs.Told.{Told}
@@ -22,7 +22,7 @@ use Rattle.vx_hub.specs.declared.hub.Hub.{Hub}
 use Rattle.vx_hub.specs.Numbers.{numbers_in}
 use Rattle.vx_hub.specs.Order.{IsSpentFor, AreSpentFrom, IsSpending, IsPlaceFor, reply_behind}
 use Rattle.vx_hub.specs.Places.{TakesFrom, all_numbers}
-use Rattle.vx_hub.specs.Spending.{MaySpend, ComeFrom}
+use Rattle.vx_hub.specs.Spending.{ComeFrom}
 use Rattle.vx_hub.specs.Stands.{Stands, IsSound}
 use Rattle.vx_hub.proofs.Ordering.{sound_before}
 use Rattle.vx_hub.proofs.Placing.{places_all, all_numbers-append, numbers-append, spent_live, conserved}

@@ -27,11 +27,13 @@ use Rattle.vx_ends.specs.declared.position.Position.{Position}
 use Rattle.vx_record.specs.Confirms.{Birth, births, births_in, born_positions, last_of_each, position_of}
 use Rattle.vx_record.specs.Copies.{next_copy, makes}
 use Rattle.vx_record.specs.Confirms.{is_unconfirmed}
-use Rattle.vx_record.specs.Moving.{IsStill, IsConserved}
+use Rattle.vx_record.specs.Moving.{IsConserved}
 use Rattle.vx_hub.specs.Places.{IsPlaced}
 use Rattle.vx_record.specs.Abandoning.{MayStillCome}
 use Rattle.vx_record.specs.Turns.{is_out}
 use Rattle.vx_hub.specs.Away.{IsReturning}
+use Rattle.vx_hub.specs.Events.{AreSaid}
+use Rattle.vx_hub.proofs.Saids.{rows_on}
 use Rattle.vx_hub.specs.Order.{IsInOrder, IsOrderly, IsUnknown, IsReason}
 use Rattle.vx_ledger.specs.Ledger.{IsKept}
 use Rattle.vx_status.specs.declared.outcome.Outcome.{Outcome}
@@ -134,6 +136,7 @@ pub record Passes {P : Type 0} (d e : Hub P) (hand after : List Copy) (entry : E
   pub next : d.batches.next ≡ next_copy d.log.history → e.batches.next ≡ next_copy (entry ∷ d.log.history)
   pub order : IsSound d → IsInOrder d.log.history entry
   pub comes : IsSound d → MayStillCome d.log.history entry
+  pub said : IsSound d → AreSaid d.log.history d.rows.items → AreSaid (entry ∷ d.log.history) e.rows.items
   pub outs : IsSound d → (i : ℕ) → port_at d.rows.items i ≡ None → is_out d.log.history i ≡ true → is_out (entry ∷ d.log.history) i ≡ true
   pub places : IsSound d → IsConserved (entry ∷ d.log.history) → IsPlaced d.rows.items hand d.log.history → IsPlaced e.rows.items after (entry ∷ d.log.history)
   pub due : IsSound d → NoNoticeDue (entry ∷ d.log.history)
@@ -189,6 +192,7 @@ stands_quiet {P} told_by d e hand after entry s balanced facts ports bare size n
             next = passes.next r.next;
             order = ((passes.order fine, in_turn d.log.history entry r.noticeless, passes.comes fine), r.order);
             outs = λ i l none. let was : port_at d.rows.items i ≡ None = sym (ports i) ∙ none in passes.outs fine i was (r.outs i (subst (λ n. i < n) size l) was);
+            said = passes.said fine r.said;
             noticeless = passes.due fine;
             statuses = passes.statuses fine r.statuses;
             ledger = passes.ledger r.ledger;
@@ -237,8 +241,9 @@ pub stands_moved : {P : Type 0} (told_by : P → Told) (d e : Hub P) (hand after
     ((i : ℕ) → IfSome (facts_at d.facts.items i) (λ f. IsTrue f.retired → IsBareAt d.rows.items i → IsBareAt e.rows.items i)) →
     length e.rows.items ≡ length d.rows.items → e.batches ≡ d.batches → e.log ≡ d.log → e.starved ≡ d.starved → e.bytes ≡ d.bytes → spare_of e ≡ spare_of d →
     (IsSound d → IsConserved d.log.history → IsPlaced d.rows.items hand d.log.history → IsPlaced e.rows.items after d.log.history) →
+    (IsSound d → AreSaid d.log.history d.rows.items → AreSaid d.log.history e.rows.items) →
     Stands told_by e after e.log.history
-stands_moved {P} told_by d e hand after s balanced facts ports bare size batches log starved bytes berths places = record {
+stands_moved {P} told_by d e hand after s balanced facts ports bare size batches log starved bytes berths places said = record {
   history = refl;
   balanced = balanced;
   recorded = λ sound.
@@ -250,6 +255,7 @@ stands_moved {P} told_by d e hand after s balanced facts ports bare size batches
         bytes = bytes ∙ r.bytes;
         next = ap (λ (l : Ledger). l.next) batches ∙ r.next;
         order = r.order;
+        said = said fine r.said;
         outs = λ i l none. r.outs i (subst (λ n. i < n) size l) (sym (ports i) ∙ none);
         noticeless = r.noticeless;
         statuses = subst (λ (l : Ledger). AreRunning d.log.history l.open_rows) (sym batches) r.statuses;
@@ -352,6 +358,7 @@ stands_abandoned {P} told_by d log cause s once reason noted = record {
         bytes = r.bytes;
         next = same_next d.batches d.batches d.log.history (Abandon cause) refl refl r.next;
         order = ((record { first = sym r.cause ∙ once; reason = reason fine }, r.noticeless, comes_going d.log.history (Abandon cause) (sym r.cause ∙ once)), r.order);
+        said = rows_on d.log.history (Abandon cause) d.rows.items r.said;
         outs = r.outs;
         noticeless = λ b w. w;
         statuses = running_still d.log.history (Abandon cause) d.batches.open_rows tt r.statuses;
@@ -374,7 +381,7 @@ stands_counted {P} told_by d e hand same s = subst (λ (x : Hub P). Stands told_
   balanced = s.balanced;
   recorded = λ sound.
       let r : IsRecorded told_by d hand d.log.history = s.recorded (record { whole = sound.whole; fed = sound.fed }) in
-      record { ports = r.ports; facts = r.facts; bytes = r.bytes; next = r.next; order = r.order; unknown = r.unknown; cause = r.cause; installed = r.installed; noticeless = r.noticeless; statuses = r.statuses; ledger = r.ledger; places = r.places; outs = r.outs };
+      record { ports = r.ports; facts = r.facts; bytes = r.bytes; next = r.next; order = r.order; unknown = r.unknown; cause = r.cause; installed = r.installed; noticeless = r.noticeless; statuses = r.statuses; ledger = r.ledger; places = r.places; outs = r.outs; said = r.said };
   shut = s.shut;
   gone = s.gone;
   size = s.size;
@@ -390,6 +397,7 @@ stands_home {P} told_by d e log i s noted back same = subst (λ (x : Hub P). Sta
       next = same_next d.batches d.batches d.log.history (Home i) refl refl;
       order = back.away;
       comes = λ fine. left_out d.log.history i (s.recorded fine).order (back.away fine);
+      said = λ fine. rows_on d.log.history (Home i) d.rows.items;
       outs = λ fine k none out. home_on (i == k) (is_out d.log.history k) (other_test i k (λ e. let at : IsSome (port_at d.rows.items k) = subst (λ (n : ℕ). IsSome (port_at d.rows.items n)) (sym e) back.home in not_none (port_at d.rows.items k) none at)) out;
       places = λ fine kept. placed_still d.rows.items [] d.log.history (Home i) tt kept.1;
       due = λ fine. still_quiet d.log.history (Home i) tt;
@@ -429,6 +437,7 @@ stands_noticed {P} told_by d e hand after i c outcome batch status mid s balance
             next = same_next d.batches e.batches (first ∷ h) second refl next (same_next d.batches d.batches h first refl refl r.next);
             order = ((so fine, tt, λ gone. refl), ordered);
             outs = subst (λ (v : _). AreOut v.items (second ∷ first ∷ h)) (sym rows) r.outs;
+            said = subst (λ (v : _). AreSaid (second ∷ first ∷ h) v.items) (sym rows) (rows_on (first ∷ h) second d.rows.items (rows_on h first d.rows.items r.said));
             noticeless = λ b w. w;
             statuses = running_still (first ∷ h) second e.batches.open_rows tt (statuses fine);
             ledger = ledger;

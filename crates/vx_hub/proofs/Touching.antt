@@ -28,13 +28,14 @@ use Rattle.vx_hub.specs.Works.{IsClosedBy}
 use Rattle.vx_hub.specs.declared.task.Task.{Task}
 use Rattle.vx_hub.specs.Stands.{Stands, IsTold, IsKnown, AreOut, IsRecorded, IsSound, IsShut, IsGone, facts_at, lost_at, spec_at, capped, touched, IsBalanced, IsMute, spare_of, cause_of}
 use Rattle.vx_hub.proofs.StandsLaws.{some_mapped, some_all, berths_kept, ends_on, to_confirm_on, told_mute, bytes_mute, force_mute, same_next, unknown_on, unknown_mute}
-use Rattle.vx_record.specs.Copies.{next_copy, makes, joined}
-use Rattle.vx_record.specs.Lists.{held}
+use Rattle.vx_record.specs.Copies.{next_copy, makes}
 use Rattle.vx_record.specs.Moving.{IsStill, IsConserved}
 use Rattle.vx_hub.specs.Places.{IsPlaced, SamePlaces}
 use Rattle.vx_record.specs.Abandoning.{MayStillCome}
 use Rattle.vx_record.specs.Turns.{is_out}
 use Rattle.vx_hub.proofs.Ceasing.{left_out, comes_left, out_touched}
+use Rattle.vx_hub.specs.Events.{AreSaid}
+use Rattle.vx_hub.proofs.Saids.{rows_on}
 use Rattle.vx_hub.specs.Order.{IsAttemptOf, IsInOrder, readers_at}
 use Rattle.vx_ledger.specs.Routing.{targets_of}
 use Rattle.vx_hub.proofs.Ordering.{first_targets}
@@ -236,7 +237,7 @@ pub stands_touched : {P : Type 0} (told_by : P → Told) (d e : Hub P) (hand : L
     e.rows ≡ d.rows → spare_of e ≡ spare_of d → e.batches ≡ d.batches → e.starved ≡ d.starved → Noted d.log entry e.log → touched entry ≡ Some i → IsStill entry →
     (IsKnown f d.log.history i → IsKnown g (entry ∷ d.log.history) i) →
     (d.bytes ≡ capped (bytes_of_all d.log.history) → e.bytes ≡ capped (bytes_of_all (entry ∷ d.log.history))) →
-    makes entry ≡ 0 → (IsSound d → IsKnown f d.log.history i → IsInOrder d.log.history entry) →
+    makes entry ≡ 0 → (IsSound d → IsKnown f d.log.history i → is_out d.log.history i ≡ true → IsInOrder d.log.history entry) →
     Stands told_by e hand e.log.history
 stands_touched {P} told_by d e hand entry i f g s out within at written closed retired rows berths batches starved noted touch still known bytes none_made order =
     let was : facts_at d.facts.items i ≡ Some f = facts_read d.facts.items i f within at in
@@ -260,7 +261,8 @@ stands_touched {P} told_by d e hand entry i f g s out within at written closed r
                 (λ k other. some_mapped _ _ (facts_at d.facts.items k) (λ x t. known_other x d.log.history i k entry touch other t) (r.facts k)) j);
             bytes = bytes r.bytes;
             next = same_next d.batches e.batches d.log.history entry none_made (ap (λ (l : Ledger). l.next) batches) r.next;
-            order = ((order fine mine, in_turn d.log.history entry r.noticeless, comes_left d.log.history entry i touch still (left_out d.log.history i r.order (r.outs i (subst (λ n. i < n) s.size within) none))), r.order);
+            order = ((order fine mine (r.outs i (subst (λ n. i < n) s.size within) none), in_turn d.log.history entry r.noticeless, comes_left d.log.history entry i touch still (left_out d.log.history i r.order (r.outs i (subst (λ n. i < n) s.size within) none))), r.order);
+            said = subst (λ (v : _). AreSaid (entry ∷ d.log.history) v.items) (sym rows) (rows_on d.log.history entry d.rows.items r.said);
             outs = subst (λ (v : _). AreOut v.items (entry ∷ d.log.history)) (sym rows) (λ k l away. out_touched d.log.history entry i k touch ∙ r.outs k l away);
             noticeless = still_quiet d.log.history entry still;
             statuses = subst (λ (l : Ledger). AreRunning (entry ∷ d.log.history) l.open_rows) (sym batches) (running_still d.log.history entry d.batches.open_rows still r.statuses);
@@ -317,6 +319,7 @@ stands_marked {P} told_by d e hand after entry i f g s within at written rows be
             bytes = bytes ∙ r.bytes ∙ ap capped (sym (bytes_mute d.log.history entry mute));
             next = next r.next;
             order = ((order fine, in_turn d.log.history entry r.noticeless, comes fine), r.order);
+            said = subst (λ (v : _). AreSaid (entry ∷ d.log.history) v.items) (sym rows) (rows_on d.log.history entry d.rows.items r.said);
             outs = subst (λ (v : _). AreOut v.items (entry ∷ d.log.history)) (sym rows) (λ k l away. outs k (r.outs k l away));
             noticeless = due;
             statuses = statuses fine (accounted d.log.history r.order) r.statuses;
@@ -344,8 +347,9 @@ pub stands_brought : {P : Type 0} (told_by : P → Told) (d e : Hub P) (copies :
     IsBalanced e.batches e.rows.items [] → port_at e.rows.items i ≡ Some port → SameOtherPorts i d.rows.items e.rows.items → KeepsOthersBare i d.rows.items e.rows.items →
     length e.rows.items ≡ length d.rows.items → e.batches ≡ d.batches → e.facts ≡ d.facts → e.log ≡ d.log → e.starved ≡ d.starved → e.bytes ≡ d.bytes → spare_of e ≡ spare_of d →
     (IsSound d → IsConserved d.log.history → IsPlaced d.rows.items copies d.log.history → IsPlaced e.rows.items [] d.log.history) →
+    (IsSound d → AreSaid d.log.history d.rows.items → AreSaid d.log.history e.rows.items) →
     Stands told_by e [] e.log.history
-stands_brought {P} told_by d e copies port i s unclosed told balanced here ports bare size batches facts log starved bytes berths places =
+stands_brought {P} told_by d e copies port i s unclosed told balanced here ports bare size batches facts log starved bytes berths places said =
     record {
       history = refl;
       balanced = balanced;
@@ -360,6 +364,7 @@ stands_brought {P} told_by d e copies port i s unclosed told balanced here ports
             bytes = bytes ∙ r.bytes;
             next = ap (λ (l : Ledger). l.next) batches ∙ r.next;
             order = r.order;
+            said = said fine r.said;
             outs = other_number (λ k. k < length e.rows.items → port_at e.rows.items k ≡ None → is_out d.log.history k ≡ true) i (λ l none. let no : Some port ≡ None = sym here ∙ none in cc)
                 (λ k other l none. r.outs k (subst (λ n. k < n) size l) (sym (ports k other) ∙ none));
             noticeless = r.noticeless;
@@ -468,8 +473,9 @@ pub stands_shut : {P : Type 0} (told_by : P → Told) (d e : Hub P) (i : ℕ) �
     IfSome (port_at d.rows.items i) (λ old. IsSomeAnd (port_at e.rows.items i) (λ new. IsClosedBy (told_by old) (told_by new))) →
     Loses d.rows.items [] e.rows.items → SameOtherPorts i d.rows.items e.rows.items → KeepsBare d.rows.items e.rows.items →
     length e.rows.items ≡ length d.rows.items → e.batches ≡ d.batches → e.facts ≡ d.facts → e.log ≡ d.log → e.starved ≡ d.starved → e.bytes ≡ d.bytes → spare_of e ≡ spare_of d → SamePlaces d.rows.items e.rows.items →
+    (IsSound d → AreSaid d.log.history d.rows.items → AreSaid d.log.history e.rows.items) →
     Stands told_by e [] e.log.history
-stands_shut {P} told_by d e i s home becomes loses ports bare size batches facts log starved bytes berths same =
+stands_shut {P} told_by d e i s home becomes loses ports bare size batches facts log starved bytes berths same said =
     record {
       history = refl;
       balanced = λ batch place. subst (λ (b : _). live_count batch place b.open_rows ≡ copies_in batch place e.rows.items + 0) (sym batches)
@@ -486,6 +492,7 @@ stands_shut {P} told_by d e i s home becomes loses ports bare size batches facts
             bytes = bytes ∙ r.bytes;
             next = ap (λ (l : Ledger). l.next) batches ∙ r.next;
             order = r.order;
+            said = said fine r.said;
             outs = other_number (λ k. k < length e.rows.items → port_at e.rows.items k ≡ None → is_out d.log.history k ≡ true) i
                 (λ l none. absurd (some_stays (λ o n. IsClosedBy (told_by o) (told_by n)) (port_at d.rows.items i) (port_at e.rows.items i) becomes home none))
                 (λ k other l none. r.outs k (subst (λ n. k < n) size l) (sym (ports k other) ∙ none));
@@ -531,7 +538,7 @@ known_attempt f h i j copies bytes reply k = record {
 
 -- an attempt of an instance that is out is told
 pub stands_attempted : {P : Type 0} (told_by : P → Told) (d : Hub P) (log : Log) (hand : List Copy) (i : ℕ) (copies bytes : List ℕ) (reply : Reply) →
-    Stands told_by d hand d.log.history → i < length d.rows.items → IsOutAt d.rows.items i → (IsSound d → IsAttemptOf d.log.history i copies) → Noted d.log (Attempt i copies bytes reply) log →
+    Stands told_by d hand d.log.history → i < length d.rows.items → IsOutAt d.rows.items i → (IsSound d → is_out d.log.history i ≡ true → IsAttemptOf d.log.history i copies bytes reply) → Noted d.log (Attempt i copies bytes reply) log →
     Stands told_by (record d { log = log }) hand log.history
 stands_attempted {P} told_by d log hand i copies bytes reply s within out names noted =
     let e : Entry = Attempt i copies bytes reply in
@@ -549,7 +556,8 @@ stands_attempted {P} told_by d log hand i copies bytes reply s within out names 
             facts = λ j. some_mapped _ _ (facts_at d.facts.items j) (λ f k. known_attempt f d.log.history i j copies bytes reply k) (r.facts j);
             bytes = r.bytes;
             next = same_next d.batches d.batches d.log.history e refl refl r.next;
-            order = ((names (record { whole = w.0; fed = sound.fed }), r.noticeless, left_out d.log.history i r.order (r.outs i within none)), r.order);
+            order = ((names (record { whole = w.0; fed = sound.fed }) (r.outs i within none), r.noticeless, left_out d.log.history i r.order (r.outs i within none)), r.order);
+            said = rows_on d.log.history e d.rows.items r.said;
             outs = r.outs;
             noticeless = λ b w. w;
             statuses = running_still d.log.history e d.batches.open_rows tt r.statuses;
@@ -589,8 +597,9 @@ pub stands_out : {P : Type 0} (told_by : P → Told) (d e : Hub P) (copies : Lis
     IsBalanced e.batches e.rows.items copies → port_at e.rows.items i ≡ None → SameOtherPorts i d.rows.items e.rows.items → KeepsOthersBare i d.rows.items e.rows.items →
     length e.rows.items ≡ length d.rows.items → e.batches ≡ d.batches → e.facts ≡ d.facts → e.log ≡ d.log → e.starved ≡ d.starved → e.bytes ≡ d.bytes → spare_of e ≡ spare_of d →
     (IsConserved d.log.history → IsPlaced d.rows.items [] d.log.history → IsPlaced e.rows.items copies d.log.history) → (IsSound d → is_out d.log.history i ≡ true) →
+    (IsSound d → AreSaid d.log.history d.rows.items → AreSaid d.log.history e.rows.items) →
     Stands told_by e copies e.log.history
-stands_out {P} told_by d e copies i s unclosed balanced away ports bare size batches facts log starved bytes berths places leased =
+stands_out {P} told_by d e copies i s unclosed balanced away ports bare size batches facts log starved bytes berths places leased said =
     record {
       history = refl;
       balanced = balanced;
@@ -605,6 +614,7 @@ stands_out {P} told_by d e copies i s unclosed balanced away ports bare size bat
             bytes = bytes ∙ r.bytes;
             next = ap (λ (l : Ledger). l.next) batches ∙ r.next;
             order = r.order;
+            said = said fine r.said;
             outs = other_number (λ k. k < length e.rows.items → port_at e.rows.items k ≡ None → is_out d.log.history k ≡ true) i (λ l none. leased fine)
                 (λ k other l none. r.outs k (subst (λ n. k < n) size l) (sym (ports k other) ∙ none));
             noticeless = r.noticeless;

@@ -1,6 +1,7 @@
 -- An instance that was leased and comes home.
-use Rattle.std.specs.Prelude.{◌≡◌, ℕ, true, IsSome}
+use Rattle.std.specs.Prelude.{◌≡◌, ◌⊎◌, ℕ, true, IsSome}
 use Rattle.vx_record.specs.Turns.{is_out}
+use Rattle.vx_record.specs.Abandoning.{abandoned}
 use Rattle.vx_hub.specs.declared.hub.Hub.{Hub}
 use Rattle.vx_hub.specs.Rows.{port_at}
 use Rattle.vx_hub.specs.Stands.{IsSound}
@@ -13,3 +14,7 @@ IsAway hub i = IsSound hub → is_out hub.log.history i ≡ true
 pub record IsReturning {P : Type 0} (hub : Hub P) (i : ℕ) : Type 0 where
   pub home : IsSome (port_at hub.rows.items i)
   pub away : IsAway hub i
+
+-- where the record has all that happened, the instance is away, or the run was given up
+abbrev pub MayEnd : {P : Type 0} → Hub P → ℕ → Type 0
+MayEnd hub i = IsSound hub → (is_out hub.log.history i ≡ true) ⊎ (abandoned hub.log.history ≡ true)

@@ -10,6 +10,16 @@ use Rattle.vx_hub.specs.Numbers.{numbers_in}
 use Rattle.vx_hub.specs.Places.{parcel_numbers}
 use Rattle.vx_hub.specs.Rows.{role_parcels}
 use Rattle.vx_hub.specs.Stands.{IsSound}
+use Rattle.vx_hub.specs.Events.{IsSaid, Each, ArePaired}
+use Rattle.vx_value.specs.declared.event.Event.{Event}
+
+-- where the record has all that happened, it has the events of the parcels that a task holds
+abbrev pub IsSaidBy : {P : Type 0} → Hub P → Role → Type 0
+IsSaidBy hub role = IsSound hub → Each (IsSaid hub.log.history) (role_parcels role)
+
+-- where the record has all that happened, it has some events as those that the copies were made with
+abbrev pub ArePairedBy : {P : Type 0} → Hub P → List Event → List Copy → Type 0
+ArePairedBy hub events copies = IsSound hub → ArePaired hub.log.history events copies
 
 -- where the record has all that happened, the instance's outputs there are one for each copy, those of the hand first
 abbrev pub IsLinedUp : {P : Type 0} → Hub P → ℕ → List Copy → Type 0

@@ -14,13 +14,14 @@ use Rattle.vx_hub.specs.declared.work.Done.{Done}
 use Rattle.vx_hub.specs.declared.work.Done.TheVariants.{Closed, Starved}
 use Rattle.vx_record.specs.Places.Place.{Outputs}
 use Rattle.vx_hub.specs.Places.{numbers_at}
-use Rattle.vx_hub.specs.Births.{IsHeldBy}
-use Rattle.vx_hub.specs.Rows.{role_copies, IsOutAt}
+use Rattle.vx_hub.specs.Births.{IsHeldBy, IsSaidBy}
+use Rattle.vx_hub.specs.Events.{IsWrittenOf}
+use Rattle.vx_hub.specs.Rows.{role_copies, role_parcels, IsOutAt}
 use Rattle.vx_hub.specs.declared.confirming.Confirmed.{Confirmed}
 use Rattle.vx_hub.specs.Turns.{NothingLeft}
 use Rattle.vx_hub.specs.Works.{taken_by, given_by, ended_by, ends_all_by, confirmed_by, confirm_faults, faults_by, refusals_by, idles_by, event_count_of, IsReading, IsAttempted, IsSending}
 use Rattle.vx_hub.specs.declared.work.Job.TheVariants as job
-use Rattle.vx_hub.specs.Order.{IsConfirmOf}
+use Rattle.vx_hub.specs.Order.{IsDueOf}
 use Rattle.vx_hub.specs.Stands.{Stands, IsTold, IsSound, IsUnlost, MayShut, IsSinkAt, facts_at, spec_at}
 
 -- an instance that is there, and whose port isn't closed for good
@@ -35,9 +36,10 @@ pub record IsLeased {P : Type 0} (told_by : P → Told) (hub : Hub P) (work : Wo
   pub out : IsOutAt hub.rows.items work.instance
   pub told : IsSound hub → IsTold (told_by work.task.port) hub.log.history work.instance
   pub held : IsHeldBy hub work.instance work.task.role
+  pub said : IsSaidBy hub work.task.role
   pub unlost : work.job ≡ job.Read → IsUnlost hub work.instance
   pub sent : work.job ≡ job.Read → numbers_at (Outputs work.instance) hub.rows.items ≡ []
-  pub due : IsSound hub → IfSome work.positions (IsConfirmOf hub.log.history work.instance)
+  pub due : IsSound hub → IfSome work.positions (IsDueOf hub.log.history work.instance)
   pub shut : work.job ≡ job.Close → MayShut hub work.instance
   pub sink : IsSending work.job → IsSinkAt hub work.instance
 
@@ -65,9 +67,11 @@ pub record IsBack {P : Type 0} (told_by : P → Told) (hub : Hub P) (landing : L
   pub out : IsOutAt hub.rows.items landing.instance
   pub brings : IsSound hub → Brings (told_by landing.task.port) hub.log.history landing.instance landing.confirmed landing.done
   pub held : IsHeldBy hub landing.instance landing.task.role
+  pub said : IsSaidBy hub landing.task.role
+  pub writes : IsWrittenOf (role_parcels landing.task.role) landing.done
   pub unlost : IsReading landing.done → IsUnlost hub landing.instance
   pub sent : IsReading landing.done → numbers_at (Outputs landing.instance) hub.rows.items ≡ []
-  pub due : IsSound hub → IfSome landing.confirmed (λ confirmed. IsConfirmOf hub.log.history landing.instance confirmed.positions)
+  pub due : IsSound hub → IfSome landing.confirmed (λ confirmed. IsDueOf hub.log.history landing.instance confirmed.positions)
   pub shut : landing.done ≡ Closed → MayShut hub landing.instance
   pub sink : IsAttempted landing.done → IsSinkAt hub landing.instance
   pub events : event_count_of landing.done ≤ 65536

@@ -9,6 +9,7 @@ pub mod Works
 pub mod Stands
 pub mod Births
 pub mod Away
+pub mod Events
 pub mod Leases
 pub mod Spending
 pub mod Making

@@ -1,9 +1,10 @@
 -- What is proved of each entry of a run's record, given the entries before it.
-use Rattle.std.specs.Prelude.{◌≡◌, ℕ, ◌+◌, ◌*◌, ◌<◌, ◌≤◌, ◌^◌, Bool, true, false, List, [], ◌∷◌, length, Option, Some, None, IfSome, IsSome, IsSomeAnd, slice_get, ◌⊎◌, if◌then◌else◌, ◌==◌}
+use Rattle.std.specs.Prelude.{◌≡◌, ℕ, ◌+◌, ◌*◌, ◌<◌, ◌≤◌, ◌^◌, Bool, true, false, List, [], ◌∷◌, length, Option, Some, None, IfSome, IsSome, IsSomeAnd, slice_get, ◌⊎◌, if◌then◌else◌, ◌==◌, map}
 use Rattle.vx_ends.specs.declared.trouble.Reply.{Reply}
 use Rattle.vx_ends.specs.declared.trouble.Reply.TheVariants as reply
 use Rattle.vx_status.specs.declared.outcome.Outcome.{Outcome}
 use Rattle.vx_status.specs.declared.outcome.Outcome.TheVariants.{Delivered, Attempts, Refusal, Abandoned, NoConsumer, Filtered, NewestDropped}
+use Rattle.vx_ends.specs.declared.position.Position.{Position}
 use Rattle.vx_value.specs.declared.event.Event.{Event}
 use Rattle.vx_record.specs.Records.{Record, capped}
 use Rattle.vx_record.specs.Copies.{count, joined, counting, children_of, next_copy, IsLive}
@@ -13,8 +14,12 @@ use Rattle.vx_record.specs.Lists.{waiting, all_waiting, contents, held, stands, 
 use Rattle.vx_record.specs.Sending.{IsOldest}
 use Rattle.vx_record.specs.Moving.{Divides}
 use Rattle.vx_record.specs.Accounting.{IsNoticedSo, IsInTurn}
-use Rattle.vx_record.specs.Abandoning.{MayStillCome}
+use Rattle.vx_record.specs.Abandoning.{abandoned, MayStillCome}
 use Rattle.vx_record.specs.Turns.{is_out}
+use Rattle.vx_record.specs.Parcels.{parcel_event}
+use Rattle.vx_record.specs.Encoding.{encode, is_prefix}
+use Rattle.vx_plan.specs.declared.codec.Codec.TheVariants.{Text}
+use Rattle.vx_value.specs.Texts.{Word}
 use Rattle.vx_record.specs.Starting.{MayInstall}
 use Rattle.vx_record.specs.Installs.{wired, in_force, is_closed, is_retired}
 use Rattle.vx_record.specs.Routing.{wired_targets}
@@ -58,29 +63,20 @@ component_in (Some plan) i = slice_get plan.components i
 abbrev pub IsClosing : Record → ℕ → Type 0
 IsClosing h i = IfSome (component_in (in_force h) i) (λ component. component.class ≡ Source → TakesNoMore h i)
 
--- a port is closed for good once, where it may be
-pub record IsClosureOf (h : Record) (j : ℕ) : Type 0 where
-  pub first : is_closed h j ≡ false
-  pub done : IsClosing h j
-
 -- the component that an instance runs is there, and of that class
 abbrev pub IsOfClass : Record → ℕ → Class → Type 0
 IsOfClass h i class = IsSomeAnd (component_in (in_force h) i) (λ component. component.class ≡ class)
 
--- what is read is a source that wasn't lost
+-- what is read is a source that is out and wasn't lost
 pub record IsTurnOf (h : Record) (j : ℕ) : Type 0 where
+  pub out : is_out h j ≡ true
   pub unlost : lost_at h j ≡ None
   pub source : IsOfClass h j Source
 
--- a confirm is of a source, and names for each stream the end of the last batch that it bore
-pub record IsConfirmOf (h : Record) (j : ℕ) (positions : List Position) : Type 0 where
+-- what is confirmed to a source is, for each stream, the end of the last batch that it bore
+pub record IsDueOf (h : Record) (j : ℕ) (positions : List Position) : Type 0 where
   pub all : positions ≡ born_positions h j
   pub source : IsOfClass h j Source
-
--- an attempt is of a sink, and names the copies of all that this holds
-pub record IsAttemptOf (h : Record) (j : ℕ) (copies : List ℕ) : Type 0 where
-  pub all : copies ≡ joined (held h j)
-  pub sink : IsOfClass h j Sink
 
 -- a source that wasn't lost may find nothing, and a failed start is told so only where fewer than four stand before it
 pub record IsTryOf (h : Record) (j : ℕ) (failed : Bool) : Type 0 where
@@ -113,14 +109,34 @@ pub record IsBirthOf (h : Record) (i batch : ℕ) (copies : List ℕ) (events : 
 abbrev pub readers_at : Record → ℕ → List ℕ
 readers_at = wired [] (wired_targets 0)
 
--- a split replaces the oldest output of its instance, none of whose children waits, and makes, for each reader of the instance, one child with a copy
--- for each of the copies that it replaces, with the next numbers
-pub record IsSplitOf (h : Record) (i : ℕ) (copies : List ℕ) (children : List Child) : Type 0 where
+-- a split replaces the oldest output of its instance, none of whose children waits, and has its event; it makes, for each
+-- reader of the instance, one child with a copy for each of the copies that it replaces, with the next numbers
+pub record IsSplitOf (h : Record) (i : ℕ) (copies : List ℕ) (event : Event) (children : List Child) : Type 0 where
   pub divides : Divides h i copies children
   pub none_waits : all_waiting h i ≡ []
+  pub same_event : event ≡ parcel_event h copies
   pub routed : children ≡ children_of (next_copy h) (length copies) (readers_at h i)
   pub some : 0 < length children
   pub fits : next_copy h + length children * length copies ≤ 2 ^ 63
+
+-- an instance that is out takes the oldest parcel of its buffer
+pub record IsTakeOf (h : Record) (j s : ℕ) (copies : List ℕ) : Type 0 where
+  pub out : is_out h j ≡ true
+  pub oldest : IsOldest copies (contents h j s)
+
+-- to the port of an instance that is out the ends of all its batches are confirmed
+pub record IsConfirmOf (h : Record) (j : ℕ) (positions : List Position) : Type 0 where
+  pub out : is_out h j ≡ true
+  pub due : IsDueOf h j positions
+
+-- an attempt is made by a sink that is out, and names what it holds, in order; it gives what the codec `text` writes
+-- of the events of that, or the beginning of it, and with the reply `Ok` the whole
+pub record IsAttemptOf (h : Record) (j : ℕ) (copies : List ℕ) (bytes : Word) (answer : Reply) : Type 0 where
+  pub out : is_out h j ≡ true
+  pub sink : IsOfClass h j Sink
+  pub all : copies ≡ joined (held h j)
+  pub given : is_prefix bytes (encode Text (map (parcel_event h) (held h j))) ≡ true
+  pub whole : answer ≡ reply.Ok → bytes ≡ encode Text (map (parcel_event h) (held h j))
 
 -- the answer of a device that an outcome stands for
 abbrev pub reply_behind : Outcome → Option Reply
@@ -181,6 +197,13 @@ pub record IsLeaseOf (h : Record) (j polls : ℕ) : Type 0 where
   pub unretired : is_retired h j ≡ false
   pub unpolled : polls ≡ 0
 
+-- a port is closed for good once, by an instance that is out or after an abandonment; and a source's only where it takes
+-- no more
+pub record IsClosureOf (h : Record) (j : ℕ) : Type 0 where
+  pub first : is_closed h j ≡ false
+  pub over : (is_out h j ≡ true) ⊎ (abandoned h ≡ true)
+  pub done : IsClosing h j
+
 -- an instance is retired once, when its port is closed for good and nothing stands at it
 pub record IsEndOf (h : Record) (j : ℕ) : Type 0 where
   pub unretired : is_retired h j ≡ false
@@ -196,10 +219,10 @@ IsInOrder h (Read j stream took) = IsTurnOf h j
 IsInOrder h (Idle j failed) = IsTryOf h j failed
 IsInOrder h (SourceLost j at failed) = IsLossOf h j at failed
 IsInOrder h (Born j batch place copies events waits stream end) = IsBirthOf h j batch copies events waits
-IsInOrder h (Split j ports copies event children) = IsSplitOf h j copies children
+IsInOrder h (Split j ports copies event children) = IsSplitOf h j copies event children
 IsInOrder h (Push j t s copies) = IsOldest copies (waiting h j t)
-IsInOrder h (Take j s copies) = IsOldest copies (contents h j s)
-IsInOrder h (Attempt j copies bytes reply) = IsAttemptOf h j copies
+IsInOrder h (Take j s copies) = IsTakeOf h j s copies
+IsInOrder h (Attempt j copies bytes reply) = IsAttemptOf h j copies bytes reply
 IsInOrder h (Spent j c outcome) = IsSpending h j c outcome
 IsInOrder h (Notice batch status) = IsNoticedSo h batch status
 IsInOrder h (Confirm j positions made) = IsConfirmOf h j positions

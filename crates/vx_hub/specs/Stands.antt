@@ -23,6 +23,7 @@ use Rattle.vx_hub.specs.Rows.{copies_in, port_at, IsBareAt, HasRoom}
 use Rattle.vx_record.specs.Batches.{NoNoticeDue}
 use Rattle.vx_hub.specs.Batching.{AreRunning}
 use Rattle.vx_hub.specs.Places.{IsPlaced}
+use Rattle.vx_hub.specs.Events.{AreSaid}
 use Rattle.vx_hub.specs.Turns.{NothingLeft}
 pub use Rattle.vx_hub.specs.Order.{lost_at, cause_of, component_in, IsClosing}
 use Rattle.vx_hub.specs.Order.{IsOrderly, IsUnknown, readers_at}
@@ -101,6 +102,7 @@ pub record IsRecorded {P : Type 0} (told_by : P → Told) (hub : Hub P) (hand : 
   pub ledger : IsKept hub.batches
   pub places : IsPlaced hub.rows.items hand h
   pub outs : AreOut hub.rows.items h
+  pub said : AreSaid h hub.rows.items
 
 -- whether the record has all that happened
 pub record IsSound {P : Type 0} (hub : Hub P) : Type 0 where

@@ -4,7 +4,8 @@ ghost use Rattle.vx_hub.specs.Away.{IsReturning};
 ghost use Rattle.vx_hub.specs.Stands.{Stands, IsSound, facts_at};
 ghost use Rattle.vx_record.specs.Places.Place.{Outputs};
 ghost use Rattle.vx_hub.specs.Places.{numbers_at};
-ghost use Rattle.vx_hub.specs.Births.{IsLinedUp, IsNextOut};
+ghost use Rattle.vx_hub.specs.Births.{IsLinedUp, IsNextOut, ArePairedBy};
+ghost use Rattle.vx_hub.specs.Events.{IsSaid};
 ghost use Rattle.vx_hub.specs.Ending.{AreMovedTo};
 ghost use Rattle.vx_hub.specs.Failures.{HasReason};
 ghost use Rattle.vx_hub.specs.Leases.{IsOpenAt};
@@ -118,6 +119,7 @@ impl<P: Port> Hub<P> {
         ensures stands { IfOk result (λ finalizers. Stands P.told self.new finalizers self.new.log.history) }
         ensures each { IfOk result (λ finalizers. length events.now ≡ length finalizers) }
         ensures lined { IfOk result (IsLinedUp self.new instance) }
+        ensures paired { IfOk result (ArePairedBy self.new events.now) }
         ensures open { IsOpenAt self.new instance }
         ensures rows { self.new.rows ≡ self.old.rows }
         ensures plan { self.new.plan ≡ self.old.plan }
@@ -165,6 +167,7 @@ impl<P: Port> Hub<P> {
         requires open { IsOpenAt self.old instance }
         requires each { length events ≡ length finalizers }
         requires lined { IsLinedUp self.old instance finalizers }
+        requires paired { ArePairedBy self.old events finalizers }
         requires room { HasOutputRoom self.old.rows.items instance (length events) }
         ensures stands { Stands P.told self.new [] self.new.log.history }
         ensures size { length self.new.rows.items ≡ length self.old.rows.items }
@@ -192,7 +195,7 @@ impl<P: Port> Hub<P> {
     fn put_one(&mut self, instance: u32, event: Event, finalizers: Finalizers)
         requires open { IsOpenAt self.old instance }
         requires room { HasOutputRoom self.old.rows.items instance 1 }
-        ensures stands { (rest : List Copy) → Stands P.told self.old (rest ++ finalizers) self.old.log.history → (IsSound self.old → IsNextOut self.old.log.history instance rest finalizers) → Stands P.told self.new rest self.new.log.history }
+        ensures stands { (rest : List Copy) → Stands P.told self.old (rest ++ finalizers) self.old.log.history → (IsSound self.old → IsNextOut self.old.log.history instance rest finalizers) → (IsSound self.old → IsSaid self.old.log.history (record { event = event; finalizers = finalizers })) → Stands P.told self.new rest self.new.log.history }
         ensures log { self.new.log ≡ self.old.log }
         ensures starved { self.new.starved ≡ self.old.starved }
         ensures room { (n : ℕ) → HasOutputRoom self.old.rows.items instance (n + 1) → HasOutputRoom self.new.rows.items instance n }

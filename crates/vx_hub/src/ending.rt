@@ -219,9 +219,9 @@ impl<P: Port> Hub<P> {
     fn shut_down(&mut self, instance: u32)
         requires stands { Stands P.told self.old [] self.old.log.history }
         requires within { instance < length self.old.rows.items }
+        requires given_up { IsSome self.old.abandoned }
         requires unclosed { IsSomeAnd (facts_at self.old.facts.items instance) (λ f. f.closed ≡ false) }
         requires home { IsSome (port_at self.old.rows.items instance) }
-        requires given_up { IsSome self.old.abandoned }
         ensures stands { Stands P.told self.new [] self.new.log.history }
         ensures size { length self.new.rows.items ≡ length self.old.rows.items }
         ensures plan { self.new.plan ≡ self.old.plan }

@@ -1,17 +1,18 @@
 ghost use Rattle.std.specs.Prelude.{◌≡◌, ℕ, ◌<◌, ◌≤◌, ◌++◌, List, [], length, IfSome, IsSome, IsSomeAnd, Some, None, false, true, IsTrue, OnOk, OnErr, IfErr};
 ghost use Rattle.vx_ledger.specs.Copies.{Copy};
 ghost use Rattle.vx_record.specs.Noted.{Noted};
-ghost use Rattle.vx_hub.specs.Order.{reply_behind, IsPlaceFor, IsConfirmOf};
+ghost use Rattle.vx_hub.specs.Order.{reply_behind, IsPlaceFor, IsDueOf};
 ghost use Rattle.vx_hub.specs.Failures.{HasReason};
 ghost use Rattle.vx_hub.specs.Spending.{MaySpend, IsReplied, HasRead};
-ghost use Rattle.vx_hub.specs.Away.{IsReturning};
+ghost use Rattle.vx_hub.specs.Away.{IsReturning, MayEnd};
 ghost use Rattle.vx_hub.specs.Stands.{Stands, IsTold, IsSound, IsUnlost, MayShut, IsSinkAt, facts_at};
 ghost use Rattle.vx_hub.specs.Leases.{IsBack, IsOpenAt, Adds};
 ghost use Rattle.vx_hub.specs.Turns.{event_count};
 ghost use Rattle.vx_record.specs.Places.Place.{Outputs, Held};
 ghost use Rattle.vx_hub.specs.Places.{numbers_at};
-ghost use Rattle.vx_hub.specs.Births.{IsHeldBy};
-ghost use Rattle.vx_hub.specs.Rows.{role_copies, port_at, IsOutAt};
+ghost use Rattle.vx_hub.specs.Births.{IsHeldBy, IsSaidBy};
+ghost use Rattle.vx_hub.specs.Events.{written, IsPartOf};
+ghost use Rattle.vx_hub.specs.Rows.{role_copies, role_parcels, port_at, IsOutAt};
 
 use crate::confirming::Confirmed;
 use crate::fatal::Fatal;
@@ -29,7 +30,8 @@ impl<P: Port> Hub<P> {
     /// Brings a task home with what was done, and notes it.
     ///
     /// `Fatal` comes where a birth found no numbers or no memory, where the work found no memory, or where an entry
-    /// couldn't be noted. Each entry that was made stands then, and every copy that isn't spent is still held.
+    /// couldn't be noted. Each entry that was made stands then, and every copy that isn't spent is still held. After an
+    /// abandonment no batch is born, and what a sink holds is spent as `Abandoned`, however its attempt was answered.
     pub fn land(&mut self, landing: Landing<P>) -> Result<(), Fatal>
         requires { IsBack P.told self.old landing }
         ensures stands { Stands P.told self.new [] self.new.log.history }
@@ -123,7 +125,7 @@ impl<P: Port> Hub<P> {
     fn note_confirm(&mut self, instance: u32, confirmed: Confirmed)
         requires out { IsOutAt self.old.rows.items instance }
         requires within { instance < length self.old.facts.items }
-        requires due { IsSound self.old → IsConfirmOf self.old.log.history instance confirmed.positions }
+        requires due { IsSound self.old → IsDueOf self.old.log.history instance confirmed.positions }
         ensures stands { (hand : List Copy) → Stands P.told self.old hand self.old.log.history → Stands P.told self.new hand self.new.log.history }
         ensures noted { Noted self.old.log (Entry.Confirm instance confirmed.positions confirmed.made) self.new.log }
         ensures rows { self.new.rows ≡ self.old.rows }
@@ -169,6 +171,7 @@ impl<P: Port> Hub<P> {
         requires out { IsOutAt self.old.rows.items instance }
         requires told { IsSound self.old → IsTold (P.told task.port) self.old.log.history instance }
         requires held { IsHeldBy self.old instance task.role }
+        requires said { IsSaidBy self.old task.role }
         ensures stands { Stands P.told self.new [] self.new.log.history }
         ensures port { port_at self.new.rows.items instance ≡ Some task.port }
         ensures facts { self.new.facts ≡ self.old.facts }
@@ -202,6 +205,7 @@ impl<P: Port> Hub<P> {
         requires stands { Stands P.told self.old [] self.old.log.history }
         requires within { instance < length self.old.rows.items }
         requires unclosed { IsSomeAnd (facts_at self.old.facts.items instance) (λ f. f.closed ≡ false) }
+        requires over { MayEnd self.old instance }
         requires shut { IsSomeAnd (port_at self.old.rows.items instance) (λ port. (P.told port).started ≡ false) }
         requires may { MayShut self.old instance }
         ensures stands { Stands P.told self.new [] self.new.log.history }
@@ -221,7 +225,9 @@ impl<P: Port> Hub<P> {
         requires out { IsOutAt self.old.rows.items instance }
         requires brings { IsSound self.old → Adds (P.told task.port) self.old.log.history instance None (Done.Attempted bytes reply) }
         requires sink { IsSinkAt self.old instance }
+        requires writes { IsPartOf (written (role_parcels task.role)) bytes reply }
         requires held { IsHeldBy self.old instance task.role }
+        requires said { IsSaidBy self.old task.role }
         ensures stands { Stands P.told self.new [] self.new.log.history }
         ensures replied { IsReplied self.new instance reply }
         ensures facts { self.new.facts ≡ self.old.facts }

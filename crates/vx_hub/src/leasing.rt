@@ -1,6 +1,6 @@
 ghost use Rattle.std.specs.Prelude.{◌≡◌, ◌≢◌, ◌<◌, ℕ, [], length, None, IfSome, IfNone, IsSome, IsSomeAnd, IsTrue, true, false};
 ghost use Rattle.vx_plan.specs.declared.class.Class.TheVariants.{Source};
-ghost use Rattle.vx_hub.specs.Order.{IsConfirmOf};
+ghost use Rattle.vx_hub.specs.Order.{IsDueOf};
 ghost use Rattle.vx_hub.specs.Stands.{Stands, IsSound, IsUnlost, MayShut, IsDry, IsSinkAt, facts_at};
 ghost use Rattle.vx_hub.specs.Works.{IsSending};
 ghost use Rattle.vx_hub.specs.Leases.{IsLeased, IsOpenAt};
@@ -64,7 +64,7 @@ impl<P: Port> Hub<P> {
         ensures stands { Stands P.told self.new [] self.new.log.history }
         ensures open { IsOpenAt self.new instance }
         ensures unlost { IsUnlost self.old instance → IsUnlost self.new instance }
-        ensures due { IsSound self.new → IfSome result (IsConfirmOf self.new.log.history instance) }
+        ensures due { IsSound self.new → IfSome result (IsDueOf self.new.log.history instance) }
         ensures shut { MayShut self.old instance → MayShut self.new instance }
         ensures sink { IsSinkAt self.old instance → IsSinkAt self.new instance }
         ensures rows { self.new.rows ≡ self.old.rows }
@@ -95,7 +95,7 @@ impl<P: Port> Hub<P> {
         requires away { IsAway self.old instance }
         requires unlost { job ≡ Job.Read → IsUnlost self.old instance }
         requires sent { job ≡ Job.Read → numbers_at (Outputs instance) self.old.rows.items ≡ [] }
-        requires due { IsSound self.old → IfSome positions (IsConfirmOf self.old.log.history instance) }
+        requires due { IsSound self.old → IfSome positions (IsDueOf self.old.log.history instance) }
         requires shut { job ≡ Job.Close → MayShut self.old instance }
         requires sink { IsSending job → IsSinkAt self.old instance }
         ensures leased { IfSome result (IsLeased P.told self.new) }
@@ -224,6 +224,7 @@ impl<P: Port> Hub<P> {
     fn collect(&mut self, instance: u32, now: u64)
         requires stands { Stands P.told self.old [] self.old.log.history }
         requires open { IsOpenAt self.old instance }
+        requires away { IsAway self.old instance }
         requires going { self.old.abandoned ≡ None }
         ensures stands { Stands P.told self.new [] self.new.log.history }
         ensures open { IsOpenAt self.new instance }
@@ -247,6 +248,7 @@ impl<P: Port> Hub<P> {
     fn take(&mut self, instance: u32, now: u64) -> bool
         requires stands { Stands P.told self.old [] self.old.log.history }
         requires open { IsOpenAt self.old instance }
+        requires away { IsAway self.old instance }
         requires going { self.old.abandoned ≡ None }
         ensures stands { Stands P.told self.new [] self.new.log.history }
         ensures facts { self.new.facts ≡ self.old.facts }

@@ -1,6 +1,7 @@
 ghost use Rattle.std.specs.Prelude.{◌≡◌, [], ◌∷◌, ◌++◌, OnOk, IsTrue};
 ghost use Rattle.vx_value.specs.Events.{last_below};
 ghost use Rattle.vx_value.specs.Values.{named_datum};
+ghost use Rattle.vx_hub.specs.Events.{line_of};
 
 use std::alloc::Global;
 use vx_value::{Bytes, Event, Field, FieldList, Text, Value, WantOfMemory};
@@ -37,13 +38,11 @@ fn push(fields: &mut FieldList, field: Field) -> Result<(), WantOfMemory>
 }
 
 /// Adds what the codec `text` writes of an event: its message and a line feed.
-pub(crate) fn write_text(event: &Event, out: &mut Bytes) -> Result<(), WantOfMemory> {
-    for field in event.fields.as_slice() {
-        if field.name.as_str() == "message"
-            && let Value::Words(message) = &field.value
-        {
-            out.push_slice(message.as_str().as_bytes())?;
-        }
+pub(crate) fn write_text(event: &Event, out: &mut Bytes) -> Result<(), WantOfMemory>
+    ensures { OnOk result (out.new ≡ out.old ++ line_of event.now) }
+{
+    if let Some(Value::Words(message)) = event.fields.find("message") {
+        out.push_slice(message.as_str().as_bytes())?;
     }
     out.push_slice(b"\n")
 }

@@ -188,7 +188,8 @@ impl<P: Port> Hub<P> {
 
     /// The numbers of a parcel's copies, and its event once more.
     fn taken_apart(&self, parcel: &Parcel) -> Result<(NumberList, Event), WantOfMemory>
-        ensures { IfOk result (λ apart. apart.0 ≡ numbers_in parcel.now.finalizers) }
+        ensures numbers { IfOk result (λ apart. apart.0 ≡ numbers_in parcel.now.finalizers) }
+        ensures event { IfOk result (λ apart. apart.1 ≡ parcel.now.event) }
     {
         let copies = numbers_of(self.alloc, &parcel.finalizers)?;
         Ok((copies, parcel.event.copy(self.alloc)?))

@@ -3,6 +3,8 @@ ghost use Rattle.std.specs.Prelude.{◌≡◌, ◌+◌, ◌<◌, ℕ, [], length
 ghost use Rattle.vx_record.specs.Places.Place.{Outputs, Waiting, Contents, Held};
 ghost use Rattle.vx_hub.specs.Places.{parcel_lists, copies_at, SamePlaces, TakesOldest, TakesFrom, PutsLast, Fills, FillsWaiting, IsFirstChild};
 ghost use Rattle.vx_hub.specs.Works.{IsClosedBy};
+ghost use Rattle.vx_record.specs.Records.{Record};
+ghost use Rattle.vx_hub.specs.Events.{IsSaid, Each, EachChild, AreSaid};
 ghost use Rattle.vx_hub.specs.Rows.{child_copies, role_copies, role_parcels, option_copies, task_copies, port_at, Loses, Gains, SamePorts, SameOtherPorts, KeepsBare, KeepsOthersBare, HasOutputRoom, HasRoom, NoneWaits, HasChild, IsOutAt, IsBareAt, CanHold};
 
 use crate::row::Row;
@@ -24,6 +26,7 @@ pub(crate) fn pop_output<P>(rows: &mut Vec<Row<P>>, i: usize) -> Option<Parcel>
     ensures size { length rows.new.items ≡ length rows.old.items }
     ensures oldest { IfSome result (λ parcel. TakesOldest (Outputs i) parcel.finalizers rows.old.items rows.new.items) }
     ensures none { IfNone result (SamePlaces rows.old.items rows.new.items) }
+    ensures said { (h : Record) → AreSaid h rows.old.items → AreSaid h rows.new.items × IfSome result (IsSaid h) }
 {
     rows[i].outputs.pop()
 }
@@ -38,6 +41,7 @@ pub(crate) fn push_output<P>(rows: &mut Vec<Row<P>>, i: usize, parcel: Parcel)
     ensures room { (n : ℕ) → HasOutputRoom rows.old.items i (n + 1) → HasOutputRoom rows.new.items i n }
     ensures size { length rows.new.items ≡ length rows.old.items }
     ensures oldest { TakesOldest (Outputs i) parcel.finalizers rows.new.items rows.old.items }
+    ensures said { (h : Record) → AreSaid h rows.old.items → IsSaid h parcel → AreSaid h rows.new.items }
 {
     rows[i].outputs.push(parcel);
 }
@@ -55,6 +59,7 @@ pub(crate) fn reserve_outputs<P>(
     ensures bare { KeepsBare rows.old.items rows.new.items }
     ensures size { length rows.new.items ≡ length rows.old.items }
     ensures places { SamePlaces rows.old.items rows.new.items }
+    ensures said { (h : Record) → AreSaid h rows.old.items → AreSaid h rows.new.items }
 {
     rows[i].outputs.reserve(n)
 }
@@ -68,6 +73,7 @@ pub(crate) fn put_children<P>(rows: &mut Vec<Row<P>>, i: usize, children: ChildL
     ensures bare { KeepsOthersBare i rows.old.items rows.new.items }
     ensures size { length rows.new.items ≡ length rows.old.items }
     ensures places { FillsWaiting i children rows.old.items rows.new.items }
+    ensures said { (h : Record) → AreSaid h rows.old.items → EachChild (IsSaid h) children → AreSaid h rows.new.items }
 {
     let none = mem::replace(&mut rows[i].waiting, children.into_vec());
     none.destroy_empty();
@@ -83,6 +89,7 @@ pub(crate) fn take_child<P>(rows: &mut Vec<Row<P>>, i: usize, k: usize) -> Child
     ensures rooms { (j : ℕ) → HasRoom rows.old.items j → HasRoom rows.new.items j }
     ensures size { length rows.new.items ≡ length rows.old.items }
     ensures oldest { (t : ℕ) → IsFirstChild rows.old.items i t k → (result.target ≡ t) × TakesOldest (Waiting i t) result.parcel.finalizers rows.old.items rows.new.items }
+    ensures said { (h : Record) → AreSaid h rows.old.items → AreSaid h rows.new.items × IsSaid h result.parcel }
 {
     rows[i].waiting.remove(k)
 }
@@ -96,6 +103,7 @@ pub(crate) fn take_last_child<P>(rows: &mut Vec<Row<P>>, i: usize) -> Option<Par
     ensures size { length rows.new.items ≡ length rows.old.items }
     ensures from { IfSome result (λ parcel. (t : ℕ) × TakesFrom (Waiting i t) parcel.finalizers rows.old.items rows.new.items) }
     ensures none { IfNone result (SamePlaces rows.old.items rows.new.items) }
+    ensures said { (h : Record) → AreSaid h rows.old.items → AreSaid h rows.new.items × IfSome result (IsSaid h) }
 {
     match rows[i].waiting.pop() {
         Some(Child { target: _, parcel }) => Some(parcel),
@@ -114,6 +122,7 @@ pub(crate) fn pop_buffer<P>(rows: &mut Vec<Row<P>>, i: usize) -> Option<Parcel>
     ensures size { length rows.new.items ≡ length rows.old.items }
     ensures oldest { IfSome result (λ parcel. TakesOldest (Contents i 0) parcel.finalizers rows.old.items rows.new.items) }
     ensures none { IfNone result (SamePlaces rows.old.items rows.new.items) }
+    ensures said { (h : Record) → AreSaid h rows.old.items → AreSaid h rows.new.items × IfSome result (IsSaid h) }
 {
     rows[i].buffer.pop()
 }
@@ -127,6 +136,7 @@ pub(crate) fn push_buffer<P>(rows: &mut Vec<Row<P>>, i: usize, parcel: Parcel)
     ensures bare { KeepsOthersBare i rows.old.items rows.new.items }
     ensures size { length rows.new.items ≡ length rows.old.items }
     ensures last { PutsLast (Contents i 0) parcel.finalizers rows.old.items rows.new.items }
+    ensures said { (h : Record) → AreSaid h rows.old.items → IsSaid h parcel → AreSaid h rows.new.items }
 {
     rows[i].buffer.push(parcel);
 }
@@ -143,6 +153,7 @@ pub(crate) fn take_task<P>(rows: &mut Vec<Row<P>>, i: usize) -> Option<Task<P>>
     ensures held { IfSome result (λ task. copies_at (Held i) rows.old.items ≡ parcel_lists (role_parcels task.role)) }
     ensures places { Fills (Held i) [] rows.old.items rows.new.items }
     ensures none { IfNone result (SamePlaces rows.old.items rows.new.items) }
+    ensures said { (h : Record) → AreSaid h rows.old.items → AreSaid h rows.new.items × IfSome result (λ task. Each (IsSaid h) (role_parcels task.role)) }
 {
     rows[i].task.take()
 }
@@ -157,6 +168,7 @@ pub(crate) fn put_task<P>(rows: &mut Vec<Row<P>>, i: usize, task: Task<P>)
     ensures bare { KeepsOthersBare i rows.old.items rows.new.items }
     ensures size { length rows.new.items ≡ length rows.old.items }
     ensures places { Fills (Held i) (parcel_lists (role_parcels task.role)) rows.old.items rows.new.items }
+    ensures said { (h : Record) → AreSaid h rows.old.items → Each (IsSaid h) (role_parcels task.role) → AreSaid h rows.new.items }
 {
     match mem::replace(&mut rows[i].task, Some(task)) {
         None => {}
@@ -173,6 +185,7 @@ pub(crate) fn pop_held<P>(rows: &mut Vec<Row<P>>, i: usize) -> Option<Parcel>
     ensures size { length rows.new.items ≡ length rows.old.items }
     ensures oldest { IfSome result (λ parcel. TakesOldest (Held i) parcel.finalizers rows.old.items rows.new.items) }
     ensures none { IfNone result (SamePlaces rows.old.items rows.new.items) }
+    ensures said { (h : Record) → AreSaid h rows.old.items → AreSaid h rows.new.items × IfSome result (IsSaid h) }
 {
     match &mut rows[i].task {
         Some(task) => match &mut task.role {
@@ -192,6 +205,7 @@ pub(crate) fn hold<P>(rows: &mut Vec<Row<P>>, i: usize, parcel: Parcel, now: u64
     ensures bare { KeepsOthersBare i rows.old.items rows.new.items }
     ensures size { length rows.new.items ≡ length rows.old.items }
     ensures last { PutsLast (Held i) parcel.finalizers rows.old.items rows.new.items }
+    ensures said { (h : Record) → AreSaid h rows.old.items → IsSaid h parcel → AreSaid h rows.new.items }
 {
     match &mut rows[i].task {
         Some(task) => match &mut task.role {
@@ -219,6 +233,7 @@ pub(crate) fn close_at<P: Port>(rows: &mut Vec<Row<P>>, i: usize)
     ensures bare { KeepsBare rows.old.items rows.new.items }
     ensures size { length rows.new.items ≡ length rows.old.items }
     ensures places { SamePlaces rows.old.items rows.new.items }
+    ensures said { (h : Record) → AreSaid h rows.old.items → AreSaid h rows.new.items }
 {
     match &mut rows[i].task {
         Some(task) => task.port.close(),

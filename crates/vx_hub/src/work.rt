@@ -1,4 +1,6 @@
-ghost use Rattle.std.specs.Prelude.{◌≡◌, ◌≢◌, ◌≤◌, None};
+ghost use Rattle.std.specs.Prelude.{◌≡◌, ◌≢◌, ◌≤◌, List, None, IfOk};
+ghost use Rattle.vx_ledger.specs.declared.parcel.Parcel.{Parcel};
+ghost use Rattle.vx_hub.specs.Events.{written, IsWrittenOf};
 ghost use Rattle.vx_hub.specs.Rows.{role_copies, role_parcels};
 ghost use Rattle.vx_hub.specs.Works.{Reports, NamesBy, IsReading, IsAttempted, IsSending, event_count_of};
 ghost use Rattle.vx_hub.specs.Leases.{IsLeased, IsBack};
@@ -74,6 +76,7 @@ impl<P: Port> Work<P> {
         ensures closes { result.done ≡ Done.Closed → self.job ≡ Job.Close }
         ensures sends { IsAttempted result.done → IsSending self.job }
         ensures events { event_count_of result.done ≤ 65536 }
+        ensures writes { IsWrittenOf (role_parcels self.task.role) result.done }
         ensures back { (hub : Hub P) → IsLeased P.told hub self → IsBack P.told hub result }
     {
         let Work {
@@ -112,6 +115,7 @@ fn confirm_and_act<P: Port>(
     ensures parcels { role_parcels role.new ≡ role_parcels role.old }
     ensures reports { Reports (P.told port.old) result.confirmed result.done (P.told port.new) }
     ensures names { NamesBy positions result.confirmed result.done }
+    ensures writes { IsWrittenOf (role_parcels role.old) result.done }
     ensures reads { IsReading result.done → job ≡ Job.Read }
     ensures closes { result.done ≡ Done.Closed → job ≡ Job.Close }
     ensures sends { IsAttempted result.done → IsSending job }
@@ -138,6 +142,7 @@ fn act<P: Port>(alloc: Global, job: Job, port: &mut P, role: &mut Role) -> Done
     ensures reads { IsReading result → job ≡ Job.Read }
     ensures closes { result ≡ Done.Closed → job ≡ Job.Close }
     ensures sends { IsAttempted result → IsSending job }
+    ensures writes { IsWrittenOf (role_parcels role.old) result }
 {
     match (job, role) {
         (Job::Read, Role::Source(core)) => read(port, core),
@@ -151,6 +156,7 @@ fn act<P: Port>(alloc: Global, job: Job, port: &mut P, role: &mut Role) -> Done
 fn nothing<P: Port>(_port: &P) -> Done
     ensures reports { Reports (P.told _port.now) None result (P.told _port.now) }
     ensures none { result ≡ Done.Nothing }
+    ensures writes { (ps : List Parcel) → IsWrittenOf ps result }
 {
     Done::Nothing
 }
@@ -159,6 +165,7 @@ fn nothing<P: Port>(_port: &P) -> Done
 fn close<P: Port>(port: &mut P) -> Done
     ensures reports { Reports (P.told port.old) None result (P.told port.new) }
     ensures closed { result ≡ Done.Closed }
+    ensures writes { (ps : List Parcel) → IsWrittenOf ps result }
 {
     port.close();
     Done::Closed
@@ -170,6 +177,7 @@ fn read<P: Port>(port: &mut P, core: &mut SourceCore) -> Done
     ensures events { event_count_of result ≤ 65536 }
     ensures unsent { IsAttempted result → ⊥ }
     ensures unclosed { result ≢ Done.Closed }
+    ensures writes { (ps : List Parcel) → IsWrittenOf ps result }
 {
     match core.turn(port) {
         Ok(turned) => Done::Read(turned),
@@ -183,6 +191,7 @@ fn send<P: Port>(alloc: Global, port: &mut P, core: &SinkCore) -> Done
     ensures events { event_count_of result ≤ 65536 }
     ensures unread { IsReading result → ⊥ }
     ensures unclosed { result ≢ Done.Closed }
+    ensures writes { IsWrittenOf core.now.held.items result }
 {
     let Ok(mut bytes) = encode(alloc, core) else {
         return Done::Starved;
@@ -200,7 +209,9 @@ fn send<P: Port>(alloc: Global, port: &mut P, core: &SinkCore) -> Done
 }
 
 /// What a sink batch is written as: each of its events, the oldest first.
-fn encode(alloc: Global, core: &SinkCore) -> Result<Bytes, WantOfMemory> {
+fn encode(alloc: Global, core: &SinkCore) -> Result<Bytes, WantOfMemory>
+    ensures { IfOk result (λ bytes. bytes ≡ written core.now.held.items) }
+{
     let mut out = Bytes::new(alloc);
     for i in 0..core.held.len() {
         if let Some(parcel) = core.held.get(i) {

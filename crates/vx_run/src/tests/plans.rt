@@ -27,7 +27,7 @@ fn notices(history: &Record, wanted: BatchStatus) -> u64 {
     let mut found = 0;
     for i in 0..history.len() {
         if let Some(Entry::Notice { batch: _, status }) = history.get(i) {
-            found += u64::from(*status == wanted);
+            found = u64::saturating_add(found, u64::from(*status == wanted));
         }
     }
     found

@@ -8,7 +8,7 @@ use Rattle.vx_hub.specs.declared.seat.Seat.{Seat}
 use Rattle.vx_hub.specs.declared.parts.Named.{Named}
 use Rattle.vx_hub.specs.Making.{AreNew, AreUnused, IsFittedTo, AreFitted, IsUntouched, AreUntouched}
 use Rattle.vx_hub.specs.Beginning.{HasSeats, HasFirst}
-use Rattle.vx_hub.proofs.Beginning.{begun_stands, front_of, none_at, fitted_first, untouched_first}
+use Rattle.vx_hub.proofs.Beginning.{begun_stands, said_none, front_of, none_at, fitted_first, untouched_first}
 use Rattle.vx_hub.proofs.making.seated.Goals as goal
 
 pub loop-seats-init : goal.loop-seats-init
@@ -21,6 +21,7 @@ loop-seats-init g c =
         kept = c.requires.room.kept;
         copies = λ batch place. ap (copies_in batch place) c.requires.room.rows;
         places = λ p. none_at c.args.room.rows.items p c.requires.room.rows;
+        said = λ h. said_none h c.args.room.rows.items c.requires.room.rows;
         home = λ i l. absurd (omega (arith, none, l));
         ports = λ i. subst (λ (rows : List (Row _)). IfSome (port_at rows i) (λ port. IsUntouched (spec_of (slice_get c.args.plan.components i)) (g.P.Port.told port))) (sym c.requires.room.rows) tt;
         facts = λ i. subst (λ (fs : List Facts). IfSome (facts_at fs i) AreNew) (sym c.requires.room.facts) tt;

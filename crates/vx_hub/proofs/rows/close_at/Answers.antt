@@ -6,6 +6,8 @@ use Rattle.vx_hub.specs.Works.{IsClosedBy}
 use Rattle.vx_hub.proofs.Parcels.{row_counts}
 use Rattle.vx_hub.proofs.RowLaws.{rows_lose, row_read, row_written, other_ports, bare_kept}
 use Rattle.vx_hub.proofs.PlaceLaws.{places_kept, same_task}
+use Rattle.vx_hub.specs.Events.{IsSaid, Each, HasEach}
+use Rattle.vx_hub.proofs.EventLaws.{row_each, rows_each}
 use Rattle.vx_hub.proofs.rows.close_at.Goals as goal
 
 pub returns-clause-loses : goal.returns-clause-loses
@@ -40,3 +42,15 @@ returns-clause-bare g c = bare_kept c.args.rows.now.items c.args.i c.index_mut.r
 
 pub returns-clause-places : goal.returns-clause-places
 returns-clause-places g c = places_kept c.args.rows.now.items c.args.i c.index_mut.result.now _ c.requires.within c.index_mut.ensures.value (same_task c.index_mut.result.now _ (sym (ap task_parcels c.in-Some.is)))
+
+pub returns-clause-said : goal.returns-clause-said
+returns-clause-said g c h said =
+    let rows = c.args.rows.now.items in
+    let row = c.index_mut.result.now in
+    let all : HasEach (IsSaid h) row = row_each (IsSaid h) rows c.args.i row c.requires.within c.index_mut.ensures.value said in
+    rows_each (IsSaid h) rows c.args.i _ c.requires.within said (record {
+      outputs = all.outputs;
+      waiting = all.waiting;
+      buffer = all.buffer;
+      held = subst (λ (t : _). Each (IsSaid h) (task_parcels t)) c.in-Some.is all.held;
+    })

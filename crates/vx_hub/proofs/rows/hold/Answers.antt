@@ -8,6 +8,10 @@ use Rattle.vx_record.specs.Places.{same_place}
 use Rattle.vx_record.specs.Places.Place.{Held}
 use Rattle.vx_hub.specs.Places.{parcel_lists}
 use Rattle.vx_hub.proofs.PlaceLaws.{read_at, written_at, places_but, but_task, numbers-more, task_holds}
+use Rattle.std.proofs.Common.{subst, List}
+use Rattle.vx_ledger.specs.declared.parcel.Parcel.{Parcel}
+use Rattle.vx_hub.specs.Events.{IsSaid, Each, HasEach}
+use Rattle.vx_hub.proofs.EventLaws.{row_each, rows_each, each-append}
 use Rattle.vx_hub.proofs.rows.hold.Goals as goal
 
 pub returns-clause-gains : goal.returns-clause-gains
@@ -36,3 +40,16 @@ returns-clause-last g c = record {
       ∙ ap parcel_lists (task_holds c.index_mut.result.now.task c.in-Some.task c.in-Sink.core c.in-Some.is c.in-Sink.is)));
   others = places_but (λ p. same_place (Held c.args.i) p ≡ false) c.args.rows.now.items c.args.i c.index_mut.result.now _ c.requires.within c.index_mut.ensures.value (λ p own other. but_task c.args.i c.index_mut.result.now _ p own other);
 }
+
+pub returns-clause-said : goal.returns-clause-said
+returns-clause-said g c h said is =
+    let rows = c.args.rows.now.items in
+    let row = c.index_mut.result.now in
+    let all : HasEach (IsSaid h) row = row_each (IsSaid h) rows c.args.i row c.requires.within c.index_mut.ensures.value said in
+    rows_each (IsSaid h) rows c.args.i _ c.requires.within said (record {
+      outputs = all.outputs;
+      waiting = all.waiting;
+      buffer = all.buffer;
+      held = subst (λ (ps : List Parcel). Each (IsSaid h) ps) (sym c.push.ensures.items) (each-append (IsSaid h) c.in-Sink.core.held.items (c.args.parcel ∷ [])
+          (subst (λ (ps : List Parcel). Each (IsSaid h) ps) (task_holds row.task c.in-Some.task c.in-Sink.core c.in-Some.is c.in-Sink.is) all.held) (is, tt));
+    })

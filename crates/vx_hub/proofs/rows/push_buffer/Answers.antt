@@ -7,6 +7,10 @@ use Rattle.vx_record.specs.Places.{same_place}
 use Rattle.vx_record.specs.Places.Place.{Contents}
 use Rattle.vx_hub.specs.Places.{parcel_lists}
 use Rattle.vx_hub.proofs.PlaceLaws.{read_at, written_at, places_but, but_buffer, numbers-more}
+use Rattle.std.proofs.Common.{subst, List}
+use Rattle.vx_ledger.specs.declared.parcel.Parcel.{Parcel}
+use Rattle.vx_hub.specs.Events.{IsSaid, Each, HasEach}
+use Rattle.vx_hub.proofs.EventLaws.{row_each, rows_each, each-append}
 use Rattle.vx_hub.proofs.rows.push_buffer.Goals as goal
 
 pub returns-clause-gains : goal.returns-clause-gains
@@ -33,3 +37,15 @@ returns-clause-last g c = record {
       ∙ ap (λ ns. ns ++ c.args.parcel.finalizers ∷ []) (sym (read_at (Contents c.args.i 0) c.args.rows.now.items c.args.i c.index_mut.result.now c.requires.within c.index_mut.ensures.value refl));
   others = places_but (λ p. same_place (Contents c.args.i 0) p ≡ false) c.args.rows.now.items c.args.i c.index_mut.result.now _ c.requires.within c.index_mut.ensures.value (λ p own other. but_buffer c.args.i c.index_mut.result.now c.push.new.self p own other);
 }
+
+pub returns-clause-said : goal.returns-clause-said
+returns-clause-said g c h said is =
+    let rows = c.args.rows.now.items in
+    let row = c.index_mut.result.now in
+    let all : HasEach (IsSaid h) row = row_each (IsSaid h) rows c.args.i row c.requires.within c.index_mut.ensures.value said in
+    rows_each (IsSaid h) rows c.args.i _ c.requires.within said (record {
+      outputs = all.outputs;
+      waiting = all.waiting;
+      buffer = subst (λ (ps : List Parcel). Each (IsSaid h) ps) (sym c.push.ensures.items) (each-append (IsSaid h) row.buffer.items (c.args.parcel ∷ []) all.buffer (is, tt));
+      held = all.held;
+    })

@@ -8,6 +8,10 @@ use Rattle.vx_record.specs.Places.{same_place}
 use Rattle.vx_record.specs.Places.Place.{Outputs}
 use Rattle.vx_hub.specs.Places.{stacked_lists}
 use Rattle.vx_hub.proofs.PlaceLaws.{read_at, written_at, places_but, but_outputs, stacked-more}
+use Rattle.std.proofs.Common.{subst, List}
+use Rattle.vx_ledger.specs.declared.parcel.Parcel.{Parcel}
+use Rattle.vx_hub.specs.Events.{IsSaid, Each, HasEach}
+use Rattle.vx_hub.proofs.EventLaws.{row_each, rows_each, each-append}
 use Rattle.vx_hub.proofs.rows.push_output.Goals as goal
 
 pub returns-clause-gains : goal.returns-clause-gains
@@ -40,3 +44,15 @@ returns-clause-oldest g c = record {
       ∙ ap (λ ns. c.args.parcel.finalizers ∷ ns) (sym (read_at (Outputs c.args.i) c.args.rows.now.items c.args.i c.index_mut.result.now c.requires.within c.index_mut.ensures.value refl));
   others = λ p off. sym (places_but (λ q. same_place (Outputs c.args.i) q ≡ false) c.args.rows.now.items c.args.i c.index_mut.result.now _ c.requires.within c.index_mut.ensures.value (λ q own other. but_outputs c.args.i c.index_mut.result.now c.push.new.self q own other) p off);
 }
+
+pub returns-clause-said : goal.returns-clause-said
+returns-clause-said g c h said is =
+    let rows = c.args.rows.now.items in
+    let row = c.index_mut.result.now in
+    let all : HasEach (IsSaid h) row = row_each (IsSaid h) rows c.args.i row c.requires.within c.index_mut.ensures.value said in
+    rows_each (IsSaid h) rows c.args.i _ c.requires.within said (record {
+      outputs = subst (λ (ps : List Parcel). Each (IsSaid h) ps) (sym c.push.ensures.items) (each-append (IsSaid h) row.outputs.items (c.args.parcel ∷ []) all.outputs (is, tt));
+      waiting = all.waiting;
+      buffer = all.buffer;
+      held = all.held;
+    })

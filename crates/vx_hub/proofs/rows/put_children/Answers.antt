@@ -7,6 +7,9 @@ use Rattle.vx_record.specs.Places.Place.{Waiting}
 use Rattle.vx_record.specs.Lists.{is_child_of}
 use Rattle.vx_hub.specs.Places.{waiting_lists}
 use Rattle.vx_hub.proofs.PlaceLaws.{written_at, places_but, but_waiting}
+use Rattle.std.proofs.Common.{subst, sym}
+use Rattle.vx_hub.specs.Events.{IsSaid, EachChild, HasEach}
+use Rattle.vx_hub.proofs.EventLaws.{row_each, rows_each}
 use Rattle.vx_hub.proofs.rows.put_children.Goals as goal
 
 pub returns-clause-gains : goal.returns-clause-gains
@@ -33,3 +36,15 @@ returns-clause-places g c = record {
       ∙ ap (waiting_lists t) c.into_vec.ensures;
   others = places_but (λ p. is_child_of c.args.i p ≡ false) c.args.rows.now.items c.args.i c.index_mut.result.now _ c.requires.within c.index_mut.ensures.value (λ p own other. but_waiting c.args.i c.index_mut.result.now _ p own other);
 }
+
+pub returns-clause-said : goal.returns-clause-said
+returns-clause-said g c h said are =
+    let rows = c.args.rows.now.items in
+    let row = c.index_mut.result.now in
+    let all : HasEach (IsSaid h) row = row_each (IsSaid h) rows c.args.i row c.requires.within c.index_mut.ensures.value said in
+    rows_each (IsSaid h) rows c.args.i _ c.requires.within said (record {
+      outputs = all.outputs;
+      waiting = subst (λ (v : _). EachChild (IsSaid h) v.items) (sym c.replace-none.ensures.after) (subst (λ (cs : _). EachChild (IsSaid h) cs) (sym c.into_vec.ensures) are);
+      buffer = all.buffer;
+      held = all.held;
+    })

@@ -8,6 +8,9 @@ use Rattle.vx_record.specs.Places.Place.{Held}
 use Rattle.vx_hub.specs.Rows.{task_parcels}
 use Rattle.vx_hub.specs.Places.{parcel_lists}
 use Rattle.vx_hub.proofs.PlaceLaws.{written_at, places_but, but_task}
+use Rattle.std.proofs.Common.{subst, sym}
+use Rattle.vx_hub.specs.Events.{IsSaid, Each, HasEach}
+use Rattle.vx_hub.proofs.EventLaws.{row_each, rows_each}
 use Rattle.vx_hub.proofs.rows.put_task.Goals as goal
 
 pub returns-clause-gains : goal.returns-clause-gains
@@ -35,3 +38,10 @@ returns-clause-places g c = record {
   now = written_at (Held c.args.i) c.args.rows.now.items c.args.i _ c.requires.within refl ∙ ap (λ (t : _). parcel_lists (task_parcels t)) c.replace.ensures.after;
   others = places_but (λ p. same_place (Held c.args.i) p ≡ false) c.args.rows.now.items c.args.i c.index_mut.result.now _ c.requires.within c.index_mut.ensures.value (λ p own other. but_task c.args.i c.index_mut.result.now _ p own other);
 }
+
+pub returns-clause-said : goal.returns-clause-said
+returns-clause-said g c h said are =
+    let rows = c.args.rows.now.items in
+    let row = c.index_mut.result.now in
+    let all : HasEach (IsSaid h) row = row_each (IsSaid h) rows c.args.i row c.requires.within c.index_mut.ensures.value said in
+    rows_each (IsSaid h) rows c.args.i _ c.requires.within said (record { outputs = all.outputs; waiting = all.waiting; buffer = all.buffer; held = subst (λ (t : _). Each (IsSaid h) (task_parcels t)) (sym c.replace.ensures.after) are })

@@ -5,6 +5,10 @@ use Rattle.vx_hub.specs.Rows.{parcel_copies}
 use Rattle.vx_hub.proofs.Parcels.{row_counts}
 use Rattle.vx_hub.proofs.RowLaws.{rows_lose, row_gets, ports_kept, bare_kept}
 use Rattle.vx_hub.proofs.PlaceLaws.{places_kept, same_outputs}
+use Rattle.std.proofs.Common.{subst, sym, List}
+use Rattle.vx_ledger.specs.declared.parcel.Parcel.{Parcel}
+use Rattle.vx_hub.specs.Events.{IsSaid, Each, HasEach}
+use Rattle.vx_hub.proofs.EventLaws.{row_each, rows_each}
 use Rattle.vx_hub.proofs.rows.reserve_outputs.Goals as goal
 
 pub returns-clause-loses : goal.returns-clause-loses
@@ -35,3 +39,15 @@ returns-clause-room g c = on_ok _ _ c.reserve.result (λ room. row_gets (λ row.
 
 pub returns-clause-places : goal.returns-clause-places
 returns-clause-places g c = places_kept c.args.rows.now.items c.args.i c.index_mut.result.now _ c.requires c.index_mut.ensures.value (same_outputs c.index_mut.result.now c.reserve.new.self c.reserve.ensures.items)
+
+pub returns-clause-said : goal.returns-clause-said
+returns-clause-said g c h said =
+    let rows = c.args.rows.now.items in
+    let row = c.index_mut.result.now in
+    let all : HasEach (IsSaid h) row = row_each (IsSaid h) rows c.args.i row c.requires c.index_mut.ensures.value said in
+    rows_each (IsSaid h) rows c.args.i _ c.requires said (record {
+      outputs = subst (λ (ps : List Parcel). Each (IsSaid h) ps) (sym c.reserve.ensures.items) all.outputs;
+      waiting = all.waiting;
+      buffer = all.buffer;
+      held = all.held;
+    })

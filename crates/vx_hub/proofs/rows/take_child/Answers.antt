@@ -7,6 +7,9 @@ use Rattle.vx_record.specs.Places.{same_place}
 use Rattle.vx_record.specs.Places.Place.{Waiting}
 use Rattle.vx_hub.specs.Places.{waiting_lists, NoneBefore}
 use Rattle.vx_hub.proofs.PlaceLaws.{read_at, written_at, places_but, but_target, first_removed, other_removed}
+use Rattle.std.proofs.Common.{subst}
+use Rattle.vx_hub.specs.Events.{IsSaid, EachChild, HasEach}
+use Rattle.vx_hub.proofs.EventLaws.{row_each, rows_each, child_each}
 use Rattle.vx_hub.proofs.rows.take_child.Goals as goal
 
 pub returns-clause-loses : goal.returns-clause-loses
@@ -49,3 +52,12 @@ returns-clause-oldest g c t first =
             (λ u off. ap (waiting_lists u) c.remove.ensures.items ∙ other_removed t u c.args.k row.waiting.items c.remove.result l c.remove.ensures.value r.0 off));
       },
     )
+
+pub returns-clause-said : goal.returns-clause-said
+returns-clause-said g c h said =
+    let rows = c.args.rows.now.items in
+    let row = c.index_mut.result.now in
+    let all : HasEach (IsSaid h) row = row_each (IsSaid h) rows c.args.i row c.requires.within c.index_mut.ensures.value said in
+    let l : c.args.k < length row.waiting.items = row_has (λ r. c.args.k < length r.waiting.items) rows c.args.i row c.requires.within c.index_mut.ensures.value c.requires.child in
+    let out = child_each (IsSaid h) row.waiting.items c.args.k c.remove.result l c.remove.ensures.value all.waiting in
+    (rows_each (IsSaid h) rows c.args.i _ c.requires.within said (record { outputs = all.outputs; waiting = subst (λ (cs : _). EachChild (IsSaid h) cs) (sym c.remove.ensures.items) out.0; buffer = all.buffer; held = all.held }), out.1)

@@ -8,7 +8,7 @@ use Rattle.vx_hub.proofs.Touching.{stands_brought}
 use Rattle.vx_hub.proofs.Owning.{placed_home}
 use Rattle.vx_hub.proofs.Homing.{role_same}
 use Rattle.vx_hub.specs.Places.{all_numbers}
-use Rattle.std.proofs.Common.{sym, Option, Some}
+use Rattle.std.proofs.Common.{sym, Option}
 use Rattle.std.specs.Prelude.{IsSome}
 use Rattle.vx_hub.specs.Rows.{row_at}
 use Rattle.vx_hub.proofs.Touching.{out_port}
@@ -23,6 +23,7 @@ returns-clause-stands g c =
     c.put_task.ensures.port c.put_task.ensures.ports c.put_task.ensures.bare c.put_task.ensures.size refl refl refl refl refl refl
     (λ fine kept placed. placed_home d.rows.items c.put_task.new.rows.items d.log.history c.args.instance (role_parcels role) kept
     (subst (λ (cs : List Copy). IsPlaced d.rows.items cs d.log.history) (role_same role) placed) (c.requires.held fine) c.put_task.ensures.places)
+    (λ fine said. c.put_task.ensures.said d.log.history said (c.requires.said fine))
 
 pub returns-clause-outputs : goal.returns-clause-outputs
 returns-clause-outputs g c i = ap all_numbers (c.put_task.ensures.places.others (Outputs i) refl)

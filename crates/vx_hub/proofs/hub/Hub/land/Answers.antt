@@ -1,5 +1,5 @@
 use Rattle.vx_hub.proofs.StandsLaws.{stands_home}
-use Rattle.std.proofs.Common.{ℕ, ap, refl, sym, subst}
+use Rattle.std.proofs.Common.{ℕ, ap, sym, subst}
 use Rattle.vx_record.specs.Noted.{Noted}
 use Rattle.vx_record.specs.declared.entry.Entry.TheVariants.{Home}
 use Rattle.vx_hub.specs.Away.{IsReturning}

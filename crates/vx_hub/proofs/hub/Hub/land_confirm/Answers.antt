@@ -8,6 +8,7 @@ use Rattle.std.proofs.Common.{◌≡◌, []}
 use Rattle.vx_record.specs.Places.Place.{Outputs}
 use Rattle.vx_hub.specs.Places.{numbers_at}
 use Rattle.vx_hub.proofs.Homing.{held_on}
+use Rattle.vx_hub.proofs.EventLaws.{said_by_on}
 use Rattle.vx_hub.proofs.hub.Hub.land_confirm.Goals as goal
 
 pub returns-in-Some-clause-back : goal.returns-in-Some-clause-back
@@ -26,6 +27,8 @@ returns-in-Some-clause-back g c =
           (brings_confirm told h i c.in-Some.confirmed c.args.landing.done (subst (λ (o : Option Confirmed). Brings told h i o c.args.landing.done) c.in-Some.is before));
       unlost = λ reading. c.note_confirm.ensures.unlost (c.requires.unlost reading);
       held = held_on g.P.Port.told c.args.self.now c.note_confirm.new.self (role_copies c.args.landing.task.role) i c.args.landing.task.role _ c.requires.stands c.note_confirm.ensures.noted c.note_confirm.ensures.starved tt c.requires.held;
+      said = said_by_on c.args.self.now c.note_confirm.new.self _ c.args.landing.task.role c.note_confirm.ensures.noted c.note_confirm.ensures.starved c.requires.said;
+      writes = c.requires.writes;
       sent = λ reading. subst (λ (r : _). numbers_at (Outputs i) r.items ≡ []) (sym c.note_confirm.ensures.rows) (c.requires.sent reading);
       due = λ sound. tt;
       shut = λ closed. c.note_confirm.ensures.shut (c.requires.shut closed);

@@ -29,7 +29,7 @@ returns-clause-stands g c hand s =
       retired = known.retired;
     })
     (λ bytes. bytes)
-    refl (λ fine known. c.requires.due fine)
+    refl (λ fine known out. record { out = out; due = c.requires.due fine })
 
 pub returns-clause-open : goal.returns-clause-open
 returns-clause-open g c open_at = record {

@@ -4,7 +4,7 @@ use Rattle.vx_hub.specs.Stands.{IsShut, IsGone, IsKnown}
 use Rattle.vx_record.specs.Records.{Record}
 use Rattle.vx_record.specs.declared.entry.Entry.TheVariants.{Lease}
 use Rattle.vx_plan.specs.declared.class.Class.TheVariants.{Source, Sink}
-use Rattle.vx_hub.specs.Order.{IsConfirmOf}
+use Rattle.vx_hub.specs.Order.{IsDueOf}
 use Rattle.vx_hub.proofs.Drying.{confirm_of, confirm_on, taken_none}
 use Rattle.vx_hub.proofs.StandsLaws.{known_quiet, born_same, same_next}
 use Rattle.vx_hub.proofs.Touching.{stands_marked, facts_surely, facts_get, facts_has}
@@ -51,8 +51,8 @@ returns-clause-due g c sound =
     let r = c.requires.stands.recorded (record { whole = w.0; fed = sound.fed }) in
     let mine : IsKnown c.index_mut-facts.result.now h c.args.instance =
     facts_has (λ f. IsKnown f h c.args.instance) c.args.self.now.facts.items c.args.instance c.index_mut-facts.result.now within c.index_mut-facts.ensures.value (r.facts c.args.instance) in
-    subst (λ (o : Option _). IfSome o (IsConfirmOf c.note.new.self.history c.args.instance)) (sym c.take.ensures.value)
-    (subst (λ (k : Record). IfSome c.index_mut-facts.result.now.to_confirm (IsConfirmOf k c.args.instance)) (sym w.1)
+    subst (λ (o : Option _). IfSome o (IsDueOf c.note.new.self.history c.args.instance)) (sym c.take.ensures.value)
+    (subst (λ (k : Record). IfSome c.index_mut-facts.result.now.to_confirm (IsDueOf k c.args.instance)) (sym w.1)
     (confirm_on h c.args.instance (Lease c.args.instance c.args.worker c.args.now 0) c.index_mut-facts.result.now.to_confirm
     (born_same h c.args.instance (Lease c.args.instance c.args.worker c.args.now 0) refl) refl (confirm_of h c.args.instance c.index_mut-facts.result.now mine)))
 

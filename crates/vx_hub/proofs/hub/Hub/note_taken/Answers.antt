@@ -33,7 +33,7 @@ returns-clause-stands g c hand s =
       retired = known.retired;
     })
     (λ bytes. c.saturating_add-self.ensures ∙ ap (λ n. min (c.args.self.now.bytes + n) (2 ^ 64 - 1)) c.len-n.ensures ∙ capped_on c.args.self.now.bytes _ (length c.args.bytes) _ bytes)
-    refl (λ fine known. turn_of c.args.self.now.log.history c.args.instance c.index_mut-facts.result.now known (facts_surely (λ f. (f.lost ≡ None) × (f.class ≡ Source)) c.args.self.now.facts.items c.args.instance c.index_mut-facts.result.now c.requires.within c.index_mut-facts.ensures.value c.requires.unlost))
+    refl (λ fine known out. turn_of c.args.self.now.log.history c.args.instance c.index_mut-facts.result.now out known (facts_surely (λ f. (f.lost ≡ None) × (f.class ≡ Source)) c.args.self.now.facts.items c.args.instance c.index_mut-facts.result.now c.requires.within c.index_mut-facts.ensures.value c.requires.unlost))
 
 pub returns-clause-open : goal.returns-clause-open
 returns-clause-open g c open_at = record {

@@ -22,6 +22,8 @@ use Rattle.vx_hub.specs.Batching.{AreRunning}
 use Rattle.vx_hub.proofs.Noticing.{running_on, running_more, born_status}
 use Rattle.vx_hub.proofs.Ceasing.{hub_comes}
 use Rattle.vx_hub.proofs.Leaving.{returning_noted}
+use Rattle.vx_hub.proofs.EventLaws.{paired_born}
+use Rattle.vx_hub.specs.Events.{ArePaired}
 use Rattle.vx_hub.proofs.hub.Hub.open_batch.Goals as goal
 
 pub returns-clause-stands : goal.returns-clause-stands
@@ -100,3 +102,17 @@ returns-clause-lined g c sound =
 
 pub returns-clause-returning : goal.returns-clause-returning
 returns-clause-returning g c = returning_noted c.args.self.now _ (Born c.args.instance c.in-Ok.born.0 c.in-Ok.born.0 (numbers_in c.in-Ok.born.1) c.args.events.now false c.args.position.stream c.args.position.end) (λ i. refl) c.note_born.ensures refl (λ h k out. out)
+
+pub returns-clause-paired : goal.returns-clause-paired
+returns-clause-paired g c sound =
+    let d = c.args.self.now in
+    let h = d.log.history in
+    let s = c.requires.stands in
+    let next = d.batches.next in
+    let copies = c.in-Ok.born.1 in
+    let w = c.note_born.ensures.whole sound.whole in
+    let fine : IsSound d = record { whole = w.0; fed = sound.fed } in
+    let many : length copies ≡ c.len-n.result = ap length c.in-Ok.ensures.copies ∙ length_numbered c.len-n.result next next next in
+    subst (λ (k : Record). ArePaired k c.args.events.now copies) (sym w.1)
+    (paired_born h c.args.instance c.in-Ok.born.0 c.in-Ok.born.0 (numbers_in copies) c.args.events.now copies false c.args.position.stream c.args.position.end c.len-n.result next c.in-Ok.ensures.copies c.len-n.ensures (s.recorded fine).next
+    (omega (arith, (s.recorded fine).next, length_numbers copies, many)))

@@ -10,6 +10,7 @@ use Rattle.vx_hub.proofs.StandsLaws.{stands_quiet, moved_balanced, bare_running,
 use Rattle.std.proofs.Common.{◌∷◌}
 use Rattle.vx_hub.proofs.Noticing.{running_on}
 use Rattle.vx_hub.proofs.Ceasing.{hub_comes}
+use Rattle.vx_hub.proofs.Saids.{rows_on, said_on}
 use Rattle.vx_hub.proofs.hub.Hub.push.Goals as goal
 
 pub returns-clause-stands : goal.returns-clause-stands
@@ -30,6 +31,7 @@ returns-clause-stands g c =
       quiet = tt;
       next = same_next d.batches d.batches d.log.history (Push c.args.instance c.take_child-target.result.target 0 (numbers_in copies)) refl refl;
       order = λ fine. is_oldest (numbers_in copies) _ _ (oldest_is (Waiting c.args.instance target) copies d.rows.items c.take_child-target.new.rows.items d.log.history (s.recorded fine).places.standing takes);
+      said = λ fine said. let out = c.take_child-target.ensures.said d.log.history said in c.push_buffer.ensures.said (Push c.args.instance target 0 (numbers_in copies) ∷ d.log.history) (rows_on d.log.history (Push c.args.instance target 0 (numbers_in copies)) c.take_child-target.new.rows.items out.0) (said_on d.log.history (Push c.args.instance target 0 (numbers_in copies)) c.take_child-target.result.parcel out.1);
       outs = λ fine i none out. out;
       comes = hub_comes g.P.Port.told d [] (Push c.args.instance target 0 (numbers_in copies)) s c.requires.going;
       places = λ fine kept placed. placed_pushed d.rows.items c.take_child-target.new.rows.items c.push_buffer.new.rows.items d.log.history c.args.instance target copies kept placed takes

@@ -11,6 +11,8 @@ use Rattle.vx_record.specs.Moving.{singles}
 use Rattle.vx_hub.specs.Numbers.{numbers_in}
 use Rattle.vx_hub.specs.Stands.{IsSound}
 use Rattle.vx_hub.proofs.Homing.{next_out, lined_rest, stands_starved}
+use Rattle.vx_hub.specs.Events.{ArePaired}
+use Rattle.vx_hub.proofs.EventLaws.{paired_last}
 use Rattle.vx_hub.proofs.hub.Hub.put_out.Goals as goal
 
 pub loop-event-preserved : goal.loop-event-preserved
@@ -21,7 +23,12 @@ loop-event-preserved g c =
     let inv = c.loop-event.invariant in
     record {
       stands = c.put_one.ensures.stands c.take_last.new.self (subst (λ (fs : List Copy). Stands g.P.Port.told c.loop-event.self fs c.loop-event.self.log.history) some inv.stands)
-          (λ sound. next_out c.loop-event.self.log.history c.args.instance c.loop-event.finalizers c.take_last.new.self c.in-Ok-Some.copy some one (inv.lined sound));
+          (λ sound. next_out c.loop-event.self.log.history c.args.instance c.loop-event.finalizers c.take_last.new.self c.in-Ok-Some.copy some one (inv.lined sound))
+          (λ sound. (paired_last c.loop-event.self.log.history c.loop-event.events c.pop.new.self c.in-Some.event c.loop-event.finalizers c.take_last.new.self c.in-Ok-Some.copy c.in-Some.ensures.some some one (inv.paired sound)).1);
+      paired = λ sound.
+          let before : IsSound c.loop-event.self = record { whole = subst (λ (l : Log). IsTrue l.whole) c.put_one.ensures.log sound.whole; fed = sym c.put_one.ensures.starved ∙ sound.fed } in
+          subst (λ (l : Log). ArePaired l.history c.pop.new.self c.take_last.new.self) (sym c.put_one.ensures.log)
+          (paired_last c.loop-event.self.log.history c.loop-event.events c.pop.new.self c.in-Some.event c.loop-event.finalizers c.take_last.new.self c.in-Ok-Some.copy c.in-Some.ensures.some some one (inv.paired before)).0;
       open_at = record {
         within = omega (arith, c.put_one.ensures.size, inv.open_at.within);
         unclosed = subst (λ (v : _). IsSomeAnd (facts_at v.items c.args.instance) (λ f. f.closed ≡ false)) (sym c.put_one.ensures.facts) inv.open_at.unclosed;
@@ -39,4 +46,4 @@ loop-event-preserved g c =
 
 pub returns-in-Err-clause-stands : goal.returns-in-Err-clause-stands
 returns-in-Err-clause-stands g c =
-    c.put_one-in-Err.ensures.stands [] (stands_starved g.P.Port.told c.loop-event.self c.take_last.new.self (subst (λ (fs : List Copy). Stands g.P.Port.told c.loop-event.self fs c.loop-event.self.log.history) (sym c.in-Err.ensures.err) c.loop-event.invariant.stands)) (λ sound. let no : true ≡ false = sound.fed in cc)
+    c.put_one-in-Err.ensures.stands [] (stands_starved g.P.Port.told c.loop-event.self c.take_last.new.self (subst (λ (fs : List Copy). Stands g.P.Port.told c.loop-event.self fs c.loop-event.self.log.history) (sym c.in-Err.ensures.err) c.loop-event.invariant.stands)) (λ sound. let no : true ≡ false = sound.fed in cc) (λ sound. let no : true ≡ false = sound.fed in cc)

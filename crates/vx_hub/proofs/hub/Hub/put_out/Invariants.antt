@@ -1,7 +1,7 @@
 use Rattle.std.proofs.Common.{◌≡◌, ℕ, length}
 use Rattle.vx_hub.specs.Stands.{Stands}
 use Rattle.vx_hub.specs.Away.{IsReturning}
-use Rattle.vx_hub.specs.Births.{IsLinedUp}
+use Rattle.vx_hub.specs.Births.{IsLinedUp, ArePairedBy}
 use Rattle.vx_hub.specs.Leases.{IsOpenAt}
 use Rattle.vx_hub.specs.Rows.{HasOutputRoom}
 use Rattle.vx_hub.proofs.hub.Hub.put_out.Given as goal
@@ -11,6 +11,7 @@ invariant-loop-event g l = record {
   stands : Stands g.P.Port.told l.self l.finalizers l.self.log.history;
   open_at : IsOpenAt l.self l.instance;
   each : length l.events ≡ length l.finalizers;
+  paired : ArePairedBy l.self l.events l.finalizers;
   lined : IsLinedUp l.self l.instance l.finalizers;
   room : HasOutputRoom l.self.rows.items l.instance (length l.events);
   size : length l.self.rows.items ≡ length l.fn.self.rows.items;

@@ -19,3 +19,4 @@ spend-requires-clause-stands g c =
     (hand_balanced d.batches d.rows.items c.pop_held.new.rows.items copies c.requires.stands.balanced c.in-Some.ensures.loses)
     refl c.pop_held.ensures.ports (bare_by d.facts.items d.rows.items c.pop_held.new.rows.items c.pop_held.ensures.bare) c.pop_held.ensures.size refl refl refl refl refl
     (λ fine kept placed. placed_taken (Held c.args.instance) copies d.rows.items c.pop_held.new.rows.items d.log.history kept placed (from_oldest (Held c.args.instance) copies d.rows.items c.pop_held.new.rows.items c.in-Some.ensures.oldest))
+    (λ fine said. (c.in-Some.ensures.said d.log.history said).0)

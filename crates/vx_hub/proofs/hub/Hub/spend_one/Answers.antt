@@ -18,6 +18,7 @@ use Rattle.vx_hub.proofs.Standing.{spending, from_spent, from_noticed}
 use Rattle.vx_record.specs.declared.entry.Entry.TheVariants.{Notice}
 use Rattle.vx_hub.specs.Rows.{port_at}
 use Rattle.vx_hub.proofs.Leaving.{returning_noted}
+use Rattle.vx_hub.proofs.Saids.{rows_on}
 use Rattle.vx_hub.proofs.hub.Hub.spend_one.Goals as goal
 
 pub returns-in_default-clause-stands : goal.returns-in_default-clause-stands
@@ -36,6 +37,7 @@ returns-in_default-clause-stands g c rest s =
       next = same_next d.batches c.spend-notice.new.self h (Spent c.args.instance n c.args.outcome) refl c.spend-notice.ensures.next;
       order = order;
       comes = comes;
+      said = λ fine. rows_on h (Spent c.args.instance n c.args.outcome) d.rows.items;
       outs = λ fine i none out. out;
       places = λ fine kept placed. placed_spent d.rows.items h c.args.instance rest f n c.args.outcome c.number-copy.ensures kept placed;
       due = λ fine.

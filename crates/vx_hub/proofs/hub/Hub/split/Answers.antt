@@ -27,6 +27,10 @@ use Rattle.vx_hub.proofs.Standing.{taken_from}
 use Rattle.vx_hub.proofs.Touching.{routed_as}
 use Rattle.vx_hub.proofs.Retiring.{none_waiting}
 use Rattle.vx_hub.proofs.Ceasing.{going_on, hub_comes}
+use Rattle.std.proofs.Common.{◌<◌}
+use Rattle.vx_hub.specs.Events.{IsSaid, EachChild}
+use Rattle.vx_hub.proofs.Saids.{rows_on}
+use Rattle.vx_hub.proofs.EventLaws.{children_said}
 use Rattle.vx_hub.proofs.hub.Hub.split.Goals as goal
 
 pub returns-in-Ok-Children-clause-stands : goal.returns-in-Ok-Children-clause-stands
@@ -43,13 +47,13 @@ returns-in-Ok-Children-clause-stands g c =
     children_have c.in-Ok-Children.field-0 made (λ children. c.route.new.batches.next ≡ d.batches.next + length targets * length parcel.finalizers) c.in-Ok-Children.field-0-is c.in-Ok-Children.ensures.next in
     let rows = children_have c.in-Ok-Children.field-0 made (λ children. c.route.new.batches.open_rows ≡ grown_rows (length targets - 1) parcel.finalizers d.batches.open_rows) c.in-Ok-Children.field-0-is c.in-Ok-Children.ensures.rows in
     let exchange = children_have c.in-Ok-Children.field-0 made (λ children. Exchanges d.batches parcel.finalizers c.route.new.batches (child_copies children)) c.in-Ok-Children.field-0-is c.in-Ok-Children.ensures.exchange in
-    let noted = noted_split d.log c.note_children.new.log c.args.instance c.taken_apart-noted.result (numbers_in parcel.finalizers) parcel.event (noted_of cs) c.taken_apart-noted.ensures c.note_children.ensures.noted c.note_children.ensures.unmade in
-    stands_quiet g.P.Port.told d _ [] [] (Split c.args.instance 1 (numbers_in parcel.finalizers) noted.0 (noted_of cs)) s
+    let noted = noted_split d.log c.note_children.new.log c.args.instance c.taken_apart-noted.result (numbers_in parcel.finalizers) parcel.event (noted_of cs) c.taken_apart-noted.ensures.numbers c.taken_apart-noted.ensures.event c.note_children.ensures.noted c.note_children.ensures.unmade in
+    stands_quiet g.P.Port.told d _ [] [] (Split c.args.instance 1 (numbers_in parcel.finalizers) parcel.event (noted_of cs)) s
     (split_balanced d.batches c.route.new.batches d.rows.items c.pop_output.new.rows.items c.put_children.new.rows.items parcel.finalizers (child_copies made)
     s.balanced c.in-Some.ensures.loses exchange c.put_children.ensures.gains)
     refl (λ i. c.put_children.ensures.ports i ∙ c.pop_output.ensures.ports i)
     (bare_but d.facts.items d.rows.items c.pop_output.new.rows.items c.put_children.new.rows.items c.args.instance (c.in-Some.ensures.held refl) c.pop_output.ensures.bare c.put_children.ensures.bare)
-    (c.put_children.ensures.size ∙ c.pop_output.ensures.size) noted.1
+    (c.put_children.ensures.size ∙ c.pop_output.ensures.size) noted
     (record {
       quiet = tt;
       next = split_next d.log.history d.batches.next c.route.new.batches.next targets parcel cs are more;
@@ -59,21 +63,30 @@ returns-in-Ok-Children-clause-stands g c =
           (is_oldest (numbers_in parcel.finalizers) _ _ (oldest_is (Outputs c.args.instance) parcel.finalizers d.rows.items c.pop_output.new.rows.items d.log.history (s.recorded fine).places.standing c.in-Some.ensures.oldest))
           (s.recorded fine).next are
           (targets_some c.in-Ok-Children.field-0 made targets c.in-Ok-Children.field-0-is c.in-Ok-Children.ensures.no_consumer.1)
-          (subst (λ n. n ≤ 2 ^ 63) more c.in-Ok-Children.ensures.kept.numbers);
+          (subst (λ n. n ≤ 2 ^ 63) more c.in-Ok-Children.ensures.kept.numbers)
+          (c.in-Some.ensures.said d.log.history (s.recorded fine).said).1;
+      said = λ fine said.
+          let r = s.recorded fine in
+          let after = Split c.args.instance 1 (numbers_in parcel.finalizers) parcel.event (noted_of cs) ∷ d.log.history in
+          let standing : 0 < length parcel.finalizers = omega (arith, length_numbers parcel.finalizers, oldest_some d.log.history (Outputs c.args.instance) (numbers_in parcel.finalizers) _ (oldest_is (Outputs c.args.instance) parcel.finalizers d.rows.items c.pop_output.new.rows.items d.log.history r.places.standing c.in-Some.ensures.oldest)) in
+          c.put_children.ensures.said after (rows_on d.log.history (Split c.args.instance 1 (numbers_in parcel.finalizers) parcel.event (noted_of cs)) c.pop_output.new.rows.items (c.in-Some.ensures.said d.log.history said).0)
+          (subst (λ (ch : List Child). EachChild (IsSaid after) ch) (sym (sym c.as_slice.ensures ∙ are))
+          (children_said d.log.history c.args.instance 1 (numbers_in parcel.finalizers) parcel.event (noted_of cs) parcel targets d.batches.next refl standing (omega (arith, r.next))
+          (let n = split_next d.log.history d.batches.next c.route.new.batches.next targets parcel cs are more r.next in omega (arith, n, more))));
       outs = λ fine i none out. out;
-      comes = hub_comes g.P.Port.told d [] (Split c.args.instance 1 (numbers_in parcel.finalizers) noted.0 (noted_of cs)) s c.requires.going;
-      places = λ fine kept placed. placed_split d.rows.items c.pop_output.new.rows.items c.put_children.new.rows.items d.log.history c.args.instance 1 parcel.finalizers noted.0 cs
+      comes = hub_comes g.P.Port.told d [] (Split c.args.instance 1 (numbers_in parcel.finalizers) parcel.event (noted_of cs)) s c.requires.going;
+      places = λ fine kept placed. placed_split d.rows.items c.pop_output.new.rows.items c.put_children.new.rows.items d.log.history c.args.instance 1 parcel.finalizers parcel.event cs
           (oldest_some d.log.history (Outputs c.args.instance) (numbers_in parcel.finalizers) _ (oldest_is (Outputs c.args.instance) parcel.finalizers d.rows.items c.pop_output.new.rows.items d.log.history placed.standing c.in-Some.ensures.oldest))
           kept placed c.in-Some.ensures.oldest (λ t. none_wait d.rows.items c.args.instance t c.requires.none)
           (subst (λ (ch : List Child). FillsWaiting c.args.instance ch c.pop_output.new.rows.items c.put_children.new.rows.items) (sym c.as_slice.ensures) c.put_children.ensures.places)
-          (λ t. subst (λ (ch : List Child). EachMine (Split c.args.instance 1 (numbers_in parcel.finalizers) noted.0 (noted_of cs) ∷ d.log.history) (waiting_lists t ch)) (sym are)
-          (children_mine d.log.history c.args.instance 1 noted.0 (noted_of cs) parcel targets 0 d.batches.next (omega (arith, (s.recorded fine).next)) (length_numbers parcel.finalizers) (omega (arith, length_noted targets d.batches.next parcel cs are))
+          (λ t. subst (λ (ch : List Child). EachMine (Split c.args.instance 1 (numbers_in parcel.finalizers) parcel.event (noted_of cs) ∷ d.log.history) (waiting_lists t ch)) (sym are)
+          (children_mine d.log.history c.args.instance 1 parcel.event (noted_of cs) parcel targets 0 d.batches.next (omega (arith, (s.recorded fine).next)) (length_numbers parcel.finalizers) (omega (arith, length_noted targets d.batches.next parcel cs are))
           (placed_taken (Outputs c.args.instance) parcel.finalizers d.rows.items c.pop_output.new.rows.items d.log.history kept.1 placed
           (from_oldest (Outputs c.args.instance) parcel.finalizers d.rows.items c.pop_output.new.rows.items c.in-Some.ensures.oldest)).owned t));
       due = λ fine b w. w;
-      statuses = λ fine running. subst (λ (rs : List OpenBatch). AreRunning (Split c.args.instance 1 (numbers_in parcel.finalizers) noted.0 (noted_of cs) ∷ d.log.history) rs) (sym rows)
-          (running_grown (Split c.args.instance 1 (numbers_in parcel.finalizers) noted.0 (noted_of cs) ∷ d.log.history) (length targets - 1) parcel.finalizers d.batches.open_rows
-          (running_on d.log.history (Split c.args.instance 1 (numbers_in parcel.finalizers) noted.0 (noted_of cs) ∷ d.log.history) d.batches.open_rows (λ b. refl) running));
+      statuses = λ fine running. subst (λ (rs : List OpenBatch). AreRunning (Split c.args.instance 1 (numbers_in parcel.finalizers) parcel.event (noted_of cs) ∷ d.log.history) rs) (sym rows)
+          (running_grown (Split c.args.instance 1 (numbers_in parcel.finalizers) parcel.event (noted_of cs) ∷ d.log.history) (length targets - 1) parcel.finalizers d.batches.open_rows
+          (running_on d.log.history (Split c.args.instance 1 (numbers_in parcel.finalizers) parcel.event (noted_of cs) ∷ d.log.history) d.batches.open_rows (λ b. refl) running));
       ledger = λ ledger. c.in-Ok-Children.ensures.kept;
     })
     refl refl refl
@@ -91,6 +104,7 @@ returns-in-Err-clause-stands g c =
     (λ fine kept placed. placed_same d.rows.items c.push_output.new.rows.items [] d.log.history
     (put_back (Outputs c.args.instance) c.in-Some.parcel.finalizers c.in-Err.field-0.parcel.finalizers d.rows.items c.pop_output.new.rows.items c.push_output.new.rows.items c.in-Some.ensures.oldest c.push_output.ensures.oldest
     (ap (λ (p : Parcel). p.finalizers) c.in-Err.ensures.back)) placed)
+    (λ fine said. let out = c.in-Some.ensures.said d.log.history said in c.push_output.ensures.said d.log.history out.0 (subst (λ (p : Parcel). IsSaid d.log.history p) (sym c.in-Err.ensures.back) out.1))
 
 pub returns-in-Err-clause-reason : goal.returns-in-Err-clause-reason
 returns-in-Err-clause-reason g c sound =
@@ -110,6 +124,7 @@ spend-requires-clause-stands g c =
     (λ fine kept placed. subst (λ (p : Parcel). IsPlaced c.pop_output.new.rows.items p.finalizers d.log.history) (sym whole)
     (placed_taken (Outputs c.args.instance) c.in-Some.parcel.finalizers d.rows.items c.pop_output.new.rows.items d.log.history kept placed
     (from_oldest (Outputs c.args.instance) c.in-Some.parcel.finalizers d.rows.items c.pop_output.new.rows.items c.in-Some.ensures.oldest)))
+    (λ fine said. (c.in-Some.ensures.said d.log.history said).0)
 
 pub spend-requires-clause-from : goal.spend-requires-clause-from
 spend-requires-clause-from g c =

@@ -11,6 +11,7 @@ use Rattle.std.proofs.Common.{◌∷◌}
 use Rattle.vx_hub.proofs.Noticing.{running_on}
 use Rattle.vx_hub.proofs.Ceasing.{hub_comes}
 use Rattle.vx_hub.proofs.Leaving.{away_noted, away_same}
+use Rattle.vx_hub.proofs.Saids.{rows_on, said_on}
 use Rattle.vx_hub.proofs.hub.Hub.take.Goals as goal
 
 pub returns-in_default-clause-stands : goal.returns-in_default-clause-stands
@@ -20,6 +21,7 @@ returns-in_default-clause-stands g c =
     refl c.pop_buffer.ensures.ports (bare_by c.args.self.now.facts.items c.args.self.now.rows.items c.pop_buffer.new.rows.items c.pop_buffer.ensures.bare)
     c.pop_buffer.ensures.size refl refl refl refl refl
     (λ fine kept placed. placed_same c.args.self.now.rows.items c.pop_buffer.new.rows.items [] c.args.self.now.log.history c.in_default.ensures.none placed)
+    (λ fine said. (c.in_default.ensures.said c.args.self.now.log.history said).0)
 
 pub returns-clause-stands : goal.returns-clause-stands
 returns-clause-stands g c =
@@ -31,7 +33,12 @@ returns-clause-stands g c =
     (record {
       quiet = tt;
       next = same_next c.args.self.now.batches c.args.self.now.batches c.args.self.now.log.history (Take c.args.instance 0 (numbers_in c.in-Some.parcel.finalizers)) refl refl;
-      order = λ fine. is_oldest (numbers_in c.in-Some.parcel.finalizers) _ _ (oldest_is (Contents c.args.instance 0) c.in-Some.parcel.finalizers c.args.self.now.rows.items c.pop_buffer.new.rows.items c.args.self.now.log.history (c.requires.stands.recorded fine).places.standing c.in-Some.ensures.oldest);
+      order = λ fine. record { out = c.requires.away fine; oldest = is_oldest (numbers_in c.in-Some.parcel.finalizers) _ _ (oldest_is (Contents c.args.instance 0) c.in-Some.parcel.finalizers c.args.self.now.rows.items c.pop_buffer.new.rows.items c.args.self.now.log.history (c.requires.stands.recorded fine).places.standing c.in-Some.ensures.oldest) };
+      said = λ fine said.
+          let e = Take c.args.instance 0 (numbers_in c.in-Some.parcel.finalizers) in
+          let h = c.args.self.now.log.history in
+          let out = c.in-Some.ensures.said h said in
+          c.hold.ensures.said (e ∷ h) (rows_on h e c.pop_buffer.new.rows.items out.0) (said_on h e c.in-Some.parcel out.1);
       outs = λ fine i none out. out;
       comes = hub_comes g.P.Port.told c.args.self.now [] (Take c.args.instance 0 (numbers_in c.in-Some.parcel.finalizers)) c.requires.stands c.requires.going;
       places = λ fine kept placed. placed_held c.args.self.now.rows.items c.pop_buffer.new.rows.items c.hold.new.rows.items c.args.self.now.log.history c.args.instance c.in-Some.parcel.finalizers kept placed c.in-Some.ensures.oldest c.hold.ensures.last;

@@ -1,0 +1,64 @@
+-- A copy keeps the event that it was made with.
+use Rattle.std.proofs.Common.{◌≡◌, ℕ, ◌-◌, ◌<◌, ◌≤◌, Bool, true, false, List, [], ◌∷◌, Option, Some, None, IfSome, refl, sym, ◌∙◌, arith}
+use Rattle.std.specs.Prelude.{nat_lt, if◌then◌else◌, slice_index_or}
+use Rattle.std.proofs.lemmas.Bool.Decides.{nat_tests}
+use Rattle.vx_ledger.specs.declared.parcel.Parcel.{Parcel}
+use Rattle.vx_ledger.specs.declared.child.Child.{Child}
+use Rattle.vx_record.specs.Records.{Record}
+use Rattle.vx_record.specs.Copies.{next_copy}
+use Rattle.vx_record.specs.Parcels.{no_event, event_of, first_copy}
+use Rattle.vx_record.specs.declared.entry.Entry.{Entry}
+use Rattle.vx_record.specs.declared.entry.Entry.TheVariants.{Born, Split}
+use Rattle.vx_hub.specs.declared.row.Row.{Row}
+use Rattle.vx_hub.specs.Events.{IsSaid, Each, EachChild, HasEach, AreSaid}
+use Rattle.vx_hub.specs.Numbers.{numbers_in}
+use Rattle.vx_hub.specs.Rows.{row_at, task_parcels}
+
+pub chosen_true : {X : Type 0} (b : Bool) (x y : X) → b ≡ true → (if b then x else y) ≡ x
+chosen_true true x y e = refl
+chosen_true false x y e = cc
+
+pub chosen_false : {X : Type 0} (b : Bool) (x y : X) → b ≡ false → (if b then x else y) ≡ y
+chosen_false true x y e = cc
+chosen_false false x y e = refl
+
+below : (c n : ℕ) → c < n → nat_lt c n ≡ true
+below c n l = grind (arith, nat_tests)
+
+pub above : (c n : ℕ) → n ≤ c → nat_lt c n ≡ false
+above c n l = grind (arith, nat_tests)
+
+-- a copy keeps the event that it was made with
+event_on : (h : Record) (e : Entry) (c : ℕ) → c < next_copy h → event_of (e ∷ h) c ≡ event_of h c
+event_on h (Born i b place copies events waits stream end) c l = chosen_true (nat_lt c (next_copy h)) (event_of h c) (slice_index_or events (c - next_copy h) no_event) (below c (next_copy h) l)
+event_on h (Split i ports copies event children) c l = chosen_true (nat_lt c (next_copy h)) (event_of h c) event (below c (next_copy h) l)
+event_on h e c l = refl
+
+made_on : (h : Record) (e : Entry) (c : ℕ) → c < next_copy h → c < next_copy (e ∷ h)
+made_on h e c l = omega arith
+
+pub said_on : (h : Record) (e : Entry) (p : Parcel) → IsSaid h p → IsSaid (e ∷ h) p
+said_on h e p s = record {
+  made = made_on h e (first_copy (numbers_in p.finalizers)) s.made;
+  event = s.event ∙ sym (event_on h e (first_copy (numbers_in p.finalizers)) s.made);
+}
+
+pub each_on : (h : Record) (e : Entry) (ps : List Parcel) → Each (IsSaid h) ps → Each (IsSaid (e ∷ h)) ps
+each_on h e [] all = tt
+each_on h e (p ∷ ps) all = (said_on h e p all.0, each_on h e ps all.1)
+
+child_on : (h : Record) (e : Entry) (cs : List Child) → EachChild (IsSaid h) cs → EachChild (IsSaid (e ∷ h)) cs
+child_on h e [] all = tt
+child_on h e (c ∷ cs) all = (said_on h e c.parcel all.0, child_on h e cs all.1)
+
+pub rows_on : {P : Type 0} (h : Record) (e : Entry) (rows : List (Row P)) → AreSaid h rows → AreSaid (e ∷ h) rows
+rows_on {P} h e rows all i = go (row_at rows i) (all i)
+  where
+    go : (r : Option (Row P)) → IfSome r (HasEach (IsSaid h)) → IfSome r (HasEach (IsSaid (e ∷ h)))
+    go None a = tt
+    go (Some row) a = record {
+      outputs = each_on h e row.outputs.items a.outputs;
+      waiting = child_on h e row.waiting.items a.waiting;
+      buffer = each_on h e row.buffer.items a.buffer;
+      held = each_on h e (task_parcels row.task) a.held;
+    }

@@ -1,0 +1,71 @@
+-- The events of parcels: what a sink writes of them, and what the record has of them.
+use Rattle.std.specs.Prelude.{◌≡◌, ℕ, ◌<◌, true, List, [], ◌∷◌, ◌++◌, IfSome}
+use Rattle.vx_value.specs.Texts.{Word}
+use Rattle.vx_value.specs.declared.event.Event.{Event}
+use Rattle.vx_ends.specs.declared.trouble.Reply.{Reply}
+use Rattle.vx_ends.specs.declared.trouble.Reply.TheVariants.{Ok}
+use Rattle.vx_plan.specs.declared.codec.Codec.TheVariants.{Text}
+use Rattle.vx_ledger.specs.Copies.{Copy}
+use Rattle.vx_ledger.specs.declared.parcel.Parcel.{Parcel}
+use Rattle.vx_ledger.specs.declared.child.Child.{Child}
+use Rattle.vx_record.specs.Encoding.{encode_event, is_prefix}
+use Rattle.vx_record.specs.Records.{Record}
+use Rattle.vx_record.specs.Copies.{next_copy}
+use Rattle.vx_record.specs.Parcels.{first_copy, parcel_event, event_of}
+use Rattle.vx_hub.specs.declared.row.Row.{Row}
+use Rattle.vx_hub.specs.declared.work.Done.{Done}
+use Rattle.vx_hub.specs.declared.work.Done.TheVariants.{Attempted}
+use Rattle.vx_hub.specs.Numbers.{numbers_in}
+use Rattle.vx_hub.specs.Rows.{row_at, task_parcels}
+
+-- what the codec `text` writes of an event
+abbrev pub line_of : Event → Word
+line_of event = encode_event Text event
+
+-- what it writes of some parcels, the oldest first
+abbrev pub written : List Parcel → Word
+written [] = []
+written (p ∷ ps) = encode_event Text p.event ++ written ps
+
+-- an attempt gives the first of some bytes, and all of them where it was answered with `Ok`
+pub record IsPartOf (all bytes : Word) (reply : Reply) : Type 0 where
+  pub given : is_prefix bytes all ≡ true
+  pub whole : reply ≡ Ok → bytes ≡ all
+
+-- an attempt gives what is written of some parcels, or the beginning of that
+abbrev pub IsWrittenOf : List Parcel → Done → Type 0
+IsWrittenOf ps (Attempted bytes reply) = IsPartOf (written ps) bytes reply
+IsWrittenOf ps other = Unit {0}
+
+-- the first copy of a parcel was made with its event
+pub record IsSaid (h : Record) (p : Parcel) : Type 0 where
+  pub made : first_copy (numbers_in p.finalizers) < next_copy h
+  pub event : p.event ≡ parcel_event h (numbers_in p.finalizers)
+
+-- what holds of each of some parcels
+abbrev pub Each : (Parcel → Type 0) → List Parcel → Type 0
+Each F [] = Unit {0}
+Each F (p ∷ ps) = F p × Each F ps
+
+-- and of each child
+abbrev pub EachChild : (Parcel → Type 0) → List Child → Type 0
+EachChild F [] = Unit {0}
+EachChild F (c ∷ cs) = F c.parcel × EachChild F cs
+
+-- the same of each parcel at an instance
+pub record HasEach {P : Type 0} (F : Parcel → Type 0) (row : Row P) : Type 0 where
+  pub outputs : Each F row.outputs.items
+  pub waiting : EachChild F row.waiting.items
+  pub buffer : Each F row.buffer.items
+  pub held : Each F (task_parcels row.task)
+
+-- the record has the event of each parcel that stands at an instance
+abbrev pub AreSaid : {P : Type 0} → Record → List (Row P) → Type 0
+AreSaid h rows = (i : ℕ) → IfSome (row_at rows i) (HasEach (IsSaid h))
+
+-- the record has each of some events as the one that the copy in its place was made with
+abbrev pub ArePaired : Record → List Event → List Copy → Type 0
+ArePaired h [] [] = Unit {0}
+ArePaired h [] (f ∷ fs) = ⊥
+ArePaired h (e ∷ es) [] = ⊥
+ArePaired h (e ∷ es) (f ∷ fs) = ((f.number < next_copy h) × (e ≡ event_of h f.number)) × ArePaired h es fs
