@@ -73,5 +73,5 @@ pub record IsUntold (words : List Word) (environment : List Variable) (texts : O
 abbrev pub IsShown : List Word → List Variable → Option (List Config) → Type 0 → Option Word → Option Word → ℕ → ℕ → Option Fault → Type 0
 IsShown words environment texts same old new before now None = (AsksRun words × same) ⊎ IsToldValid words environment texts old new
 IsShown words environment texts same old new before now (Some PrintFailed) = IsUntold words environment texts old new before now
-IsShown words environment texts same old new before now (Some WantOfMemory) = new ≡ old
+IsShown words environment texts same old new before now (Some WantOfMemory) = (AsksRun words → same) × (new ≡ old)
 IsShown words environment texts same old new before now other = same
