@@ -66,6 +66,7 @@ impl Printer for MemoryPrinter {
         ensures ok { OnOk result (Grows (Some self.old.printed) (Some self.new.printed) bytes.now) }
         ensures err { OnErr result (Some self.new.printed ≡ Some self.old.printed) }
         ensures cause { OnErr result (Rose self.old.faults self.new.faults) }
+        ensures kept { OnOk result (self.new.faults ≡ self.old.faults) }
         ensures later { self.old.faults ≤ self.new.faults }
     {
         let print = self.prints;

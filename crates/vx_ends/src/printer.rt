@@ -8,7 +8,7 @@ pub trait Printer: Drop {
     /// The bytes that were printed, where it tells them.
     ghost printed: { Self → Option (List ℕ) };
 
-    /// How many prints failed. It never falls, and rises at each `Failed`.
+    /// How many prints failed. It rises at each `Failed`, and stays otherwise.
     ghost faults: { Self → ℕ };
 
     /// Prints the bytes, all of them where the answer is `Ok`.
@@ -16,5 +16,6 @@ pub trait Printer: Drop {
         ensures ok { OnOk result (Grows (printed self.old) (printed self.new) bytes.now) }
         ensures err { OnErr result (printed self.new ≡ printed self.old) }
         ensures cause { OnErr result (Rose (faults self.old) (faults self.new)) }
+        ensures kept { OnOk result (faults self.new ≡ faults self.old) }
         ensures later { faults self.old ≤ faults self.new };
 }

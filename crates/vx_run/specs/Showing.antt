@@ -34,10 +34,11 @@ valid_text plan =
     ++ (codes " transforms, " ++ (decimal (count_of Sink plan.components) ++ codes " sinks\n")))))
 
 -- a file stands for a plan, whose text was printed
-pub record IsPlanShown (environment : List Variable) (texts : Option (List Config)) (file : Word) (old new : Option Word) : Type 0 where
+pub record IsPlanShown (environment : List Variable) (texts : Option (List Config)) (file : Word) (old new : Option Word) (before now : ℕ) : Type 0 where
   pub plan : Plan
   pub stands : IsPlanAt environment texts file plan
   pub told : Grows old new (valid_text plan)
+  pub kept : now ≡ before
 
 -- or whose text couldn't be
 pub record IsPlanUnshown (environment : List Variable) (texts : Option (List Config)) (file : Word) (old new : Option Word) (before now : ℕ) : Type 0 where
@@ -48,7 +49,7 @@ pub record IsPlanUnshown (environment : List Variable) (texts : Option (List Con
 
 -- what it says where a file was judged: its plan is shown, or couldn't be, or there is none
 abbrev pub IsJudgedSo : List Variable → Option (List Config) → Word → ℕ → ℕ → Type 0 → Option Word → Option Word → ℕ → ℕ → Option Fault → Type 0
-IsJudgedSo environment texts file was is same old new before now None = IsPlanShown environment texts file old new
+IsJudgedSo environment texts file was is same old new before now None = IsPlanShown environment texts file old new before now
 IsJudgedSo environment texts file was is same old new before now (Some PrintFailed) = IsPlanUnshown environment texts file old new before now
 IsJudgedSo environment texts file was is same old new before now (Some fault) = IsUnready environment texts file was is fault × same
 
@@ -56,11 +57,12 @@ IsJudgedSo environment texts file was is same old new before now (Some fault) = 
 abbrev pub AsksRun : List Word → Type 0
 AsksRun words = (file : Word) × IsCommand words (Run file)
 
--- a configuration that was judged is told
-pub record IsToldValid (words : List Word) (environment : List Variable) (texts : Option (List Config)) (old new : Option Word) : Type 0 where
+-- a configuration that was judged is told, and no print failed
+pub record IsToldValid (words : List Word) (environment : List Variable) (texts : Option (List Config)) (old new : Option Word) (before now : ℕ) : Type 0 where
   pub plan : Plan
   pub valid : IsValid words environment texts plan
   pub told : Grows old new (valid_text plan)
+  pub kept : now ≡ before
 
 -- or couldn't be: the print failed
 pub record IsUntold (words : List Word) (environment : List Variable) (texts : Option (List Config)) (old new : Option Word) (before now : ℕ) : Type 0 where
@@ -71,7 +73,7 @@ pub record IsUntold (words : List Word) (environment : List Variable) (texts : O
 
 -- what the printer of standard output shows: nothing of a run, and of a judgement its text
 abbrev pub IsShown : List Word → List Variable → Option (List Config) → Type 0 → Option Word → Option Word → ℕ → ℕ → Option Fault → Type 0
-IsShown words environment texts same old new before now None = (AsksRun words × same) ⊎ IsToldValid words environment texts old new
+IsShown words environment texts same old new before now None = (AsksRun words × same) ⊎ IsToldValid words environment texts old new before now
 IsShown words environment texts same old new before now (Some PrintFailed) = IsUntold words environment texts old new before now
 IsShown words environment texts same old new before now (Some WantOfMemory) = (AsksRun words → same) × (new ≡ old)
 IsShown words environment texts same old new before now other = same
