@@ -1,5 +1,5 @@
-ghost use Rattle.std.specs.Prelude.{◌≤◌, length, IfOk};
-ghost use Rattle.vx_bench.specs.Copies.{IsJudged, IsCopied};
+ghost use Rattle.std.specs.Prelude.{◌≤◌, length, IfOk, OnOk};
+ghost use Rattle.vx_bench.specs.Copies.{IsJudged, IsCopied, AreCounted, AreCopied};
 
 use std::alloc::Global;
 use vx_frame::LineList;
@@ -18,14 +18,14 @@ fn is_event(alloc: Global, line: &[u8]) -> Result<bool, WantOfMemory>
 }
 
 /// How many of some lines are events.
+#[tactic(auto, using(crate::proofs::Appending::count_next))]
 pub fn count_events(alloc: Global, lines: &LineList) -> Result<usize, WantOfMemory>
-    ensures { IfOk result (λ n. n ≤ length lines.now) }
+    ensures count { IfOk result (AreCounted lines.now) }
+    ensures few { IfOk result (λ n. n ≤ length lines.now) }
 {
     let mut count: usize = 0;
     for line in lines.as_slice() {
-        if is_event(alloc, line.bytes.as_slice())? {
-            count += 1;
-        }
+        count += usize::from(is_event(alloc, line.bytes.as_slice())?);
     }
     Ok(count)
 }
@@ -46,7 +46,10 @@ fn copy_line(alloc: Global, line: &[u8], out: &mut Bytes) -> Result<bool, WantOf
 }
 
 /// Writes the lines that are events, each in its one spelling and with a line feed.
-pub fn copy_lines(alloc: Global, lines: &LineList, out: &mut Bytes) -> Result<(), WantOfMemory> {
+#[tactic(auto, using(crate::proofs::Appending::copy_next))]
+pub fn copy_lines(alloc: Global, lines: &LineList, out: &mut Bytes) -> Result<(), WantOfMemory>
+    ensures { OnOk result (AreCopied lines.now out.old out.new) }
+{
     for line in lines.as_slice() {
         let _ = copy_line(alloc, line.bytes.as_slice(), out)?;
     }
