@@ -9,7 +9,7 @@ use Rattle.vx_plan.specs.declared.console_target.ConsoleTarget.TheVariants.{Stdo
 use Rattle.vx_plan.specs.declared.plan.Plan.{Plan}
 use Rattle.vx_plan.specs.Components.{retry_wait}
 use Rattle.vx_plan.specs.Targets.{is_like, targets, acknowledged}
-use Rattle.vx_record.specs.Frames.{frames}
+use Rattle.vx_frame.specs.Frames.{frames}
 use Rattle.vx_ends.specs.declared.trouble.Reply.TheVariants.{Failed}
 use Rattle.vx_record.specs.declared.taken.Taken.TheVariants.{Bytes}
 use Rattle.vx_record.specs.declared.entry.Entry.TheVariants.{Lease, Read, Take, Attempt}
@@ -67,13 +67,13 @@ RefusedCounts =
 abbrev pub Cut : Type 0
 Cut =
     frames (codes "a\nbc\nd") 10 true
-    ≡ record { text = codes "a"; end = 2 } ∷ record { text = codes "bc"; end = 5 } ∷ record { text = codes "d"; end = 6 } ∷ []
+    ≡ record { bytes = codes "a"; end = 2 } ∷ record { bytes = codes "bc"; end = 5 } ∷ record { bytes = codes "d"; end = 6 } ∷ []
 
 abbrev pub CutOpen : Type 0
-CutOpen = frames (codes "a\nbc\nd") 10 false ≡ record { text = codes "a"; end = 2 } ∷ record { text = codes "bc"; end = 5 } ∷ []
+CutOpen = frames (codes "a\nbc\nd") 10 false ≡ record { bytes = codes "a"; end = 2 } ∷ record { bytes = codes "bc"; end = 5 } ∷ []
 
 abbrev pub CutShort : Type 0
-CutShort = frames (codes "abc\nabcd\nd\n") 3 true ≡ record { text = codes "abc"; end = 4 } ∷ record { text = codes "d"; end = 11 } ∷ []
+CutShort = frames (codes "abc\nabcd\nd\n") 3 true ≡ record { bytes = codes "abc"; end = 4 } ∷ record { bytes = codes "d"; end = 11 } ∷ []
 
 -- patterns, and targets in byte order
 abbrev pub Likeness : Type 0

@@ -4,6 +4,7 @@ ghost use Rattle.vx_value.specs.Values.{named_datum};
 ghost use Rattle.vx_hub.specs.Events.{line_of};
 
 use std::alloc::Global;
+use vx_json::{Codec, encode_event};
 use vx_value::{Bytes, Event, Field, FieldList, Text, Value, WantOfMemory};
 
 /// The event of a line: `message` has the line, and `source_type` the type of the source.
@@ -41,8 +42,5 @@ fn push(fields: &mut FieldList, field: Field) -> Result<(), WantOfMemory>
 pub(crate) fn write_text(event: &Event, out: &mut Bytes) -> Result<(), WantOfMemory>
     ensures { OnOk result (out.new ≡ out.old ++ line_of event.now) }
 {
-    if let Some(Value::Words(message)) = event.fields.find("message") {
-        out.push_slice(message.as_str().as_bytes())?;
-    }
-    out.push_slice(b"\n")
+    encode_event(Codec::Text, event, out)
 }

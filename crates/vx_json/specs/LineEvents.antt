@@ -8,9 +8,13 @@ use Rattle.vx_json.specs.Faults.{IsEvent}
 use Rattle.vx_json.specs.declared.decoding.Decoding.{Decoding}
 use Rattle.vx_json.specs.declared.decoding.Decoding.TheVariants as decoding
 
+-- the fields of a line as text: one, with the line as the message
+abbrev pub message_of : Word → List NamedDatum
+message_of line = record { name = codes "message"; value = Words (utf8_lossy line) } ∷ []
+
 -- the fields that a line gives by itself: under `Bytes` its text as the message, under `Json` those of its object, where it is one
 abbrev pub IsContent : Decoding → Word → List NamedDatum → Type 0
-IsContent decoding.Bytes line fields = fields ≡ record { name = codes "message"; value = Words (utf8_lossy line) } ∷ []
+IsContent decoding.Bytes line fields = fields ≡ message_of line
 IsContent decoding.Json line fields = IsEvent line fields
 
 -- fields with a text under a name, unless something stands there

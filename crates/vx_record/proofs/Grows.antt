@@ -16,9 +16,9 @@ use Rattle.vx_record.specs.Growth.{counts_for_nobody}
 use Rattle.vx_record.specs.Reads.{taken}
 use Rattle.vx_record.specs.Confirms.{births, births_in}
 use Rattle.vx_record.specs.Reads.{bytes_taken}
-use Rattle.vx_record.specs.Tallies.{lines_read, all_lines_read, events_born, notices, takes, attempts_made, bytes_sent}
+use Rattle.vx_record.specs.Tallies.{lines_read, overlong_read, events_born, notices, takes, attempts_made, bytes_sent}
 use Rattle.vx_status.specs.declared.batch_status.BatchStatus.{BatchStatus}
-use Rattle.vx_record.specs.Growth.{Rises, bytes_in, lines_in, all_lines_in, events_in, batches_in, notices_in, takes_in, attempts_in, sent_in, TakenGrows, GivenGrows, ConfirmedGrows, EndedGrows, SourceRises, SinkRises, TallyStays}
+use Rattle.vx_record.specs.Growth.{Rises, bytes_in, lines_in, overlong_in, events_in, batches_in, notices_in, takes_in, attempts_in, sent_in, TakenGrows, GivenGrows, ConfirmedGrows, EndedGrows, SourceRises, SinkRises, TallyStays}
 
 pub taken_grows : TakenGrows
 taken_grows (Read j stream' took) h i stream = refl
@@ -41,9 +41,9 @@ lines_rise : Rises lines_read lines_in
 lines_rise (Read j stream took) h i = refl
 lines_rise e h i = omega arith
 
-all_lines_rise : Rises all_lines_read all_lines_in
-all_lines_rise (Read j stream took) h i = refl
-all_lines_rise e h i = omega arith
+overlong_rises : Rises overlong_read overlong_in
+overlong_rises (Read j stream took) h i = refl
+overlong_rises e h i = omega arith
 
 events_rise : Rises events_born events_in
 events_rise (Born j b place copies events waits stream end) h i = refl
@@ -69,7 +69,7 @@ notices_rise status (Notice b s) h i = refl
 notices_rise status e h i = omega arith
 
 pub source_rises : SourceRises
-source_rises = (bytes_rise, lines_rise, all_lines_rise, events_rise, batches_rise, notices_rise)
+source_rises = (bytes_rise, lines_rise, overlong_rises, events_rise, batches_rise, notices_rise)
 
 pub sink_rises : SinkRises
 sink_rises = (takes_rise, attempts_rise, sent_rise)

@@ -1,16 +1,17 @@
 -- How many lines a Read adds depends on the length of what was unfinished alone.
-use Rattle.std.proofs.Common.{◌≡◌, ℕ, ◌+◌, ◌-◌, ◌^◌, ◌<◌, ◌≤◌, Bool, true, false, cond, not, ◌&&◌, List, [], ◌∷◌, ◌++◌, sym, refl, ap, ◌∙◌, arith, length, drop}
-use Rattle.std.specs.Prelude.{if◌then◌else◌, ◌==◌, nat_lt, filter}
+use Rattle.std.proofs.Common.{◌≡◌, ℕ, ◌+◌, ◌-◌, ◌^◌, ◌<◌, ◌≤◌, Bool, true, false, cond, not, ◌&&◌, List, [], ◌∷◌, ◌++◌, sym, refl, ap, ◌∙◌, arith, length, length-append, drop}
+use Rattle.std.specs.Prelude.{if◌then◌else◌, ◌==◌, nat_lt, nat_le}
 use Rattle.std.proofs.lemmas.Bool.Decides.{nat_tests}
 use Rattle.std.proofs.lemmas.List.{drop_all, length-drop}
 use Rattle.vx_value.specs.Texts.{Word}
+use Rattle.vx_frame.specs.Frames.{Frame, Parts, cut, kept, counted, some_byte, lines_of, overlong_of, frames, discarded}
+use Rattle.vx_frame.specs.Frames.{capped as kept_end}
 use Rattle.vx_record.specs.declared.taken.Taken.{Taken}
 use Rattle.vx_record.specs.declared.taken.Taken.TheVariants.{Bytes, StreamEnded, AllEnded}
 use Rattle.vx_record.specs.Records.{capped}
 use Rattle.vx_record.specs.declared.cut.Cut.{Cut}
 use Rattle.vx_record.specs.Cuts.{IsCut}
-use Rattle.vx_record.specs.Frames.{Line, onto_first, parts, last_line, lines_from, all_lines, frames}
-use Rattle.vx_record.specs.Reads.{still_open, lines_past, all_lines_past}
+use Rattle.vx_record.specs.Reads.{still_open, lines_past, overlong_past}
 use Rattle.vx_record.specs.Tallies.{one_if}
 use Rattle.vx_record.specs.Lengths.{is_within, is_over, left_of, ended, ends, left_behind}
 
@@ -71,127 +72,91 @@ ended-append test n (b ∷ rest) ys = go (b == 10) (ended-append test 0 rest ys)
     go true a b = omega arith
     go false a b = b
 
--- each line is within the limit or passes it
-ended-both : (limit n : ℕ) (bytes : Word) → ended (λ _. true) n bytes ≡ ended (is_within limit) n bytes + ended (is_over limit) n bytes
-ended-both limit n [] = refl
-ended-both limit n (b ∷ rest) = go (b == 10) (nat_lt limit n) (ended-both limit 0 rest) (ended-both limit (n + 1) rest)
-  where
-    go : (t o : Bool) → ended (λ _. true) 0 rest ≡ ended (is_within limit) 0 rest + ended (is_over limit) 0 rest →
-        ended (λ _. true) (n + 1) rest ≡ ended (is_within limit) (n + 1) rest + ended (is_over limit) (n + 1) rest →
-        (if t then 1 + ended (λ _. true) 0 rest else ended (λ _. true) (n + 1) rest)
-        ≡ (if t then one_if (not o) + ended (is_within limit) 0 rest else ended (is_within limit) (n + 1) rest)
-        + (if t then one_if o + ended (is_over limit) 0 rest else ended (is_over limit) (n + 1) rest)
-    go true true a b = omega arith
-    go true false a b = omega arith
-    go false o a b = b
-
-end-both : (limit n : ℕ) → one_if (nat_lt 0 n && true) ≡ one_if (nat_lt 0 n && not (nat_lt limit n)) + one_if (nat_lt 0 n && nat_lt limit n)
-end-both limit n = go (nat_lt 0 n) (nat_lt limit n)
-  where
-    go : (s o : Bool) → one_if (s && true) ≡ one_if (s && not o) + one_if (s && o)
-    go true true = refl
-    go true false = refl
-    go false o = refl
-
-pub ends-both : (limit n : ℕ) (took : Taken) → ends (λ _. true) n took ≡ ends (is_within limit) n took + ends (is_over limit) n took
-ends-both limit n (Bytes bytes) = ended-both limit n bytes
-ends-both limit n StreamEnded = end-both limit n
-ends-both limit n AllEnded = end-both limit n
-
 -- one for the last part, if it is a line
 abbrev last_in : Bool → (ℕ → Bool) → ℕ → ℕ
 last_in true test n = one_if (nat_lt 0 n && test n)
 last_in false test n = 0
 
 -- how many lines some parts are, behind so many bytes of the first
-abbrev lines_in : Bool → (ℕ → Bool) → ℕ → List Word → ℕ
-lines_in e test n [] = last_in e test n
-lines_in e test n (p ∷ []) = last_in e test (n + length p)
-lines_in e test n (p ∷ q ∷ rest) = one_if (test (n + length p)) + lines_in e test 0 (q ∷ rest)
+abbrev lines_in : Bool → (ℕ → Bool) → ℕ → Word → List Word → ℕ
+lines_in e test n part [] = last_in e test (n + length part)
+lines_in e test n part (next ∷ more) = one_if (test (n + length part)) + lines_in e test 0 next more
 
-lines-onto_first : (e : Bool) (test : ℕ → Bool) (n b : ℕ) (ps : List Word) → lines_in e test n (onto_first b ps) ≡ lines_in e test (n + 1) ps
-lines-onto_first e test n b [] = ap (last_in e test) (omega arith)
-lines-onto_first e test n b (p ∷ []) = ap (last_in e test) (omega arith)
-lines-onto_first e test n b (p ∷ q ∷ rest) = ap (λ m. one_if (test m) + lines_in e test 0 (q ∷ rest)) (omega arith)
+lines-byte : (e : Bool) (test : ℕ → Bool) (n b : ℕ) (part : Word) (more : List Word) → lines_in e test n (b ∷ part) more ≡ lines_in e test (n + 1) part more
+lines-byte e test n b part [] = ap (last_in e test) (omega arith)
+lines-byte e test n b part (next ∷ more) = ap (λ m. one_if (test m) + lines_in e test 0 next more) (omega arith)
 
-lines-feed : (e : Bool) (test : ℕ → Bool) (n : ℕ) (ps : List Word) → (ps ≡ [] → ⊥) → lines_in e test n ([] ∷ ps) ≡ one_if (test n) + lines_in e test 0 ps
-lines-feed e test n [] some = absurd (some refl)
-lines-feed e test n (q ∷ rest) some = ap (λ m. one_if (test m) + lines_in e test 0 (q ∷ rest)) (omega arith)
-
-onto_first_some : (b : ℕ) (ps : List Word) → onto_first b ps ≡ [] → ⊥
-onto_first_some b [] e = cc
-onto_first_some b (p ∷ ps) e = cc
-
-parts_some : (w : Word) → parts w ≡ [] → ⊥
-parts_some [] e = cc
-parts_some (b ∷ rest) e = go (b == 10) e
-  where
-    go : (t : Bool) → (if t then [] ∷ parts rest else onto_first b (parts rest)) ≡ [] → ⊥
-    go true e = cc
-    go false e = onto_first_some b (parts rest) e
-
-lines-parts : (e : Bool) (test : ℕ → Bool) (n : ℕ) (w : Word) → lines_in e test n (parts w) ≡ ended test n w + last_in e test (left_of n w)
-lines-parts e test n [] = let same : n + 0 ≡ n = omega arith in let f = ap (last_in e test) same in omega arith
+-- the parts of some bytes are the lines that they end, and the last one
+lines-parts : (e : Bool) (test : ℕ → Bool) (n : ℕ) (w : Word) → lines_in e test n (cut w).first (cut w).more ≡ ended test n w + last_in e test (left_of n w)
+lines-parts e test n [] = let same : n + 0 ≡ n = omega arith in let f = ap (last_in e test) same in omega (arith, f)
 lines-parts e test n (b ∷ rest) = go (b == 10) (lines-parts e test 0 rest) (lines-parts e test (n + 1) rest)
   where
-    go : (t : Bool) → lines_in e test 0 (parts rest) ≡ ended test 0 rest + last_in e test (left_of 0 rest) →
-        lines_in e test (n + 1) (parts rest) ≡ ended test (n + 1) rest + last_in e test (left_of (n + 1) rest) →
-        lines_in e test n (if t then [] ∷ parts rest else onto_first b (parts rest))
+    go : (t : Bool) → lines_in e test 0 (cut rest).first (cut rest).more ≡ ended test 0 rest + last_in e test (left_of 0 rest) →
+        lines_in e test (n + 1) (cut rest).first (cut rest).more ≡ ended test (n + 1) rest + last_in e test (left_of (n + 1) rest) →
+        (let parts : Parts = cond t (record { first = []; more = (cut rest).first ∷ (cut rest).more }) (record { first = b ∷ (cut rest).first; more = (cut rest).more }) in
+        lines_in e test n parts.first parts.more)
         ≡ (if t then one_if (test n) + ended test 0 rest else ended test (n + 1) rest) + last_in e test (if t then left_of 0 rest else left_of (n + 1) rest)
-    go true x y = lines-feed e test n (parts rest) (parts_some rest) ∙ (omega (arith, x))
-    go false x y = lines-onto_first e test n b (parts rest) ∙ y
+    go true x y =
+        let same : n + 0 ≡ n = omega arith in
+        ap (λ m. one_if (test m) + lines_in e test 0 (cut rest).first (cut rest).more) same ∙ (omega (arith, x))
+    go false x y = lines-byte e test n b (cut rest).first (cut rest).more ∙ y
 
--- the length of a line passes
-abbrev passes : (ℕ → Bool) → Line → Bool
-passes test line = test (length line.text)
-
-length-filter : (test : ℕ → Bool) (line : Line) (rest : List Line) →
-    length (filter (passes test) (line ∷ rest)) ≡ one_if (test (length line.text)) + length (filter (passes test) rest)
-length-filter test line rest = go (test (length line.text))
+-- a line is kept if it is within the limit, and counted if it passes it
+length-kept : (limit : ℕ) (line : Frame) (lines : List Frame) → length (kept limit line lines) ≡ one_if (is_within limit (length line.bytes)) + length lines
+length-kept limit line lines = go (nat_le (length line.bytes) limit)
   where
-    go : (b : Bool) → length (cond b (line ∷ filter (passes test) rest) (filter (passes test) rest)) ≡ one_if b + length (filter (passes test) rest)
+    go : (b : Bool) → length (cond b (line ∷ lines) lines) ≡ one_if b + length lines
     go true = omega arith
     go false = omega arith
 
-last-filtered : (e : Bool) (test : ℕ → Bool) (at : ℕ) (part : Word) → length (filter (passes test) (last_line e at part)) ≡ last_in e test (length part)
-last-filtered true test at [] = refl
-last-filtered true test at (b ∷ part) = go (test (length (b ∷ part))) (nat_lt 0 (length (b ∷ part))) (grind (arith, nat_tests))
+over-counted : (limit : ℕ) (line : Word) (n : ℕ) → counted limit line n ≡ one_if (is_over limit (length line)) + n
+over-counted limit line n = go (nat_le (length line) limit)
   where
-    go : (t s : Bool) → s ≡ true → length {A = Line} (cond t (record { text = b ∷ part; end = at + length (b ∷ part) } ∷ []) []) ≡ one_if (s && t)
+    go : (b : Bool) → cond b n (n + 1) ≡ one_if (not b) + n
+    go true = omega arith
+    go false = omega arith
+
+some-last : (b : Bool) (x : Word) (y : ℕ) → one_if b + 0 ≡ one_if (nat_lt 0 (length (y ∷ x)) && b)
+some-last b x y = go b (nat_lt 0 (length (y ∷ x))) (grind (arith, nat_tests))
+  where
+    go : (t s : Bool) → s ≡ true → one_if t + 0 ≡ one_if (s && t)
     go true true e = refl
     go false true e = refl
     go t false e = absurd (cc)
-last-filtered false test at part = refl
 
-lines-filtered : (e : Bool) (test : ℕ → Bool) (at : ℕ) (ps : List Word) → length (filter (passes test) (lines_from e at ps)) ≡ lines_in e test 0 ps
-lines-filtered true test at [] = refl
-lines-filtered false test at [] = refl
-lines-filtered e test at (p ∷ []) = last-filtered e test at p ∙ ap (last_in e test) (omega arith)
-lines-filtered e test at (p ∷ q ∷ rest) =
-    length-filter test (record { text = p; end = at + length p + 1 }) (lines_from e (at + length p + 1) (q ∷ rest))
-    ∙ ap (λ n. one_if (test (length p)) + n) (lines-filtered e test (at + length p + 1) (q ∷ rest))
-    ∙ ap (λ m. one_if (test m) + lines_in e test 0 (q ∷ rest)) (omega arith)
+last-kept : (limit : ℕ) (e : Bool) (line : Word) (end : ℕ) →
+    length (if e && some_byte line then kept limit (record { bytes = line; end = end }) [] else []) ≡ last_in e (is_within limit) (length line)
+last-kept limit true [] end = refl
+last-kept limit true (b ∷ line) end =
+    length-kept limit (record { bytes = b ∷ line; end = end }) [] ∙ some-last (is_within limit (length (b ∷ line))) line b
+last-kept limit false line end = refl
 
-last-counted : (e : Bool) (at : ℕ) (part : Word) → length (last_line e at part) ≡ last_in e (λ _. true) (length part)
-last-counted true at [] = refl
-last-counted true at (b ∷ part) = go (nat_lt 0 (length (b ∷ part))) (grind (arith, nat_tests))
-  where
-    go : (s : Bool) → s ≡ true → 1 ≡ one_if (s && true)
-    go true e = refl
-    go false e = absurd (cc)
-last-counted false at part = refl
+last-counted : (limit : ℕ) (e : Bool) (line : Word) → (if e && some_byte line then counted limit line 0 else 0) ≡ last_in e (is_over limit) (length line)
+last-counted limit true [] = refl
+last-counted limit true (b ∷ line) = over-counted limit (b ∷ line) 0 ∙ some-last (is_over limit (length (b ∷ line))) line b
+last-counted limit false line = refl
 
-lines-counted : (e : Bool) (at : ℕ) (ps : List Word) → length (lines_from e at ps) ≡ lines_in e (λ _. true) 0 ps
-lines-counted true at [] = refl
-lines-counted false at [] = refl
-lines-counted e at (p ∷ []) = last-counted e at p ∙ ap (last_in e (λ _. true)) (omega arith)
-lines-counted e at (p ∷ q ∷ rest) = let ih = lines-counted e (at + length p + 1) (q ∷ rest) in omega arith
+kept-in : (limit : ℕ) (e : Bool) (seen : ℕ) (held part : Word) (more : List Word) →
+    length (lines_of limit e seen held part more) ≡ lines_in e (is_within limit) (length held) part more
+kept-in limit e seen held part [] = last-kept limit e (held ++ part) (kept_end (seen + length part)) ∙ ap (last_in e (is_within limit)) (length-append held part)
+kept-in limit e seen held part (next ∷ more) =
+    let end = kept_end (seen + length part + 1) in
+    let ih = kept-in limit e end [] next more in
+    length-kept limit (record { bytes = held ++ part; end = end }) (lines_of limit e end [] next more)
+    ∙ (λ t. one_if (is_within limit (length-append held part t)) + ih t)
+
+counted-in : (limit : ℕ) (e : Bool) (held part : Word) (more : List Word) → overlong_of limit e held part more ≡ lines_in e (is_over limit) (length held) part more
+counted-in limit e held part [] = last-counted limit e (held ++ part) ∙ ap (last_in e (is_over limit)) (length-append held part)
+counted-in limit e held part (next ∷ more) =
+    let ih = counted-in limit e [] next more in
+    over-counted limit (held ++ part) (overlong_of limit e [] next more)
+    ∙ (λ t. one_if (is_over limit (length-append held part t)) + ih t)
 
 frames-counted : (e : Bool) (limit : ℕ) (w : Word) → length (frames w limit e) ≡ ended (is_within limit) 0 w + last_in e (is_within limit) (left_of 0 w)
-frames-counted e limit w = lines-filtered e (is_within limit) 0 (parts w) ∙ lines-parts e (is_within limit) 0 w
+frames-counted e limit w = kept-in limit e 0 [] (cut w).first (cut w).more ∙ lines-parts e (is_within limit) 0 w
 
-all-counted : (e : Bool) (w : Word) → length (all_lines w e) ≡ ended (λ _. true) 0 w + last_in e (λ _. true) (left_of 0 w)
-all-counted e w = lines-counted e 0 (parts w) ∙ lines-parts e (λ _. true) 0 w
+discarded-counted : (e : Bool) (limit : ℕ) (w : Word) → discarded w limit e ≡ ended (is_over limit) 0 w + last_in e (is_over limit) (left_of 0 w)
+discarded-counted e limit w = counted-in limit e [] (cut w).first (cut w).more ∙ lines-parts e (is_over limit) 0 w
 
 -- what a Read adds
 pub lines-past : (limit : ℕ) (before : Word) (took : Taken) → length (lines_past limit before took) ≡ ends (is_within limit) (left_of 0 before) took
@@ -212,23 +177,20 @@ lines-past limit before AllEnded =
     let y = frames-counted true limit before in
     omega (arith, d, x, y)
 
-pub all-lines-past : (before : Word) (took : Taken) → length (all_lines_past before took) ≡ ends (λ _. true) (left_of 0 before) took
-all-lines-past before (Bytes bytes) =
-    let d = length-drop (length (all_lines before false)) (all_lines (before ++ bytes) false) in
-    let x = all-counted false before in
-    let y = all-counted false (before ++ bytes) in
-    let z = ended-append (λ _. true) 0 before bytes in
-    omega (arith, d, x, y, z)
-all-lines-past before StreamEnded =
-    let d = length-drop (length (all_lines before false)) (all_lines before true) in
-    let x = all-counted false before in
-    let y = all-counted true before in
-    omega (arith, d, x, y)
-all-lines-past before AllEnded =
-    let d = length-drop (length (all_lines before false)) (all_lines before true) in
-    let x = all-counted false before in
-    let y = all-counted true before in
-    omega (arith, d, x, y)
+pub overlong-past : (limit : ℕ) (before : Word) (took : Taken) → overlong_past limit before took ≡ ends (is_over limit) (left_of 0 before) took
+overlong-past limit before (Bytes bytes) =
+    let x = discarded-counted false limit before in
+    let y = discarded-counted false limit (before ++ bytes) in
+    let z = ended-append (is_over limit) 0 before bytes in
+    omega (arith, x, y, z)
+overlong-past limit before StreamEnded =
+    let x = discarded-counted false limit before in
+    let y = discarded-counted true limit before in
+    omega (arith, x, y)
+overlong-past limit before AllEnded =
+    let x = discarded-counted false limit before in
+    let y = discarded-counted true limit before in
+    omega (arith, x, y)
 
 -- what it leaves
 pub left-still_open : (before : Word) (took : Taken) → left_of 0 (still_open took before) ≡ left_behind (left_of 0 before) took

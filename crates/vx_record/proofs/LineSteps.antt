@@ -11,17 +11,17 @@ use Rattle.vx_record.specs.declared.entry.Entry.TheVariants.{Read}
 use Rattle.vx_record.specs.declared.cut.Cut.{Cut}
 use Rattle.vx_record.specs.declared.line_counts.LineCounts.{LineCounts}
 use Rattle.vx_record.specs.Records.{Record, capped}
-use Rattle.vx_record.specs.Reads.{has_bytes, last_stream, stream_of, still_open, open_bytes, limit_of, new_lines, all_new_lines}
-use Rattle.vx_record.specs.Tallies.{one_if, lines_read, all_lines_read}
+use Rattle.vx_record.specs.Reads.{has_bytes, last_stream, stream_of, still_open, open_bytes, limit_of, new_lines, new_overlong}
+use Rattle.vx_record.specs.Tallies.{one_if, lines_read, overlong_read}
 use Rattle.vx_record.specs.Lengths.{is_within, is_over, left_of, ends, left_behind}
 use Rattle.vx_record.specs.Cuts.{IsCut}
 use Rattle.vx_record.specs.declared.entry.Entry.{Entry}
 use Rattle.vx_record.specs.declared.line_totals.LineTotals.{LineTotals}
 use Rattle.vx_record.specs.declared.plain_lines.OpenLine.{OpenLine}
-use Rattle.vx_record.specs.Growth.{lines_in, all_lines_in}
+use Rattle.vx_record.specs.Growth.{lines_in, overlong_in}
 use Rattle.vx_record.proofs.Grows.{source_rises}
 use Rattle.vx_record.specs.LineCounting.{AreTotals, AreLines, IsOpenLine, IsCutIn}
-use Rattle.vx_record.proofs.LineLengths.{left-alike, ended-alike, within-alike, over-alike, ends-both, lines-past, all-lines-past, left-still_open}
+use Rattle.vx_record.proofs.LineLengths.{left-alike, ended-alike, within-alike, over-alike, lines-past, overlong-past, left-still_open}
 
 pub ends-alike : (test : ℕ → Bool) → ((m n : ℕ) → capped m ≡ capped n → test m ≡ test n) →
     (m n : ℕ) (took : Taken) → capped m ≡ capped n → ends test m took ≡ ends test n took
@@ -43,34 +43,6 @@ if_self i x = grind (arith, nat_tests)
 abbrev pub left_in : Record → ℕ → ℕ → Taken → ℕ
 left_in h i stream took = left_of 0 (open_bytes h i (stream_of h i stream took))
 
-pub lines_more : (h : Record) (i stream : ℕ) (took : Taken) →
-    lines_read (Read i stream took ∷ h) i ≡ lines_read h i + ends (is_within (limit_of h i)) (left_in h i stream took) took
-lines_more h i stream took =
-    ap (λ n. lines_read h i + n) (if_self i (length (new_lines h i stream took)) ∙ lines-past (limit_of h i) (open_bytes h i (stream_of h i stream took)) took)
-
-pub all_lines_more : (h : Record) (i stream : ℕ) (took : Taken) →
-    all_lines_read (Read i stream took ∷ h) i ≡ all_lines_read h i + ends (λ _. true) (left_in h i stream took) took
-all_lines_more h i stream took =
-    ap (λ n. all_lines_read h i + n) (if_self i (length (all_new_lines h i stream took)) ∙ all-lines-past (open_bytes h i (stream_of h i stream took)) took)
-
--- lines within the limit are lines
-pub lines-le : (h : Record) (i : ℕ) → lines_read h i ≤ all_lines_read h i
-lines-le [] i = omega arith
-lines-le (Read j stream took ∷ h) i = go (j == i) (lines-le h i)
-  where
-    fewer : length (new_lines h i stream took) ≤ length (all_new_lines h i stream took)
-    fewer =
-        let a = lines-past (limit_of h i) (open_bytes h i (stream_of h i stream took)) took in
-        let b = all-lines-past (open_bytes h i (stream_of h i stream took)) took in
-        let c = ends-both (limit_of h i) (left_in h i stream took) took in
-        omega (arith, a, b, c)
-
-    go : (b : Bool) → lines_read h i ≤ all_lines_read h i →
-        lines_read h i + (if b then length (new_lines h i stream took) else 0) ≤ all_lines_read h i + (if b then length (all_new_lines h i stream took) else 0)
-    go true ih = omega (arith, fewer)
-    go false ih = omega arith
-lines-le (e ∷ h) i = lines-le h i
-
 if_both : (i s q : ℕ) (x y : Word) → s ≡ q → (if (i == i) && (s == q) then x else y) ≡ x
 if_both i s q x y same = grind (arith, nat_tests)
 
@@ -84,15 +56,12 @@ last_more h i stream took = go (i == i) (grind (arith, nat_tests)) (has_bytes to
     go true e c = refl
     go false e c = absurd (cc)
 
--- what a cut of a Read says of all its lines
+-- what a cut of a Read says of its lines
 pub read_cut : (h : Record) (i limit stream left : ℕ) (took : Taken) (cut : Cut) → limit < 2 ^ 32 → limit ≡ limit_of h i →
     capped left ≡ capped (left_in h i stream took) → IsCut limit left took cut → IsCutIn h i (Read i stream took) cut
 read_cut h i limit stream left took cut small is_limit alike is_cut = record {
   within = within ∙ sym (if_self i (length (new_lines h i stream took)) ∙ lines-past (limit_of h i) (open_bytes h i (stream_of h i stream took)) took);
-  all =
-      if_self i (length (all_new_lines h i stream took)) ∙ all-lines-past (open_bytes h i (stream_of h i stream took)) took
-      ∙ ends-both (limit_of h i) n took
-      ∙ (λ t. sym (if_self i (length (new_lines h i stream took)) ∙ lines-past (limit_of h i) (open_bytes h i (stream_of h i stream took)) took) t + sym over t);
+  over = over ∙ sym (if_self i (new_overlong h i stream took) ∙ overlong-past (limit_of h i) (open_bytes h i (stream_of h i stream took)) took);
 }
   where
     n : ℕ
@@ -114,18 +83,15 @@ totals_more h i e cut old new is_cut before is = record {
       let b = before.lines in
       let c = is_cut.within in omega (arith, a, b, c, x);
   overlong =
-      let a = source_rises.1 e h i in
-      let b = source_rises.2 e h i in
+      let a = source_rises.2 e h i in
       let x = ap (λ (t : LineTotals). t.overlong) is in
-      let c = is_cut.within in
-      let d = is_cut.all in
-      let f = lines-le h i in
-      let g = before.overlong in omega (arith, a, b, c, d, f, g, x);
+      let b = before.overlong in
+      let c = is_cut.over in omega (arith, a, b, c, x);
 }
 
 -- an entry that is no Read of the instance completes none
 pub none_cut : (h : Record) (i : ℕ) (e : Entry) (cut : Cut) → cut.within ≡ 0 → cut.over ≡ 0 → ((stream : ℕ) (took : Taken) → e ≡ Read i stream took → ⊥) → IsCutIn h i e cut
-none_cut h i (Read j stream took) cut none no_over other = record { within = none ∙ sym here; all = there ∙ (let x : 0 ≡ lines_in h i (Read j stream took) + cut.over = omega (arith, here, no_over) in x) }
+none_cut h i (Read j stream took) cut none no_over other = record { within = none ∙ sym here; over = no_over ∙ sym there }
   where
     elsewhere : (j == i) ≡ false
     elsewhere = elim (cases_eq j i) [
@@ -136,9 +102,9 @@ none_cut h i (Read j stream took) cut none no_over other = record { within = non
     here : lines_in h i (Read j stream took) ≡ 0
     here = ap (λ b. if b then length (new_lines h i stream took) else 0) elsewhere
 
-    there : all_lines_in h i (Read j stream took) ≡ 0
-    there = ap (λ b. if b then length (all_new_lines h i stream took) else 0) elsewhere
-none_cut h i e cut none no_over other = record { within = none; all = omega (arith, no_over) }
+    there : overlong_in h i (Read j stream took) ≡ 0
+    there = ap (λ b. if b then new_overlong h i stream took else 0) elsewhere
+none_cut h i e cut none no_over other = record { within = none; over = no_over }
 
 -- what a Read leaves of the stream whose lines it ends, and of another
 pub left_here : (h : Record) (i stream s q left now : ℕ) (took : Taken) → s ≡ stream_of h i stream took → s ≡ q →

@@ -1,9 +1,10 @@
 -- The bytes of a sink batch.
-use Rattle.std.specs.Prelude.{ℕ, Bool, true, false, ◌&&◌, Option, Some, None, List, [], ◌∷◌, ◌++◌, map, ◌==◌, codes, if◌then◌else◌}
+use Rattle.std.specs.Prelude.{ℕ, Bool, true, false, ◌&&◌, Some, None, List, [], ◌∷◌, map, ◌==◌, if◌then◌else◌}
 use Rattle.vx_value.specs.Texts.{Word}
-use Rattle.vx_value.specs.Events.{value_under}
-use Rattle.vx_value.specs.Datum.{Datum, Null, Truth, Whole, Spelled, Words, Items, Fields}
 use Rattle.vx_value.specs.declared.event.Event.{Event}
+use Rattle.vx_json.specs.Encoding.{encoded_event, encoded as encoded_events}
+use Rattle.vx_json.specs.declared.codec.Codec.{Codec as WriterCodec}
+use Rattle.vx_json.specs.declared.codec.Codec.TheVariants as writer
 use Rattle.vx_plan.specs.declared.codec.Codec.{Codec}
 use Rattle.vx_plan.specs.declared.codec.Codec.TheVariants as codec
 use Rattle.vx_plan.specs.declared.settings.Settings.{Settings}
@@ -12,28 +13,21 @@ use Rattle.vx_plan.specs.declared.component.Component.{Component}
 use Rattle.vx_record.specs.declared.entry.Entry.{Entry}
 use Rattle.vx_record.specs.declared.entry.Entry.TheVariants.{Attempt}
 use Rattle.vx_record.specs.Records.{Record}
-use Rattle.vx_record.specs.Copies.{joined, all_of}
+use Rattle.vx_record.specs.Copies.{all_of}
 use Rattle.vx_record.specs.Installs.{told}
 use Rattle.vx_record.specs.Parcels.{parcel_event}
 
--- a text as its bytes, and nothing for a field that is not there; no source makes a message of another kind yet
-abbrev pub spelled : Option Datum → Word
-spelled None = []
-spelled (Some Null) = []
-spelled (Some (Truth b)) = []
-spelled (Some (Whole z)) = []
-spelled (Some (Spelled w)) = []
-spelled (Some (Words text)) = text
-spelled (Some (Items ds)) = []
-spelled (Some (Fields ns)) = []
+-- a plan's codec, as the crate that writes events has it
+abbrev pub writer_codec : Codec → WriterCodec
+writer_codec codec.Text = writer.Text
 
--- an event as a sink writes it: as text, its message and a line feed
+-- an event as a sink writes it
 abbrev pub encode_event : Codec → Event → Word
-encode_event codec.Text event = spelled (value_under event.fields (codes "message")) ++ 10 ∷ []
+encode_event codec event = encoded_event (writer_codec codec) event.fields
 
 -- some events as a sink writes them, in a row
 abbrev pub encode : Codec → List Event → Word
-encode codec events = joined (map (encode_event codec) events)
+encode codec events = encoded_events (writer_codec codec) events
 
 -- the bytes that a sink with these settings gives for some events
 abbrev pub bytes_for : Settings → List Event → Word

@@ -9,13 +9,13 @@ use Rattle.vx_status.specs.declared.batch_status.BatchStatus.{BatchStatus}
 use Rattle.vx_record.specs.declared.entry.Entry.{Entry}
 use Rattle.vx_record.specs.declared.entry.Entry.TheVariants.{Lease, Home, Read, Idle, SourceLost, Born, Take, Attempt, Spent, Notice, Closed, Retired, Abandon}
 use Rattle.vx_record.specs.Records.{Record}
-use Rattle.vx_record.specs.Reads.{bytes_of, taken, bytes_taken, ended_by, ended_streams, new_lines, all_new_lines}
+use Rattle.vx_record.specs.Reads.{bytes_of, taken, bytes_taken, ended_by, ended_streams, new_lines, new_overlong}
 use Rattle.vx_record.specs.Encoding.{given_in, given}
 use Rattle.vx_record.specs.Confirms.{births_in, births, confirmed_in, confirmed}
 use Rattle.vx_record.specs.Places.{Place}
 use Rattle.vx_record.specs.Parcels.{first_copy}
 use Rattle.vx_record.specs.Legal.{IsLegal}
-use Rattle.vx_record.specs.Tallies.{is_unread, is_newest, is_output, is_child_for, any_copy, same_status, spent_as, is_held_by, parcels_that, unread_parcels, newest_parcels, parcels_spent, lines_read, all_lines_read, events_born, same_end, is_batch_of, notices, takes, attempts_made, bytes_sent, tally}
+use Rattle.vx_record.specs.Tallies.{is_unread, is_newest, is_output, is_child_for, any_copy, same_status, spent_as, is_held_by, parcels_that, unread_parcels, newest_parcels, parcels_spent, lines_read, overlong_read, events_born, same_end, is_batch_of, notices, takes, attempts_made, bytes_sent, tally}
 
 -- the bytes of a stream that an entry took for the instance
 abbrev pub taken_in : ℕ → ℕ → Entry → Word
@@ -52,10 +52,10 @@ abbrev pub lines_in : Record → ℕ → Entry → ℕ
 lines_in h i (Read j stream took) = if j == i then length (new_lines h i stream took) else 0
 lines_in h i other = 0
 
--- the lines that a Read completes, with the overlong ones
-abbrev pub all_lines_in : Record → ℕ → Entry → ℕ
-all_lines_in h i (Read j stream took) = if j == i then length (all_new_lines h i stream took) else 0
-all_lines_in h i other = 0
+-- the overlong lines that a Read completes
+abbrev pub overlong_in : Record → ℕ → Entry → ℕ
+overlong_in h i (Read j stream took) = if j == i then new_overlong h i stream took else 0
+overlong_in h i other = 0
 
 -- the events of a Born
 abbrev pub events_in : Record → ℕ → Entry → ℕ
@@ -89,7 +89,7 @@ sent_in h i other = 0
 -- a source's numbers rise with its Reads and Borns, and with the notices of its batches
 abbrev pub SourceRises : Type 0
 SourceRises =
-    Rises bytes_taken bytes_in × Rises lines_read lines_in × Rises all_lines_read all_lines_in × Rises events_born events_in
+    Rises bytes_taken bytes_in × Rises lines_read lines_in × Rises overlong_read overlong_in × Rises events_born events_in
     × Rises (λ h i. length (births h i)) batches_in × ((status : BatchStatus) → Rises (notices status) (notices_in status))
 
 -- a sink's numbers rise with its Takes and Attempts

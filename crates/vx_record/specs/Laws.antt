@@ -1,8 +1,15 @@
 -- The laws over every legal record, and over every record of which some of that holds.
-use Rattle.std.specs.Prelude.{ℕ, ◌+◌, ◌^◌, ◌<◌, ◌≤◌, ◌≡◌, false, List, [], ◌∷◌, ◌++◌, length, map, if◌then◌else◌, ◌==◌, ◌↔◌}
+use Rattle.std.specs.Prelude.{ℕ, ◌+◌, ◌^◌, ◌<◌, ◌≤◌, ◌≡◌, false, None, List, [], ◌∷◌, ◌++◌, length, map, if◌then◌else◌, ◌==◌, ◌↔◌}
+use Rattle.vx_value.specs.Texts.{Word}
+use Rattle.vx_value.specs.Datum.{NamedDatum}
 use Rattle.vx_value.specs.declared.event.Event.{Event}
+use Rattle.vx_json.specs.declared.decoding.Decoding.TheVariants as decoding
+use Rattle.vx_json.specs.LineEvents.{IsLineEvent}
+use Rattle.vx_plan.specs.declared.settings.Settings.{Settings}
+use Rattle.vx_plan.specs.Options.{type_name}
 use Rattle.vx_record.specs.Records.{Record}
 use Rattle.vx_record.specs.declared.child.Child.{Child}
+use Rattle.vx_record.specs.Reads.{line_event}
 use Rattle.vx_record.specs.Parcels.{event_of, port_list}
 use Rattle.vx_record.specs.Routing.{routes}
 use Rattle.vx_record.specs.Abandoning.{abandoned}
@@ -159,3 +166,9 @@ NoLeaseAfterAbandon =
 abbrev pub PrefixGrows : Type 0
 PrefixGrows =
     (later earlier : Record) (i : ℕ) → (more : List Birth) × (confirm_prefix (later ++ earlier) i ≡ confirm_prefix earlier i ++ more)
+
+-- under codec bytes a line gives one event, with no file's path
+abbrev pub LineGives : Type 0
+LineGives =
+    (settings : Settings) (text : Word) (fields : List NamedDatum) →
+    IsLineEvent decoding.Bytes (type_name settings) None text fields ↔ (fields ≡ (line_event settings text).fields)

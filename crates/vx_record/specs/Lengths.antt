@@ -1,5 +1,5 @@
 -- Lines by their lengths alone: how many lines some bytes end, and how long a line they leave unfinished.
-use Rattle.std.specs.Prelude.{ℕ, ◌+◌, Bool, not, ◌&&◌, [], ◌∷◌, if◌then◌else◌, ◌==◌, nat_lt}
+use Rattle.std.specs.Prelude.{ℕ, ◌+◌, Bool, not, ◌&&◌, [], ◌∷◌, if◌then◌else◌, ◌==◌, nat_lt, nat_le}
 use Rattle.vx_value.specs.Texts.{Word}
 use Rattle.vx_record.specs.declared.taken.Taken.{Taken}
 use Rattle.vx_record.specs.declared.taken.Taken.TheVariants.{Bytes, StreamEnded, AllEnded}
@@ -7,11 +7,11 @@ use Rattle.vx_record.specs.Tallies.{one_if}
 
 -- whether a length is within a limit
 abbrev pub is_within : ℕ → ℕ → Bool
-is_within limit n = not (nat_lt limit n)
+is_within limit n = nat_le n limit
 
 -- whether it passes the limit
 abbrev pub is_over : ℕ → ℕ → Bool
-is_over limit n = nat_lt limit n
+is_over limit n = not (nat_le n limit)
 
 -- the length of the line that bytes leave unfinished, behind so many bytes of it
 abbrev pub left_of : ℕ → Word → ℕ

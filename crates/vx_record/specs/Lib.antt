@@ -8,7 +8,6 @@ pub mod Lists
 pub mod Batches
 pub mod Statuses
 pub mod Installs
-pub mod Frames
 pub mod Reads
 pub mod Confirms
 pub mod Parcels

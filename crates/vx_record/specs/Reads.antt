@@ -1,9 +1,9 @@
 -- The bytes that an instance took, and the lines and events that a Read completes.
-use Rattle.std.specs.Prelude.{ℕ, ◌+◌, ◌-◌, Bool, true, false, not, ◌&&◌, ◌||◌, Option, Some, None, unwrap_or, List, [], ◌∷◌, ◌++◌, drop, length, map, if◌then◌else◌, ◌==◌, codes}
-use Rattle.std.specs.Str.Lossy.{utf8_lossy}
+use Rattle.std.specs.Prelude.{ℕ, ◌+◌, ◌-◌, Bool, true, false, not, ◌&&◌, ◌||◌, Option, Some, None, unwrap_or, List, [], ◌∷◌, ◌++◌, drop, length, map, if◌then◌else◌, ◌==◌}
 use Rattle.vx_value.specs.Texts.{Word, is_empty}
-use Rattle.vx_value.specs.Datum.{Words}
 use Rattle.vx_value.specs.declared.event.Event.{Event}
+use Rattle.vx_frame.specs.Frames.{Frame, frames, discarded}
+use Rattle.vx_json.specs.LineEvents.{message_of, from_source}
 use Rattle.vx_plan.specs.declared.component.Component.{Component}
 use Rattle.vx_plan.specs.declared.settings.Settings.{Settings}
 use Rattle.vx_plan.specs.declared.decoding.Decoding.{Decoding}
@@ -17,7 +17,6 @@ use Rattle.vx_record.specs.declared.entry.Entry.TheVariants.{Read, SourceLost}
 use Rattle.vx_record.specs.Records.{Record}
 use Rattle.vx_record.specs.Copies.{all_of}
 use Rattle.vx_record.specs.Installs.{told}
-use Rattle.vx_record.specs.Frames.{Line, frames, all_lines}
 
 -- the bytes that a Read took, perhaps none
 abbrev pub bytes_of : Taken → Word
@@ -103,50 +102,47 @@ open_bytes (Read j stream' took ∷ h) i stream =
 open_bytes (e ∷ h) i stream = open_bytes h i stream
 
 -- the lines that are there behind a Read of some open bytes, within a limit
-abbrev pub lines_after : ℕ → Word → Taken → List Line
+abbrev pub lines_after : ℕ → Word → Taken → List Frame
 lines_after limit before (Bytes bytes) = frames (before ++ bytes) limit false
 lines_after limit before StreamEnded = frames before limit true
 lines_after limit before AllEnded = frames before limit true
 
 -- the lines that a Read of some open bytes adds
-abbrev pub lines_past : ℕ → Word → Taken → List Line
+abbrev pub lines_past : ℕ → Word → Taken → List Frame
 lines_past limit before took = drop (length (frames before limit false)) (lines_after limit before took)
 
--- the lines that are there behind it, of any length
-abbrev pub all_lines_after : Word → Taken → List Line
-all_lines_after before (Bytes bytes) = all_lines (before ++ bytes) false
-all_lines_after before StreamEnded = all_lines before true
-all_lines_after before AllEnded = all_lines before true
+-- how many lines behind it pass the limit
+abbrev pub overlong_after : ℕ → Word → Taken → ℕ
+overlong_after limit before (Bytes bytes) = discarded (before ++ bytes) limit false
+overlong_after limit before StreamEnded = discarded before limit true
+overlong_after limit before AllEnded = discarded before limit true
 
--- those that it adds, of any length
-abbrev pub all_lines_past : Word → Taken → List Line
-all_lines_past before took = drop (length (all_lines before false)) (all_lines_after before took)
+-- how many of those that it adds
+abbrev pub overlong_past : ℕ → Word → Taken → ℕ
+overlong_past limit before took = overlong_after limit before took - discarded before limit false
 
 -- the instance's limit
 abbrev pub limit_of : Record → ℕ → ℕ
 limit_of = told 0 (λ (c : Component). longest_line c.settings)
 
 -- the lines that a Read completes, without the overlong ones
-abbrev pub new_lines : Record → ℕ → ℕ → Taken → List Line
+abbrev pub new_lines : Record → ℕ → ℕ → Taken → List Frame
 new_lines h i stream took = lines_past (limit_of h i) (open_bytes h i (stream_of h i stream took)) took
 
--- the lines that a Read completes, with the overlong ones
-abbrev pub all_new_lines : Record → ℕ → ℕ → Taken → List Line
-all_new_lines h i stream took = all_lines_past (open_bytes h i (stream_of h i stream took)) took
+-- how many overlong lines it completes
+abbrev pub new_overlong : Record → ℕ → ℕ → Taken → ℕ
+new_overlong h i stream took = overlong_past (limit_of h i) (open_bytes h i (stream_of h i stream took)) took
 
--- the event of a line
+-- the event of a line of codec bytes: the line as the message, and the type of its source
 abbrev pub line_event : Settings → Word → Event
-line_event settings text = record {
-  fields = record { name = codes "message"; value = Words (utf8_lossy text) }
-      ∷ record { name = codes "source_type"; value = Words (type_name settings) } ∷ [];
-}
+line_event settings text = record { fields = from_source (type_name settings) None (message_of text); }
 
 -- the events of some lines by a codec: of codec bytes each line gives one
-abbrev pub decoded : Decoding → Settings → List Line → List Event
-decoded codec.Bytes settings lines = map (λ (line : Line). line_event settings line.text) lines
+abbrev pub decoded : Decoding → Settings → List Frame → List Event
+decoded codec.Bytes settings lines = map (λ (line : Frame). line_event settings line.bytes) lines
 
 -- the events of some lines by a component's codec, if it reads lines
-abbrev pub events_of_lines : Settings → List Line → List Event
+abbrev pub events_of_lines : Settings → List Frame → List Event
 events_of_lines settings lines = elim (decoding settings) [ None ↦ [] | Some d ↦ decoded d settings lines ]
 
 -- the events that a Read gives
@@ -154,7 +150,7 @@ abbrev pub events_of : Record → ℕ → ℕ → Taken → List Event
 events_of h i stream took = told [] (λ (c : Component). events_of_lines c.settings (new_lines h i stream took)) h i
 
 -- the end of the last of some lines
-abbrev pub last_end : List Line → ℕ
+abbrev pub last_end : List Frame → ℕ
 last_end [] = 0
 last_end (line ∷ []) = line.end
 last_end (line ∷ next ∷ rest) = last_end (next ∷ rest)

@@ -1,5 +1,5 @@
 -- The counts of an instance.
-use Rattle.std.specs.Prelude.{ℕ, ◌+◌, ◌-◌, Bool, true, false, ◌&&◌, Option, Some, None, List, [], ◌∷◌, length, map, sum, if◌then◌else◌, ◌==◌}
+use Rattle.std.specs.Prelude.{ℕ, ◌+◌, Bool, true, false, ◌&&◌, Option, Some, None, List, [], ◌∷◌, length, map, sum, if◌then◌else◌, ◌==◌}
 use Rattle.std.specs.List.{list_any}
 use Rattle.vx_ends.specs.declared.position.Position.{Position}
 use Rattle.vx_status.specs.declared.outcome.Outcome.{Outcome}
@@ -18,7 +18,7 @@ use Rattle.vx_record.specs.Tally.{nothing_counted}
 use Rattle.vx_record.specs.Places.{Place, Put, all_puts}
 use Rattle.vx_record.specs.Places.Place.{Outputs, Waiting, Held}
 use Rattle.vx_record.specs.Installs.{told}
-use Rattle.vx_record.specs.Reads.{bytes_taken, new_lines, all_new_lines}
+use Rattle.vx_record.specs.Reads.{bytes_taken, new_lines, new_overlong}
 use Rattle.vx_record.specs.Confirms.{Birth, births, confirmed, last_of_each}
 use Rattle.vx_record.specs.Parcels.{first_copy}
 
@@ -28,11 +28,11 @@ lines_read [] i = 0
 lines_read (Read j stream took ∷ h) i = lines_read h i + (if j == i then length (new_lines h i stream took) else 0)
 lines_read (e ∷ h) i = lines_read h i
 
--- the lines of all the instance's Reads, overlong ones too
-abbrev pub all_lines_read : Record → ℕ → ℕ
-all_lines_read [] i = 0
-all_lines_read (Read j stream took ∷ h) i = all_lines_read h i + (if j == i then length (all_new_lines h i stream took) else 0)
-all_lines_read (e ∷ h) i = all_lines_read h i
+-- how many overlong lines all its Reads have
+abbrev pub overlong_read : Record → ℕ → ℕ
+overlong_read [] i = 0
+overlong_read (Read j stream took ∷ h) i = overlong_read h i + (if j == i then new_overlong h i stream took else 0)
+overlong_read (e ∷ h) i = overlong_read h i
 
 -- the events of its births
 abbrev pub events_born : Record → ℕ → ℕ
@@ -161,7 +161,7 @@ abbrev pub source_tally : Record → ℕ → Tally
 source_tally h i = record nothing_counted {
   read = capped (bytes_taken h i);
   lines = capped (lines_read h i);
-  overlong = capped (all_lines_read h i - lines_read h i);
+  overlong = capped (overlong_read h i);
   events = capped (events_born h i);
   unread = capped (unread_parcels h i);
   batches = capped (length (births h i));

@@ -33,8 +33,8 @@ pub use child::{Child, ChildList};
 pub use entry::Entry;
 pub use instance::{Instance, InstanceList, Start};
 pub use laws::{
-    accounted, beginnings, conserved, counting, first_wiring, growth, one_event, one_notice,
-    one_place, routing_kept, running_status,
+    accounted, beginnings, conserved, counting, first_wiring, growth, line_events, one_event,
+    one_notice, one_place, routing_kept, running_status,
 };
 pub use log::Log;
 pub use record::Record;
