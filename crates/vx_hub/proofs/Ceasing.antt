@@ -12,7 +12,8 @@ use Rattle.vx_record.specs.declared.entry.Entry.TheVariants.{Lease, Home, Read, 
 use Rattle.vx_hub.specs.declared.hub.Hub.{Hub}
 use Rattle.vx_record.specs.Turns.{is_out}
 use Rattle.vx_record.specs.Moving.{IsStill}
-use Rattle.vx_hub.specs.Order.{IsSpentFor, IsOrderly, cause_of}
+use Rattle.vx_hub.specs.Order.{IsOrderly, cause_of}
+use Rattle.vx_hub.specs.Spending.{IsSpentFor}
 use Rattle.vx_hub.specs.Stands.{Stands, IsSound, touched}
 
 -- a run without a cause wasn't given up
@@ -27,7 +28,7 @@ has_cause [] is = cc
 has_cause (Abandon cause ∷ h) is = refl
 has_cause (e ∷ h) is = has_cause h is
 
-has_abandoned : (h : Record) → IsSome (cause_of h) → abandoned h ≡ true
+pub has_abandoned : (h : Record) → IsSome (cause_of h) → abandoned h ≡ true
 has_abandoned [] some = cc
 has_abandoned (Abandon cause ∷ h) some = refl
 has_abandoned (e ∷ h) some = has_abandoned h some

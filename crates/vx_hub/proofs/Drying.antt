@@ -1,5 +1,5 @@
 -- What takes no more takes no more later.
-use Rattle.std.proofs.Common.{◌≡◌, ◌⊎◌, inl, inr, ℕ, ◌+◌, ◌≤◌, Bool, true, false, ◌&&◌, ◌||◌, List, [], ◌∷◌, Option, Some, None, IfSome, IsSome, IsSomeAnd, length, refl, sym, ◌∙◌, ap, subst, arith}
+use Rattle.std.proofs.Common.{◌≡◌, inl, inr, ℕ, ◌≤◌, Bool, true, false, ◌&&◌, ◌||◌, List, [], ◌∷◌, Option, Some, None, IfSome, IsSome, IsSomeAnd, refl, sym, ◌∙◌, ap, subst, arith}
 use Rattle.std.specs.Prelude.{◌^◌, if◌then◌else◌, ◌==◌}
 use Rattle.vx_ends.specs.Told.{Told}
 use Rattle.vx_ends.specs.declared.position.Position.{Position}
@@ -13,13 +13,13 @@ use Rattle.vx_record.specs.Noted.{Noted}
 use Rattle.vx_record.specs.Installs.{in_force}
 use Rattle.vx_record.specs.Turns.{is_out}
 use Rattle.vx_record.specs.Confirms.{born_positions}
-use Rattle.vx_record.specs.Reads.{bytes_of, bytes_of_all, is_end, all_ended}
+use Rattle.vx_record.specs.Reads.{bytes_of_all, is_end, all_ended}
 use Rattle.vx_record.specs.declared.entry.Entry.{Entry}
 use Rattle.vx_record.specs.declared.entry.Entry.TheVariants.{Read, SourceLost, Abandon}
 use Rattle.vx_hub.specs.declared.hub.Hub.{Hub}
 use Rattle.vx_hub.specs.declared.facts.Facts.{Facts}
 use Rattle.vx_hub.specs.Order.{lost_at, cause_of, TakesNoMore, IsOfClass, IsTurnOf, IsDueOf, IsReadBy, IsOrderly}
-use Rattle.vx_hub.specs.Stands.{Stands, IsSound, IsKnown, IsClosing, MayShut, IsSpent, IsDry, component_in, facts_at}
+use Rattle.vx_hub.specs.Stands.{Stands, IsKnown, IsClosing, MayShut, IsSpent, IsDry, component_in, facts_at}
 
 -- another read tells no end
 pub unended : (a b r : Bool) → a ≡ false → ((a && b) || r) ≡ r

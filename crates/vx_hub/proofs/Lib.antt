@@ -25,3 +25,5 @@ pub mod EventLaws
 mod Saids
 mod Ceasing
 mod Retiring
+mod Shrinking
+mod Causing

@@ -24,7 +24,9 @@ use Rattle.vx_ledger.specs.declared.short.Short.{Short}
 use Rattle.vx_ledger.specs.declared.short.Short.TheVariants as short
 use Rattle.vx_record.specs.Records.{Record}
 use Rattle.vx_record.specs.Copies.{counting, children_of, next_copy}
-use Rattle.vx_record.specs.Lists.{all_waiting, outputs}
+use Rattle.vx_record.specs.Lists.{all_waiting, waiting, outputs}
+use Rattle.vx_record.specs.Places.{puts}
+use Rattle.vx_record.specs.Spending.{last_attempted, last_reply}
 use Rattle.vx_record.specs.Sending.{IsOldest}
 use Rattle.vx_record.specs.Noted.{Noted}
 use Rattle.vx_record.specs.declared.log.Log.{Log}
@@ -39,10 +41,11 @@ use Rattle.vx_hub.specs.declared.fatal.Fatal.TheVariants as fatal
 use Rattle.vx_hub.specs.Failures.{fatal_of, abandon_cause, HasReason}
 use Rattle.vx_hub.specs.Numbers.{numbers_in, noted_of}
 use Rattle.vx_hub.specs.Events.{IsSaid}
-use Rattle.vx_hub.specs.Order.{IsBirthOf, IsReadBy, IsGiven, IsSplitOf, IsSpentFor, IsReason, readers_at, reply_behind, cause_of}
-use Rattle.vx_hub.specs.Spending.{MaySpend, IsReplied}
+use Rattle.vx_hub.specs.Order.{IsBirthOf, IsReadBy, IsSplitOf, IsReason, readers_at, reply_behind, cause_of}
+use Rattle.vx_hub.specs.Spending.{IsGiven, AreAnswered, IsSpentFor, MaySpend, IsReplied}
 use Rattle.vx_hub.specs.Stands.{Stands, IsSound, IsBalanced}
 use Rattle.vx_hub.proofs.StandsLaws.{unmade}
+use Rattle.vx_hub.proofs.Shrinking.{answered_on, waits_none}
 
 pub length_numbers : (cs : List Copy) → length (numbers_in cs) ≡ length cs
 length_numbers [] = refl
@@ -125,16 +128,28 @@ short_reason h next wanted short.WantOfMemory now is = tt
 pub sound_before : {P : Type 0} (d e : Hub P) (entry : Entry) → Noted d.log entry e.log → e.starved ≡ d.starved → IsSound e → IsSound d
 sound_before d e entry noted starved sound = record { whole = (noted.whole sound.whole).0; fed = sym starved ∙ sound.fed }
 
--- a copy may be spent for the same cause behind one that was spent, and behind a notice
+-- a copy may be spent for the same cause behind an entry that puts nothing and is no attempt
+spent_for : (h : Record) (e : Entry) (i : ℕ) (outcome : Outcome) → puts e ≡ [] → last_attempted (e ∷ h) i ≡ last_attempted h i → last_reply (e ∷ h) i ≡ last_reply h i → readers_at (e ∷ h) i ≡ readers_at h i → cause_of (e ∷ h) ≡ cause_of h →
+    IsSpentFor h i outcome → IsSpentFor (e ∷ h) i outcome
+spent_for h e i outcome none same reply readers cause before = record {
+  given = before.given;
+  replied = λ answer is. answered_on h e i answer none same reply (before.replied answer is);
+  given_up = λ is. subst (λ (c : Option AbandonCause). IsSome c) (sym cause) (before.given_up is);
+  unread = λ is. readers ∙ before.unread is;
+  none_waits = λ is t. waits_none h e i t none (before.none_waits is t);
+  left = λ some. before.left (subst (λ (c : Option AbandonCause). IsSome c) cause some);
+}
+
+-- so behind one that was spent, and behind a notice
 pub spent_on : {P : Type 0} (d e : Hub P) (j copy : ℕ) (spent : Outcome) (i : ℕ) (outcome : Outcome) → Noted d.log (Spent j copy spent) e.log → e.starved ≡ d.starved → MaySpend d i outcome → MaySpend e i outcome
 spent_on d e j copy spent i outcome noted starved may sound =
     let before = may (sound_before d e (Spent j copy spent) noted starved sound) in
-    subst (λ (h : Record). IsSpentFor h i outcome) (sym (noted.whole sound.whole).1) (record { given = before.given; replied = before.replied; given_up = before.given_up; unread = before.unread; left = before.left })
+    subst (λ (h : Record). IsSpentFor h i outcome) (sym (noted.whole sound.whole).1) (spent_for d.log.history (Spent j copy spent) i outcome refl refl refl refl refl before)
 
 pub noticed_on : {P : Type 0} (d e : Hub P) (batch : ℕ) (status : _) (i : ℕ) (outcome : Outcome) → Noted d.log (Notice batch status) e.log → e.starved ≡ d.starved → MaySpend d i outcome → MaySpend e i outcome
 noticed_on d e batch status i outcome noted starved may sound =
     let before = may (sound_before d e (Notice batch status) noted starved sound) in
-    subst (λ (h : Record). IsSpentFor h i outcome) (sym (noted.whole sound.whole).1) (record { given = before.given; replied = before.replied; given_up = before.given_up; unread = before.unread; left = before.left })
+    subst (λ (h : Record). IsSpentFor h i outcome) (sym (noted.whole sound.whole).1) (spent_for d.log.history (Notice batch status) i outcome refl refl refl refl refl before)
 
 -- what has no cause has none
 not_left : {X : Type 0} (cause : Option AbandonCause) → cause ≡ None → IsSome cause → X
@@ -142,8 +157,15 @@ not_left None none some = cc
 not_left (Some c) none some = cc
 
 -- a copy is without a consumer where nobody reads its instance
-pub unread_may : {P : Type 0} (hub : Hub P) (i : ℕ) → (IsSound hub → cause_of hub.log.history ≡ None) → (IsSound hub → readers_at hub.log.history i ≡ []) → MaySpend hub i NoConsumer
-unread_may hub i goes none sound = record { given = tt; replied = λ reply behind. cc; given_up = λ is. cc; unread = λ is. none sound; left = λ some. not_left (cause_of hub.log.history) (goes sound) some }
+pub unread_may : {P : Type 0} (hub : Hub P) (i : ℕ) → (IsSound hub → cause_of hub.log.history ≡ None) → (IsSound hub → readers_at hub.log.history i ≡ []) → (IsSound hub → (t : ℕ) → waiting hub.log.history i t ≡ []) → MaySpend hub i NoConsumer
+unread_may hub i goes none waits sound = record {
+  given = tt;
+  replied = λ reply behind. cc;
+  given_up = λ is. cc;
+  unread = λ is. none sound;
+  none_waits = λ is. waits sound;
+  left = λ some. not_left (cause_of hub.log.history) (goes sound) some;
+}
 
 -- where no port had a target, there was none
 pub targets_none : (r : Routed) (parcel : Parcel) (targets : List ℕ) → r ≡ routed.NoConsumer parcel → (IsNoConsumer (Ok r) → targets ≡ []) → targets ≡ []
@@ -160,6 +182,7 @@ abandoned_may told_by hub hand i s given_up sound = record {
   replied = λ reply behind. cc;
   given_up = λ is. subst (λ (cause : Option AbandonCause). IsSome cause) (s.recorded sound).cause given_up;
   unread = λ is. cc;
+  none_waits = λ is. cc;
   left = λ some. refl;
 }
 
@@ -173,9 +196,10 @@ replied_given reply outcome behind = tt
 replied_may : {P : Type 0} (hub : Hub P) (i : ℕ) (reply : Reply) (outcome : Outcome) → (IsSound hub → cause_of hub.log.history ≡ None) → reply_behind outcome ≡ Some reply → IsReplied hub i reply → MaySpend hub i outcome
 replied_may hub i reply outcome goes behind last sound = record {
   given = replied_given reply outcome behind;
-  replied = λ answer is. last sound ∙ sym behind ∙ is;
+  replied = λ answer is. let same : reply ≡ answer = cc in subst (AreAnswered hub.log.history i) same (last sound);
   given_up = λ is. let none : reply_behind outcome ≡ None = ap reply_behind is in cc;
   unread = λ is. let none : reply_behind outcome ≡ None = ap reply_behind is in cc;
+  none_waits = λ is. let none : reply_behind outcome ≡ None = ap reply_behind is in cc;
   left = λ some. not_left (cause_of hub.log.history) (goes sound) some;
 }
 

@@ -165,7 +165,7 @@ child_waits (Outputs j) cs rest i none all = all
 child_waits (Contents j s) cs rest i none all = all
 child_waits (Held j) cs rest i none all = all
 
-waiting_puts : (puts : List Put) (i : ℕ) → ((t : ℕ) → parcels_at (Waiting i t) puts ≡ []) → parcels_where (is_child_of i) puts ≡ []
+pub waiting_puts : (puts : List Put) (i : ℕ) → ((t : ℕ) → parcels_at (Waiting i t) puts ≡ []) → parcels_where (is_child_of i) puts ≡ []
 waiting_puts [] i none = refl
 waiting_puts (put ∷ rest) i none = child_waits put.place put.copies rest i none (waiting_puts rest i (λ t. later t (same_place put.place (Waiting i t)) (none t)))
   where

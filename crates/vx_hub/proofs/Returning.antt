@@ -6,7 +6,7 @@ use Rattle.vx_ends.specs.declared.position.Position.{Position}
 use Rattle.vx_record.specs.Records.{Record, capped}
 use Rattle.vx_record.specs.Reads.{taken}
 use Rattle.vx_record.specs.Encoding.{given}
-use Rattle.vx_record.specs.Confirms.{confirmed, born_positions}
+use Rattle.vx_record.specs.Confirms.{confirmed}
 use Rattle.vx_record.specs.PortCounts.{fault_count, refusal_count, idle_count}
 use Rattle.vx_hub.specs.Order.{IsDueOf}
 use Rattle.vx_hub.specs.declared.hub.Hub.{Hub}

@@ -3,14 +3,14 @@ use Rattle.std.specs.Prelude.{◌≡◌, ℕ, ◌+◌, ◌*◌, ◌<◌, ◌≤�
 use Rattle.vx_ends.specs.declared.trouble.Reply.{Reply}
 use Rattle.vx_ends.specs.declared.trouble.Reply.TheVariants as reply
 use Rattle.vx_status.specs.declared.outcome.Outcome.{Outcome}
-use Rattle.vx_status.specs.declared.outcome.Outcome.TheVariants.{Delivered, Attempts, Refusal, Abandoned, NoConsumer, Filtered, NewestDropped}
+use Rattle.vx_status.specs.declared.outcome.Outcome.TheVariants.{Delivered, Attempts, Refusal, Abandoned, NoConsumer}
 use Rattle.vx_ends.specs.declared.position.Position.{Position}
 use Rattle.vx_value.specs.declared.event.Event.{Event}
 use Rattle.vx_record.specs.Records.{Record, capped}
 use Rattle.vx_record.specs.Copies.{count, joined, counting, children_of, next_copy, IsLive}
 use Rattle.vx_record.specs.Places.{Place, owner}
 use Rattle.vx_record.specs.Places.Place.{Outputs, Held}
-use Rattle.vx_record.specs.Lists.{waiting, all_waiting, contents, held, stands, parcels_at, is_bare}
+use Rattle.vx_record.specs.Lists.{outputs, waiting, all_waiting, contents, held, stands, parcels_at, is_bare}
 use Rattle.vx_record.specs.Sending.{IsOldest}
 use Rattle.vx_record.specs.Moving.{Divides}
 use Rattle.vx_record.specs.Accounting.{IsNoticedSo, IsInTurn}
@@ -32,7 +32,8 @@ use Rattle.vx_plan.specs.declared.plan.Plan.{Plan}
 use Rattle.vx_record.specs.Reads.{bytes_taken, bytes_of_all, all_ended}
 use Rattle.vx_record.specs.Confirms.{born_positions, is_unconfirmed}
 use Rattle.vx_record.specs.Sourcing.{failed_starts}
-pub use Rattle.vx_record.specs.Spending.{last_reply}
+use Rattle.vx_record.specs.Spending.{WasAnswered, HadNoTarget, oldest}
+use Rattle.vx_record.specs.SinkBatches.{failures_with, attempts_allowed}
 use Rattle.vx_record.specs.declared.entry.Entry.{Entry}
 use Rattle.vx_record.specs.declared.entry.Entry.TheVariants.{Install, Lease, Home, Read, Idle, SourceLost, Born, Split, Push, Take, Attempt, Spent, Notice, Confirm, Closed, Retired, Abandon}
 use Rattle.vx_record.specs.declared.abandon_cause.AbandonCause.{AbandonCause}
@@ -145,21 +146,16 @@ reply_behind Attempts = Some reply.Failed
 reply_behind Refusal = Some reply.Refused
 reply_behind other = None
 
--- an outcome that there is: nothing filters, and no buffer drops the newest yet
-abbrev pub IsGiven : Outcome → Type 0
-IsGiven Filtered = ⊥
-IsGiven NewestDropped = ⊥
-IsGiven other = Unit {0}
-
--- an outcome that an attempt gives is what the instance's last attempt was answered, whichever copies that had; none is
--- spent as abandoned before the run was given up, and each behind that; and as without a consumer only where nobody
--- reads the instance
-pub record IsSpentFor (h : Record) (i : ℕ) (outcome : Outcome) : Type 0 where
-  pub given : IsGiven outcome
-  pub replied : (reply : Reply) → reply_behind outcome ≡ Some reply → last_reply h i ≡ Some reply
-  pub given_up : outcome ≡ Abandoned → IsSome (cause_of h)
-  pub unread : outcome ≡ NoConsumer → readers_at h i ≡ []
-  pub left : IsSome (cause_of h) → outcome ≡ Abandoned
+-- what each outcome needs: the instance's last attempt had the copy and was answered so, and a failed one isn't made again;
+-- the copy is in the oldest output of an instance that nobody reads; or the run was given up. Nothing filters, and no
+-- buffer drops the newest yet
+abbrev pub IsCaused : Record → ℕ → ℕ → Outcome → Type 0
+IsCaused h i c Delivered = WasAnswered h i c reply.Ok
+IsCaused h i c Refusal = WasAnswered h i c reply.Refused
+IsCaused h i c Attempts = WasAnswered h i c reply.Failed × (attempts_allowed h i ≤ failures_with h i c)
+IsCaused h i c NoConsumer = HadNoTarget h i c × (readers_at h i ≡ [])
+IsCaused h i c Abandoned = abandoned h ≡ true
+IsCaused h i c other = ⊥
 
 -- where a copy stands that is spent so: put out by its instance where nobody reads it, anywhere at it where the run was
 -- given up, and else held by it
@@ -168,16 +164,19 @@ IsPlaceFor NoConsumer i p = p ≡ Outputs i
 IsPlaceFor Abandoned i p = owner p ≡ i
 IsPlaceFor other i p = p ≡ Held i
 
--- some copies stand at one place of an instance, from which they may be spent so
+-- some copies stand at one place of an instance, from which they may be spent so; without a consumer only those of the
+-- oldest output are
 pub record AreSpentFrom (h : Record) (i : ℕ) (outcome : Outcome) (copies : List ℕ) : Type 0 where
   pub place : Place
   pub meant : IsPlaceFor outcome i place
   pub there : (c : ℕ) → 0 < count c copies → 0 < count c (joined (parcels_at place (stands h)))
+  pub next : outcome ≡ NoConsumer → (c : ℕ) → 0 < count c copies → 0 < count c (oldest (outputs h i))
 
--- a live copy is spent where it stands, and for a cause
+-- a live copy is spent where it stands, and for a cause; behind an abandonment only as abandoned
 pub record IsSpending (h : Record) (i c : ℕ) (outcome : Outcome) : Type 0 where
   pub live : IsLive h c
-  pub cause : IsSpentFor h i outcome
+  pub cause : IsCaused h i c outcome
+  pub left : IsSome (cause_of h) → outcome ≡ Abandoned
   pub from : AreSpentFrom h i outcome (c ∷ [])
 
 -- a run is given up where some wanted numbers would pass 2^63, or for want of memory; nobody asks it to stop yet

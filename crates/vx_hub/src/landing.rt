@@ -176,6 +176,7 @@ impl<P: Port> Hub<P> {
         ensures port { port_at self.new.rows.items instance ≡ Some task.port }
         ensures facts { self.new.facts ≡ self.old.facts }
         ensures log { self.new.log ≡ self.old.log }
+        ensures starved { self.new.starved ≡ self.old.starved }
         ensures read { (i : ℕ) → HasRead self.old i → HasRead self.new i }
         ensures outputs { (i : ℕ) → numbers_at (Outputs i) self.new.rows.items ≡ numbers_at (Outputs i) self.old.rows.items }
         ensures shut { MayShut self.old instance → MayShut self.new instance }

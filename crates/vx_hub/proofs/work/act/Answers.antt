@@ -1,4 +1,4 @@
-use Rattle.std.proofs.Common.{◌≡◌, ◌∙◌, sym, subst}
+use Rattle.std.proofs.Common.{◌∙◌, sym, subst}
 use Rattle.vx_hub.specs.Events.{IsWrittenOf}
 use Rattle.vx_hub.specs.Rows.{role_parcels}
 use Rattle.vx_hub.specs.declared.work.Done.{Done}

@@ -1,15 +1,19 @@
-use Rattle.std.proofs.Common.{◌≡◌, IsTrue, Some, refl, sym, ap, subst}
-use Rattle.std.specs.Prelude.{if◌then◌else◌}
+use Rattle.std.proofs.Common.{IsTrue, refl, sym, subst, ◌∙◌}
 use Rattle.vx_record.specs.Records.{Record}
 use Rattle.vx_record.specs.declared.log.Log.{Log}
-use Rattle.vx_hub.specs.Order.{last_reply}
+use Rattle.vx_record.specs.Places.Place.{Held}
+use Rattle.vx_record.proofs.Hands.{stands_still}
+use Rattle.vx_hub.specs.Spending.{AreAnswered}
+use Rattle.vx_hub.proofs.Shrinking.{answered_now}
+use Rattle.vx_hub.proofs.Homing.{held_numbers}
+use Rattle.vx_hub.proofs.Ordering.{sound_before}
+use Rattle.vx_hub.proofs.Placing.{conserved}
 use Rattle.vx_hub.specs.Numbers.{numbers_in}
 use Rattle.vx_hub.specs.Rows.{role_copies}
-use Rattle.vx_hub.specs.Stands.{facts_at}
+use Rattle.vx_hub.specs.Stands.{IsSound, facts_at}
 use Rattle.vx_hub.proofs.Drying.{sink_known}
 use Rattle.vx_hub.proofs.EventLaws.{attempt_in_order, said_by_on}
 use Rattle.vx_record.specs.declared.entry.Entry.TheVariants.{Attempt}
-use Rattle.vx_hub.proofs.Silence.{same_test}
 use Rattle.vx_hub.proofs.Touching.{stands_attempted}
 use Rattle.vx_hub.proofs.hub.Hub.bring_attempt.Goals as goal
 
@@ -21,13 +25,17 @@ bring-requires-clause-stands g c =
 
 pub returns-clause-replied : goal.returns-clause-replied
 returns-clause-replied g c sound =
+    let d = c.args.self.now in
+    let h = d.log.history in
     let i = c.args.instance in
     let reply = c.args.reply in
+    let copies = numbers_in (role_copies c.args.task.role) in
     let same = c.bring.ensures.log in
     let whole : IsTrue c.note_attempt.new.log.whole = subst (λ (l : Log). IsTrue l.whole) same sound.whole in
-    subst (λ (l : Log). last_reply l.history i ≡ Some reply) (sym same)
-    (subst (λ (h : Record). last_reply h i ≡ Some reply) (sym (c.note_attempt.ensures.whole whole).1)
-    (ap (λ t. if t then Some reply else last_reply c.args.self.now.log.history i) (same_test i)))
+    let fine : IsSound d = sound_before d (record d { log = c.note_attempt.new.log }) (Attempt i copies c.args.bytes reply) c.note_attempt.ensures refl (record { whole = whole; fed = sym c.bring.ensures.starved ∙ sound.fed }) in
+    subst (λ (l : Log). AreAnswered l.history i reply) (sym same)
+    (subst (λ (now : Record). AreAnswered now i reply) (sym (c.note_attempt.ensures.whole whole).1)
+    (answered_now h i copies c.args.bytes reply (stands_still h (Attempt i copies c.args.bytes reply) (Held i) tt (conserved h (c.requires.stands.recorded fine).order)) (held_numbers h i c.args.task.role (c.requires.held fine))))
 
 pub bring-requires-clause-said : goal.bring-requires-clause-said
 bring-requires-clause-said g c = said_by_on c.args.self.now _ (Attempt c.args.instance (numbers_in (role_copies c.args.task.role)) c.args.bytes c.args.reply) c.args.task.role c.note_attempt.ensures refl c.requires.said

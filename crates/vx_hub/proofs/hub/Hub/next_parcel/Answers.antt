@@ -45,16 +45,16 @@ returns-else-not-is_empty-3-clause-stands g c =
     (λ fine said. (c.pop_held.ensures.said d.log.history said).0)
 
 pub returns-then-not-is_empty-clause-from : goal.returns-then-not-is_empty-clause-from
-returns-then-not-is_empty-clause-from g c = taken_if g.P.Port.told c.args.self.now _ c.args.i Abandoned (Outputs c.args.i) c.pop_output.result c.requires.stands refl refl refl
+returns-then-not-is_empty-clause-from g c = taken_if g.P.Port.told c.args.self.now _ c.args.i Abandoned (Outputs c.args.i) c.pop_output.result c.requires.stands refl refl refl (λ is. cc)
     (some_from_oldest (Outputs c.args.i) c.pop_output.result c.args.self.now.rows.items c.pop_output.new.rows.items c.pop_output.ensures.oldest)
 
 pub returns-then-not-is_empty-2-clause-from : goal.returns-then-not-is_empty-2-clause-from
 returns-then-not-is_empty-2-clause-from g c = child_if g.P.Port.told c.args.self.now _ c.args.i c.take_last_child.result c.requires.stands refl refl c.take_last_child.ensures.from
 
 pub returns-then-not-is_empty-3-clause-from : goal.returns-then-not-is_empty-3-clause-from
-returns-then-not-is_empty-3-clause-from g c = taken_if g.P.Port.told c.args.self.now _ c.args.i Abandoned (Contents c.args.i 0) c.pop_buffer.result c.requires.stands refl refl refl
+returns-then-not-is_empty-3-clause-from g c = taken_if g.P.Port.told c.args.self.now _ c.args.i Abandoned (Contents c.args.i 0) c.pop_buffer.result c.requires.stands refl refl refl (λ is. cc)
     (some_from_oldest (Contents c.args.i 0) c.pop_buffer.result c.args.self.now.rows.items c.pop_buffer.new.rows.items c.pop_buffer.ensures.oldest)
 
 pub returns-else-not-is_empty-3-clause-from : goal.returns-else-not-is_empty-3-clause-from
-returns-else-not-is_empty-3-clause-from g c = taken_if g.P.Port.told c.args.self.now _ c.args.i Abandoned (Held c.args.i) c.pop_held.result c.requires.stands refl refl refl
+returns-else-not-is_empty-3-clause-from g c = taken_if g.P.Port.told c.args.self.now _ c.args.i Abandoned (Held c.args.i) c.pop_held.result c.requires.stands refl refl refl (λ is. cc)
     (some_from_oldest (Held c.args.i) c.pop_held.result c.args.self.now.rows.items c.pop_held.new.rows.items c.pop_held.ensures.oldest)

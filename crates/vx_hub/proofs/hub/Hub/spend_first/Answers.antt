@@ -3,13 +3,12 @@ use Rattle.vx_record.specs.Places.Place.{Held}
 use Rattle.vx_hub.proofs.StandsLaws.{stands_moved, hand_balanced, bare_by}
 use Rattle.vx_hub.proofs.Placing.{from_oldest}
 use Rattle.vx_hub.proofs.Owning.{placed_taken}
-use Rattle.vx_hub.proofs.Standing.{taken_from}
+use Rattle.vx_hub.proofs.Standing.{first_from}
 use Rattle.vx_hub.proofs.hub.Hub.spend_first.Goals as goal
 
 pub spend-requires-clause-from : goal.spend-requires-clause-from
 spend-requires-clause-from g c =
-    taken_from g.P.Port.told c.args.self.now _ c.args.instance c.args.outcome (Held c.args.instance) c.in-Some.parcel.finalizers c.requires.stands refl refl c.requires.held
-    (from_oldest (Held c.args.instance) c.in-Some.parcel.finalizers c.args.self.now.rows.items c.pop_held.new.rows.items c.in-Some.ensures.oldest)
+    first_from g.P.Port.told c.args.self.now _ c.args.instance c.args.outcome (Held c.args.instance) c.in-Some.parcel.finalizers c.requires.stands refl refl c.requires.held c.in-Some.ensures.oldest
 
 pub spend-requires-clause-stands : goal.spend-requires-clause-stands
 spend-requires-clause-stands g c =

@@ -28,7 +28,7 @@ returns-in_default-clause-stands g c rest s =
     let f = c.args.finalizer in
     let n = c.number-copy.result in
     let balanced = spent_balanced d.batches c.spend-notice.new.self d.rows.items rest f s.balanced c.spend-notice.ensures.exchange in
-    let order : IsSound d → IsInOrder h (Spent c.args.instance n c.args.outcome) = λ fine. spending h c.args.instance f n c.args.outcome c.number-copy.ensures (spent_live d.rows.items h rest f n c.number-copy.ensures (s.recorded fine).places.standing) (c.requires.cause fine) (c.requires.from fine) in
+    let order : IsSound d → IsInOrder h (Spent c.args.instance n c.args.outcome) = λ fine. spending h c.args.instance f n c.args.outcome c.number-copy.ensures (conserved h (s.recorded fine).order) (spent_live d.rows.items h rest f n c.number-copy.ensures (s.recorded fine).places.standing) (c.requires.cause fine) (c.requires.from fine) in
     let comes : IsSound d → MayStillCome h (Spent c.args.instance n c.args.outcome) = λ fine. spent_comes h c.args.instance n c.args.outcome (c.requires.cause fine) in
     stands_quiet g.P.Port.told d _ (rest ++ f ∷ []) rest (Spent c.args.instance n c.args.outcome) s balanced
     refl (λ i. refl) (bare_stays d.facts.items d.rows.items) refl c.note.ensures.noted
@@ -58,7 +58,7 @@ returns-in-Some-clause-stands g c rest s =
     let f = c.args.finalizer in
     let n = c.number-copy.result in
     let balanced = spent_balanced d.batches c.spend-notice.new.self d.rows.items rest f s.balanced c.spend-notice.ensures.exchange in
-    let order : IsSound d → IsInOrder h (Spent c.args.instance n c.args.outcome) = λ fine. spending h c.args.instance f n c.args.outcome c.number-copy.ensures (spent_live d.rows.items h rest f n c.number-copy.ensures (s.recorded fine).places.standing) (c.requires.cause fine) (c.requires.from fine) in
+    let order : IsSound d → IsInOrder h (Spent c.args.instance n c.args.outcome) = λ fine. spending h c.args.instance f n c.args.outcome c.number-copy.ensures (conserved h (s.recorded fine).order) (spent_live d.rows.items h rest f n c.number-copy.ensures (s.recorded fine).places.standing) (c.requires.cause fine) (c.requires.from fine) in
     let comes : IsSound d → MayStillCome h (Spent c.args.instance n c.args.outcome) = λ fine. spent_comes h c.args.instance n c.args.outcome (c.requires.cause fine) in
     let kept : IsSound d → IsConserved (Spent c.args.instance n c.args.outcome ∷ h) = λ fine. let r = s.recorded fine in
     conserved (Spent c.args.instance n c.args.outcome ∷ h) ((order fine, in_turn h (Spent c.args.instance n c.args.outcome) r.noticeless, comes fine), r.order) in

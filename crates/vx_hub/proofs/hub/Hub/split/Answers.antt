@@ -16,14 +16,14 @@ use Rattle.vx_hub.proofs.Ordering.{children_have, parcel_has, targets_some, spli
 use Rattle.vx_hub.proofs.StandsLaws.{stands_quiet, stands_moved, split_balanced, back_balanced, bare_but, bare_by}
 use Rattle.std.proofs.Common.{List}
 use Rattle.vx_ledger.specs.declared.child.Child.{Child}
-use Rattle.vx_record.specs.Places.Place.{Outputs}
+use Rattle.vx_record.specs.Places.Place.{Outputs, Waiting}
 use Rattle.vx_hub.specs.Places.{IsPlaced, EachMine, waiting_lists, FillsWaiting}
-use Rattle.vx_hub.proofs.Placing.{oldest_is, from_oldest}
+use Rattle.vx_hub.proofs.Placing.{oldest_is, from_oldest, places_all}
 use Rattle.vx_hub.proofs.Owning.{children_mine, placed_split, placed_same, placed_taken}
 use Rattle.vx_hub.proofs.Homing.{is_oldest, oldest_some, none_wait, put_back}
 use Rattle.vx_status.specs.declared.outcome.Outcome.TheVariants.{NoConsumer}
-use Rattle.vx_hub.specs.Places.{TakesFrom}
-use Rattle.vx_hub.proofs.Standing.{taken_from}
+use Rattle.vx_hub.specs.Places.{TakesOldest}
+use Rattle.vx_hub.proofs.Standing.{first_from}
 use Rattle.vx_hub.proofs.Touching.{routed_as}
 use Rattle.vx_hub.proofs.Retiring.{none_waiting}
 use Rattle.vx_hub.proofs.Ceasing.{going_on, hub_comes}
@@ -129,12 +129,12 @@ spend-requires-clause-stands g c =
 pub spend-requires-clause-from : goal.spend-requires-clause-from
 spend-requires-clause-from g c =
     let whole : c.in-Ok-NoConsumer.parcel ≡ c.in-Some.parcel = parcel_has c.in-Ok-NoConsumer.field-0 c.in-Ok-NoConsumer.parcel (λ p. p ≡ c.in-Some.parcel) c.in-Ok-NoConsumer.field-0-is c.in-Ok-NoConsumer.ensures.whole in
-    taken_from g.P.Port.told c.args.self.now _ c.args.instance NoConsumer (Outputs c.args.instance) c.in-Ok-NoConsumer.parcel.finalizers c.requires.stands refl refl refl
-    (subst (λ (p : Parcel). TakesFrom (Outputs c.args.instance) p.finalizers c.args.self.now.rows.items c.pop_output.new.rows.items) (sym whole)
-    (from_oldest (Outputs c.args.instance) c.in-Some.parcel.finalizers c.args.self.now.rows.items c.pop_output.new.rows.items c.in-Some.ensures.oldest))
+    first_from g.P.Port.told c.args.self.now _ c.args.instance NoConsumer (Outputs c.args.instance) c.in-Ok-NoConsumer.parcel.finalizers c.requires.stands refl refl refl
+    (subst (λ (p : Parcel). TakesOldest (Outputs c.args.instance) p.finalizers c.args.self.now.rows.items c.pop_output.new.rows.items) (sym whole) c.in-Some.ensures.oldest)
 
 pub spend-requires-clause-cause : goal.spend-requires-clause-cause
 spend-requires-clause-cause g c = unread_may _ c.args.instance
     (λ fine. going_on g.P.Port.told c.args.self.now [] c.requires.stands c.requires.going (record { whole = fine.whole; fed = fine.fed }))
     (λ fine. sym (routed_as g.P.Port.told c.args.self.now c.args.instance c.index.result.now c.requires.stands c.requires.within c.index.ensures (record { whole = fine.whole; fed = fine.fed }))
     ∙ targets_none c.in-Ok-NoConsumer.field-0 c.in-Ok-NoConsumer.parcel (targets_of 1 c.index.result.now.outlet) c.in-Ok-NoConsumer.field-0-is c.in-Ok-NoConsumer.ensures.no_consumer.0)
+    (λ fine t. let s = c.requires.stands.recorded (record { whole = fine.whole; fed = fine.fed }) in places_all c.args.self.now.rows.items c.args.self.now.log.history s.places.standing (Waiting c.args.instance t) ∙ none_wait c.args.self.now.rows.items c.args.instance t c.requires.none)
