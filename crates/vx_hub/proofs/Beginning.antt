@@ -6,7 +6,7 @@ use Rattle.vx_hub.specs.declared.seat.Seat.{Seat}
 use Rattle.vx_hub.specs.declared.facts.Facts.{Facts}
 use Rattle.vx_hub.specs.declared.row.Row.{Row}
 use Rattle.vx_ledger.specs.Copies.{copies_of}
-use Rattle.vx_hub.specs.Making.{IsUnused, AreUnused, IsFittedTo, AreFitted, IsUntouched, AreUntouched, AreNew}
+use Rattle.vx_hub.specs.Making.{IsUnused, AreUnused, IsFittedTo, IsSeatOf, room_at, room_named, AreFitted, IsUntouched, AreUntouched, AreNew}
 use Rattle.vx_hub.specs.Rows.{row_at, row_copies, copies_in, port_at, task_port, task_parcels, role_parcels, role_copies, parcel_copies}
 use Rattle.vx_plan.specs.declared.plan.Plan.{Plan}
 use Rattle.vx_plan.specs.declared.component.Component.{Component}
@@ -15,7 +15,7 @@ use Rattle.vx_record.proofs.FirstWiring.{targets_of_first}
 use Rattle.std.specs.Prelude.{Option, None, IsSome, IsSomeAnd}
 use Rattle.std.proofs.Common.{◌∙◌}
 use Rattle.vx_hub.specs.declared.parts.Named.{Named}
-use Rattle.vx_hub.specs.Stands.{Stands, IsTold, IsKnown, IsRecorded, facts_at, spec_of}
+use Rattle.vx_hub.specs.Stands.{Stands, IsTold, IsKnown, IsRecorded, HasRooms, facts_at, spec_of}
 use Rattle.vx_hub.specs.Beginning.{Begins, HasFirst}
 use Rattle.vx_hub.specs.declared.hub.Hub.{Hub}
 use Rattle.vx_hub.specs.declared.task.Role.{Role}
@@ -66,12 +66,36 @@ fitted_more_at G (r ∷ fs) new all f zero = all zero
 fitted_more_at G (r ∷ fs) new all f (suc i) = fitted_more_at (λ k. G (suc k)) fs new (λ j. all (suc j)) f i
 
 -- one more seat, for the next component
-pub fitted_more : (plan : Plan) (cs : List Component) (seats : List Seat) (seat : Seat) (c : Component) → AreFitted plan cs seats → length seats < length cs → c ≡ get_or cs (length seats) c → IsFittedTo plan c seat.facts →
+pub fitted_more : (plan : Plan) (cs : List Component) (seats : List Seat) (seat : Seat) (c : Component) → AreFitted plan cs seats → length seats < length cs → c ≡ get_or cs (length seats) c → IsSeatOf plan c seat →
     AreFitted plan cs (seats ++ seat ∷ [])
 fitted_more plan [] [] seat c a l is fit = absurd (omega arith)
 fitted_more plan [] (s ∷ seats) seat c a l is fit = absurd a
-fitted_more plan (d ∷ cs) [] seat c a l is fit = (subst (λ (x : Component). IsFittedTo plan x seat.facts) is fit, tt)
+fitted_more plan (d ∷ cs) [] seat c a l is fit = (subst (λ (x : Component). IsSeatOf plan x seat) is fit, tt)
 fitted_more plan (d ∷ cs) (s ∷ seats) seat c a l is fit = (a.0, fitted_more plan cs seats seat c a.1 (omega arith) is fit)
+
+-- the room of one more buffer
+pub rooms_more : {P : Type 0} (F : ℕ → ℕ → Type 0) (rows : List (Row P)) (new : Row P) → ((i : ℕ) → IfSome (row_at rows i) (λ row. F i row.buffer.room)) → F (length rows) new.buffer.room →
+    (i : ℕ) → IfSome (row_at (rows ++ new ∷ []) i) (λ row. F i row.buffer.room)
+rooms_more F [] new all f zero = f
+rooms_more F [] new all f (suc i) = tt
+rooms_more F (r ∷ rows) new all f zero = all zero
+rooms_more F (r ∷ rows) new all f (suc i) = rooms_more (λ k. F (suc k)) rows new (λ j. all (suc j)) f i
+
+-- a seat for the component in a place has the room of that
+pub seat_room : (plan : Plan) (i : ℕ) (seat : Seat) → IsSomeAnd (slice_get plan.components i) (λ component. IsSeatOf plan component seat) → seat.buffer.room ≡ room_at plan i
+seat_room plan i seat is = go (slice_get plan.components i) is
+  where
+    go : (o : Option Component) → IsSomeAnd o (λ component. IsSeatOf plan component seat) → seat.buffer.room ≡ (elim o [ None ↦ 0 | Some component ↦ room_named plan component.name ])
+    go None is = absurd is
+    go (Some component) is = is.room
+
+-- and is fitted to it
+pub seat_fitted : (plan : Plan) (i : ℕ) (seat : Seat) → IsSomeAnd (slice_get plan.components i) (λ component. IsSeatOf plan component seat) → IsSomeAnd (slice_get plan.components i) (λ component. IsFittedTo plan component seat.facts)
+seat_fitted plan i seat is = go (slice_get plan.components i) is
+  where
+    go : (o : Option Component) → IsSomeAnd o (λ component. IsSeatOf plan component seat) → IsSomeAnd o (λ component. IsFittedTo plan component seat.facts)
+    go None is = absurd is
+    go (Some component) is = is.fitted
 
 pub copies_more : {P : Type 0} (batch place : ℕ) (rows : List (Row P)) (new : Row P) → copies_in batch place (rows ++ new ∷ []) ≡ copies_in batch place rows + copies_of batch place (row_copies new)
 copies_more batch place [] new = omega arith
@@ -196,6 +220,7 @@ begun_stands told_by plan hub b mine first none room few = record {
   gone = λ i. some_mapped _ _ (facts_at hub.facts.items i) (λ f n retired. let no : f.retired ≡ false = n.retired in cc) (b.facts i);
   size = b.size;
   berths = record { none = none; room = room; few = few };
+  rooms = subst (λ (p : Plan). HasRooms p hub.rows.items) (sym mine) b.rooms;
 }
 
 suc_plus : (k : ℕ) → suc (k + 1) ≡ suc k + 1
@@ -203,7 +228,7 @@ suc_plus k = omega arith
 
 -- of the seats that are left, the first is for the component in its place
 pub fitted_first : (plan : Plan) (components : List Component) (k : ℕ) (seat : Seat) (rest : List Seat) → AreFitted plan (drop k components) (seat ∷ rest) →
-    IsSomeAnd (slice_get components k) (λ component. IsFittedTo plan component seat.facts) × AreFitted plan (drop (k + 1) components) rest
+    IsSomeAnd (slice_get components k) (λ component. IsSeatOf plan component seat) × AreFitted plan (drop (k + 1) components) rest
 fitted_first plan [] zero seat rest a = absurd a
 fitted_first plan [] (suc k) seat rest a = absurd a
 fitted_first plan (c ∷ cs) zero seat rest a = a

@@ -121,6 +121,7 @@ stands_starved told_by d hand s = record {
   gone = s.gone;
   size = s.size;
   berths = s.berths;
+  rooms = s.rooms;
 }
 
 -- a child that was read at a place is there

@@ -1,15 +1,18 @@
 -- An instance that comes home goes on doing so, until the record tells it.
-use Rattle.std.proofs.Common.{◌≡◌, ℕ, true, ◌∷◌, sym, subst, ◌∙◌}
-use Rattle.std.specs.Prelude.{IsSome, IsTrue, Option}
+use Rattle.std.proofs.Common.{◌≡◌, ℕ, ◌+◌, Bool, true, false, List, [], ◌∷◌, length, sym, ap, subst, ◌∙◌, arith}
+use Rattle.std.specs.Prelude.{IsSome, IsTrue, Option, ◌==◌, ◌&&◌, if◌then◌else◌}
+use Rattle.std.specs.List.{list_all}
 use Rattle.vx_record.specs.Records.{Record}
 use Rattle.vx_record.specs.Noted.{Noted}
-use Rattle.vx_record.specs.Turns.{is_out}
+use Rattle.vx_record.specs.Turns.{is_out, is_take_of, since_lease}
 use Rattle.vx_record.specs.declared.log.Log.{Log}
 use Rattle.vx_record.specs.declared.entry.Entry.{Entry}
+use Rattle.vx_record.specs.declared.entry.Entry.TheVariants.{Lease, Take}
 use Rattle.vx_hub.specs.declared.hub.Hub.{Hub}
-use Rattle.vx_hub.specs.Away.{IsAway, IsReturning}
+use Rattle.vx_hub.specs.Away.{IsAway, IsReturning, OnlyTook, HasTaken}
 use Rattle.vx_hub.specs.Rows.{SamePorts}
 use Rattle.vx_hub.proofs.Ordering.{sound_before}
+use Rattle.vx_hub.proofs.Silence.{same_test}
 
 -- behind an entry that brings nobody home
 pub away_noted : {P : Type 0} (d e : Hub P) (entry : Entry) → Noted d.log entry e.log → e.starved ≡ d.starved → ((h : Record) (k : ℕ) → is_out h k ≡ true → is_out (entry ∷ h) k ≡ true) → (i : ℕ) → IsAway d i → IsAway e i
@@ -19,6 +22,31 @@ away_noted d e entry noted starved stays i away sound =
 pub away_same : {P : Type 0} (d e : Hub P) → e.log ≡ d.log → e.starved ≡ d.starved → (i : ℕ) → IsAway d i → IsAway e i
 away_same d e log starved i away sound =
     subst (λ (l : Log). is_out l.history i ≡ true) (sym log) (away (record { whole = subst (λ (l : Log). IsTrue l.whole) log sound.whole; fed = sym starved ∙ sound.fed }))
+
+-- a take more
+both : (a b : Bool) → a ≡ true → b ≡ true → (a && b) ≡ true
+both true b e k = k
+both false b e k = cc
+
+pub taken_more : {P : Type 0} (d e : Hub P) (i s : ℕ) (copies : List ℕ) → Noted d.log (Take i s copies) e.log → e.starved ≡ d.starved → (n : ℕ) → HasTaken d i n → HasTaken e i (n + 1)
+taken_more d e i s copies noted starved n had sound =
+    let h = d.log.history in
+    let before = had (sound_before d e (Take i s copies) noted starved sound) in
+    subst (λ (k : Record). OnlyTook k i (n + 1)) (sym (noted.whole sound.whole).1) (record {
+      only_takes = both (i == i) (list_all (is_take_of i) (since_lease h i)) (same_test i) before.only_takes;
+      few = omega (arith, before.few);
+    })
+
+pub taken_same : {P : Type 0} (d e : Hub P) (i : ℕ) → e.log ≡ d.log → e.starved ≡ d.starved → (n : ℕ) → HasTaken d i n → HasTaken e i (n + 1)
+taken_same d e i log starved n had sound =
+    let before = had (record { whole = subst (λ (l : Log). IsTrue l.whole) log sound.whole; fed = sym starved ∙ sound.fed }) in
+    subst (λ (l : Log). OnlyTook l.history i (n + 1)) (sym log) (record { only_takes = before.only_takes; few = omega (arith, before.few) })
+
+-- behind its lease an instance did nothing yet
+pub untaken_leased : (h : Record) (i worker now polls : ℕ) → OnlyTook (Lease i worker now polls ∷ h) i 0
+untaken_leased h i worker now polls =
+    let none : since_lease (Lease i worker now polls ∷ h) i ≡ [] = ap (λ b. if b then [] else Lease i worker now polls ∷ since_lease h i) (same_test i) in
+    record { only_takes = ap (list_all (is_take_of i)) none; few = omega (arith, ap length none) }
 
 pub returning_noted : {P : Type 0} (d e : Hub P) (entry : Entry) → SamePorts d.rows.items e.rows.items → Noted d.log entry e.log → e.starved ≡ d.starved → ((h : Record) (k : ℕ) → is_out h k ≡ true → is_out (entry ∷ h) k ≡ true) →
     (i : ℕ) → IsReturning d i → IsReturning e i

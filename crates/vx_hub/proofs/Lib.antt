@@ -16,6 +16,9 @@ pub mod Remaining
 pub mod Returning
 pub mod Dues
 mod Drying
+mod Porting
+mod Naming
+mod Rooming
 mod Ordering
 mod Numbering
 mod Homing

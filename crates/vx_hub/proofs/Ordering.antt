@@ -41,9 +41,10 @@ use Rattle.vx_hub.specs.declared.fatal.Fatal.TheVariants as fatal
 use Rattle.vx_hub.specs.Failures.{fatal_of, abandon_cause, HasReason}
 use Rattle.vx_hub.specs.Numbers.{numbers_in, noted_of}
 use Rattle.vx_hub.specs.Events.{IsSaid}
-use Rattle.vx_hub.specs.Order.{IsBirthOf, IsReadBy, IsSplitOf, IsReason, readers_at, reply_behind, cause_of}
+use Rattle.vx_hub.specs.Order.{IsBirthOf, IsReadBy, IsSplitOf, IsReason, IsOrderly, readers_at, reply_behind, cause_of}
 use Rattle.vx_hub.specs.Spending.{IsGiven, AreAnswered, IsSpentFor, MaySpend, IsReplied}
 use Rattle.vx_hub.specs.Stands.{Stands, IsSound, IsBalanced}
+use Rattle.vx_hub.proofs.Porting.{output_on_first, first_routes}
 use Rattle.vx_hub.proofs.StandsLaws.{unmade}
 use Rattle.vx_hub.proofs.Shrinking.{answered_on, waits_none}
 
@@ -94,9 +95,9 @@ pub length_noted : (targets : List ℕ) (first : ℕ) (parcel : Parcel) (childre
 length_noted targets first parcel children are = ap (λ (cs : List Child). length (noted_of cs)) are ∙ ap length (noted_children targets first parcel) ∙ length_children first (length parcel.finalizers) targets
 
 -- a split that the ledger made is in order
-pub split_in_order : (h : Record) (i next : ℕ) (targets : List ℕ) (parcel : Parcel) (children : List Child) → all_waiting h i ≡ [] → targets ≡ readers_at h i → IsOldest (numbers_in parcel.finalizers) (outputs h i) → next ≡ next_copy h → children ≡ children_for targets next parcel → 0 < length targets →
-    next + length targets * length parcel.finalizers ≤ 2 ^ 63 → IsSaid h parcel → IsSplitOf h i (numbers_in parcel.finalizers) parcel.event (noted_of children)
-split_in_order h i next targets parcel children waits routed oldest now are some fits said =
+pub split_in_order : (h : Record) (i next : ℕ) (targets : List ℕ) (parcel : Parcel) (children : List Child) → IsOrderly h → all_waiting h i ≡ [] → targets ≡ readers_at h i → IsOldest (numbers_in parcel.finalizers) (outputs h i) → next ≡ next_copy h → children ≡ children_for targets next parcel → 0 < length targets →
+    next + length targets * length parcel.finalizers ≤ 2 ^ 63 → IsSaid h parcel → IsSplitOf h i 1 (numbers_in parcel.finalizers) parcel.event (noted_of children)
+split_in_order h i next targets parcel children order waits routed oldest now are some fits said =
     let m = length parcel.finalizers in
     let many : length (numbers_in parcel.finalizers) ≡ m = length_numbers parcel.finalizers in
     let count : length (noted_of children) ≡ length targets = length_noted targets next parcel children are in
@@ -105,7 +106,9 @@ split_in_order h i next targets parcel children waits routed oldest now are some
     record {
       divides = record { oldest = oldest; made = (targets, made) };
       none_waits = waits;
+      on_ports = output_on_first h i (numbers_in parcel.finalizers) order oldest;
       same_event = said.event;
+      made = made ∙ ap (λ (ts : List ℕ). children_of (next_copy h) (length (numbers_in parcel.finalizers)) ts) (routed ∙ sym (first_routes h i (numbers_in parcel.finalizers) oldest));
       routed = made ∙ ap (λ (ts : List ℕ). children_of (next_copy h) (length (numbers_in parcel.finalizers)) ts) routed;
       some = omega (arith, count, some);
       fits = subst (λ k. k + length (noted_of children) * length (numbers_in parcel.finalizers) ≤ 2 ^ 63) now

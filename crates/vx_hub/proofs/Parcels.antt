@@ -79,6 +79,10 @@ pub popped_room : (r : Option Parcel) (old new : List Parcel) (room before : ℕ
 popped_room None old new room before s some same within = cc
 popped_room (Some x) old new room before s some same within = omega (arith, ap length some, length-append new (x ∷ []))
 
+pub popped_within : (r : Option Parcel) (old new : List Parcel) (room : ℕ) → IsSome r → IfSome r (λ x. old ≡ x ∷ new) → length old ≤ room → 0 < room
+popped_within None old new room s some within = cc
+popped_within (Some x) old new room s some within = omega (arith, ap length some, within)
+
 -- the port of a task that is there
 pub some_port : {P : Type 0} (t : Option (Task P)) (port : Option P) → port ≡ task_port t → IfSome t (λ task. port ≡ Some task.port)
 some_port None port e = tt

@@ -32,7 +32,7 @@ use Rattle.vx_hub.specs.Places.{parcel_lists, parcel_numbers, waiting_lists, cop
 conserves : (h : Record) (e : Entry) → IsInOrder h e → Conserves h e
 conserves h (Born i b place copies events waits stream end) o = o.next
 conserves h (Split i ports copies event children) o = o.divides
-conserves h (Push i t s copies) o = o
+conserves h (Push i t s copies) o = o.oldest
 conserves h (Take i s copies) o = o.oldest
 conserves h (Spent i c outcome) o = o.live
 conserves h e o = tt

@@ -14,12 +14,13 @@ use Rattle.vx_record.specs.Lists.{stands, parcels_at, parcels_where, is_bare, is
 use Rattle.vx_hub.specs.declared.facts.Facts.{Facts}
 use Rattle.vx_hub.specs.declared.row.Row.{Row}
 use Rattle.vx_hub.specs.declared.hub.Hub.{Hub}
-use Rattle.vx_hub.specs.Order.{IsEndOf, IsLeaseOf, IsClosing}
+use Rattle.vx_hub.specs.Order.{IsEndOf, IsLeaseOf, IsClosing, IsOrderly}
 use Rattle.vx_hub.specs.Places.{IsThere, copies_if, all_numbers}
 use Rattle.vx_hub.specs.Remains.{HasEnds}
 use Rattle.vx_hub.specs.Rows.{row_at, IsBare, IsBareAt, NoneWaits}
 use Rattle.vx_hub.specs.Stands.{Stands, IsKnown, IsGone, IsSound, facts_at}
 use Rattle.vx_hub.proofs.Drying.{closing_on}
+use Rattle.vx_hub.proofs.Naming.{there_known}
 use Rattle.vx_hub.proofs.Silence.{same_test, other_test}
 use Rattle.vx_hub.proofs.StandsLaws.{ends_on, to_confirm_on}
 use Rattle.vx_hub.proofs.Placing.{places_all}
@@ -102,8 +103,9 @@ known_retired_other f h i j other k = record {
 }
 
 -- what isn't closed isn't retired
-pub unclosed_unretired : (h : Record) (f : Facts) (i : ℕ) (gone : IsTrue f.retired → IsTrue f.closed) → f.closed ≡ false → IsKnown f h i → IsLeaseOf h i 0
-unclosed_unretired h f i gone unclosed k = record {
+pub unclosed_unretired : (h : Record) (f : Facts) (i : ℕ) (gone : IsTrue f.retired → IsTrue f.closed) → f.closed ≡ false → IsOrderly h → IsKnown f h i → IsLeaseOf h i 0
+unclosed_unretired h f i gone unclosed order k = record {
+  known = there_known h i f order k;
   unclosed = sym k.closed ∙ unclosed;
   unretired = sym k.retired ∙ go f.retired refl;
   unpolled = refl;
@@ -190,6 +192,7 @@ bare_record rows h i placed bare = bare_puts (stands h) i (λ p own. places_all 
 -- an instance that ended may be retired
 pub end_in_order : {P : Type 0} (told_by : P → Told) (d : Hub P) (i : ℕ) (f : Facts) → Stands told_by d [] d.log.history → IsSound d → IsKnown f d.log.history i → f.closed ≡ true → f.retired ≡ false → IsBareAt d.rows.items i → IsEndOf d.log.history i
 end_in_order told_by d i f s fine k closed unretired bare = record {
+  known = there_known d.log.history i f (s.recorded fine).order k;
   unretired = sym k.retired ∙ unretired;
   port_closed = sym k.closed ∙ closed;
   bare = bare_record d.rows.items d.log.history i (s.recorded fine).places.standing bare;

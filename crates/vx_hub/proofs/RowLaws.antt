@@ -4,7 +4,7 @@ use Rattle.std.specs.Prelude.{slice_set, ◌≢◌, ◌==◌, Bool, true, false}
 use Rattle.std.proofs.lemmas.Bool.Decides.{nat_tests}
 use Rattle.vx_ledger.specs.Copies.{Copy, copies_of}
 use Rattle.vx_hub.specs.declared.row.Row.{Row}
-use Rattle.vx_hub.specs.Rows.{row_copies, copies_in, row_at, port_of, port_at, task_port, Loses, Gains, SamePorts, SameOtherPorts, IsBare, IsBareAt, KeepsBare, KeepsOthersBare}
+use Rattle.vx_hub.specs.Rows.{buffer_rooms, SameRooms, row_copies, copies_in, row_at, port_of, port_at, task_port, Loses, Gains, SamePorts, SameOtherPorts, IsBare, IsBareAt, KeepsBare, KeepsOthersBare}
 
 -- the counts, when one row is written
 pub counts_written : {P : Type 0} (batch place : ℕ) (rows : List (Row P)) (i : ℕ) (row new : Row P) → i < length rows → row ≡ get_or rows i row →
@@ -100,6 +100,27 @@ each_keeps {P} F rows i row new l at keep = rows_keep (λ j r. IfSome (row_at ro
 -- a fact of the row that is read is one of the table
 pub row_says : {P : Type 0} (F : Row P → Type 0) (rows : List (Row P)) (i : ℕ) (row : Row P) → i < length rows → row ≡ get_or rows i row → F row → IfSome (row_at rows i) F
 row_says {P} F rows i row l at f = subst (λ (r : Option (Row P)). IfSome r F) (sym (row_read rows i row l at)) f
+
+-- the rooms of the buffers stay, where that of the row that is written stays
+pub rooms_written : {P : Type 0} (rows : List (Row P)) (i : ℕ) (row new : Row P) → i < length rows → row ≡ get_or rows i row → new.buffer.room ≡ row.buffer.room → SameRooms rows (slice_set rows i new)
+rooms_written [] i row new l at same = absurd (omega arith)
+rooms_written (r ∷ rows) zero row new l at same = ap (λ n. n ∷ buffer_rooms rows) (same ∙ ap (λ (x : Row _). x.buffer.room) at)
+rooms_written (r ∷ rows) (suc i) row new l at same = ap (λ ns. r.buffer.room ∷ ns) (rooms_written rows i row new (omega arith) at same)
+
+-- there are as many instances as buffers
+pub same_length : {P : Type 0} (old new : List (Row P)) → SameRooms old new → length new ≡ length old
+same_length [] [] same = refl
+same_length [] (n ∷ new) same = cc
+same_length (o ∷ old) [] same = cc
+same_length (o ∷ old) (n ∷ new) same = let rest : buffer_rooms new ≡ buffer_rooms old = cc in ap suc (same_length old new rest)
+
+-- what holds of the room of each buffer goes on holding
+pub each_room : {P : Type 0} (F : ℕ → ℕ → Type 0) (old new : List (Row P)) → SameRooms old new → ((i : ℕ) → IfSome (row_at old i) (λ row. F i row.buffer.room)) → (i : ℕ) → IfSome (row_at new i) (λ row. F i row.buffer.room)
+each_room F [] [] same all i = tt
+each_room F [] (n ∷ new) same all i = cc
+each_room F (o ∷ old) [] same all i = tt
+each_room F (o ∷ old) (n ∷ new) same all zero = let here : o.buffer.room ≡ n.buffer.room = cc in subst (λ (k : ℕ). F zero k) here (all zero)
+each_room F (o ∷ old) (n ∷ new) same all (suc i) = let rest : buffer_rooms new ≡ buffer_rooms old = cc in each_room (λ k. F (suc k)) old new rest (λ j. all (suc j)) i
 
 -- a list without items
 pub no_items : {X : Type 0} (xs : List X) → length xs ≡ 0 → xs ≡ []

@@ -16,8 +16,11 @@ use Rattle.vx_hub.proofs.Drying.{closing_on}
 use Rattle.vx_hub.specs.declared.facts.Facts.{Facts}
 use Rattle.vx_hub.specs.declared.row.Row.{Row}
 use Rattle.vx_hub.specs.declared.hub.Hub.{Hub}
-use Rattle.vx_hub.specs.Rows.{port_at, IsBareAt, SamePorts, KeepsBare, KeepsOthersBare, Loses, Gains}
-use Rattle.vx_hub.specs.Stands.{Stands, IsTold, IsKnown, AreOut, IsRecorded, IsShut, IsGone, IsBalanced, IsSound, IsQuiet, touched, lost_at, IsMute, facts_at, capped, HasBerths, spare_of, cause_of}
+use Rattle.vx_plan.specs.declared.plan.Plan.{Plan}
+use Rattle.vx_hub.specs.Making.{room_at}
+use Rattle.vx_hub.proofs.RowLaws.{same_length, each_room}
+use Rattle.vx_hub.specs.Rows.{buffer_rooms, SameRooms, port_at, IsBareAt, SamePorts, KeepsBare, KeepsOthersBare, Loses, Gains}
+use Rattle.vx_hub.specs.Stands.{Stands, IsTold, IsKnown, AreOut, IsRecorded, IsShut, IsGone, IsBalanced, IsSound, IsQuiet, touched, lost_at, IsMute, facts_at, capped, HasBerths, HasRooms, spare_of, cause_of}
 use Rattle.vx_hub.specs.declared.parts.Numbered.{Numbered}
 use Rattle.vx_value.specs.Filled.{Filled}
 use Rattle.std.proofs.lemmas.List.{append-nil}
@@ -168,14 +171,19 @@ some_both F G K (Some x) f i j = f x i j
 pub berths_kept : {P : Type 0} (old new : Filled (Numbered P)) (before after : List (Row P)) → new ≡ old → length after ≡ length before → HasBerths old before → HasBerths new after
 berths_kept old new before after same size b = subst (λ (f : _). HasBerths f after) (sym same) (record { none = b.none; room = omega (arith, b.room); few = omega (arith, b.few) })
 
+-- the room of each buffer stays
+pub rooms_kept : {P : Type 0} (old new : Plan) (before after : List (Row P)) → new ≡ old → SameRooms before after → HasRooms old before → HasRooms new after
+rooms_kept {P} old new before after same rooms had = subst (λ (p : Plan). HasRooms p after) (sym same) (each_room (λ i n. n ≡ room_at old i) before after rooms had)
+
 -- parcels moved, and a quiet entry tells it
 pub stands_quiet : {P : Type 0} (told_by : P → Told) (d e : Hub P) (hand after : List Copy) (entry : Entry) →
     Stands told_by d hand d.log.history → IsBalanced e.batches e.rows.items after → e.facts ≡ d.facts → SamePorts d.rows.items e.rows.items →
     ((i : ℕ) → IfSome (facts_at d.facts.items i) (λ f. IsTrue f.retired → IsBareAt d.rows.items i → IsBareAt e.rows.items i)) →
-    length e.rows.items ≡ length d.rows.items → Noted d.log entry e.log → Passes d e hand after entry → e.starved ≡ d.starved → e.bytes ≡ d.bytes → spare_of e ≡ spare_of d →
+    SameRooms d.rows.items e.rows.items → Noted d.log entry e.log → Passes d e hand after entry → e.starved ≡ d.starved → e.bytes ≡ d.bytes → spare_of e ≡ spare_of d →
     Stands told_by e after e.log.history
-stands_quiet {P} told_by d e hand after entry s balanced facts ports bare size noted passes starved bytes berths =
+stands_quiet {P} told_by d e hand after entry s balanced facts ports bare rooms noted passes starved bytes berths =
     let quiet : IsQuiet entry = passes.quiet in
+    let size : length e.rows.items ≡ length d.rows.items = same_length d.rows.items e.rows.items rooms in
     record {
       history = refl;
       balanced = balanced;
@@ -207,6 +215,7 @@ stands_quiet {P} told_by d e hand after entry s balanced facts ports bare size n
           (some_both _ _ _ (facts_at d.facts.items i) (λ f keep gone retired. ((gone retired).0, keep retired (gone retired).1)) (bare i) (s.gone i));
       size = ap (λ (v : _). length v.items) facts ∙ s.size ∙ sym size;
       berths = berths_kept d.ports e.ports d.rows.items e.rows.items (ap (λ (t : _). t.0) berths) size s.berths;
+      rooms = rooms_kept d.plan e.plan d.rows.items e.rows.items (ap (λ (t : _). t.2) berths) rooms s.rooms;
     }
 
 -- what holds in any case
@@ -239,11 +248,11 @@ unmade old entry new whole same = record { whole = λ w. cc; other = inr same }
 pub stands_moved : {P : Type 0} (told_by : P → Told) (d e : Hub P) (hand after : List Copy) →
     Stands told_by d hand d.log.history → IsBalanced e.batches e.rows.items after → e.facts ≡ d.facts → SamePorts d.rows.items e.rows.items →
     ((i : ℕ) → IfSome (facts_at d.facts.items i) (λ f. IsTrue f.retired → IsBareAt d.rows.items i → IsBareAt e.rows.items i)) →
-    length e.rows.items ≡ length d.rows.items → e.batches ≡ d.batches → e.log ≡ d.log → e.starved ≡ d.starved → e.bytes ≡ d.bytes → spare_of e ≡ spare_of d →
+    SameRooms d.rows.items e.rows.items → e.batches ≡ d.batches → e.log ≡ d.log → e.starved ≡ d.starved → e.bytes ≡ d.bytes → spare_of e ≡ spare_of d →
     (IsSound d → IsConserved d.log.history → IsPlaced d.rows.items hand d.log.history → IsPlaced e.rows.items after d.log.history) →
     (IsSound d → AreSaid d.log.history d.rows.items → AreSaid d.log.history e.rows.items) →
     Stands told_by e after e.log.history
-stands_moved {P} told_by d e hand after s balanced facts ports bare size batches log starved bytes berths places said = record {
+stands_moved {P} told_by d e hand after s balanced facts ports bare rooms batches log starved bytes berths places said = record {
   history = refl;
   balanced = balanced;
   recorded = λ sound.
@@ -271,7 +280,11 @@ stands_moved {P} told_by d e hand after s balanced facts ports bare size batches
       (some_both _ _ _ (facts_at d.facts.items i) (λ f keep gone retired. ((gone retired).0, keep retired (gone retired).1)) (bare i) (s.gone i));
   size = ap (λ (v : _). length v.items) facts ∙ s.size ∙ sym size;
   berths = berths_kept d.ports e.ports d.rows.items e.rows.items (ap (λ (t : _). t.0) berths) size s.berths;
+  rooms = rooms_kept d.plan e.plan d.rows.items e.rows.items (ap (λ (t : _). t.2) berths) rooms s.rooms;
 }
+  where
+    size : length e.rows.items ≡ length d.rows.items
+    size = same_length d.rows.items e.rows.items rooms
 
 -- an instance that had something goes on; the others keep nothing
 pub bare_but : {P : Type 0} (fs : List Facts) (old mid new : List (Row P)) (i : ℕ) → (IsBareAt old i → ⊥) → KeepsBare old mid → KeepsOthersBare i mid new → (j : ℕ) →
@@ -372,6 +385,7 @@ stands_abandoned {P} told_by d log cause s once reason noted = record {
   gone = s.gone;
   size = s.size;
   berths = s.berths;
+  rooms = s.rooms;
 }
 
 -- what is counted beside the record says nothing of it
@@ -386,6 +400,7 @@ stands_counted {P} told_by d e hand same s = subst (λ (x : Hub P). Stands told_
   gone = s.gone;
   size = s.size;
   berths = s.berths;
+  rooms = s.rooms;
 })
 
 -- an instance at home is told to be there, and then whether the hub goes on
@@ -450,4 +465,5 @@ stands_noticed {P} told_by d e hand after i c outcome batch status mid s balance
       gone = λ j. subst (λ (v : _). IfSome (facts_at e.facts.items j) (IsGone v.items j)) (sym rows) (subst (λ (v : _). IfSome (facts_at v.items j) (IsGone d.rows.items j)) (sym facts) (s.gone j));
       size = ap (λ (v : _). length v.items) facts ∙ s.size ∙ sym (ap (λ (v : _). length v.items) rows);
       berths = berths_kept d.ports e.ports d.rows.items e.rows.items (ap (λ (t : _). t.0) berths) (ap (λ (v : _). length v.items) rows) s.berths;
+      rooms = rooms_kept d.plan e.plan d.rows.items e.rows.items (ap (λ (t : _). t.2) berths) (ap (λ (v : _). buffer_rooms v.items) rows) s.rooms;
     }

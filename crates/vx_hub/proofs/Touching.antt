@@ -23,11 +23,12 @@ use Rattle.vx_hub.proofs.Drying.{closing_on, unended}
 use Rattle.vx_hub.specs.declared.facts.Facts.{Facts}
 use Rattle.vx_hub.specs.declared.row.Row.{Row}
 use Rattle.vx_hub.specs.declared.hub.Hub.{Hub}
-use Rattle.vx_hub.specs.Rows.{port_at, port_of, task_port, row_at, copies_in, IsBareAt, IsOutAt, SameOtherPorts, KeepsOthersBare, KeepsBare, Gains, Loses}
+use Rattle.vx_hub.specs.Rows.{buffer_rooms, SameRooms, port_at, port_of, task_port, row_at, copies_in, IsBareAt, IsOutAt, SameOtherPorts, KeepsOthersBare, KeepsBare, Gains, Loses}
 use Rattle.vx_hub.specs.Works.{IsClosedBy}
 use Rattle.vx_hub.specs.declared.task.Task.{Task}
 use Rattle.vx_hub.specs.Stands.{Stands, IsTold, IsKnown, AreOut, IsRecorded, IsSound, IsShut, IsGone, facts_at, lost_at, spec_at, capped, touched, IsBalanced, IsMute, spare_of, cause_of}
-use Rattle.vx_hub.proofs.StandsLaws.{some_mapped, some_all, berths_kept, ends_on, to_confirm_on, told_mute, bytes_mute, force_mute, same_next, unknown_on, unknown_mute}
+use Rattle.vx_hub.proofs.RowLaws.{same_length}
+use Rattle.vx_hub.proofs.StandsLaws.{some_mapped, some_all, berths_kept, rooms_kept, ends_on, to_confirm_on, told_mute, bytes_mute, force_mute, same_next, unknown_on, unknown_mute}
 use Rattle.vx_record.specs.Copies.{next_copy, makes}
 use Rattle.vx_record.specs.Moving.{IsStill, IsConserved}
 use Rattle.vx_hub.specs.Places.{IsPlaced, SamePlaces}
@@ -284,6 +285,7 @@ stands_touched {P} told_by d e hand entry i f g s out within at written closed r
           (λ c. let b = subst (λ (o : Option Facts). IfSome o (IsGone d.rows.items i)) was (s.gone i) (sym retired ∙ c) in (closed ∙ b.0, b.1)) (λ k other. s.gone k) j));
       size = ap length written ∙ length-set d.facts.items i g ∙ s.size ∙ sym (ap (λ (v : _). length v.items) rows);
       berths = berths_kept d.ports e.ports d.rows.items e.rows.items (ap (λ (t : _). t.0) berths) (ap (λ (v : _). length v.items) rows) s.berths;
+      rooms = rooms_kept d.plan e.plan d.rows.items e.rows.items (ap (λ (t : _). t.2) berths) (ap (λ (v : _). buffer_rooms v.items) rows) s.rooms;
     }
 
 -- an instance is marked, and an entry tells it that says nothing of a port
@@ -338,6 +340,7 @@ stands_marked {P} told_by d e hand after entry i f g s within at written rows be
           (facts_keep (λ k o. IfSome o (IsGone d.rows.items k)) d.facts.items i g within gone (λ k other. s.gone k) j));
       size = ap length written ∙ length-set d.facts.items i g ∙ s.size ∙ sym (ap (λ (v : _). length v.items) rows);
       berths = berths_kept d.ports e.ports d.rows.items e.rows.items (ap (λ (t : _). t.0) berths) (ap (λ (v : _). length v.items) rows) s.berths;
+      rooms = rooms_kept d.plan e.plan d.rows.items e.rows.items (ap (λ (t : _). t.2) berths) (ap (λ (v : _). buffer_rooms v.items) rows) s.rooms;
     }
 
 -- a task comes home with a port that tells what the record has
@@ -345,11 +348,12 @@ pub stands_brought : {P : Type 0} (told_by : P → Told) (d e : Hub P) (copies :
     Stands told_by d copies d.log.history → IsSomeAnd (facts_at d.facts.items i) (λ f. f.closed ≡ false) →
     (IsSound d → IsTold (told_by port) d.log.history i) →
     IsBalanced e.batches e.rows.items [] → port_at e.rows.items i ≡ Some port → SameOtherPorts i d.rows.items e.rows.items → KeepsOthersBare i d.rows.items e.rows.items →
-    length e.rows.items ≡ length d.rows.items → e.batches ≡ d.batches → e.facts ≡ d.facts → e.log ≡ d.log → e.starved ≡ d.starved → e.bytes ≡ d.bytes → spare_of e ≡ spare_of d →
+    SameRooms d.rows.items e.rows.items → e.batches ≡ d.batches → e.facts ≡ d.facts → e.log ≡ d.log → e.starved ≡ d.starved → e.bytes ≡ d.bytes → spare_of e ≡ spare_of d →
     (IsSound d → IsConserved d.log.history → IsPlaced d.rows.items copies d.log.history → IsPlaced e.rows.items [] d.log.history) →
     (IsSound d → AreSaid d.log.history d.rows.items → AreSaid d.log.history e.rows.items) →
     Stands told_by e [] e.log.history
-stands_brought {P} told_by d e copies port i s unclosed told balanced here ports bare size batches facts log starved bytes berths places said =
+stands_brought {P} told_by d e copies port i s unclosed told balanced here ports bare rooms batches facts log starved bytes berths places said =
+    let size : length e.rows.items ≡ length d.rows.items = same_length d.rows.items e.rows.items rooms in
     record {
       history = refl;
       balanced = balanced;
@@ -383,6 +387,7 @@ stands_brought {P} told_by d e copies port i s unclosed told balanced here ports
           (λ m other. some_mapped _ _ (facts_at d.facts.items m) (λ f gone c. ((gone c).0, bare m other (gone c).1)) (s.gone m)) k);
       size = ap (λ (v : _). length v.items) facts ∙ s.size ∙ sym size;
       berths = berths_kept d.ports e.ports d.rows.items e.rows.items (ap (λ (t : _). t.0) berths) size s.berths;
+      rooms = rooms_kept d.plan e.plan d.rows.items e.rows.items (ap (λ (t : _). t.2) berths) rooms s.rooms;
     }
 
 -- a fact of the facts that were read
@@ -472,10 +477,11 @@ pub stands_shut : {P : Type 0} (told_by : P → Told) (d e : Hub P) (i : ℕ) �
     Stands told_by d [] d.log.history → IsSome (port_at d.rows.items i) →
     IfSome (port_at d.rows.items i) (λ old. IsSomeAnd (port_at e.rows.items i) (λ new. IsClosedBy (told_by old) (told_by new))) →
     Loses d.rows.items [] e.rows.items → SameOtherPorts i d.rows.items e.rows.items → KeepsBare d.rows.items e.rows.items →
-    length e.rows.items ≡ length d.rows.items → e.batches ≡ d.batches → e.facts ≡ d.facts → e.log ≡ d.log → e.starved ≡ d.starved → e.bytes ≡ d.bytes → spare_of e ≡ spare_of d → SamePlaces d.rows.items e.rows.items →
+    SameRooms d.rows.items e.rows.items → e.batches ≡ d.batches → e.facts ≡ d.facts → e.log ≡ d.log → e.starved ≡ d.starved → e.bytes ≡ d.bytes → spare_of e ≡ spare_of d → SamePlaces d.rows.items e.rows.items →
     (IsSound d → AreSaid d.log.history d.rows.items → AreSaid d.log.history e.rows.items) →
     Stands told_by e [] e.log.history
-stands_shut {P} told_by d e i s home becomes loses ports bare size batches facts log starved bytes berths same said =
+stands_shut {P} told_by d e i s home becomes loses ports bare rooms batches facts log starved bytes berths same said =
+    let size : length e.rows.items ≡ length d.rows.items = same_length d.rows.items e.rows.items rooms in
     record {
       history = refl;
       balanced = λ batch place. subst (λ (b : _). live_count batch place b.open_rows ≡ copies_in batch place e.rows.items + 0) (sym batches)
@@ -512,6 +518,7 @@ stands_shut {P} told_by d e i s home becomes loses ports bare size batches facts
           (some_mapped _ _ (facts_at d.facts.items k) (λ f gone c. ((gone c).0, bare k (gone c).1)) (s.gone k));
       size = ap (λ (v : _). length v.items) facts ∙ s.size ∙ sym size;
       berths = berths_kept d.ports e.ports d.rows.items e.rows.items (ap (λ (t : _). t.0) berths) size s.berths;
+      rooms = rooms_kept d.plan e.plan d.rows.items e.rows.items (ap (λ (t : _). t.2) berths) rooms s.rooms;
     }
 
 -- no bytes are no more bytes
@@ -571,6 +578,7 @@ stands_attempted {P} told_by d log hand i copies bytes reply s within out names 
       gone = s.gone;
       size = s.size;
       berths = s.berths;
+      rooms = s.rooms;
     }
 
 -- past the end there are no facts
@@ -595,11 +603,12 @@ not_both false n f = cc
 pub stands_out : {P : Type 0} (told_by : P → Told) (d e : Hub P) (copies : List Copy) (i : ℕ) →
     Stands told_by d [] d.log.history → IsSomeAnd (facts_at d.facts.items i) (λ f. f.closed ≡ false) →
     IsBalanced e.batches e.rows.items copies → port_at e.rows.items i ≡ None → SameOtherPorts i d.rows.items e.rows.items → KeepsOthersBare i d.rows.items e.rows.items →
-    length e.rows.items ≡ length d.rows.items → e.batches ≡ d.batches → e.facts ≡ d.facts → e.log ≡ d.log → e.starved ≡ d.starved → e.bytes ≡ d.bytes → spare_of e ≡ spare_of d →
+    SameRooms d.rows.items e.rows.items → e.batches ≡ d.batches → e.facts ≡ d.facts → e.log ≡ d.log → e.starved ≡ d.starved → e.bytes ≡ d.bytes → spare_of e ≡ spare_of d →
     (IsConserved d.log.history → IsPlaced d.rows.items [] d.log.history → IsPlaced e.rows.items copies d.log.history) → (IsSound d → is_out d.log.history i ≡ true) →
     (IsSound d → AreSaid d.log.history d.rows.items → AreSaid d.log.history e.rows.items) →
     Stands told_by e copies e.log.history
-stands_out {P} told_by d e copies i s unclosed balanced away ports bare size batches facts log starved bytes berths places leased said =
+stands_out {P} told_by d e copies i s unclosed balanced away ports bare rooms batches facts log starved bytes berths places leased said =
+    let size : length e.rows.items ≡ length d.rows.items = same_length d.rows.items e.rows.items rooms in
     record {
       history = refl;
       balanced = balanced;
@@ -633,6 +642,7 @@ stands_out {P} told_by d e copies i s unclosed balanced away ports bare size bat
           (λ m other. some_mapped _ _ (facts_at d.facts.items m) (λ f gone c. ((gone c).0, bare m other (gone c).1)) (s.gone m)) k);
       size = ap (λ (v : _). length v.items) facts ∙ s.size ∙ sym size;
       berths = berths_kept d.ports e.ports d.rows.items e.rows.items (ap (λ (t : _). t.0) berths) size s.berths;
+      rooms = rooms_kept d.plan e.plan d.rows.items e.rows.items (ap (λ (t : _). t.2) berths) rooms s.rooms;
     }
 
 -- what the port of the task tells that is taken along

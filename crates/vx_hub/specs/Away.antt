@@ -1,6 +1,8 @@
 -- An instance that was leased and comes home.
-use Rattle.std.specs.Prelude.{◌≡◌, ◌⊎◌, ℕ, true, IsSome}
-use Rattle.vx_record.specs.Turns.{is_out}
+use Rattle.std.specs.Prelude.{◌≡◌, ◌≤◌, ◌⊎◌, ℕ, true, length, IsSome}
+use Rattle.std.specs.List.{list_all}
+use Rattle.vx_record.specs.Records.{Record}
+use Rattle.vx_record.specs.Turns.{is_out, is_take_of, since_lease}
 use Rattle.vx_record.specs.Abandoning.{abandoned}
 use Rattle.vx_hub.specs.declared.hub.Hub.{Hub}
 use Rattle.vx_hub.specs.Rows.{port_at}
@@ -14,6 +16,15 @@ IsAway hub i = IsSound hub → is_out hub.log.history i ≡ true
 pub record IsReturning {P : Type 0} (hub : Hub P) (i : ℕ) : Type 0 where
   pub home : IsSome (port_at hub.rows.items i)
   pub away : IsAway hub i
+
+-- an instance did nothing but take since its last lease, and that so often at the most
+pub record OnlyTook (h : Record) (i most : ℕ) : Type 0 where
+  pub only_takes : list_all (is_take_of i) (since_lease h i) ≡ true
+  pub few : length (since_lease h i) ≤ most
+
+-- the same, where the record has all that happened
+abbrev pub HasTaken : {P : Type 0} → Hub P → ℕ → ℕ → Type 0
+HasTaken hub i most = IsSound hub → OnlyTook hub.log.history i most
 
 -- where the record has all that happened, the instance is away, or the run was given up
 abbrev pub MayEnd : {P : Type 0} → Hub P → ℕ → Type 0

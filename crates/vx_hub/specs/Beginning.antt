@@ -12,7 +12,7 @@ use Rattle.vx_record.specs.Places.{Place}
 use Rattle.vx_hub.specs.Places.{copies_at}
 use Rattle.vx_hub.specs.Events.{AreSaid}
 use Rattle.vx_hub.specs.Rows.{copies_in, port_at}
-use Rattle.vx_hub.specs.Stands.{facts_at, spec_of}
+use Rattle.vx_hub.specs.Stands.{facts_at, spec_of, HasRooms}
 
 -- the record begins with a plan
 pub record HasFirst (plan : Plan) (h : Record) : Type 0 where
@@ -56,3 +56,4 @@ pub record Begins {P : Type 0} (told_by : P → Told) (plan : Plan) (hub : Hub P
   pub bytes : hub.bytes ≡ 0
   pub abandoned : hub.abandoned ≡ None
   pub size : length hub.facts.items ≡ length hub.rows.items
+  pub rooms : HasRooms plan hub.rows.items

@@ -1,11 +1,14 @@
 -- What a hub begins with.
-use Rattle.std.specs.Prelude.{◌≡◌, ℕ, false, List, [], ◌∷◌, Option, Some, None, IfSome}
+use Rattle.std.specs.Prelude.{◌≡◌, ℕ, false, List, [], ◌∷◌, Option, Some, None, IfSome, slice_get}
 use Rattle.vx_plan.specs.declared.plan.Plan.{Plan}
 use Rattle.vx_plan.specs.Numbers.{reader_numbers}
 use Rattle.vx_ends.specs.Told.{Told}
 use Rattle.vx_ends.specs.declared.port_spec.PortSpec.{PortSpec}
 use Rattle.vx_plan.specs.declared.component.Component.{Component}
 use Rattle.vx_plan.specs.Ports.{port_of}
+use Rattle.vx_plan.specs.Components.{component_named, stages}
+use Rattle.vx_plan.specs.declared.stage.Stage.{Stage}
+use Rattle.vx_value.specs.Texts.{Word}
 use Rattle.vx_hub.specs.declared.facts.Facts.{Facts}
 use Rattle.vx_hub.specs.declared.parts.Named.{Named}
 use Rattle.vx_hub.specs.declared.seat.Seat.{Seat}
@@ -38,12 +41,30 @@ AreUnused (seat ∷ seats) = IsUnused seat × AreUnused seats
 abbrev pub IsFittedTo : Plan → Component → Facts → Type 0
 IsFittedTo plan component f = (f.outlet ≡ reader_numbers plan component.name 0 ∷ []) × (f.class ≡ component.class)
 
+-- for how many parcels the first of some stages has room
+abbrev pub first_size : List Stage → ℕ
+first_size [] = 0
+first_size (stage ∷ rest) = stage.max_events
+
+-- the same of the buffer of the component of a name
+abbrev pub room_named : Plan → Word → ℕ
+room_named plan name = elim (component_named plan name) [ None ↦ 0 | Some component ↦ first_size (stages component) ]
+
+-- the same of the instance that runs the component in a place
+abbrev pub room_at : Plan → ℕ → ℕ
+room_at plan i = elim (slice_get plan.components i) [ None ↦ 0 | Some component ↦ room_named plan component.name ]
+
+-- a seat is for a component
+pub record IsSeatOf (plan : Plan) (component : Component) (seat : Seat) : Type 0 where
+  pub fitted : IsFittedTo plan component seat.facts
+  pub room : seat.buffer.room ≡ room_named plan component.name
+
 -- each seat is for the component in its place
 abbrev pub AreFitted : Plan → List Component → List Seat → Type 0
 AreFitted plan components [] = Unit {0}
 AreFitted plan [] (seat ∷ seats) = ⊥
 AreFitted plan (component ∷ components) (seat ∷ seats) =
-    IsFittedTo plan component seat.facts × AreFitted plan components seats
+    IsSeatOf plan component seat × AreFitted plan components seats
 
 -- nothing went through a port, and it is made for that
 pub record IsUntouched (spec : Option PortSpec) (told : Told) : Type 0 where

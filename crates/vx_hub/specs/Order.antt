@@ -1,5 +1,5 @@
 -- What is proved of each entry of a run's record, given the entries before it.
-use Rattle.std.specs.Prelude.{◌≡◌, ℕ, ◌+◌, ◌*◌, ◌<◌, ◌≤◌, ◌^◌, Bool, true, false, List, [], ◌∷◌, length, Option, Some, None, IfSome, IsSome, IsSomeAnd, slice_get, ◌⊎◌, if◌then◌else◌, ◌==◌, map}
+use Rattle.std.specs.Prelude.{◌≡◌, ℕ, ◌+◌, ◌*◌, ◌<◌, ◌≤◌, ◌^◌, Bool, true, false, List, [], ◌∷◌, length, Option, Some, None, is_some, IfSome, IsSome, IsSomeAnd, slice_get, ◌⊎◌, if◌then◌else◌, ◌==◌, map}
 use Rattle.vx_ends.specs.declared.trouble.Reply.{Reply}
 use Rattle.vx_ends.specs.declared.trouble.Reply.TheVariants as reply
 use Rattle.vx_status.specs.declared.outcome.Outcome.{Outcome}
@@ -12,17 +12,19 @@ use Rattle.vx_record.specs.Places.{Place, owner}
 use Rattle.vx_record.specs.Places.Place.{Outputs, Held}
 use Rattle.vx_record.specs.Lists.{outputs, waiting, all_waiting, contents, held, stands, parcels_at, is_bare}
 use Rattle.vx_record.specs.Sending.{IsOldest}
+use Rattle.vx_record.specs.Stages.{first_room, first_filled}
 use Rattle.vx_record.specs.Moving.{Divides}
 use Rattle.vx_record.specs.Accounting.{IsNoticedSo, IsInTurn}
 use Rattle.vx_record.specs.Abandoning.{abandoned, MayStillCome}
-use Rattle.vx_record.specs.Turns.{is_out}
-use Rattle.vx_record.specs.Parcels.{parcel_event}
+use Rattle.std.specs.List.{list_all}
+use Rattle.vx_record.specs.Turns.{is_out, is_take_of, since_lease}
+use Rattle.vx_record.specs.Parcels.{parcel_event, parcel_ports, port_list}
 use Rattle.vx_record.specs.Encoding.{encode, is_prefix}
 use Rattle.vx_plan.specs.declared.codec.Codec.TheVariants.{Text}
 use Rattle.vx_value.specs.Texts.{Word}
 use Rattle.vx_record.specs.Starting.{MayInstall}
-use Rattle.vx_record.specs.Installs.{wired, in_force, is_closed, is_retired}
-use Rattle.vx_record.specs.Routing.{wired_targets}
+use Rattle.vx_record.specs.Installs.{wired, in_force, component_of, device_at, is_closed, is_retired}
+use Rattle.vx_record.specs.Routing.{wired_targets, routes}
 use Rattle.vx_record.specs.declared.child.Child.{Child}
 use Rattle.vx_ends.specs.declared.position.Position.{Position}
 use Rattle.vx_plan.specs.declared.class.Class.{Class}
@@ -79,14 +81,17 @@ pub record IsDueOf (h : Record) (j : ℕ) (positions : List Position) : Type 0 w
   pub all : positions ≡ born_positions h j
   pub source : IsOfClass h j Source
 
--- a source that wasn't lost may find nothing, and a failed start is told so only where fewer than four stand before it
+-- a source that wasn't lost may find nothing at its port, and a failed start is told so only where fewer than four stand
+-- before it
 pub record IsTryOf (h : Record) (j : ℕ) (failed : Bool) : Type 0 where
   pub turn : IsTurnOf h j
+  pub device : device_at h j ≡ true
   pub few : failed ≡ true → failed_starts h j < 4
 
--- a source is lost once, after as many bytes as it took, and by a failed start only where four stand before it
+-- a source with a port is lost once, after as many bytes as it took, and by a failed start only where four stand before it
 pub record IsLossOf (h : Record) (j at : ℕ) (failed : Bool) : Type 0 where
   pub first : IsTurnOf h j
+  pub device : device_at h j ≡ true
   pub after : at ≡ capped (bytes_taken h j)
   pub many : failed ≡ true → 4 ≤ failed_starts h j
 
@@ -110,24 +115,37 @@ pub record IsBirthOf (h : Record) (i batch : ℕ) (copies : List ℕ) (events : 
 abbrev pub readers_at : Record → ℕ → List ℕ
 readers_at = wired [] (wired_targets 0)
 
--- a split replaces the oldest output of its instance, none of whose children waits, and has its event; it makes, for each
--- reader of the instance, one child with a copy for each of the copies that it replaces, with the next numbers
-pub record IsSplitOf (h : Record) (i : ℕ) (copies : List ℕ) (event : Event) (children : List Child) : Type 0 where
+-- a split replaces the oldest output of its instance, none of whose children waits, and has its event and its ports; it
+-- makes, for each target of those ports, one child with a copy for each of the copies that it replaces, with the next
+-- numbers; the targets are the readers of the instance
+pub record IsSplitOf (h : Record) (i ports : ℕ) (copies : List ℕ) (event : Event) (children : List Child) : Type 0 where
   pub divides : Divides h i copies children
   pub none_waits : all_waiting h i ≡ []
+  pub on_ports : ports ≡ parcel_ports h copies
   pub same_event : event ≡ parcel_event h copies
+  pub made : children ≡ children_of (next_copy h) (length copies) (routes h i (port_list ports))
   pub routed : children ≡ children_of (next_copy h) (length copies) (readers_at h i)
   pub some : 0 < length children
   pub fits : next_copy h + length children * length copies ≤ 2 ^ 63
 
--- an instance that is out takes the oldest parcel of its buffer
+-- the oldest child that waits for a target enters the first stage of the target's buffer that isn't full
+pub record IsPushOf (h : Record) (j t s : ℕ) (copies : List ℕ) : Type 0 where
+  pub oldest : IsOldest copies (waiting h j t)
+  pub room : first_room h t ≡ Some s
+
+-- an instance that is out takes the oldest parcel of the first stage of its buffer that has one; since its lease it did
+-- nothing but take, fewer than 64 times so far
 pub record IsTakeOf (h : Record) (j s : ℕ) (copies : List ℕ) : Type 0 where
   pub out : is_out h j ≡ true
+  pub only_takes : list_all (is_take_of j) (since_lease h j) ≡ true
+  pub few : length (since_lease h j) < 64
+  pub first : first_filled h j ≡ Some s
   pub oldest : IsOldest copies (contents h j s)
 
 -- to the port of an instance that is out the ends of all its batches are confirmed
 pub record IsConfirmOf (h : Record) (j : ℕ) (positions : List Position) : Type 0 where
   pub out : is_out h j ≡ true
+  pub device : device_at h j ≡ true
   pub due : IsDueOf h j positions
 
 -- an attempt is made by a sink that is out, and names what it holds, in order; it gives what the codec `text` writes
@@ -190,8 +208,9 @@ pub record IsGivenUp (h : Record) (cause : AbandonCause) : Type 0 where
   pub first : cause_of h ≡ None
   pub reason : IsReason h cause
 
--- an instance whose port isn't closed for good is leased, and it isn't retired
+-- an instance is leased that is there and isn't retired, and whose port isn't closed for good
 pub record IsLeaseOf (h : Record) (j polls : ℕ) : Type 0 where
+  pub known : is_some (component_of h j) ≡ true
   pub unclosed : is_closed h j ≡ false
   pub unretired : is_retired h j ≡ false
   pub unpolled : polls ≡ 0
@@ -199,12 +218,14 @@ pub record IsLeaseOf (h : Record) (j polls : ℕ) : Type 0 where
 -- a port is closed for good once, by an instance that is out or after an abandonment; and a source's only where it takes
 -- no more
 pub record IsClosureOf (h : Record) (j : ℕ) : Type 0 where
+  pub device : device_at h j ≡ true
   pub first : is_closed h j ≡ false
   pub over : (is_out h j ≡ true) ⊎ (abandoned h ≡ true)
   pub done : IsClosing h j
 
--- an instance is retired once, when its port is closed for good and nothing stands at it
+-- an instance that is there is retired once, when its port is closed for good and nothing stands at it
 pub record IsEndOf (h : Record) (j : ℕ) : Type 0 where
+  pub known : is_some (component_of h j) ≡ true
   pub unretired : is_retired h j ≡ false
   pub port_closed : is_closed h j ≡ true
   pub bare : is_bare h j ≡ true
@@ -218,8 +239,8 @@ IsInOrder h (Read j stream took) = IsTurnOf h j
 IsInOrder h (Idle j failed) = IsTryOf h j failed
 IsInOrder h (SourceLost j at failed) = IsLossOf h j at failed
 IsInOrder h (Born j batch place copies events waits stream end) = IsBirthOf h j batch copies events waits
-IsInOrder h (Split j ports copies event children) = IsSplitOf h j copies event children
-IsInOrder h (Push j t s copies) = IsOldest copies (waiting h j t)
+IsInOrder h (Split j ports copies event children) = IsSplitOf h j ports copies event children
+IsInOrder h (Push j t s copies) = IsPushOf h j t s copies
 IsInOrder h (Take j s copies) = IsTakeOf h j s copies
 IsInOrder h (Attempt j copies bytes reply) = IsAttemptOf h j copies bytes reply
 IsInOrder h (Spent j c outcome) = IsSpending h j c outcome

@@ -103,9 +103,22 @@ KeepsOthersBare i old new = (j : ℕ) → j ≢ i → IsBareAt old j → IsBareA
 abbrev pub HasOutputRoom : {P : Type 0} → List (Row P) → ℕ → ℕ → Type 0
 HasOutputRoom rows i n = IfSome (row_at rows i) (λ row. length row.outputs.items + n ≤ row.outputs.room)
 
+-- for how many parcels the buffer of each instance has room
+abbrev pub buffer_rooms : {P : Type 0} → List (Row P) → List ℕ
+buffer_rooms [] = []
+buffer_rooms (row ∷ rows) = row.buffer.room ∷ buffer_rooms rows
+
+-- each buffer has room for as many as before
+abbrev pub SameRooms : {P : Type 0} → List (Row P) → List (Row P) → Type 0
+SameRooms old new = buffer_rooms new ≡ buffer_rooms old
+
 -- there is room for one more parcel in the buffer
 abbrev pub HasRoom : {P : Type 0} → List (Row P) → ℕ → Type 0
 HasRoom rows i = IfSome (row_at rows i) (λ row. length row.buffer.items < row.buffer.room)
+
+-- the buffer is made for one parcel at least
+abbrev pub HasBuffer : {P : Type 0} → List (Row P) → ℕ → Type 0
+HasBuffer rows i = IfSome (row_at rows i) (λ row. 0 < row.buffer.room)
 
 -- no child of the instance waits
 abbrev pub NoneWaits : {P : Type 0} → List (Row P) → ℕ → Type 0

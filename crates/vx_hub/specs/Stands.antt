@@ -19,7 +19,8 @@ use Rattle.vx_hub.specs.declared.row.Row.{Row}
 use Rattle.vx_hub.specs.declared.hub.Hub.{Hub}
 use Rattle.vx_hub.specs.declared.parts.Numbered.{Numbered}
 use Rattle.vx_value.specs.Filled.{Filled}
-use Rattle.vx_hub.specs.Rows.{copies_in, port_at, IsBareAt, HasRoom}
+use Rattle.vx_hub.specs.Making.{room_at}
+use Rattle.vx_hub.specs.Rows.{copies_in, row_at, port_at, IsBareAt, HasRoom}
 use Rattle.vx_record.specs.Batches.{NoNoticeDue}
 use Rattle.vx_hub.specs.Batching.{AreRunning}
 use Rattle.vx_hub.specs.Places.{IsPlaced}
@@ -135,6 +136,10 @@ pub record HasBerths {P : Type 0} (ports : Filled (Numbered P)) (rows : List (Ro
   pub room : length rows ≤ ports.room
   pub few : length rows < 2 ^ 32
 
+-- the buffer of each instance has as much room as the first stage of its component's
+abbrev pub HasRooms : {P : Type 0} → Plan → List (Row P) → Type 0
+HasRooms plan rows = (i : ℕ) → IfSome (row_at rows i) (λ row. row.buffer.room ≡ room_at plan i)
+
 -- what only the beginning, the end and an abandonment change
 abbrev pub spare_of : {P : Type 0} → Hub P → Filled (Numbered P) × Option AbandonCause × Plan
 spare_of hub = (hub.ports, hub.abandoned, hub.plan)
@@ -148,6 +153,7 @@ pub record Stands {P : Type 0} (told_by : P → Told) (hub : Hub P) (hand : List
   pub gone : (i : ℕ) → IfSome (facts_at hub.facts.items i) (IsGone hub.rows.items i)
   pub size : length hub.facts.items ≡ length hub.rows.items
   pub berths : HasBerths hub.ports hub.rows.items
+  pub rooms : HasRooms hub.plan hub.rows.items
 
 -- an entry that installs nothing and tells nothing of any port
 abbrev pub IsMute : Entry → Type 0

@@ -1,10 +1,10 @@
-ghost use Rattle.std.specs.Prelude.{◌≡◌, ◌≢◌, ◌<◌, ℕ, [], length, None, IfSome, IfNone, IsSome, IsSomeAnd, IsTrue, true, false};
+ghost use Rattle.std.specs.Prelude.{◌≡◌, ◌≢◌, ◌<◌, ◌+◌, ℕ, [], length, None, IfSome, IfNone, IsSome, IsSomeAnd, IsTrue, true, false};
 ghost use Rattle.vx_plan.specs.declared.class.Class.TheVariants.{Source};
 ghost use Rattle.vx_hub.specs.Order.{IsDueOf};
 ghost use Rattle.vx_hub.specs.Stands.{Stands, IsSound, IsUnlost, MayShut, IsDry, IsSinkAt, facts_at};
 ghost use Rattle.vx_hub.specs.Works.{IsSending};
 ghost use Rattle.vx_hub.specs.Leases.{IsLeased, IsOpenAt};
-ghost use Rattle.vx_hub.specs.Away.{IsAway};
+ghost use Rattle.vx_hub.specs.Away.{IsAway, HasTaken};
 ghost use Rattle.vx_hub.specs.Rows.{CanHold};
 ghost use Rattle.vx_record.specs.Places.Place.{Outputs};
 ghost use Rattle.vx_hub.specs.Places.{numbers_at};
@@ -72,6 +72,7 @@ impl<P: Port> Hub<P> {
         ensures fatal { self.new.fatal ≡ self.old.fatal }
         ensures abandoned { self.new.abandoned ≡ self.old.abandoned }
         ensures away { IsAway self.new instance }
+        ensures untaken { HasTaken self.new instance 0 }
     {
         self.log.note(Ok(Entry::Lease {
             instance,
@@ -225,6 +226,7 @@ impl<P: Port> Hub<P> {
         requires stands { Stands P.told self.old [] self.old.log.history }
         requires open { IsOpenAt self.old instance }
         requires away { IsAway self.old instance }
+        requires untaken { HasTaken self.old instance 0 }
         requires going { self.old.abandoned ≡ None }
         ensures stands { Stands P.told self.new [] self.new.log.history }
         ensures open { IsOpenAt self.new instance }
@@ -237,7 +239,7 @@ impl<P: Port> Hub<P> {
         ensures abandoned { self.new.abandoned ≡ self.old.abandoned }
         ensures away { (i : ℕ) → IsAway self.old i → IsAway self.new i }
     {
-        for _ in 0..TAKES {
+        for _taken in 0..TAKES {
             if !self.take(instance, now) {
                 break;
             }
@@ -249,6 +251,7 @@ impl<P: Port> Hub<P> {
         requires stands { Stands P.told self.old [] self.old.log.history }
         requires open { IsOpenAt self.old instance }
         requires away { IsAway self.old instance }
+        requires few { HasTaken self.old instance 63 }
         requires going { self.old.abandoned ≡ None }
         ensures stands { Stands P.told self.new [] self.new.log.history }
         ensures facts { self.new.facts ≡ self.old.facts }
@@ -259,6 +262,7 @@ impl<P: Port> Hub<P> {
         ensures fatal { self.new.fatal ≡ self.old.fatal }
         ensures abandoned { self.new.abandoned ≡ self.old.abandoned }
         ensures away { (i : ℕ) → IsAway self.old i → IsAway self.new i }
+        ensures taken { (n : ℕ) → HasTaken self.old instance n → HasTaken self.new instance (n + 1) }
     {
         if !self.can_hold(instance as usize) {
             return false;

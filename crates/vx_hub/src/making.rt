@@ -5,7 +5,7 @@ ghost use Rattle.vx_record.specs.Starting.{first_instances};
 ghost use Rattle.vx_record.specs.Wirings.{begun};
 ghost use Rattle.vx_hub.specs.Stands.{Stands, spec_of};
 ghost use Rattle.vx_hub.specs.Beginning.{HasRoomFor, HasSeats, Begins};
-ghost use Rattle.vx_hub.specs.Making.{IsUnused, AreUnused, IsFittedTo, AreFitted, IsUntouched, AreUntouched};
+ghost use Rattle.vx_hub.specs.Making.{IsUnused, AreUnused, IsSeatOf, AreFitted, IsUntouched, AreUntouched};
 
 use crate::facts::{Facts, Progress};
 use crate::hub::Hub;
@@ -189,7 +189,7 @@ impl<P: Port> Hub<P> {
     fn seat(&mut self, seat: Seat, port: P)
         requires unused { IsUnused seat }
         requires room { HasSeats self.old 1 }
-        ensures begins { (plan : Plan) → Begins P.told plan self.old → IsUntouched (spec_of (slice_get plan.components (length self.old.rows.items))) (P.told port) → IsSomeAnd (slice_get plan.components (length self.old.rows.items)) (λ component. IsFittedTo plan component seat.facts) → Begins P.told plan self.new }
+        ensures begins { (plan : Plan) → Begins P.told plan self.old → IsUntouched (spec_of (slice_get plan.components (length self.old.rows.items))) (P.told port) → IsSomeAnd (slice_get plan.components (length self.old.rows.items)) (λ component. IsSeatOf plan component seat) → Begins P.told plan self.new }
         ensures room { (n : ℕ) → HasSeats self.old (n + 1) → HasSeats self.new n }
         ensures size { length self.new.rows.items ≡ length self.old.rows.items + 1 }
         ensures rest { (self.new.log ≡ self.old.log) × (self.new.ports ≡ self.old.ports) }

@@ -5,7 +5,7 @@ ghost use Rattle.vx_hub.specs.Places.{parcel_lists, copies_at, SamePlaces, Takes
 ghost use Rattle.vx_hub.specs.Works.{IsClosedBy};
 ghost use Rattle.vx_record.specs.Records.{Record};
 ghost use Rattle.vx_hub.specs.Events.{IsSaid, Each, EachChild, AreSaid};
-ghost use Rattle.vx_hub.specs.Rows.{child_copies, role_copies, role_parcels, option_copies, task_copies, port_at, Loses, Gains, SamePorts, SameOtherPorts, KeepsBare, KeepsOthersBare, HasOutputRoom, HasRoom, NoneWaits, HasChild, IsOutAt, IsBareAt, CanHold};
+ghost use Rattle.vx_hub.specs.Rows.{child_copies, role_copies, role_parcels, option_copies, task_copies, port_at, Loses, Gains, SamePorts, SameOtherPorts, KeepsBare, KeepsOthersBare, HasOutputRoom, HasRoom, HasBuffer, SameRooms, NoneWaits, HasChild, IsOutAt, IsBareAt, CanHold};
 
 use crate::row::Row;
 use crate::task::{Role, Task};
@@ -24,6 +24,7 @@ pub(crate) fn pop_output<P>(rows: &mut Vec<Row<P>>, i: usize) -> Option<Parcel>
     ensures waits { (j : ℕ) → NoneWaits rows.old.items j → NoneWaits rows.new.items j }
     ensures held { IsSome result → IsBareAt rows.old.items i → ⊥ }
     ensures size { length rows.new.items ≡ length rows.old.items }
+    ensures same_rooms { SameRooms rows.old.items rows.new.items }
     ensures oldest { IfSome result (λ parcel. TakesOldest (Outputs i) parcel.finalizers rows.old.items rows.new.items) }
     ensures none { IfNone result (SamePlaces rows.old.items rows.new.items) }
     ensures said { (h : Record) → AreSaid h rows.old.items → AreSaid h rows.new.items × IfSome result (IsSaid h) }
@@ -40,6 +41,7 @@ pub(crate) fn push_output<P>(rows: &mut Vec<Row<P>>, i: usize, parcel: Parcel)
     ensures bare { KeepsOthersBare i rows.old.items rows.new.items }
     ensures room { (n : ℕ) → HasOutputRoom rows.old.items i (n + 1) → HasOutputRoom rows.new.items i n }
     ensures size { length rows.new.items ≡ length rows.old.items }
+    ensures same_rooms { SameRooms rows.old.items rows.new.items }
     ensures oldest { TakesOldest (Outputs i) parcel.finalizers rows.new.items rows.old.items }
     ensures said { (h : Record) → AreSaid h rows.old.items → IsSaid h parcel → AreSaid h rows.new.items }
 {
@@ -58,6 +60,7 @@ pub(crate) fn reserve_outputs<P>(
     ensures ports { SamePorts rows.old.items rows.new.items }
     ensures bare { KeepsBare rows.old.items rows.new.items }
     ensures size { length rows.new.items ≡ length rows.old.items }
+    ensures same_rooms { SameRooms rows.old.items rows.new.items }
     ensures places { SamePlaces rows.old.items rows.new.items }
     ensures said { (h : Record) → AreSaid h rows.old.items → AreSaid h rows.new.items }
 {
@@ -72,6 +75,7 @@ pub(crate) fn put_children<P>(rows: &mut Vec<Row<P>>, i: usize, children: ChildL
     ensures ports { SamePorts rows.old.items rows.new.items }
     ensures bare { KeepsOthersBare i rows.old.items rows.new.items }
     ensures size { length rows.new.items ≡ length rows.old.items }
+    ensures same_rooms { SameRooms rows.old.items rows.new.items }
     ensures places { FillsWaiting i children rows.old.items rows.new.items }
     ensures said { (h : Record) → AreSaid h rows.old.items → EachChild (IsSaid h) children → AreSaid h rows.new.items }
 {
@@ -88,6 +92,7 @@ pub(crate) fn take_child<P>(rows: &mut Vec<Row<P>>, i: usize, k: usize) -> Child
     ensures bare { KeepsBare rows.old.items rows.new.items }
     ensures rooms { (j : ℕ) → HasRoom rows.old.items j → HasRoom rows.new.items j }
     ensures size { length rows.new.items ≡ length rows.old.items }
+    ensures same_rooms { SameRooms rows.old.items rows.new.items }
     ensures oldest { (t : ℕ) → IsFirstChild rows.old.items i t k → (result.target ≡ t) × TakesOldest (Waiting i t) result.parcel.finalizers rows.old.items rows.new.items }
     ensures said { (h : Record) → AreSaid h rows.old.items → AreSaid h rows.new.items × IsSaid h result.parcel }
 {
@@ -101,6 +106,7 @@ pub(crate) fn take_last_child<P>(rows: &mut Vec<Row<P>>, i: usize) -> Option<Par
     ensures ports { SamePorts rows.old.items rows.new.items }
     ensures bare { KeepsBare rows.old.items rows.new.items }
     ensures size { length rows.new.items ≡ length rows.old.items }
+    ensures same_rooms { SameRooms rows.old.items rows.new.items }
     ensures from { IfSome result (λ parcel. (t : ℕ) × TakesFrom (Waiting i t) parcel.finalizers rows.old.items rows.new.items) }
     ensures none { IfNone result (SamePlaces rows.old.items rows.new.items) }
     ensures said { (h : Record) → AreSaid h rows.old.items → AreSaid h rows.new.items × IfSome result (IsSaid h) }
@@ -120,6 +126,8 @@ pub(crate) fn pop_buffer<P>(rows: &mut Vec<Row<P>>, i: usize) -> Option<Parcel>
     ensures holds { (j : ℕ) → CanHold rows.old.items j → CanHold rows.new.items j }
     ensures held { IsSome result → IsBareAt rows.old.items i → ⊥ }
     ensures size { length rows.new.items ≡ length rows.old.items }
+    ensures same_rooms { SameRooms rows.old.items rows.new.items }
+    ensures made { IsSome result → HasBuffer rows.old.items i }
     ensures oldest { IfSome result (λ parcel. TakesOldest (Contents i 0) parcel.finalizers rows.old.items rows.new.items) }
     ensures none { IfNone result (SamePlaces rows.old.items rows.new.items) }
     ensures said { (h : Record) → AreSaid h rows.old.items → AreSaid h rows.new.items × IfSome result (IsSaid h) }
@@ -135,6 +143,7 @@ pub(crate) fn push_buffer<P>(rows: &mut Vec<Row<P>>, i: usize, parcel: Parcel)
     ensures ports { SamePorts rows.old.items rows.new.items }
     ensures bare { KeepsOthersBare i rows.old.items rows.new.items }
     ensures size { length rows.new.items ≡ length rows.old.items }
+    ensures same_rooms { SameRooms rows.old.items rows.new.items }
     ensures last { PutsLast (Contents i 0) parcel.finalizers rows.old.items rows.new.items }
     ensures said { (h : Record) → AreSaid h rows.old.items → IsSaid h parcel → AreSaid h rows.new.items }
 {
@@ -150,6 +159,7 @@ pub(crate) fn take_task<P>(rows: &mut Vec<Row<P>>, i: usize) -> Option<Task<P>>
     ensures ports { SameOtherPorts i rows.old.items rows.new.items }
     ensures bare { KeepsOthersBare i rows.old.items rows.new.items }
     ensures size { length rows.new.items ≡ length rows.old.items }
+    ensures same_rooms { SameRooms rows.old.items rows.new.items }
     ensures held { IfSome result (λ task. copies_at (Held i) rows.old.items ≡ parcel_lists (role_parcels task.role)) }
     ensures places { Fills (Held i) [] rows.old.items rows.new.items }
     ensures none { IfNone result (SamePlaces rows.old.items rows.new.items) }
@@ -167,6 +177,7 @@ pub(crate) fn put_task<P>(rows: &mut Vec<Row<P>>, i: usize, task: Task<P>)
     ensures ports { SameOtherPorts i rows.old.items rows.new.items }
     ensures bare { KeepsOthersBare i rows.old.items rows.new.items }
     ensures size { length rows.new.items ≡ length rows.old.items }
+    ensures same_rooms { SameRooms rows.old.items rows.new.items }
     ensures places { Fills (Held i) (parcel_lists (role_parcels task.role)) rows.old.items rows.new.items }
     ensures said { (h : Record) → AreSaid h rows.old.items → Each (IsSaid h) (role_parcels task.role) → AreSaid h rows.new.items }
 {
@@ -183,6 +194,7 @@ pub(crate) fn pop_held<P>(rows: &mut Vec<Row<P>>, i: usize) -> Option<Parcel>
     ensures ports { SamePorts rows.old.items rows.new.items }
     ensures bare { KeepsBare rows.old.items rows.new.items }
     ensures size { length rows.new.items ≡ length rows.old.items }
+    ensures same_rooms { SameRooms rows.old.items rows.new.items }
     ensures oldest { IfSome result (λ parcel. TakesOldest (Held i) parcel.finalizers rows.old.items rows.new.items) }
     ensures none { IfNone result (SamePlaces rows.old.items rows.new.items) }
     ensures said { (h : Record) → AreSaid h rows.old.items → AreSaid h rows.new.items × IfSome result (IsSaid h) }
@@ -204,6 +216,7 @@ pub(crate) fn hold<P>(rows: &mut Vec<Row<P>>, i: usize, parcel: Parcel, now: u64
     ensures ports { SamePorts rows.old.items rows.new.items }
     ensures bare { KeepsOthersBare i rows.old.items rows.new.items }
     ensures size { length rows.new.items ≡ length rows.old.items }
+    ensures same_rooms { SameRooms rows.old.items rows.new.items }
     ensures last { PutsLast (Held i) parcel.finalizers rows.old.items rows.new.items }
     ensures said { (h : Record) → AreSaid h rows.old.items → IsSaid h parcel → AreSaid h rows.new.items }
 {
@@ -232,6 +245,7 @@ pub(crate) fn close_at<P: Port>(rows: &mut Vec<Row<P>>, i: usize)
     ensures ports { SameOtherPorts i rows.old.items rows.new.items }
     ensures bare { KeepsBare rows.old.items rows.new.items }
     ensures size { length rows.new.items ≡ length rows.old.items }
+    ensures same_rooms { SameRooms rows.old.items rows.new.items }
     ensures places { SamePlaces rows.old.items rows.new.items }
     ensures said { (h : Record) → AreSaid h rows.old.items → AreSaid h rows.new.items }
 {

@@ -1,6 +1,7 @@
 ghost use Rattle.std.specs.Prelude.{◌≡◌, ◌++◌, ◌∷◌, [], length, IfOk};
 ghost use Rattle.vx_plan.specs.Numbers.{reader_numbers};
-ghost use Rattle.vx_hub.specs.Making.{IsUnused, AreUnused, IsFittedTo, AreFitted};
+ghost use Rattle.vx_plan.specs.Components.{stages, sink_stages};
+ghost use Rattle.vx_hub.specs.Making.{IsUnused, AreUnused, IsSeatOf, AreFitted, first_size, room_named};
 ghost use Rattle.vx_hub.specs.Rows.{role_parcels};
 
 use crate::facts::Facts;
@@ -10,11 +11,14 @@ use crate::task::{Role, SinkCore};
 use std::alloc::Global;
 use vx_ends::PositionList;
 use vx_ledger::{Outlet, Parcel};
-use vx_plan::{Component, Plan, Settings};
+use vx_plan::{Class, Component, Plan, Settings};
 use vx_value::{Queue, Text, WantOfMemory};
 
 /// The greatest number that an instance may have.
 const MOST_INSTANCES: u64 = 0xffff_ffff;
+
+/// For how many parcels the buffer of a transform has room.
+const TRANSFORM_ROOM: usize = 100;
 
 /// What an instance begins with, but for its port.
 pub struct Seat {
@@ -46,7 +50,7 @@ pub(crate) fn seats(alloc: Global, plan: &Plan) -> Result<Vec<Seat>, WantOfMemor
 /// What a component begins with.
 fn make_seat(alloc: Global, plan: &Plan, component: &Component) -> Result<Seat, WantOfMemory>
     ensures unused { IfOk result IsUnused }
-    ensures fitted { IfOk result (λ seat. IsFittedTo plan.now component.now seat.facts) }
+    ensures fitted { IfOk result (λ seat. IsSeatOf plan.now component.now seat) }
 {
     let facts = Facts {
         name: component.name.copy(alloc)?,
@@ -62,7 +66,7 @@ fn make_seat(alloc: Global, plan: &Plan, component: &Component) -> Result<Seat, 
         closed: false,
         retired: false,
     };
-    let buffer = Queue::new(alloc, buffer_room(&component.settings))?;
+    let buffer = Queue::new(alloc, buffer_room(plan, component.name.as_str()))?;
     match role(alloc, &component.settings) {
         Ok(role) => Ok(Seat {
             facts,
@@ -95,8 +99,31 @@ fn outlet(alloc: Global, plan: &Plan, component: &Component) -> Result<Outlet, W
     Ok(outlet)
 }
 
-/// For how many parcels the buffer of a component has room.
-fn buffer_room(settings: &Settings) -> usize {
+/// For how many parcels the buffer of the component of a name has room.
+fn buffer_room(plan: &Plan, name: &str) -> usize
+    ensures { result ≡ room_named plan.now name.now }
+{
+    match plan.component(name) {
+        Some(component) => component_room(component),
+        None => 0,
+    }
+}
+
+/// For how many parcels the first stage of a component's buffer has room; 0 where it has none.
+fn component_room(component: &Component) -> usize
+    ensures { result ≡ first_size (stages component.now) }
+{
+    match component.class {
+        Class::Source => 0,
+        Class::Transform => TRANSFORM_ROOM,
+        Class::Sink => sink_room(&component.settings),
+    }
+}
+
+/// The same of a sink's options.
+fn sink_room(settings: &Settings) -> usize
+    ensures { result ≡ first_size (sink_stages settings.now) }
+{
     match settings.sink() {
         Some(sink) => match sink.buffer.get(0) {
             Some(stage) => stage.max_events as usize,

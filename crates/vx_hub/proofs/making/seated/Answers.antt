@@ -3,10 +3,10 @@ use Rattle.std.specs.Prelude.{drop, slice_get, IsSomeAnd}
 use Rattle.vx_hub.specs.declared.row.Row.{Row}
 use Rattle.vx_hub.specs.declared.facts.Facts.{Facts}
 use Rattle.vx_hub.specs.Stands.{facts_at, spec_of}
-use Rattle.vx_hub.specs.Rows.{copies_in, port_at}
+use Rattle.vx_hub.specs.Rows.{copies_in, row_at, port_at}
 use Rattle.vx_hub.specs.declared.seat.Seat.{Seat}
 use Rattle.vx_hub.specs.declared.parts.Named.{Named}
-use Rattle.vx_hub.specs.Making.{AreNew, AreUnused, IsFittedTo, AreFitted, IsUntouched, AreUntouched}
+use Rattle.vx_hub.specs.Making.{room_at, AreNew, AreUnused, IsFittedTo, AreFitted, IsUntouched, AreUntouched}
 use Rattle.vx_hub.specs.Beginning.{HasSeats, HasFirst}
 use Rattle.vx_hub.proofs.Beginning.{begun_stands, said_none, front_of, none_at, fitted_first, untouched_first}
 use Rattle.vx_hub.proofs.making.seated.Goals as goal
@@ -29,6 +29,7 @@ loop-seats-init g c =
         bytes = refl;
         abandoned = refl;
         size = ap length c.requires.room.facts ∙ sym none;
+        rooms = λ i. subst (λ (rows : List (Row _)). IfSome (row_at rows i) (λ row. row.buffer.room ≡ room_at c.args.plan i)) (sym c.requires.room.rows) tt;
       };
       unused = c.requires.unused;
       fitted = subst (λ (n : ℕ). AreFitted c.args.plan (drop n c.args.plan.components) c.args.seats.items) (sym none) c.requires.fitted;

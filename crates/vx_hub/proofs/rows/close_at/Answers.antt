@@ -4,7 +4,7 @@ use Rattle.vx_ledger.specs.Copies.{copies_of}
 use Rattle.vx_hub.specs.Rows.{task_copies, task_parcels, task_port, port_of, port_at}
 use Rattle.vx_hub.specs.Works.{IsClosedBy}
 use Rattle.vx_hub.proofs.Parcels.{row_counts}
-use Rattle.vx_hub.proofs.RowLaws.{rows_lose, row_read, row_written, other_ports, bare_kept}
+use Rattle.vx_hub.proofs.RowLaws.{rooms_written, rows_lose, row_read, row_written, other_ports, bare_kept}
 use Rattle.vx_hub.proofs.PlaceLaws.{places_kept, same_task}
 use Rattle.vx_hub.specs.Events.{IsSaid, Each, HasEach}
 use Rattle.vx_hub.proofs.EventLaws.{row_each, rows_each}
@@ -54,3 +54,6 @@ returns-clause-said g c h said =
       buffer = all.buffer;
       held = subst (λ (t : _). Each (IsSaid h) (task_parcels t)) c.in-Some.is all.held;
     })
+
+pub returns-clause-same_rooms : goal.returns-clause-same_rooms
+returns-clause-same_rooms g c = rooms_written c.args.rows.now.items c.args.i c.index_mut.result.now _ c.requires.within c.index_mut.ensures.value refl

@@ -3,7 +3,7 @@ use Rattle.vx_ledger.specs.Copies.{copies_of}
 use Rattle.vx_hub.specs.Rows.{task_port, parcel_copies}
 use Rattle.vx_hub.specs.declared.task.Role.TheVariants.{Sink}
 use Rattle.vx_hub.proofs.Parcels.{row_counts, parcels_pushed, held_copies}
-use Rattle.vx_hub.proofs.RowLaws.{rows_gain, ports_kept, others_bare}
+use Rattle.vx_hub.proofs.RowLaws.{rooms_written, rows_gain, ports_kept, others_bare}
 use Rattle.vx_record.specs.Places.{same_place}
 use Rattle.vx_record.specs.Places.Place.{Held}
 use Rattle.vx_hub.specs.Places.{parcel_lists}
@@ -53,3 +53,6 @@ returns-clause-said g c h said is =
       held = subst (λ (ps : List Parcel). Each (IsSaid h) ps) (sym c.push.ensures.items) (each-append (IsSaid h) c.in-Sink.core.held.items (c.args.parcel ∷ [])
           (subst (λ (ps : List Parcel). Each (IsSaid h) ps) (task_holds row.task c.in-Some.task c.in-Sink.core c.in-Some.is c.in-Sink.is) all.held) (is, tt));
     })
+
+pub returns-clause-same_rooms : goal.returns-clause-same_rooms
+returns-clause-same_rooms g c = rooms_written c.args.rows.now.items c.args.i c.index_mut.result.now _ c.requires.within c.index_mut.ensures.value refl

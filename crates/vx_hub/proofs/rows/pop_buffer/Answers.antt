@@ -1,7 +1,7 @@
-use Rattle.std.proofs.Common.{arith, refl, ◌≡◌, ◌∙◌, ◌∷◌, ap, sym, false}
+use Rattle.std.proofs.Common.{arith, ◌<◌, refl, ◌≡◌, ◌∙◌, ◌∷◌, ap, sym, false}
 use Rattle.vx_hub.specs.Rows.{HoldsMore, IsBare}
-use Rattle.vx_hub.proofs.Parcels.{row_counts, popped_first, none_first, first_held}
-use Rattle.vx_hub.proofs.RowLaws.{rows_lose, row_has, each_keeps, ports_kept, bare_kept}
+use Rattle.vx_hub.proofs.Parcels.{row_counts, popped_first, none_first, first_held, popped_within}
+use Rattle.vx_hub.proofs.RowLaws.{rooms_written, rows_lose, row_has, row_says, each_keeps, ports_kept, bare_kept}
 use Rattle.vx_record.specs.Places.{same_place}
 use Rattle.vx_record.specs.Places.Place.{Contents}
 use Rattle.vx_hub.proofs.PlaceLaws.{read_at, written_at, places_but, but_buffer, places_kept, same_buffer, popped_queue, popped_none}
@@ -57,3 +57,10 @@ returns-clause-said g c h said =
     let all : HasEach (IsSaid h) row = row_each (IsSaid h) rows c.args.i row c.requires c.index_mut.ensures.value said in
     let out = queue_each (IsSaid h) c.pop.result row.buffer.items c.pop.new.self.items c.pop.ensures.some c.pop.ensures.empty all.buffer in
     (rows_each (IsSaid h) rows c.args.i _ c.requires said (record { outputs = all.outputs; waiting = all.waiting; buffer = out.0; held = all.held }), out.1)
+
+pub returns-clause-same_rooms : goal.returns-clause-same_rooms
+returns-clause-same_rooms g c = rooms_written c.args.rows.now.items c.args.i c.index_mut.result.now _ c.requires c.index_mut.ensures.value c.pop.ensures.room
+
+pub returns-clause-made : goal.returns-clause-made
+returns-clause-made g c some = row_says (λ row. 0 < row.buffer.room) c.args.rows.now.items c.args.i c.index_mut.result.now c.requires c.index_mut.ensures.value
+    (popped_within c.pop.result c.index_mut.result.now.buffer.items c.pop.new.self.items c.index_mut.result.now.buffer.room some c.pop.ensures.some c.pop.ensures.within)

@@ -2,7 +2,7 @@ use Rattle.std.proofs.Common.{arith, refl, ap, sym, Some, ◌≡◌, ◌∙◌, 
 use Rattle.vx_hub.specs.Rows.{task_port}
 use Rattle.vx_hub.specs.declared.task.Role.TheVariants.{Sink}
 use Rattle.vx_hub.proofs.Parcels.{row_counts, popped_first, held_copies, none_held, none_first}
-use Rattle.vx_hub.proofs.RowLaws.{rows_lose, ports_kept, bare_kept}
+use Rattle.vx_hub.proofs.RowLaws.{rooms_written, rows_lose, ports_kept, bare_kept}
 use Rattle.vx_record.specs.Places.{same_place}
 use Rattle.vx_record.specs.Places.Place.{Held}
 use Rattle.vx_hub.specs.Places.{parcel_lists}
@@ -65,3 +65,6 @@ returns-in-Source-clause-said g c h said =
     let row = c.index_mut.result.now in
     let all : HasEach (IsSaid h) row = row_each (IsSaid h) rows c.args.i row c.requires c.index_mut.ensures.value said in
     (rows_each (IsSaid h) rows c.args.i _ c.requires said (record { outputs = all.outputs; waiting = all.waiting; buffer = all.buffer; held = subst (λ (t : _). Each (IsSaid h) (task_parcels t)) c.in-Some.is all.held }), tt)
+
+pub returns-in-Sink-clause-same_rooms : goal.returns-in-Sink-clause-same_rooms
+returns-in-Sink-clause-same_rooms g c = rooms_written c.args.rows.now.items c.args.i c.index_mut.result.now _ c.requires c.index_mut.ensures.value refl

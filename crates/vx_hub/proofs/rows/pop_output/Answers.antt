@@ -1,7 +1,7 @@
 use Rattle.std.proofs.Common.{arith, refl, ◌≡◌, [], ◌∙◌, ◌∷◌, ap, sym, false}
 use Rattle.vx_hub.specs.Rows.{IsBare}
 use Rattle.vx_hub.proofs.Parcels.{row_counts, popped_last, none_last, popped_room, some_held}
-use Rattle.vx_hub.proofs.RowLaws.{rows_lose, row_gets, row_has, each_keeps, ports_kept, bare_kept}
+use Rattle.vx_hub.proofs.RowLaws.{rooms_written, rows_lose, row_gets, row_has, each_keeps, ports_kept, bare_kept}
 use Rattle.vx_record.specs.Places.{same_place}
 use Rattle.vx_record.specs.Places.Place.{Outputs}
 use Rattle.vx_hub.proofs.PlaceLaws.{read_at, written_at, places_but, but_outputs, places_kept, same_outputs, popped_stack, popped_none}
@@ -60,3 +60,6 @@ returns-clause-said g c h said =
     let all : HasEach (IsSaid h) row = row_each (IsSaid h) rows c.args.i row c.requires c.index_mut.ensures.value said in
     let out = stack_each (IsSaid h) c.pop.result row.outputs.items c.pop.new.self.items c.pop.ensures.some c.pop.ensures.empty all.outputs in
     (rows_each (IsSaid h) rows c.args.i _ c.requires said (record { outputs = out.0; waiting = all.waiting; buffer = all.buffer; held = all.held }), out.1)
+
+pub returns-clause-same_rooms : goal.returns-clause-same_rooms
+returns-clause-same_rooms g c = rooms_written c.args.rows.now.items c.args.i c.index_mut.result.now _ c.requires c.index_mut.ensures.value refl

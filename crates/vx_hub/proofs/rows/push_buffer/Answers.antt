@@ -2,7 +2,7 @@ use Rattle.std.proofs.Common.{arith, refl, ap, ◌≡◌, ◌∙◌, ◌∷◌, 
 use Rattle.vx_ledger.specs.Copies.{copies_of}
 use Rattle.vx_hub.specs.Rows.{parcel_copies}
 use Rattle.vx_hub.proofs.Parcels.{row_counts, parcels_pushed}
-use Rattle.vx_hub.proofs.RowLaws.{rows_gain, ports_kept, others_bare}
+use Rattle.vx_hub.proofs.RowLaws.{rooms_written, rows_gain, ports_kept, others_bare}
 use Rattle.vx_record.specs.Places.{same_place}
 use Rattle.vx_record.specs.Places.Place.{Contents}
 use Rattle.vx_hub.specs.Places.{parcel_lists}
@@ -49,3 +49,6 @@ returns-clause-said g c h said is =
       buffer = subst (λ (ps : List Parcel). Each (IsSaid h) ps) (sym c.push.ensures.items) (each-append (IsSaid h) row.buffer.items (c.args.parcel ∷ []) all.buffer (is, tt));
       held = all.held;
     })
+
+pub returns-clause-same_rooms : goal.returns-clause-same_rooms
+returns-clause-same_rooms g c = rooms_written c.args.rows.now.items c.args.i c.index_mut.result.now _ c.requires.within c.index_mut.ensures.value c.push.ensures.room

@@ -3,7 +3,7 @@ use Rattle.std.proofs.lemmas.List.{length-append}
 use Rattle.vx_ledger.specs.Copies.{copies_of}
 use Rattle.vx_hub.specs.Rows.{parcel_copies}
 use Rattle.vx_hub.proofs.Parcels.{row_counts, parcels_pushed}
-use Rattle.vx_hub.proofs.RowLaws.{rows_gain, row_has, row_gets, ports_kept, others_bare}
+use Rattle.vx_hub.proofs.RowLaws.{rooms_written, rows_gain, row_has, row_gets, ports_kept, others_bare}
 use Rattle.vx_record.specs.Places.{same_place}
 use Rattle.vx_record.specs.Places.Place.{Outputs}
 use Rattle.vx_hub.specs.Places.{stacked_lists}
@@ -56,3 +56,6 @@ returns-clause-said g c h said is =
       buffer = all.buffer;
       held = all.held;
     })
+
+pub returns-clause-same_rooms : goal.returns-clause-same_rooms
+returns-clause-same_rooms g c = rooms_written c.args.rows.now.items c.args.i c.index_mut.result.now _ c.requires.within c.index_mut.ensures.value refl

@@ -2,7 +2,7 @@ use Rattle.std.proofs.Common.{arith, refl, ap, ◌≡◌, [], ◌∙◌, false}
 use Rattle.vx_ledger.specs.Copies.{copies_of}
 use Rattle.vx_hub.specs.Rows.{child_copies}
 use Rattle.vx_hub.proofs.Parcels.{row_counts}
-use Rattle.vx_hub.proofs.RowLaws.{rows_gain, row_has, ports_kept, others_bare}
+use Rattle.vx_hub.proofs.RowLaws.{rooms_written, rows_gain, row_has, ports_kept, others_bare}
 use Rattle.vx_record.specs.Places.Place.{Waiting}
 use Rattle.vx_record.specs.Lists.{is_child_of}
 use Rattle.vx_hub.specs.Places.{waiting_lists}
@@ -48,3 +48,6 @@ returns-clause-said g c h said are =
       buffer = all.buffer;
       held = all.held;
     })
+
+pub returns-clause-same_rooms : goal.returns-clause-same_rooms
+returns-clause-same_rooms g c = rooms_written c.args.rows.now.items c.args.i c.index_mut.result.now _ c.requires.within c.index_mut.ensures.value refl

@@ -2,7 +2,7 @@ use Rattle.std.proofs.Common.{arith, ap, ◌≡◌, ◌∙◌, None, refl, false
 use Rattle.vx_ledger.specs.Copies.{copies_of}
 use Rattle.vx_hub.specs.Rows.{task_copies, port_of, task_port}
 use Rattle.vx_hub.proofs.Parcels.{row_counts}
-use Rattle.vx_hub.proofs.RowLaws.{rows_gain, row_has, row_written, other_ports, others_bare}
+use Rattle.vx_hub.proofs.RowLaws.{rooms_written, rows_gain, row_has, row_written, other_ports, others_bare}
 use Rattle.vx_record.specs.Places.{same_place}
 use Rattle.vx_record.specs.Places.Place.{Held}
 use Rattle.vx_hub.specs.Rows.{task_parcels}
@@ -45,3 +45,6 @@ returns-clause-said g c h said are =
     let row = c.index_mut.result.now in
     let all : HasEach (IsSaid h) row = row_each (IsSaid h) rows c.args.i row c.requires.within c.index_mut.ensures.value said in
     rows_each (IsSaid h) rows c.args.i _ c.requires.within said (record { outputs = all.outputs; waiting = all.waiting; buffer = all.buffer; held = subst (λ (t : _). Each (IsSaid h) (task_parcels t)) (sym c.replace.ensures.after) are })
+
+pub returns-clause-same_rooms : goal.returns-clause-same_rooms
+returns-clause-same_rooms g c = rooms_written c.args.rows.now.items c.args.i c.index_mut.result.now _ c.requires.within c.index_mut.ensures.value refl

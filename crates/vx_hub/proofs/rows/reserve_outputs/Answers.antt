@@ -3,7 +3,7 @@ use Rattle.vx_hub.proofs.Touching.{on_ok}
 use Rattle.vx_ledger.specs.Copies.{copies_of}
 use Rattle.vx_hub.specs.Rows.{parcel_copies}
 use Rattle.vx_hub.proofs.Parcels.{row_counts}
-use Rattle.vx_hub.proofs.RowLaws.{rows_lose, row_gets, ports_kept, bare_kept}
+use Rattle.vx_hub.proofs.RowLaws.{rooms_written, rows_lose, row_gets, ports_kept, bare_kept}
 use Rattle.vx_hub.proofs.PlaceLaws.{places_kept, same_outputs}
 use Rattle.std.proofs.Common.{subst, sym, List}
 use Rattle.vx_ledger.specs.declared.parcel.Parcel.{Parcel}
@@ -51,3 +51,6 @@ returns-clause-said g c h said =
       buffer = all.buffer;
       held = all.held;
     })
+
+pub returns-clause-same_rooms : goal.returns-clause-same_rooms
+returns-clause-same_rooms g c = rooms_written c.args.rows.now.items c.args.i c.index_mut.result.now _ c.requires c.index_mut.ensures.value refl

@@ -2,7 +2,7 @@ use Rattle.std.proofs.Common.{arith, refl, ap, ◌<◌, length, ◌≡◌, ◌�
 use Rattle.vx_ledger.specs.Copies.{copies_of}
 use Rattle.vx_hub.specs.Rows.{child_copies}
 use Rattle.vx_hub.proofs.Parcels.{row_counts, child_removed}
-use Rattle.vx_hub.proofs.RowLaws.{rows_lose, row_has, each_keeps, ports_kept, bare_kept}
+use Rattle.vx_hub.proofs.RowLaws.{rooms_written, rows_lose, row_has, each_keeps, ports_kept, bare_kept}
 use Rattle.vx_record.specs.Places.{same_place}
 use Rattle.vx_record.specs.Places.Place.{Waiting}
 use Rattle.vx_hub.specs.Places.{waiting_lists, NoneBefore}
@@ -61,3 +61,6 @@ returns-clause-said g c h said =
     let l : c.args.k < length row.waiting.items = row_has (λ r. c.args.k < length r.waiting.items) rows c.args.i row c.requires.within c.index_mut.ensures.value c.requires.child in
     let out = child_each (IsSaid h) row.waiting.items c.args.k c.remove.result l c.remove.ensures.value all.waiting in
     (rows_each (IsSaid h) rows c.args.i _ c.requires.within said (record { outputs = all.outputs; waiting = subst (λ (cs : _). EachChild (IsSaid h) cs) (sym c.remove.ensures.items) out.0; buffer = all.buffer; held = all.held }), out.1)
+
+pub returns-clause-same_rooms : goal.returns-clause-same_rooms
+returns-clause-same_rooms g c = rooms_written c.args.rows.now.items c.args.i c.index_mut.result.now _ c.requires.within c.index_mut.ensures.value refl

@@ -4,7 +4,7 @@ use Rattle.std.proofs.lemmas.List.{length-append, append-nil}
 use Rattle.vx_ledger.specs.Copies.{copies_of}
 use Rattle.vx_hub.specs.Rows.{child_copies}
 use Rattle.vx_hub.proofs.Parcels.{row_counts, children_pushed}
-use Rattle.vx_hub.proofs.RowLaws.{rows_lose, ports_kept, bare_kept}
+use Rattle.vx_hub.proofs.RowLaws.{rooms_written, rows_lose, ports_kept, bare_kept}
 use Rattle.vx_record.specs.Places.{same_place}
 use Rattle.vx_record.specs.Places.Place.{Waiting}
 use Rattle.vx_hub.specs.Places.{waiting_lists}
@@ -98,3 +98,9 @@ returns-in-None-clause-said g c h said =
     let row = c.index_mut.result.now in
     let all : HasEach (IsSaid h) row = row_each (IsSaid h) rows c.args.i row c.requires c.index_mut.ensures.value said in
     (rows_each (IsSaid h) rows c.args.i _ c.requires said (record { outputs = all.outputs; waiting = subst (λ (cs : _). EachChild (IsSaid h) cs) (c.in-None.ensures.items ∙ append-nil c.pop.new.self.items) all.waiting; buffer = all.buffer; held = all.held }), tt)
+
+pub returns-in-Some-clause-same_rooms : goal.returns-in-Some-clause-same_rooms
+returns-in-Some-clause-same_rooms g c = rooms_written c.args.rows.now.items c.args.i c.index_mut.result.now _ c.requires c.index_mut.ensures.value refl
+
+pub returns-in-None-clause-same_rooms : goal.returns-in-None-clause-same_rooms
+returns-in-None-clause-same_rooms g c = rooms_written c.args.rows.now.items c.args.i c.index_mut.result.now _ c.requires c.index_mut.ensures.value refl

@@ -2,7 +2,7 @@ use Rattle.std.proofs.Common.{arith, ap, sym, ◌∙◌, ◌≡◌, refl, false}
 use Rattle.vx_ledger.specs.Copies.{copies_of}
 use Rattle.vx_hub.specs.Rows.{task_copies, port_of, task_port}
 use Rattle.vx_hub.proofs.Parcels.{row_counts, some_port}
-use Rattle.vx_hub.proofs.RowLaws.{rows_lose, row_read, row_gets, other_ports, others_bare}
+use Rattle.vx_hub.proofs.RowLaws.{rooms_written, rows_lose, row_read, row_gets, other_ports, others_bare}
 use Rattle.vx_record.specs.Places.{same_place}
 use Rattle.vx_record.specs.Places.Place.{Held}
 use Rattle.vx_hub.specs.Rows.{task_parcels}
@@ -51,3 +51,6 @@ returns-clause-said g c h said =
       rows_each (IsSaid h) rows c.args.i _ c.requires said (record { outputs = all.outputs; waiting = all.waiting; buffer = all.buffer; held = subst (λ (t : _). Each (IsSaid h) (task_parcels t)) (sym c.take.ensures.after) tt }),
       task_each (IsSaid h) c.take.result (subst (λ (t : _). Each (IsSaid h) (task_parcels t)) (sym c.take.ensures.value) all.held),
     )
+
+pub returns-clause-same_rooms : goal.returns-clause-same_rooms
+returns-clause-same_rooms g c = rooms_written c.args.rows.now.items c.args.i c.index_mut.result.now _ c.requires c.index_mut.ensures.value refl

@@ -20,7 +20,7 @@ returns-clause-stands g c =
     let role = c.args.task.role in
     stands_brought g.P.Port.told d _ (role_copies role) c.args.task.port c.args.instance c.requires.stands c.requires.open.unclosed c.requires.told
     (put_balanced d.batches d.rows.items c.put_task.new.rows.items (role_copies role) c.requires.stands.balanced c.put_task.ensures.gains)
-    c.put_task.ensures.port c.put_task.ensures.ports c.put_task.ensures.bare c.put_task.ensures.size refl refl refl refl refl refl
+    c.put_task.ensures.port c.put_task.ensures.ports c.put_task.ensures.bare c.put_task.ensures.same_rooms refl refl refl refl refl refl
     (λ fine kept placed. placed_home d.rows.items c.put_task.new.rows.items d.log.history c.args.instance (role_parcels role) kept
     (subst (λ (cs : List Copy). IsPlaced d.rows.items cs d.log.history) (role_same role) placed) (c.requires.held fine) c.put_task.ensures.places)
     (λ fine said. c.put_task.ensures.said d.log.history said (c.requires.said fine))

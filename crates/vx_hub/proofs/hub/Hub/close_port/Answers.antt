@@ -6,7 +6,7 @@ use Rattle.vx_hub.proofs.hub.Hub.close_port.Goals as goal
 
 pub returns-clause-stands : goal.returns-clause-stands
 returns-clause-stands g c =
-    stands_shut g.P.Port.told c.args.self.now _ c.args.i c.requires.stands c.requires.home c.close_at.ensures.port c.close_at.ensures.loses c.close_at.ensures.ports c.close_at.ensures.bare c.close_at.ensures.size
+    stands_shut g.P.Port.told c.args.self.now _ c.args.i c.requires.stands c.requires.home c.close_at.ensures.port c.close_at.ensures.loses c.close_at.ensures.ports c.close_at.ensures.bare c.close_at.ensures.same_rooms
     refl refl refl refl refl refl c.close_at.ensures.places (λ fine. c.close_at.ensures.said c.args.self.now.log.history)
 
 pub returns-clause-shut : goal.returns-clause-shut

@@ -2,11 +2,11 @@ use Rattle.std.proofs.Common.{◌≡◌, ℕ, length, []}
 use Rattle.vx_record.specs.Places.Place.{Outputs}
 use Rattle.vx_hub.specs.Places.{numbers_at}
 use Rattle.vx_hub.specs.Stands.{Stands, MayShut}
-use Rattle.vx_hub.specs.Away.{IsAway}
+use Rattle.vx_hub.specs.Away.{IsAway, HasTaken}
 use Rattle.vx_hub.proofs.hub.Hub.collect.Given as goal
 
-abbrev pub invariant-loop : goal.invariant-loop
-invariant-loop g l = record {
+abbrev pub invariant-loop-taken : goal.invariant-loop-taken
+invariant-loop-taken g l = record {
   stands : Stands g.P.Port.told l.self [] l.self.log.history;
   facts : l.self.facts ≡ l.fn.self.facts;
   outputs : (i : ℕ) → numbers_at (Outputs i) l.self.rows.items ≡ numbers_at (Outputs i) l.fn.self.rows.items;
@@ -15,5 +15,6 @@ invariant-loop g l = record {
   away : (i : ℕ) → IsAway l.fn.self i → IsAway l.self i;
   abandoned : l.self.abandoned ≡ l.fn.self.abandoned;
   size : length l.self.rows.items ≡ length l.fn.self.rows.items;
+  taken : HasTaken l.self l.fn.instance l._taken;
   plan : l.self.plan ≡ l.fn.self.plan;
 }

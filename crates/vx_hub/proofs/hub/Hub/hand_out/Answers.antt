@@ -1,13 +1,14 @@
-use Rattle.std.proofs.Common.{refl, sym, subst, List, ◌<◌, ◌∙◌, ap}
+use Rattle.std.proofs.Common.{refl, sym, subst, List, [], Option, Some, None, ◌<◌, ◌∙◌, ap}
+use Rattle.std.specs.Prelude.{IfNone}
 use Rattle.vx_ledger.specs.Copies.{Copy}
 use Rattle.vx_record.specs.Places.Place.{Outputs, Held}
 use Rattle.vx_hub.specs.Places.{IsPlaced}
 use Rattle.vx_hub.specs.Stands.{IsTold}
 use Rattle.vx_hub.specs.Rows.{role_copies, role_parcels, row_at, port_at}
-use Rattle.vx_hub.proofs.StandsLaws.{hand_balanced}
+use Rattle.vx_hub.proofs.StandsLaws.{hand_balanced, same_balanced}
 use Rattle.vx_hub.proofs.Touching.{stands_out, out_port, taken_told}
 use Rattle.vx_hub.proofs.Placing.{places_all}
-use Rattle.vx_hub.proofs.Owning.{placed_leased}
+use Rattle.vx_hub.proofs.Owning.{placed_leased, placed_same}
 use Rattle.vx_hub.proofs.Homing.{role_same}
 use Rattle.vx_hub.specs.Places.{all_numbers}
 use Rattle.vx_hub.proofs.hub.Hub.hand_out.Goals as goal
@@ -23,7 +24,7 @@ returns-clause-leased g c =
     record {
       stands = stands_out g.P.Port.told d _ (role_copies role) i s c.requires.open.unclosed
           (hand_balanced d.batches d.rows.items rows (role_copies role) s.balanced (c.in_ok-task.ensures.loses))
-          (out_port (row_at rows i) c.take_task.ensures.out) c.take_task.ensures.ports c.take_task.ensures.bare c.take_task.ensures.size refl refl refl refl refl refl
+          (out_port (row_at rows i) c.take_task.ensures.out) c.take_task.ensures.ports c.take_task.ensures.bare c.take_task.ensures.same_rooms refl refl refl refl refl refl
           (λ kept placed. subst (λ (cs : List Copy). IsPlaced rows cs d.log.history) (sym (role_same role))
           (placed_leased d.rows.items rows d.log.history i (role_parcels role) kept placed c.in_ok-task.ensures.held c.take_task.ensures.places))
           c.requires.away (λ fine said. (c.take_task.ensures.said d.log.history said).0);
@@ -39,3 +40,21 @@ returns-clause-leased g c =
       sink = c.requires.sink;
       shut = λ close sound. c.requires.shut close (record { whole = sound.whole; fed = sound.fed });
     }
+
+-- what holds in any case holds where there is none
+if_none : {X : Type 0} (F : Type 0) (o : Option X) → F → IfNone o F
+if_none F None f = f
+if_none F (Some x) f = tt
+
+pub returns-in_err-task-clause-none : goal.returns-in_err-task-clause-none
+returns-in_err-task-clause-none g c =
+    let d = c.args.self.now in
+    let s = c.requires.stands in
+    let rows = c.take_task.new.rows.items in
+    let i = c.args.instance in
+    if_none _ c.from_residual.result
+    (stands_out g.P.Port.told d _ [] i s c.requires.open.unclosed
+    (same_balanced d.batches d.rows.items rows [] s.balanced c.in_err-task.ensures.loses)
+    (out_port (row_at rows i) c.take_task.ensures.out) c.take_task.ensures.ports c.take_task.ensures.bare c.take_task.ensures.same_rooms refl refl refl refl refl refl
+    (λ kept placed. placed_same d.rows.items rows [] d.log.history c.in_err-task.ensures.none placed)
+    c.requires.away (λ fine said. (c.take_task.ensures.said d.log.history said).0))

@@ -13,7 +13,7 @@ returns-then-not-is_empty-clause-stands g c =
     let d = c.args.self.now in
     stands_moved g.P.Port.told d _ [] (option_copies c.pop_output.result) c.requires.stands
     (hand_balanced d.batches d.rows.items c.pop_output.new.rows.items (option_copies c.pop_output.result) c.requires.stands.balanced c.pop_output.ensures.loses)
-    refl c.pop_output.ensures.ports (bare_by d.facts.items d.rows.items c.pop_output.new.rows.items c.pop_output.ensures.bare) c.pop_output.ensures.size refl refl refl refl refl
+    refl c.pop_output.ensures.ports (bare_by d.facts.items d.rows.items c.pop_output.new.rows.items c.pop_output.ensures.bare) c.pop_output.ensures.same_rooms refl refl refl refl refl
     (λ fine kept placed. placed_if (Outputs c.args.i) c.pop_output.result d.rows.items c.pop_output.new.rows.items d.log.history kept placed (some_from_oldest (Outputs c.args.i) c.pop_output.result d.rows.items c.pop_output.new.rows.items c.pop_output.ensures.oldest) c.pop_output.ensures.none)
     (λ fine said. (c.pop_output.ensures.said d.log.history said).0)
 
@@ -22,7 +22,7 @@ returns-then-not-is_empty-2-clause-stands g c =
     let d = c.args.self.now in
     stands_moved g.P.Port.told d _ [] (option_copies c.take_last_child.result) c.requires.stands
     (hand_balanced d.batches d.rows.items c.take_last_child.new.rows.items (option_copies c.take_last_child.result) c.requires.stands.balanced c.take_last_child.ensures.loses)
-    refl c.take_last_child.ensures.ports (bare_by d.facts.items d.rows.items c.take_last_child.new.rows.items c.take_last_child.ensures.bare) c.take_last_child.ensures.size refl refl refl refl refl
+    refl c.take_last_child.ensures.ports (bare_by d.facts.items d.rows.items c.take_last_child.new.rows.items c.take_last_child.ensures.bare) c.take_last_child.ensures.same_rooms refl refl refl refl refl
     (λ fine kept placed. placed_child_if c.args.i c.take_last_child.result d.rows.items c.take_last_child.new.rows.items d.log.history kept placed c.take_last_child.ensures.from c.take_last_child.ensures.none)
     (λ fine said. (c.take_last_child.ensures.said d.log.history said).0)
 
@@ -31,7 +31,7 @@ returns-then-not-is_empty-3-clause-stands g c =
     let d = c.args.self.now in
     stands_moved g.P.Port.told d _ [] (option_copies c.pop_buffer.result) c.requires.stands
     (hand_balanced d.batches d.rows.items c.pop_buffer.new.rows.items (option_copies c.pop_buffer.result) c.requires.stands.balanced c.pop_buffer.ensures.loses)
-    refl c.pop_buffer.ensures.ports (bare_by d.facts.items d.rows.items c.pop_buffer.new.rows.items c.pop_buffer.ensures.bare) c.pop_buffer.ensures.size refl refl refl refl refl
+    refl c.pop_buffer.ensures.ports (bare_by d.facts.items d.rows.items c.pop_buffer.new.rows.items c.pop_buffer.ensures.bare) c.pop_buffer.ensures.same_rooms refl refl refl refl refl
     (λ fine kept placed. placed_if (Contents c.args.i 0) c.pop_buffer.result d.rows.items c.pop_buffer.new.rows.items d.log.history kept placed (some_from_oldest (Contents c.args.i 0) c.pop_buffer.result d.rows.items c.pop_buffer.new.rows.items c.pop_buffer.ensures.oldest) c.pop_buffer.ensures.none)
     (λ fine said. (c.pop_buffer.ensures.said d.log.history said).0)
 
@@ -40,7 +40,7 @@ returns-else-not-is_empty-3-clause-stands g c =
     let d = c.args.self.now in
     stands_moved g.P.Port.told d _ [] (option_copies c.pop_held.result) c.requires.stands
     (hand_balanced d.batches d.rows.items c.pop_held.new.rows.items (option_copies c.pop_held.result) c.requires.stands.balanced c.pop_held.ensures.loses)
-    refl c.pop_held.ensures.ports (bare_by d.facts.items d.rows.items c.pop_held.new.rows.items c.pop_held.ensures.bare) c.pop_held.ensures.size refl refl refl refl refl
+    refl c.pop_held.ensures.ports (bare_by d.facts.items d.rows.items c.pop_held.new.rows.items c.pop_held.ensures.bare) c.pop_held.ensures.same_rooms refl refl refl refl refl
     (λ fine kept placed. placed_if (Held c.args.i) c.pop_held.result d.rows.items c.pop_held.new.rows.items d.log.history kept placed (some_from_oldest (Held c.args.i) c.pop_held.result d.rows.items c.pop_held.new.rows.items c.pop_held.ensures.oldest) c.pop_held.ensures.none)
     (λ fine said. (c.pop_held.ensures.said d.log.history said).0)
 

@@ -5,6 +5,7 @@ use Rattle.vx_record.specs.declared.entry.Entry.TheVariants as entry
 use Rattle.vx_plan.specs.declared.class.Class.TheVariants.{Source, Sink}
 use Rattle.vx_hub.proofs.Drying.{closing_on}
 use Rattle.vx_hub.proofs.StandsLaws.{ends_on, to_confirm_on}
+use Rattle.vx_hub.proofs.Naming.{device_known}
 use Rattle.vx_hub.proofs.Silence.{same_test}
 use Rattle.vx_hub.proofs.Touching.{stands_touched, facts_surely, facts_get}
 use Rattle.vx_hub.proofs.hub.Hub.note_confirm.Goals as goal
@@ -29,7 +30,7 @@ returns-clause-stands g c hand s =
       retired = known.retired;
     })
     (λ bytes. bytes)
-    refl (λ fine known out. record { out = out; due = c.requires.due fine })
+    refl (λ fine known out. record { out = out; device = device_known c.args.self.now.log.history c.args.instance c.index_mut-facts.result.now (s.recorded fine).order known; due = c.requires.due fine })
 
 pub returns-clause-open : goal.returns-clause-open
 returns-clause-open g c open_at = record {

@@ -16,6 +16,8 @@ use Rattle.std.proofs.Common.{true, ap}
 use Rattle.std.specs.Prelude.{◌==◌, if◌then◌else◌}
 use Rattle.vx_record.specs.Turns.{is_out}
 use Rattle.vx_hub.proofs.Silence.{same_test}
+use Rattle.vx_hub.specs.Away.{OnlyTook}
+use Rattle.vx_hub.proofs.Leaving.{untaken_leased}
 use Rattle.vx_hub.proofs.hub.Hub.note_lease.Goals as goal
 
 pub returns-clause-stands : goal.returns-clause-stands
@@ -25,6 +27,7 @@ returns-clause-stands g c =
     refl refl refl c.requires.stands.balanced refl refl c.note.ensures.noted tt (same_next c.args.self.now.batches c.args.self.now.batches c.args.self.now.log.history (Lease c.args.instance c.args.worker c.args.now 0) refl refl) (λ fine. unclosed_unretired c.args.self.now.log.history c.index_mut-facts.result.now c.args.instance
     (λ retired. (facts_has (IsGone c.args.self.now.rows.items c.args.instance) c.args.self.now.facts.items c.args.instance c.index_mut-facts.result.now within c.index_mut-facts.ensures.value (c.requires.stands.gone c.args.instance) retired).0)
     (facts_surely (λ f. f.closed ≡ false) c.args.self.now.facts.items c.args.instance c.index_mut-facts.result.now within c.index_mut-facts.ensures.value c.requires.open.unclosed)
+    (c.requires.stands.recorded fine).order
     (facts_has (λ f. IsKnown f c.args.self.now.log.history c.args.instance) c.args.self.now.facts.items c.args.instance c.index_mut-facts.result.now within c.index_mut-facts.ensures.value ((c.requires.stands.recorded fine).facts c.args.instance)))
     (hub_comes g.P.Port.told c.args.self.now [] (Lease c.args.instance c.args.worker c.args.now 0) c.requires.stands c.requires.going) (λ k out. leased_on (c.args.instance == k) (is_out c.args.self.now.log.history k) out) refl
     (λ fine known. known_quiet _ c.args.self.now.log.history c.args.instance _ tt (record { taken = known.taken; lost = known.lost; failed_starts = known.failed_starts; ends = known.ends; to_confirm = subst (λ (o : Option _). IfSome o (λ positions. positions ≡ born_positions c.args.self.now.log.history c.args.instance)) (sym c.take.ensures.after) tt; confirm_failed = known.confirm_failed; outlet = known.outlet; over = known.over; class = known.class; confirms = λ some. absurd (taken_none _ c.take.ensures.after some); done = known.done; closed = known.closed; retired = known.retired }))
@@ -73,3 +76,7 @@ returns-clause-sink g c sink =
     let within : c.args.instance < length c.args.self.now.facts.items = omega (arith, c.requires.stands.size, c.requires.open.within) in
     facts_get (λ f. f.class ≡ Sink) c.args.self.now.facts.items c.args.instance _ within
     (facts_surely (λ f. f.class ≡ Sink) c.args.self.now.facts.items c.args.instance c.index_mut-facts.result.now within c.index_mut-facts.ensures.value sink)
+
+pub returns-clause-untaken : goal.returns-clause-untaken
+returns-clause-untaken g c sound =
+    subst (λ (k : Record). OnlyTook k c.args.instance 0) (sym (c.note.ensures.noted.whole sound.whole).1) (untaken_leased c.args.self.now.log.history c.args.instance c.args.worker c.args.now 0)

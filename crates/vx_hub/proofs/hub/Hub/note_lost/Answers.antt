@@ -5,6 +5,7 @@ use Rattle.vx_record.specs.declared.entry.Entry.TheVariants as entry
 use Rattle.vx_plan.specs.declared.class.Class.TheVariants.{Source}
 use Rattle.vx_hub.proofs.Drying.{turn_of, closing_on}
 use Rattle.vx_hub.proofs.StandsLaws.{ends_on, to_confirm_on}
+use Rattle.vx_hub.proofs.Naming.{device_known}
 use Rattle.vx_hub.proofs.Silence.{same_test}
 use Rattle.vx_hub.proofs.Touching.{stands_touched, facts_surely, facts_get}
 use Rattle.vx_hub.proofs.hub.Hub.note_lost.Goals as goal
@@ -29,7 +30,7 @@ returns-clause-stands g c hand s =
       retired = known.retired;
     })
     (λ bytes. bytes)
-    refl (λ fine known out. record { first = turn_of c.args.self.now.log.history c.args.instance c.index_mut-facts.result.now out known (facts_surely (λ f. (f.lost ≡ None) × (f.class ≡ Source)) c.args.self.now.facts.items c.args.instance c.index_mut-facts.result.now c.requires.within c.index_mut-facts.ensures.value c.requires.unlost); after = known.taken; many = λ failed. subst (λ n. 4 ≤ n) known.failed_starts (facts_surely (λ f. 4 ≤ f.failed_starts) c.args.self.now.facts.items c.args.instance c.index_mut-facts.result.now c.requires.within c.index_mut-facts.ensures.value (c.requires.many failed)) })
+    refl (λ fine known out. record { first = turn_of c.args.self.now.log.history c.args.instance c.index_mut-facts.result.now out known (facts_surely (λ f. (f.lost ≡ None) × (f.class ≡ Source)) c.args.self.now.facts.items c.args.instance c.index_mut-facts.result.now c.requires.within c.index_mut-facts.ensures.value c.requires.unlost); device = device_known c.args.self.now.log.history c.args.instance c.index_mut-facts.result.now (s.recorded fine).order known; after = known.taken; many = λ failed. subst (λ n. 4 ≤ n) known.failed_starts (facts_surely (λ f. 4 ≤ f.failed_starts) c.args.self.now.facts.items c.args.instance c.index_mut-facts.result.now c.requires.within c.index_mut-facts.ensures.value (c.requires.many failed)) })
 
 pub returns-clause-open : goal.returns-clause-open
 returns-clause-open g c open_at = record {

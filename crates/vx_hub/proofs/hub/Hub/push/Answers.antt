@@ -1,4 +1,6 @@
-use Rattle.std.proofs.Common.{refl, ◌∙◌, [], sym, subst}
+use Rattle.std.proofs.Common.{refl, ◌∙◌, [], sym, subst, ◌≡◌, Some}
+use Rattle.vx_record.specs.Stages.{first_room}
+use Rattle.vx_hub.proofs.Rooming.{push_room}
 use Rattle.vx_record.specs.Places.Place.{Waiting, Contents}
 use Rattle.vx_hub.specs.Places.{TakesOldest, PutsLast}
 use Rattle.vx_hub.proofs.Placing.{oldest_is}
@@ -26,11 +28,14 @@ returns-clause-stands g c =
     (moved_balanced d.batches d.rows.items c.take_child-target.new.rows.items c.push_buffer.new.rows.items c.take_child-target.result.parcel.finalizers s.balanced c.take_child-target.ensures.loses c.push_buffer.ensures.gains)
     refl (λ i. c.push_buffer.ensures.ports i ∙ c.take_child-target.ensures.ports i)
     (bare_running d.facts.items d.rows.items c.take_child-target.new.rows.items c.push_buffer.new.rows.items c.args.next.target c.requires.target.running c.take_child-target.ensures.bare c.push_buffer.ensures.bare)
-    (c.push_buffer.ensures.size ∙ c.take_child-target.ensures.size) c.note_push.ensures
+    (c.push_buffer.ensures.same_rooms ∙ c.take_child-target.ensures.same_rooms) c.note_push.ensures
     (record {
       quiet = tt;
       next = same_next d.batches d.batches d.log.history (Push c.args.instance c.take_child-target.result.target 0 (numbers_in copies)) refl refl;
-      order = λ fine. is_oldest (numbers_in copies) _ _ (oldest_is (Waiting c.args.instance target) copies d.rows.items c.take_child-target.new.rows.items d.log.history (s.recorded fine).places.standing takes);
+      order = λ fine. record {
+        oldest = is_oldest (numbers_in copies) _ _ (oldest_is (Waiting c.args.instance target) copies d.rows.items c.take_child-target.new.rows.items d.log.history (s.recorded fine).places.standing takes);
+        room = subst (λ t. first_room d.log.history t ≡ Some 0) (sym first.0) (push_room g.P.Port.told d c.args.next.target s fine c.requires.target.within c.requires.target.room);
+      };
       said = λ fine said. let out = c.take_child-target.ensures.said d.log.history said in c.push_buffer.ensures.said (Push c.args.instance target 0 (numbers_in copies) ∷ d.log.history) (rows_on d.log.history (Push c.args.instance target 0 (numbers_in copies)) c.take_child-target.new.rows.items out.0) (said_on d.log.history (Push c.args.instance target 0 (numbers_in copies)) c.take_child-target.result.parcel out.1);
       outs = λ fine i none out. out;
       comes = hub_comes g.P.Port.told d [] (Push c.args.instance target 0 (numbers_in copies)) s c.requires.going;

@@ -2,13 +2,13 @@ use Rattle.std.proofs.Common.{arith, ap, List, subst, sym, Some, IfSome}
 use Rattle.vx_ledger.specs.Copies.{copies_of}
 use Rattle.vx_hub.specs.declared.row.Row.{Row}
 use Rattle.vx_hub.specs.declared.facts.Facts.{Facts}
-use Rattle.vx_hub.specs.Making.{IsUntouched, IsFittedTo, AreNew}
+use Rattle.vx_hub.specs.Making.{IsUntouched, IsFittedTo, AreNew, room_at}
 use Rattle.std.specs.Prelude.{slice_get, IsSome, IsSomeAnd, ℕ, ◌<◌, length}
-use Rattle.vx_hub.specs.Stands.{facts_at, spec_of}
+use Rattle.vx_hub.specs.Stands.{facts_at, spec_of, HasRooms}
 use Rattle.vx_hub.specs.Rows.{parcel_copies, child_copies, copies_in, port_at}
 use Rattle.vx_hub.proofs.Parcels.{row_counts}
-use Rattle.vx_hub.proofs.Beginning.{ports_more, said_more, home_more, facts_more, fitted_more_at, copies_more, role_counts}
-use Rattle.std.proofs.Common.{◌∙◌, refl}
+use Rattle.vx_hub.proofs.Beginning.{ports_more, said_more, home_more, facts_more, fitted_more_at, rooms_more, seat_room, seat_fitted, copies_more, role_counts}
+use Rattle.std.proofs.Common.{◌∙◌, refl, ◌≡◌}
 use Rattle.vx_hub.specs.Places.{copies_at}
 use Rattle.vx_hub.specs.Events.{AreSaid}
 use Rattle.vx_hub.proofs.Beginning.{places_more, unused_here}
@@ -44,8 +44,10 @@ returns-clause-begins g c plan begins untouched fitted =
           (facts_more AreNew c.args.self.now.facts.items c.args.seat.facts begins.facts c.requires.unused.facts i);
       fitted = λ i. subst (λ (fs : List Facts). IfSome (facts_at fs i) (λ f. IsSomeAnd (slice_get plan.components i) (λ component. IsFittedTo plan component f))) (sym c.push_reserved.ensures.items)
           (fitted_more_at (λ k f. IsSomeAnd (slice_get plan.components k) (λ component. IsFittedTo plan component f)) c.args.self.now.facts.items c.args.seat.facts begins.fitted
-          (subst (λ (n : ℕ). IsSomeAnd (slice_get plan.components n) (λ component. IsFittedTo plan component c.args.seat.facts)) (sym begins.size) fitted) i);
+          (subst (λ (n : ℕ). IsSomeAnd (slice_get plan.components n) (λ component. IsFittedTo plan component c.args.seat.facts)) (sym begins.size) (seat_fitted plan (length c.args.self.now.rows.items) c.args.seat fitted)) i);
       bytes = begins.bytes;
       abandoned = begins.abandoned;
       size = omega (arith, c.push_reserved.ensures.len, c.push_reserved-3.ensures.len, begins.size);
+      rooms = subst (λ (rows : List (Row _)). HasRooms plan rows) (sym c.push_reserved-3.ensures.items)
+          (rooms_more (λ k n. n ≡ room_at plan k) c.args.self.now.rows.items row begins.rooms (seat_room plan (length c.args.self.now.rows.items) c.args.seat fitted));
     }

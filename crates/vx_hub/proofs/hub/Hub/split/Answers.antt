@@ -13,7 +13,7 @@ use Rattle.vx_hub.specs.Numbers.{numbers_in, noted_of}
 use Rattle.vx_hub.specs.Failures.{abandon_cause}
 use Rattle.vx_hub.specs.Order.{IsReason}
 use Rattle.vx_hub.proofs.Ordering.{children_have, parcel_has, targets_some, split_next, split_in_order, noted_split, length_numbers, length_noted, short_reason, unread_balanced, unread_may, targets_none}
-use Rattle.vx_hub.proofs.StandsLaws.{stands_quiet, stands_moved, split_balanced, back_balanced, bare_but, bare_by}
+use Rattle.vx_hub.proofs.StandsLaws.{stands_quiet, stands_moved, same_balanced, split_balanced, back_balanced, bare_but, bare_by}
 use Rattle.std.proofs.Common.{List}
 use Rattle.vx_ledger.specs.declared.child.Child.{Child}
 use Rattle.vx_record.specs.Places.Place.{Outputs, Waiting}
@@ -53,11 +53,11 @@ returns-in-Ok-Children-clause-stands g c =
     s.balanced c.in-Some.ensures.loses exchange c.put_children.ensures.gains)
     refl (λ i. c.put_children.ensures.ports i ∙ c.pop_output.ensures.ports i)
     (bare_but d.facts.items d.rows.items c.pop_output.new.rows.items c.put_children.new.rows.items c.args.instance (c.in-Some.ensures.held refl) c.pop_output.ensures.bare c.put_children.ensures.bare)
-    (c.put_children.ensures.size ∙ c.pop_output.ensures.size) noted
+    (c.put_children.ensures.same_rooms ∙ c.pop_output.ensures.same_rooms) noted
     (record {
       quiet = tt;
       next = split_next d.log.history d.batches.next c.route.new.batches.next targets parcel cs are more;
-      order = λ fine. split_in_order d.log.history c.args.instance d.batches.next targets parcel cs
+      order = λ fine. split_in_order d.log.history c.args.instance d.batches.next targets parcel cs (s.recorded fine).order
           (none_waiting d.rows.items d.log.history c.args.instance (s.recorded fine).places.standing c.requires.none)
           (routed_as g.P.Port.told d c.args.instance c.index.result.now s c.requires.within c.index.ensures fine)
           (is_oldest (numbers_in parcel.finalizers) _ _ (oldest_is (Outputs c.args.instance) parcel.finalizers d.rows.items c.pop_output.new.rows.items d.log.history (s.recorded fine).places.standing c.in-Some.ensures.oldest))
@@ -100,7 +100,7 @@ returns-in-Err-clause-stands g c =
     s.balanced c.in-Some.ensures.loses c.in-Err.ensures.unchanged (ap (λ (p : Parcel). p.finalizers) c.in-Err.ensures.back) c.push_output.ensures.gains)
     refl (λ i. c.push_output.ensures.ports i ∙ c.pop_output.ensures.ports i)
     (bare_but d.facts.items d.rows.items c.pop_output.new.rows.items c.push_output.new.rows.items c.args.instance (c.in-Some.ensures.held refl) c.pop_output.ensures.bare c.push_output.ensures.bare)
-    (c.push_output.ensures.size ∙ c.pop_output.ensures.size) c.in-Err.ensures.unchanged refl refl refl refl
+    (c.push_output.ensures.same_rooms ∙ c.pop_output.ensures.same_rooms) c.in-Err.ensures.unchanged refl refl refl refl
     (λ fine kept placed. placed_same d.rows.items c.push_output.new.rows.items [] d.log.history
     (put_back (Outputs c.args.instance) c.in-Some.parcel.finalizers c.in-Err.field-0.parcel.finalizers d.rows.items c.pop_output.new.rows.items c.push_output.new.rows.items c.in-Some.ensures.oldest c.push_output.ensures.oldest
     (ap (λ (p : Parcel). p.finalizers) c.in-Err.ensures.back)) placed)
@@ -120,7 +120,7 @@ spend-requires-clause-stands g c =
     stands_moved g.P.Port.told d _ [] c.in-Ok-NoConsumer.parcel.finalizers s
     (unread_balanced d.batches c.route.new.batches d.rows.items c.pop_output.new.rows.items c.in-Some.parcel.finalizers c.in-Ok-NoConsumer.parcel.finalizers s.balanced c.in-Some.ensures.loses unmoved
     (ap (λ (p : Parcel). p.finalizers) whole))
-    refl c.pop_output.ensures.ports (bare_by d.facts.items d.rows.items c.pop_output.new.rows.items c.pop_output.ensures.bare) c.pop_output.ensures.size unmoved refl refl refl refl
+    refl c.pop_output.ensures.ports (bare_by d.facts.items d.rows.items c.pop_output.new.rows.items c.pop_output.ensures.bare) c.pop_output.ensures.same_rooms unmoved refl refl refl refl
     (λ fine kept placed. subst (λ (p : Parcel). IsPlaced c.pop_output.new.rows.items p.finalizers d.log.history) (sym whole)
     (placed_taken (Outputs c.args.instance) c.in-Some.parcel.finalizers d.rows.items c.pop_output.new.rows.items d.log.history kept placed
     (from_oldest (Outputs c.args.instance) c.in-Some.parcel.finalizers d.rows.items c.pop_output.new.rows.items c.in-Some.ensures.oldest)))
@@ -138,3 +138,13 @@ spend-requires-clause-cause g c = unread_may _ c.args.instance
     (λ fine. sym (routed_as g.P.Port.told c.args.self.now c.args.instance c.index.result.now c.requires.stands c.requires.within c.index.ensures (record { whole = fine.whole; fed = fine.fed }))
     ∙ targets_none c.in-Ok-NoConsumer.field-0 c.in-Ok-NoConsumer.parcel (targets_of 1 c.index.result.now.outlet) c.in-Ok-NoConsumer.field-0-is c.in-Ok-NoConsumer.ensures.no_consumer.0)
     (λ fine t. let s = c.requires.stands.recorded (record { whole = fine.whole; fed = fine.fed }) in places_all c.args.self.now.rows.items c.args.self.now.log.history s.places.standing (Waiting c.args.instance t) ∙ none_wait c.args.self.now.rows.items c.args.instance t c.requires.none)
+
+pub returns-in_default-clause-stands : goal.returns-in_default-clause-stands
+returns-in_default-clause-stands g c =
+    let d = c.args.self.now in
+    stands_moved g.P.Port.told d _ [] [] c.requires.stands
+    (same_balanced d.batches d.rows.items c.pop_output.new.rows.items [] c.requires.stands.balanced c.in_default.ensures.loses)
+    refl c.pop_output.ensures.ports (bare_by d.facts.items d.rows.items c.pop_output.new.rows.items c.pop_output.ensures.bare)
+    c.pop_output.ensures.same_rooms refl refl refl refl refl
+    (λ fine kept placed. placed_same d.rows.items c.pop_output.new.rows.items [] d.log.history c.in_default.ensures.none placed)
+    (λ fine said. (c.in_default.ensures.said d.log.history said).0)
