@@ -24,6 +24,9 @@ mod Numbering
 mod Homing
 mod Leaving
 mod Writing
+mod Lining
+mod Bridging
+mod Following
 pub mod EventLaws
 mod Saids
 mod Ceasing

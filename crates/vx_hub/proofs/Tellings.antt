@@ -1,10 +1,10 @@
 -- One change of what a port tells after another.
-use Rattle.std.proofs.Common.{◌≡◌, inl, inr, ◌≤◌, ℕ, ◌+◌, ◌++◌, List, [], Option, Some, None, IfSome, false, refl, sym, ap, subst, arith, ◌∙◌}
+use Rattle.std.proofs.Common.{◌≡◌, inl, inr, ◌≤◌, ℕ, ◌+◌, ◌++◌, List, [], ◌∷◌, Option, Some, None, IfSome, false, refl, sym, ap, subst, arith, ◌∙◌}
 use Rattle.std.proofs.lemmas.List.{append-nil}
-use Rattle.vx_ends.specs.Told.{Told, Rose, Grows, SameBytes}
+use Rattle.vx_ends.specs.Told.{Told, Rose, Grows, Shrinks, SameBytes}
 use Rattle.vx_ends.specs.declared.position.Position.{Position}
 use Rattle.vx_ends.proofs.Growing.{grows_nothing}
-use Rattle.vx_hub.specs.Turns.{taken_in, ended_in, LeavesNothing, OnlyTakes, FailsBy, BringsSome}
+use Rattle.vx_hub.specs.Turns.{taken_in, ended_in, NothingLeft, LeavesNothing, OnlyTakes, FailsBy, BringsSome}
 use Rattle.vx_hub.specs.declared.source.Turned.{Turned}
 use Rattle.vx_hub.specs.declared.source.Turned.TheVariants.{Lines, StreamEnded, AllEnded, Idle, Failed}
 use Rattle.vx_record.specs.Records.{capped}
@@ -129,6 +129,19 @@ turn_rests old new (StreamEnded stream events end) others fails = counts_none ol
 turn_rests old new (AllEnded stream events end) others fails = counts_none old.idles new.idles others.idles
 turn_rests old new Idle others fails = counts_one old.idles new.idles others.idles fails
 turn_rests old new (Failed at_start) others fails = counts_none old.idles new.idles others.idles
+
+-- where nothing was left, nothing is left
+tail_none : (front rest : List ℕ) → front ++ rest ≡ [] → rest ≡ []
+tail_none [] rest none = none
+tail_none (x ∷ front) rest none = cc
+
+left_after : (old new : Option (List ℕ)) (gone : List ℕ) → Shrinks old new gone → IfSome old (λ rest. rest ≡ []) → IfSome new (λ rest. rest ≡ [])
+left_after None new gone shrinks none = subst (λ (o : Option (List ℕ)). IfSome o (λ rest. rest ≡ [])) (sym shrinks) tt
+left_after (Some old) None gone shrinks none = absurd shrinks
+left_after (Some old) (Some rest) gone shrinks none = tail_none gone rest (sym shrinks ∙ none)
+
+pub nothing_left : (old new : Told) (gone : ℕ → List ℕ) → ((stream : ℕ) → Shrinks (old.left stream) (new.left stream) (gone stream)) → NothingLeft old → NothingLeft new
+nothing_left old new gone shrinks none stream = left_after (old.left stream) (new.left stream) (gone stream) (shrinks stream) (none stream)
 
 -- a port that a turn took from
 pub did_turn : (old new : Told) (turned : Turned) → ((stream : ℕ) → Grows (old.taken stream) (new.taken stream) (taken_in turned stream)) → new.ended ≡ old.ended ++ ended_in turned →

@@ -1,4 +1,6 @@
 pub mod Turns
+pub mod Sources
+pub mod Abreast
 pub mod Attempts
 pub mod Rows
 pub mod Places

@@ -1,5 +1,5 @@
 -- What one turn of a source says of its port.
-use Rattle.std.specs.Prelude.{◌≡◌, ℕ, ◌≤◌, ◌<◌, ◌==◌, not, if◌then◌else◌, Bool, true, false, List, [], ◌∷◌, length, IfSome}
+use Rattle.std.specs.Prelude.{◌≡◌, ℕ, ◌≤◌, ◌<◌, ◌==◌, not, if◌then◌else◌, Bool, true, false, List, [], ◌∷◌, length, IfSome, Contains}
 use Rattle.vx_ends.specs.Told.{Told, Rose}
 use Rattle.vx_hub.specs.declared.source.Turned.{Turned}
 use Rattle.vx_hub.specs.declared.source.Turned.TheVariants.{Lines, StreamEnded, AllEnded, Idle, Failed}
@@ -55,6 +55,12 @@ BringsSome other = Unit {0}
 -- a turn tells the end of all only where nothing is left
 abbrev pub LeavesNothing : Told → Turned → Type 0
 LeavesNothing new turned = ends_all turned ≡ true → NothingLeft new
+
+-- a turn is of no stream that has ended
+abbrev pub IsOfOpen : List ℕ → Turned → Type 0
+IsOfOpen ended (Lines from bytes events end) = Contains ended from → ⊥
+IsOfOpen ended (StreamEnded from events end) = Contains ended from → ⊥
+IsOfOpen ended other = Unit {0}
 
 -- a turn gives and confirms nothing, brings back nothing, and no count falls
 pub record OnlyTakes (old new : Told) : Type 0 where

@@ -1,7 +1,8 @@
-ghost use Rattle.std.specs.Prelude.{◌≡◌, [], ◌∷◌, ◌++◌, OnOk, IsTrue};
+ghost use Rattle.std.specs.Prelude.{◌≡◌, [], ◌∷◌, ◌++◌, IfOk, OnOk, IsTrue};
 ghost use Rattle.vx_value.specs.Events.{last_below};
 ghost use Rattle.vx_value.specs.Values.{named_datum};
 ghost use Rattle.vx_hub.specs.Events.{line_of};
+ghost use Rattle.vx_hub.specs.Sources.{event_of_line};
 
 use std::alloc::Global;
 use vx_json::{Codec, encode_event};
@@ -12,7 +13,9 @@ pub(crate) fn event_of_line(
     alloc: Global,
     line: &[u8],
     source_type: &Text,
-) -> Result<Event, WantOfMemory> {
+) -> Result<Event, WantOfMemory>
+    ensures { IfOk result (λ event. event ≡ event_of_line source_type.now line.now) }
+{
     let mut fields = FieldList::new(alloc);
     let message = Field {
         name: Text::copy_of(alloc, "message")?,

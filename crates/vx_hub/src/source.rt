@@ -1,10 +1,9 @@
-ghost use Rattle.std.specs.Prelude.{◌≡◌, ℕ, ◌+◌, ◌<◌, ◌≤◌, [], List, length, take, IfOk, OnErr, OnOk};
-ghost use Rattle.vx_ends.specs.Told.{Grows};
+ghost use Rattle.std.specs.Prelude.{◌≡◌, ◌∷◌, ◌++◌, [], length, OnOk};
 
 use crate::line::event_of_line;
-use memchr::memchr;
 use std::alloc::Global;
 use vx_ends::{Port, Took, Trouble};
+use vx_frame::{Framer, LineList};
 use vx_value::{Bytes, Event, EventList, Text, WantOfMemory};
 
 /// The greatest number of bytes that one take asks for.
@@ -41,41 +40,33 @@ pub enum Turned {
     },
 }
 
-/// A stream that hasn't ended: its bytes behind the last line feed, cut off where they are too long for a line, and
-/// the number of bytes taken of it.
-#[derive(Drop)]
-pub(crate) struct OpenStream {
-    pub stream: u64,
-    pub unfinished: Bytes,
-    pub taken: u64,
-}
-
 /// A source at work: it cuts the bytes that it takes into lines, and makes an event of each.
 #[derive(Drop)]
 pub struct SourceCore {
     alloc: Global,
     source_type: Text,
-    limit: usize,
     room: Vec<u8>,
-    streams: Vec<OpenStream>,
+    framer: Framer,
     last: Option<u64>,
     ghost roomy: { length room.items ≡ 65536 },
 }
 
 impl SourceCore {
-    ghost use Rattle.std.specs.Prelude.{◌≡◌, ℕ, ◌+◌, ◌++◌, ◌<◌, ◌≤◌, [], List, length, take, IfOk, OnErr, IsTrue};
+    ghost use Rattle.std.specs.Prelude.{◌≡◌, ℕ, ◌++◌, ◌≤◌, length, IfOk, IsTrue};
     ghost use Rattle.vx_ends.specs.Told.{Grows};
-    ghost use Rattle.vx_hub.specs.Turns.{taken_in, ended_in, event_count, BringsSome, FailsBy, LeavesNothing, OnlyTakes};
+    ghost use Rattle.vx_hub.specs.Turns.{taken_in, ended_in, event_count, BringsSome, FailsBy, IsOfOpen, LeavesNothing, OnlyTakes};
+    ghost use Rattle.vx_hub.specs.Sources.{AreOf, HasFed, HasFinished, HasBrought, IsFresh};
 
     /// A source that takes lines of at most `limit` bytes.
-    pub fn new(alloc: Global, limit: u32, source_type: Text) -> Result<Self, WantOfMemory> {
+    pub fn new(alloc: Global, limit: u32, source_type: Text) -> Result<Self, WantOfMemory>
+        ensures { IfOk result (IsFresh limit source_type) }
+    {
         let room = vec![in alloc; 0u8; ROOM]?;
         Ok(SourceCore {
             alloc,
             source_type,
-            limit: limit as usize,
             room,
-            streams: Vec::new(alloc),
+            framer: Framer::new(alloc, limit),
             last: None,
         })
     }
@@ -89,6 +80,8 @@ impl SourceCore {
         ensures failed { IfOk result (FailsBy (P.told port.old) (P.told port.new)) }
         ensures some { IfOk result BringsSome }
         ensures events { IfOk result (λ turned. event_count turned ≤ 65536) }
+        ensures brings { IfOk result (λ turned. HasBrought self.old turned self.new) }
+        ensures open { IfOk result (IsOfOpen (P.told port.old).ended) }
     {
         match port.start() {
             Ok(()) => self.take(port),
@@ -107,6 +100,8 @@ impl SourceCore {
         ensures failed { IfOk result (FailsBy (P.told port.old) (P.told port.new)) }
         ensures some { IfOk result BringsSome }
         ensures events { IfOk result (λ turned. event_count turned ≤ 65536) }
+        ensures brings { IfOk result (λ turned. HasBrought self.old turned self.new) }
+        ensures open { IfOk result (IsOfOpen (P.told port.old).ended) }
     {
         match port.take(self.room.as_mut_slice()) {
             Ok(Took::Bytes { stream, n }) => {
@@ -128,7 +123,7 @@ impl SourceCore {
                 })
             }
             Ok(Took::AllEnded) => {
-                let stream = self.last.take().unwrap_or(0);
+                let stream = self.last.unwrap_or(0);
                 let (events, end) = self.finish(stream)?;
                 Ok(Turned::AllEnded {
                     stream,
@@ -144,85 +139,43 @@ impl SourceCore {
 
     /// The events of the lines that some bytes of a stream complete, and the end of the last of these lines.
     fn cut(&mut self, stream: u64, bytes: &[u8]) -> Result<(EventList, u64), WantOfMemory>
-        ensures { IfOk result (λ cut. length cut.0 ≤ length bytes.now) }
+        ensures fed { IfOk result (λ cut. HasFed self.old stream bytes.now cut.0 cut.1 self.new) }
+        ensures few { IfOk result (λ cut. length cut.0 ≤ length bytes.now) }
     {
-        let mut events = EventList::new(self.alloc);
-        let mut open = self.opened(stream);
-        let mut end = 0;
-        let mut rest = bytes;
-        while let Some(at) = memchr(b'\n', rest) {
-            let (line, behind) = rest.split_at(at);
-            open.taken = open.taken.saturating_add(at as u64).saturating_add(1);
-            if let Some(event) = self.line(&mut open, line)? {
-                push(&mut events, event)?;
-                end = open.taken;
-            }
-            rest = &behind[1..];
-        }
-        keep(&mut open, rest, self.limit)?;
+        let mut lines = LineList::new(self.alloc);
+        self.framer.feed(stream, bytes, &mut lines)?;
         self.last = Some(stream);
-        self.streams.push(open)?;
-        Ok((events, end))
-    }
-}
-
-impl SourceCore {
-    /// Takes the stream's lines out of the list, or begins them.
-    fn opened(&mut self, stream: u64) -> OpenStream {
-        match self.streams.iter().position(|open| open.stream == stream) {
-            Some(at) => self.streams.swap_remove(at),
-            None => OpenStream {
-                stream,
-                unfinished: Bytes::new(self.alloc),
-                taken: 0,
-            },
-        }
-    }
-
-    /// The event of the line that these bytes end, if it isn't too long.
-    fn line(&self, open: &mut OpenStream, bytes: &[u8]) -> Result<Option<Event>, WantOfMemory> {
-        let length = open.unfinished.len().saturating_add(bytes.len());
-        if length > self.limit {
-            open.unfinished.clear();
-            return Ok(None);
-        }
-        if open.unfinished.is_empty() {
-            return Ok(Some(event_of_line(self.alloc, bytes, &self.source_type)?));
-        }
-        open.unfinished.push_slice(bytes)?;
-        let event = event_of_line(self.alloc, open.unfinished.as_slice(), &self.source_type)?;
-        open.unfinished.clear();
-        Ok(Some(event))
+        self.events(&lines)
     }
 
     /// The event of the unfinished line with which a stream ends, and the number of the stream's bytes.
     fn finish(&mut self, stream: u64) -> Result<(EventList, u64), WantOfMemory>
-        ensures { IfOk result (λ cut. length cut.0 ≤ 1) }
+        ensures finished { IfOk result (λ cut. HasFinished self.old stream cut.0 cut.1 self.new) }
+        ensures few { IfOk result (λ cut. length cut.0 ≤ 1) }
+    {
+        let mut lines = LineList::new(self.alloc);
+        self.framer.finish(stream, &mut lines)?;
+        self.events(&lines)
+    }
+
+    /// The events of some lines, and the end of the last of them.
+    fn events(&self, lines: &LineList) -> Result<(EventList, u64), WantOfMemory>
+        ensures { IfOk result (λ cut. AreOf self.now.source_type lines.now cut.0 cut.1) }
     {
         let mut events = EventList::new(self.alloc);
-        let mut open = self.opened(stream);
-        if !open.unfinished.is_empty()
-            && let Some(event) = self.line(&mut open, &[])?
-        {
+        let mut end = 0;
+        for line in lines.as_slice() {
+            let event = event_of_line(self.alloc, line.bytes.as_slice(), &self.source_type)?;
             push(&mut events, event)?;
+            end = line.end;
         }
-        Ok((events, open.taken))
+        Ok((events, end))
     }
-}
-
-/// Keeps the bytes behind the last line feed, but no more than show that the line is too long.
-fn keep(open: &mut OpenStream, bytes: &[u8], limit: usize) -> Result<(), WantOfMemory> {
-    open.taken = open.taken.saturating_add(bytes.len() as u64);
-    let room = limit
-        .saturating_add(1)
-        .saturating_sub(open.unfinished.len());
-    let kept = bytes.len().min(room);
-    open.unfinished.push_slice(&bytes[..kept])
 }
 
 /// Adds an event.
 fn push(events: &mut EventList, event: Event) -> Result<(), WantOfMemory>
-    ensures { OnOk result (length events.new ≡ length events.old + 1) }
+    ensures { OnOk result (events.new ≡ events.old ++ event ∷ []) }
 {
     match events.push(event) {
         Ok(()) => Ok(()),

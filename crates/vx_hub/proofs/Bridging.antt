@@ -1,0 +1,122 @@
+-- The record's lines are those of a framer.
+use Rattle.std.proofs.Common.{◌≡◌, ℕ, ◌+◌, ◌≤◌, Bool, true, false, List, [], ◌∷◌, ◌++◌, ◌&&◌, length, map, arith, Option, Some, None, refl, sym, subst, ◌∙◌, ap}
+use Rattle.std.specs.Prelude.{drop, nat_le, IsSomeAnd, if◌then◌else◌}
+use Rattle.vx_value.specs.Texts.{Word}
+use Rattle.vx_frame.specs.Frames.{Frame, cut, capped, kept, some_byte, lines_of, frames}
+use Rattle.vx_frame.specs.Framings.{line_of}
+use Rattle.vx_frame.specs.declared.line.Line.{Line as CutLine}
+use Rattle.vx_value.specs.declared.event.Event.{Event}
+use Rattle.vx_plan.specs.declared.component.Component.{Component}
+use Rattle.vx_plan.specs.declared.decoding.Decoding.{Decoding}
+use Rattle.vx_plan.specs.declared.decoding.Decoding.TheVariants as codec
+use Rattle.vx_plan.specs.declared.settings.Settings.{Settings}
+use Rattle.vx_plan.specs.Components.{longest_line}
+use Rattle.vx_plan.specs.Options.{decoding, type_name}
+use Rattle.vx_record.specs.declared.taken.Taken.{Taken}
+use Rattle.vx_record.specs.declared.taken.Taken.TheVariants.{Bytes, StreamEnded, AllEnded}
+use Rattle.vx_record.specs.Records.{Record}
+use Rattle.vx_record.specs.Installs.{component_of}
+use Rattle.vx_record.specs.Reads.{stream_of, open_bytes, lines_past, new_lines, limit_of, line_event, decoded, events_of_lines, events_of, last_end as record_end}
+use Rattle.vx_hub.specs.declared.source.SourceCore.{SourceCore}
+use Rattle.vx_hub.specs.Sources.{event_of_line, last_end, AreOf}
+use Rattle.vx_hub.specs.Abreast.{IsMadeFor}
+
+drop_front : {X : Type 0} (xs ys : List X) → drop (length xs) (xs ++ ys) ≡ ys
+drop_front [] ys = refl
+drop_front (x ∷ xs) ys = drop_front xs ys
+
+-- the lines that some bytes, or the end, add
+abbrev pub Adds : ℕ → Word → Taken → List Frame → Type 0
+Adds limit before (Bytes bytes) behind = frames (before ++ bytes) limit false ≡ frames before limit false ++ behind
+Adds limit before StreamEnded behind = frames before limit true ≡ frames before limit false ++ behind
+Adds limit before AllEnded behind = frames before limit true ≡ frames before limit false ++ behind
+
+past_by : (limit : ℕ) (before : Word) (took : Taken) (behind : List Frame) → Adds limit before took behind → lines_past limit before took ≡ behind
+past_by limit before (Bytes bytes) behind more = ap (drop (length (frames before limit false))) more ∙ drop_front (frames before limit false) behind
+past_by limit before StreamEnded behind more = ap (drop (length (frames before limit false))) more ∙ drop_front (frames before limit false) behind
+past_by limit before AllEnded behind more = ap (drop (length (frames before limit false))) more ∙ drop_front (frames before limit false) behind
+
+-- the ends of lines stand still at the end of their type
+abbrev fits : List Frame → Type 0
+fits lines = record_end lines ≤ 18446744073709551615
+
+kept_fits : (limit : ℕ) (line : Frame) (lines : List Frame) → line.end ≤ 18446744073709551615 → fits lines → fits (kept limit line lines)
+kept_fits limit line lines first others = by_length (nat_le (length line.bytes) limit) lines others
+  where
+    by_length : (b : Bool) (lines : List Frame) → fits lines → fits (if b then line ∷ lines else lines)
+    by_length false lines others = others
+    by_length true [] others = first
+    by_length true (next ∷ rest) others = others
+
+lines_fit : (limit : ℕ) (ended : Bool) (seen : ℕ) (held part : List ℕ) (more : List (List ℕ)) → fits (lines_of limit ended seen held part more)
+lines_fit limit ended seen held part [] = by_end (ended && some_byte (held ++ part))
+  where
+    by_end : (b : Bool) → fits (if b then kept limit (record { bytes = held ++ part; end = capped (seen + length part) }) [] else [])
+    by_end true = kept_fits limit (record { bytes = held ++ part; end = capped (seen + length part) }) [] (omega arith) (omega arith)
+    by_end false = omega arith
+lines_fit limit ended seen held part (next ∷ more) =
+    kept_fits limit (record { bytes = held ++ part; end = capped (seen + length part + 1) }) (lines_of limit ended (capped (seen + length part + 1)) [] next more)
+    (omega arith) (lines_fit limit ended (capped (seen + length part + 1)) [] next more)
+
+behind_fits : (was behind : List Frame) → fits (was ++ behind) → fits behind
+behind_fits [] behind all = all
+behind_fits (line ∷ []) [] all = omega arith
+behind_fits (line ∷ []) (next ∷ rest) all = all
+behind_fits (line ∷ second ∷ was) behind all = behind_fits (second ∷ was) behind all
+
+added_fit : (limit : ℕ) (before : Word) (took : Taken) (behind : List Frame) → Adds limit before took behind → fits behind
+added_fit limit before (Bytes bytes) behind more =
+    behind_fits (frames before limit false) behind (subst fits more (lines_fit limit false 0 [] (cut (before ++ bytes)).first (cut (before ++ bytes)).more))
+added_fit limit before StreamEnded behind more =
+    behind_fits (frames before limit false) behind (subst fits more (lines_fit limit true 0 [] (cut before).first (cut before).more))
+added_fit limit before AllEnded behind more =
+    behind_fits (frames before limit false) behind (subst fits more (lines_fit limit true 0 [] (cut before).first (cut before).more))
+
+-- their events and their end
+events_by : (settings : Settings) (stream : ℕ) (lines : List Frame) → map (λ (line : Frame). line_event settings line.bytes) lines ≡ map (λ (line : CutLine). event_of_line (type_name settings) line.bytes) (map (line_of stream) lines)
+events_by settings stream [] = refl
+events_by settings stream (line ∷ lines) = ap (λ (es : List Event). line_event settings line.bytes ∷ es) (events_by settings stream lines)
+
+end_by : (stream : ℕ) (lines : List Frame) → record_end lines ≡ last_end (map (line_of stream) lines)
+end_by stream [] = refl
+end_by stream (line ∷ []) = refl
+end_by stream (line ∷ next ∷ rest) = end_by stream (next ∷ rest)
+
+still : (n : ℕ) → n ≤ 18446744073709551615 → capped n ≡ n
+still n small = omega arith
+
+decoded_by : (settings : Settings) (lines : List Frame) → decoding settings ≡ Some codec.Bytes → events_of_lines settings lines ≡ map (λ (line : Frame). line_event settings line.bytes) lines
+decoded_by settings lines is = ap (λ (o : Option Decoding). elim o [ None ↦ [] | Some d ↦ decoded d settings lines ]) is
+
+-- what a record says of the component that there is
+told_some : {X : Type 0} (o : Option Component) (P : Component → Type 0) (none x : X) (f : Component → X) → IsSomeAnd o P → ((c : Component) → P c → x ≡ f c) → x ≡ elim o [ None ↦ none | Some c ↦ f c ]
+told_some None P none x f some is = absurd some
+told_some (Some c) P none x f some is = is c some
+
+-- the events of the lines that a framer adds are those that the record's Read gives, and so is the end
+pub given_by : (h : Record) (i stream : ℕ) (took : Taken) (core : SourceCore) (behind : List Frame) (events : List Event) (end : ℕ) → IsSomeAnd (component_of h i) (λ (c : Component). IsMadeFor c.settings core) →
+    Adds core.framer.limit (open_bytes h i (stream_of h i stream took)) took behind → AreOf core.source_type (map (line_of (stream_of h i stream took)) behind) events end →
+    (events ≡ events_of h i stream took) × (end ≡ capped (record_end (new_lines h i stream took)))
+given_by h i stream took core behind events end made adds are = (
+  told_some (component_of h i) (λ c. IsMadeFor c.settings core) [] events (λ c. events_of_lines c.settings lines) made
+    (λ c m. are.each ∙ ap (λ (w : Word). map (λ (line : CutLine). event_of_line w line.bytes) (map (line_of s) behind)) m.source_type
+    ∙ ap (λ (fs : List Frame). map (λ (line : CutLine). event_of_line (type_name c.settings) line.bytes) (map (line_of s) fs)) (sym framed)
+    ∙ sym (events_by c.settings s lines) ∙ sym (decoded_by c.settings lines m.decoding_is)),
+  are.last ∙ ap (λ (fs : List Frame). last_end (map (line_of s) fs)) (sym framed) ∙ sym (end_by s lines)
+  ∙ sym (still (record_end lines) (subst fits (sym framed) (added_fit (limit_of h i) (open_bytes h i s) took behind added))),
+)
+  where
+    s : ℕ
+    s = stream_of h i stream took
+
+    lines : List Frame
+    lines = new_lines h i stream took
+
+    limit : core.framer.limit ≡ limit_of h i
+    limit = told_some (component_of h i) (λ c. IsMadeFor c.settings core) 0 core.framer.limit (λ c. longest_line c.settings) made (λ c m. m.limit)
+
+    added : Adds (limit_of h i) (open_bytes h i s) took behind
+    added = subst (λ n. Adds n (open_bytes h i s) took behind) limit adds
+
+    framed : lines ≡ behind
+    framed = past_by (limit_of h i) (open_bytes h i s) took behind added
