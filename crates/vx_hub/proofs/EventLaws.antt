@@ -1,7 +1,8 @@
 -- The record goes on having the events of the parcels that stand at the instances.
-use Rattle.std.proofs.Common.{◌≡◌, ℕ, zero, suc, ◌+◌, ◌*◌, ◌-◌, ◌<◌, ◌≤◌, Bool, true, List, [], ◌∷◌, ◌++◌, length, get_or, Option, Some, None, IfSome, refl, sym, ap, subst, ◌∙◌, arith}
+use Rattle.std.proofs.Common.{◌≡◌, ℕ, zero, suc, ◌+◌, ◌*◌, ◌-◌, ◌<◌, ◌≤◌, Bool, true, false, List, [], ◌∷◌, ◌++◌, length, get_or, Option, Some, None, IfSome, refl, sym, ap, subst, ◌∙◌, arith}
 use Rattle.std.specs.Prelude.{slice_set, remove, nat_lt, slice_index_or, map, IfNone}
 use Rattle.std.proofs.lemmas.List.{append_assoc, length-append}
+use Rattle.std.specs.List.{list_any}
 use Rattle.vx_value.specs.declared.event.Event.{Event}
 use Rattle.vx_ends.specs.declared.trouble.Reply.{Reply}
 use Rattle.vx_plan.specs.declared.codec.Codec.TheVariants.{Text}
@@ -14,7 +15,7 @@ use Rattle.vx_record.specs.Noted.{Noted}
 use Rattle.vx_record.specs.Copies.{next_copy}
 use Rattle.vx_record.specs.Encoding.{encode, encode_event, is_prefix}
 use Rattle.vx_record.specs.Lists.{held}
-use Rattle.vx_record.specs.Turns.{is_out}
+use Rattle.vx_record.specs.Turns.{is_out, since_lease, is_attempt_of}
 use Rattle.vx_record.specs.Parcels.{no_event, event_of, parcel_event}
 use Rattle.vx_record.specs.declared.child.Child.{Child as NotedChild}
 use Rattle.vx_record.specs.declared.entry.Entry.{Entry}
@@ -30,7 +31,7 @@ use Rattle.vx_plan.specs.declared.class.Class.TheVariants.{Sink}
 use Rattle.vx_hub.specs.Order.{IsAttemptOf, IsOfClass}
 use Rattle.vx_hub.specs.Places.{parcel_numbers}
 use Rattle.vx_hub.specs.Rows.{row_at, task_parcels, role_parcels, role_copies}
-use Rattle.vx_hub.proofs.Homing.{held_numbers}
+use Rattle.vx_hub.proofs.Homing.{held_numbers, held_some}
 use Rattle.vx_hub.proofs.Ordering.{sound_before}
 use Rattle.vx_hub.proofs.RowLaws.{rows_keep, row_has}
 use Rattle.vx_hub.proofs.Saids.{chosen_false, above, each_on}
@@ -169,13 +170,15 @@ written_events h (p ∷ ps) all =
     ap (λ (w : List ℕ). encode_event Text (parcel_event h (numbers_in p.finalizers)) ++ w) (written_events h ps all.1)
     ∙ ap (λ (e : Event). encode_event Text e ++ written ps) (sym all.0.event)
 
-pub attempt_in_order : (h : Record) (i : ℕ) (role : Role) (bytes : List ℕ) (reply : Reply) → is_out h i ≡ true → IsOfClass h i Sink → held h i ≡ parcel_numbers (role_parcels role) → Each (IsSaid h) (role_parcels role) → IsPartOf (written (role_parcels role)) bytes reply →
+pub attempt_in_order : (h : Record) (i : ℕ) (role : Role) (bytes : List ℕ) (reply : Reply) → is_out h i ≡ true → IsOfClass h i Sink → list_any (is_attempt_of i) (since_lease h i) ≡ false → 0 < length (role_parcels role) → held h i ≡ parcel_numbers (role_parcels role) → Each (IsSaid h) (role_parcels role) → IsPartOf (written (role_parcels role)) bytes reply →
     IsAttemptOf h i (numbers_in (role_copies role)) bytes reply
-attempt_in_order h i role bytes reply out sink is said part =
+attempt_in_order h i role bytes reply out sink once some is said part =
     let all : encode Text (map (parcel_event h) (held h i)) ≡ written (role_parcels role) = ap (λ (ps : List (List ℕ)). encode Text (map (parcel_event h) ps)) is ∙ written_events h (role_parcels role) said in
     record {
       out = out;
       sink = sink;
+      once = once;
+      some = let n = ap length (held_numbers h i role is) in let m = held_some h i (role_parcels role) is some in omega (arith, n, m);
       all = held_numbers h i role is;
       given = subst (λ (w : List ℕ). is_prefix bytes w ≡ true) (sym all) part.given;
       whole = λ ok. part.whole ok ∙ sym all;

@@ -4,12 +4,13 @@ use Rattle.std.specs.Prelude.{◌<◌, get_or, slice_get, Bool, true, false, ◌
 use Rattle.vx_ends.specs.Told.{Told}
 use Rattle.vx_ledger.specs.Copies.{Copy}
 use Rattle.vx_ledger.specs.declared.child.Child.{Child}
+use Rattle.vx_ledger.specs.declared.parcel.Parcel.{Parcel}
 use Rattle.vx_record.specs.Records.{Record}
 use Rattle.vx_record.specs.Noted.{Noted}
 use Rattle.vx_record.specs.declared.entry.Entry.{Entry}
 use Rattle.vx_record.specs.declared.entry.Entry.TheVariants.{Idle, SourceLost}
 use Rattle.vx_record.specs.Places.Place.{Waiting, Held}
-use Rattle.std.proofs.lemmas.List.{append_assoc}
+use Rattle.std.proofs.lemmas.List.{append_assoc, length-append}
 use Rattle.vx_record.specs.Copies.{joined}
 use Rattle.vx_record.specs.Lists.{stands, parcels_at, outputs, held}
 use Rattle.vx_record.specs.Sending.{IsOldest}
@@ -22,7 +23,7 @@ use Rattle.vx_hub.specs.declared.row.Row.{Row}
 use Rattle.vx_hub.specs.declared.task.Role.{Role}
 use Rattle.vx_hub.specs.declared.task.Role.TheVariants.{Source, Sink}
 use Rattle.vx_hub.specs.Rows.{role_copies, role_parcels, parcel_copies, row_at, NoneWaits}
-use Rattle.vx_hub.specs.Places.{parcel_numbers, waiting_lists, copies_if, copies_at, all_numbers, numbers_at, NoneBefore, SamePlaces, TakesOldest}
+use Rattle.vx_hub.specs.Places.{parcel_lists, parcel_numbers, HoldsSome, PutsLast, waiting_lists, copies_if, copies_at, all_numbers, numbers_at, NoneBefore, SamePlaces, TakesOldest}
 use Rattle.vx_hub.specs.Births.{IsHeldBy, IsNextOut}
 use Rattle.vx_hub.specs.Failures.{IsFailureOf}
 use Rattle.vx_hub.specs.Numbers.{numbers_in}
@@ -63,6 +64,42 @@ oldest_some h q copies rest is = go copies (subst NoneEmpty is (none_empty q (le
     go : (cs : List ℕ) → NoneEmpty (cs ∷ rest) → 0 < length cs
     go [] full = absurd full
     go (c ∷ cs) full = omega arith
+
+-- as many parcels as there are lists of numbers
+pub length_parcels : (ps : List Parcel) → length (parcel_numbers ps) ≡ length ps
+length_parcels [] = refl
+length_parcels (p ∷ ps) = ap suc (length_parcels ps)
+
+pub length_lists : (ps : List Parcel) → length (parcel_lists ps) ≡ length ps
+length_lists [] = refl
+length_lists (p ∷ ps) = ap suc (length_lists ps)
+
+-- where what is held isn't empty, a parcel is
+pub holds_some : {P : Type 0} (rows : List (Row P)) (i : ℕ) (ps : List Parcel) → copies_at (Held i) rows ≡ parcel_lists ps → (ps ≡ [] → false ≡ true) → HoldsSome rows i
+holds_some rows i [] is some = let no : false ≡ true = some refl in cc
+holds_some rows i (p ∷ ps) is some = subst (λ (qs : List (List Copy)). 0 < length qs) (sym is) (omega arith)
+
+-- where a parcel is held, a copy is
+pub held_some : (h : Record) (i : ℕ) (ps : List Parcel) → held h i ≡ parcel_numbers ps → 0 < length ps → 0 < length (joined (held h i))
+held_some h i ps is some =
+    go (held h i) (let a = ap length is in let b = length_parcels ps in omega (arith, some, a, b)) (none_empty (Held i) (left h) (all_puts h))
+  where
+    go : (qs : List (List ℕ)) → 0 < length qs → NoneEmpty qs → 0 < length (joined qs)
+    go [] l full = absurd (omega (arith, l))
+    go ([] ∷ qs) l full = absurd full
+    go ((c ∷ cs) ∷ qs) l full = omega arith
+
+-- a parcel that is put leaves what was held
+pub holds_put : {P : Type 0} (q : Place) (i : ℕ) (copies : List Copy) (old new : List (Row P)) → PutsLast q copies old new → HoldsSome old i → HoldsSome new i
+holds_put q i copies old new puts some = go (same_place q (Held i)) refl
+  where
+    go : (b : Bool) → same_place q (Held i) ≡ b → HoldsSome new i
+    go true e =
+        let more = subst (λ (p : Place). copies_at p new ≡ copies_at p old ++ copies ∷ []) (same_place_is q (Held i) e) puts.last in
+        let n = ap length more in
+        let m = length-append (copies_at (Held i) old) (copies ∷ []) in
+        omega (arith, some, n, m)
+    go false e = subst (λ (ps : List (List Copy)). 0 < length ps) (sym (puts.others (Held i) e)) some
 
 -- no child waits for any target
 pub none_wait : {P : Type 0} (rows : List (Row P)) (i t : ℕ) → NoneWaits rows i → numbers_at (Waiting i t) rows ≡ []

@@ -1,15 +1,15 @@
 -- An instance that comes home goes on doing so, until the record tells it.
 use Rattle.std.proofs.Common.{◌≡◌, ℕ, ◌+◌, Bool, true, false, List, [], ◌∷◌, length, sym, ap, subst, ◌∙◌, arith}
 use Rattle.std.specs.Prelude.{IsSome, IsTrue, Option, ◌==◌, ◌&&◌, if◌then◌else◌}
-use Rattle.std.specs.List.{list_all}
+use Rattle.std.specs.List.{list_all, list_any}
 use Rattle.vx_record.specs.Records.{Record}
 use Rattle.vx_record.specs.Noted.{Noted}
-use Rattle.vx_record.specs.Turns.{is_out, is_take_of, since_lease}
+use Rattle.vx_record.specs.Turns.{is_out, is_take_of, since_lease, is_attempt_of}
 use Rattle.vx_record.specs.declared.log.Log.{Log}
 use Rattle.vx_record.specs.declared.entry.Entry.{Entry}
 use Rattle.vx_record.specs.declared.entry.Entry.TheVariants.{Lease, Take}
 use Rattle.vx_hub.specs.declared.hub.Hub.{Hub}
-use Rattle.vx_hub.specs.Away.{IsAway, IsReturning, OnlyTook, HasTaken}
+use Rattle.vx_hub.specs.Away.{IsAway, IsReturning, OnlyTook, HasTaken, IsUntried}
 use Rattle.vx_hub.specs.Rows.{SamePorts}
 use Rattle.vx_hub.proofs.Ordering.{sound_before}
 use Rattle.vx_hub.proofs.Silence.{same_test}
@@ -48,6 +48,17 @@ untaken_leased h i worker now polls =
     let none : since_lease (Lease i worker now polls ∷ h) i ≡ [] = ap (λ b. if b then [] else Lease i worker now polls ∷ since_lease h i) (same_test i) in
     record { only_takes = ap (list_all (is_take_of i)) none; few = omega (arith, ap length none) }
 
+-- nor makes an attempt
+pub untried_noted : {P : Type 0} (d e : Hub P) (entry : Entry) → Noted d.log entry e.log → e.starved ≡ d.starved →
+    ((h : Record) (k : ℕ) → list_any (is_attempt_of k) (since_lease h k) ≡ false → list_any (is_attempt_of k) (since_lease (entry ∷ h) k) ≡ false) → (i : ℕ) → IsUntried d i → IsUntried e i
+untried_noted d e entry noted starved stays i untried sound =
+    subst (λ (h : Record). list_any (is_attempt_of i) (since_lease h i) ≡ false) (sym (noted.whole sound.whole).1) (stays d.log.history i (untried (sound_before d e entry noted starved sound)))
+
+pub untried_same : {P : Type 0} (d e : Hub P) → e.log ≡ d.log → e.starved ≡ d.starved → (i : ℕ) → IsUntried d i → IsUntried e i
+untried_same d e log starved i untried sound =
+    subst (λ (l : Log). list_any (is_attempt_of i) (since_lease l.history i) ≡ false) (sym log) (untried (record { whole = subst (λ (l : Log). IsTrue l.whole) log sound.whole; fed = sym starved ∙ sound.fed }))
+
+-- behind an entry that brings nobody home an instance that comes home does so still
 pub returning_noted : {P : Type 0} (d e : Hub P) (entry : Entry) → SamePorts d.rows.items e.rows.items → Noted d.log entry e.log → e.starved ≡ d.starved → ((h : Record) (k : ℕ) → is_out h k ≡ true → is_out (entry ∷ h) k ≡ true) →
     (i : ℕ) → IsReturning d i → IsReturning e i
 returning_noted d e entry ports noted starved stays i back =

@@ -1,5 +1,5 @@
 -- A task that was handed out comes home with what was done.
-use Rattle.std.proofs.Common.{◌≡◌, ℕ, ◌+◌, ◌≤◌, ◌++◌, List, [], Option, Some, None, IfSome, refl, sym, ap, subst, ◌∙◌, arith}
+use Rattle.std.proofs.Common.{◌≡◌, ℕ, ◌+◌, ◌<◌, ◌≤◌, ◌++◌, false, length, List, [], Option, Some, None, IfSome, refl, sym, ap, subst, ◌∙◌, arith}
 use Rattle.vx_ends.specs.Told.{Told, Grows}
 use Rattle.vx_ledger.specs.Copies.{Copy}
 use Rattle.vx_ends.specs.declared.position.Position.{Position}
@@ -14,6 +14,8 @@ use Rattle.vx_hub.specs.declared.work.Work.{Work}
 use Rattle.vx_hub.specs.declared.work.Landing.{Landing}
 use Rattle.vx_hub.specs.declared.work.Done.{Done}
 use Rattle.vx_hub.specs.declared.work.Done.TheVariants.{Nothing, Read, Attempted, Closed, Starved}
+use Rattle.std.specs.List.{list_any}
+use Rattle.vx_record.specs.Turns.{since_lease, is_attempt_of}
 use Rattle.vx_record.specs.Lists.{held}
 use Rattle.vx_record.specs.Places.Place.{Outputs}
 use Rattle.vx_hub.specs.Places.{parcel_numbers, numbers_at}
@@ -75,7 +77,7 @@ named_by given (Some c) Closed due names is = named_due given (Some c) due names
 -- what was handed out may land
 pub back_of : {P : Type 0} (told_by : P → Told) (hub : Hub P) (work : Work P) (landing : Landing P) → IsLeased told_by hub work → landing.instance ≡ work.instance →
     role_copies landing.task.role ≡ role_copies work.task.role → role_parcels landing.task.role ≡ role_parcels work.task.role → Reports (told_by work.task.port) landing.confirmed landing.done (told_by landing.task.port) → NamesBy work.positions landing.confirmed landing.done → event_count_of landing.done ≤ 65536 →
-    (IsReading landing.done → work.job ≡ job.Read) → (landing.done ≡ Closed → work.job ≡ job.Close) → (IsAttempted landing.done → IsSending work.job) → IsWrittenOf (role_parcels work.task.role) landing.done → IsBack told_by hub landing
+    (IsReading landing.done → work.job ≡ job.Read) → (landing.done ≡ Closed → work.job ≡ job.Close) → (IsAttempted landing.done → work.job ≡ job.Attempt) → IsWrittenOf (role_parcels work.task.role) landing.done → IsBack told_by hub landing
 back_of {P} told_by hub work landing leased instance copies parcels reports names events reads closes sends writes = record {
   stands = subst (λ (cs : List Copy). Stands told_by hub cs hub.log.history) (sym copies) leased.stands;
   open_at = subst (λ (i : ℕ). IsOpenAt hub i) (sym instance) leased.open_at;
@@ -89,7 +91,9 @@ back_of {P} told_by hub work landing leased instance copies parcels reports name
   sent = λ reading. subst (λ (i : ℕ). numbers_at (Outputs i) hub.rows.items ≡ []) (sym instance) (leased.sent (reads reading));
   due = λ sound. subst (λ (i : ℕ). IfSome landing.confirmed (λ c. IsDueOf hub.log.history i c.positions)) (sym instance) (named_by work.positions landing.confirmed landing.done (IsDueOf hub.log.history work.instance) names (leased.due sound));
   shut = λ done. subst (λ (i : ℕ). MayShut hub i) (sym instance) (leased.shut (closes done));
-  sink = λ sent. subst (λ (i : ℕ). IsSinkAt hub i) (sym instance) (leased.sink (sends sent));
+  sink = λ sent. subst (λ (i : ℕ). IsSinkAt hub i) (sym instance) (leased.sink (subst IsSending (sym (sends sent)) tt));
+  untried = λ sound. subst (λ (i : ℕ). list_any (is_attempt_of i) (since_lease hub.log.history i) ≡ false) (sym instance) (leased.untried sound);
+  some = λ sent. subst (λ (ps : List Parcel). 0 < length ps) (sym parcels) (leased.some (sends sent));
   events = events;
   closed = λ done. let r : Reports (told_by work.task.port) landing.confirmed Closed (told_by landing.task.port) = subst (λ (d : Done). Reports (told_by work.task.port) landing.confirmed d (told_by landing.task.port)) done reports in
       not_true (told_by landing.task.port).started (r.closed refl);

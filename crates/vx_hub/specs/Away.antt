@@ -1,8 +1,8 @@
 -- An instance that was leased and comes home.
-use Rattle.std.specs.Prelude.{◌≡◌, ◌≤◌, ◌⊎◌, ℕ, true, length, IsSome}
-use Rattle.std.specs.List.{list_all}
+use Rattle.std.specs.Prelude.{◌≡◌, ◌≤◌, ◌⊎◌, ℕ, true, length, IsSome, false}
+use Rattle.std.specs.List.{list_all, list_any}
 use Rattle.vx_record.specs.Records.{Record}
-use Rattle.vx_record.specs.Turns.{is_out, is_take_of, since_lease}
+use Rattle.vx_record.specs.Turns.{is_out, is_take_of, since_lease, is_attempt_of}
 use Rattle.vx_record.specs.Abandoning.{abandoned}
 use Rattle.vx_hub.specs.declared.hub.Hub.{Hub}
 use Rattle.vx_hub.specs.Rows.{port_at}
@@ -11,6 +11,10 @@ use Rattle.vx_hub.specs.Stands.{IsSound}
 -- where the record has all that happened, the instance was leased there, and hasn't come home since
 abbrev pub IsAway : {P : Type 0} → Hub P → ℕ → Type 0
 IsAway hub i = IsSound hub → is_out hub.log.history i ≡ true
+
+-- where the record has all that happened, the instance made no attempt since it was leased
+abbrev pub IsUntried : {P : Type 0} → Hub P → ℕ → Type 0
+IsUntried hub i = IsSound hub → list_any (is_attempt_of i) (since_lease hub.log.history i) ≡ false
 
 -- the instance's task is at home already, and the record doesn't tell it yet
 pub record IsReturning {P : Type 0} (hub : Hub P) (i : ℕ) : Type 0 where

@@ -14,6 +14,7 @@ use Rattle.vx_hub.specs.declared.work.Done.{Done}
 use Rattle.vx_hub.specs.declared.work.Done.TheVariants.{Closed, Starved}
 use Rattle.vx_record.specs.Places.Place.{Outputs}
 use Rattle.vx_hub.specs.Places.{numbers_at}
+use Rattle.vx_hub.specs.Away.{IsUntried}
 use Rattle.vx_hub.specs.Births.{IsHeldBy, IsSaidBy}
 use Rattle.vx_hub.specs.Events.{IsWrittenOf}
 use Rattle.vx_hub.specs.Rows.{role_copies, role_parcels, IsOutAt}
@@ -42,6 +43,8 @@ pub record IsLeased {P : Type 0} (told_by : P → Told) (hub : Hub P) (work : Wo
   pub due : IsSound hub → IfSome work.positions (IsDueOf hub.log.history work.instance)
   pub shut : work.job ≡ job.Close → MayShut hub work.instance
   pub sink : IsSending work.job → IsSinkAt hub work.instance
+  pub untried : IsUntried hub work.instance
+  pub some : work.job ≡ job.Attempt → 0 < length (role_parcels work.task.role)
 
 -- what the port tells now is what the record has, and behind it what was confirmed and done
 pub record Adds (told : Told) (h : Record) (i : ℕ) (confirm : Option Confirmed) (done : Done) : Type 0 where
@@ -74,5 +77,7 @@ pub record IsBack {P : Type 0} (told_by : P → Told) (hub : Hub P) (landing : L
   pub due : IsSound hub → IfSome landing.confirmed (λ confirmed. IsDueOf hub.log.history landing.instance confirmed.positions)
   pub shut : landing.done ≡ Closed → MayShut hub landing.instance
   pub sink : IsAttempted landing.done → IsSinkAt hub landing.instance
+  pub untried : IsUntried hub landing.instance
+  pub some : IsAttempted landing.done → 0 < length (role_parcels landing.task.role)
   pub events : event_count_of landing.done ≤ 65536
   pub closed : landing.done ≡ Closed → (told_by landing.task.port).started ≡ false

@@ -1,5 +1,6 @@
 -- What is proved of each entry of a run's record, given the entries before it.
 use Rattle.std.specs.Prelude.{◌≡◌, ℕ, ◌+◌, ◌*◌, ◌<◌, ◌≤◌, ◌^◌, Bool, true, false, List, [], ◌∷◌, length, Option, Some, None, is_some, IfSome, IsSome, IsSomeAnd, slice_get, ◌⊎◌, if◌then◌else◌, ◌==◌, map}
+use Rattle.std.specs.List.{list_any, list_all}
 use Rattle.vx_ends.specs.declared.trouble.Reply.{Reply}
 use Rattle.vx_ends.specs.declared.trouble.Reply.TheVariants as reply
 use Rattle.vx_status.specs.declared.outcome.Outcome.{Outcome}
@@ -16,8 +17,7 @@ use Rattle.vx_record.specs.Stages.{first_room, first_filled}
 use Rattle.vx_record.specs.Moving.{Divides}
 use Rattle.vx_record.specs.Accounting.{IsNoticedSo, IsInTurn}
 use Rattle.vx_record.specs.Abandoning.{abandoned, MayStillCome}
-use Rattle.std.specs.List.{list_all}
-use Rattle.vx_record.specs.Turns.{is_out, is_take_of, since_lease}
+use Rattle.vx_record.specs.Turns.{is_out, is_take_of, since_lease, is_attempt_of}
 use Rattle.vx_record.specs.Parcels.{parcel_event, parcel_ports, port_list}
 use Rattle.vx_record.specs.Encoding.{encode, is_prefix}
 use Rattle.vx_plan.specs.declared.codec.Codec.TheVariants.{Text}
@@ -26,7 +26,6 @@ use Rattle.vx_record.specs.Starting.{MayInstall}
 use Rattle.vx_record.specs.Installs.{wired, in_force, component_of, device_at, is_closed, is_retired}
 use Rattle.vx_record.specs.Routing.{wired_targets, routes}
 use Rattle.vx_record.specs.declared.child.Child.{Child}
-use Rattle.vx_ends.specs.declared.position.Position.{Position}
 use Rattle.vx_plan.specs.declared.class.Class.{Class}
 use Rattle.vx_plan.specs.declared.class.Class.TheVariants.{Source, Sink}
 use Rattle.vx_plan.specs.declared.component.Component.{Component}
@@ -148,11 +147,14 @@ pub record IsConfirmOf (h : Record) (j : ℕ) (positions : List Position) : Type
   pub device : device_at h j ≡ true
   pub due : IsDueOf h j positions
 
--- an attempt is made by a sink that is out, and names what it holds, in order; it gives what the codec `text` writes
--- of the events of that, or the beginning of it, and with the reply `Ok` the whole
+-- an attempt is made by a sink that is out, once while it is out, and names what it holds, in order, which is at least
+-- one copy; it gives what the codec `text` writes of the events of that, or the beginning of it, and with the reply `Ok`
+-- the whole
 pub record IsAttemptOf (h : Record) (j : ℕ) (copies : List ℕ) (bytes : Word) (answer : Reply) : Type 0 where
   pub out : is_out h j ≡ true
   pub sink : IsOfClass h j Sink
+  pub once : list_any (is_attempt_of j) (since_lease h j) ≡ false
+  pub some : 0 < length copies
   pub all : copies ≡ joined (held h j)
   pub given : is_prefix bytes (encode Text (map (parcel_event h) (held h j))) ≡ true
   pub whole : answer ≡ reply.Ok → bytes ≡ encode Text (map (parcel_event h) (held h j))

@@ -1,5 +1,5 @@
 -- Which parcels stand at each place of the instances, as the record has them: by the numbers of their copies.
-use Rattle.std.specs.Prelude.{◌≡◌, ◌≢◌, ℕ, zero, suc, ◌<◌, ◌≤◌, false, if◌then◌else◌, ◌==◌, List, [], ◌∷◌, ◌++◌, Option, Some, None, IfSome}
+use Rattle.std.specs.Prelude.{◌≡◌, ◌≢◌, ℕ, zero, suc, ◌<◌, ◌≤◌, false, if◌then◌else◌, ◌==◌, List, [], ◌∷◌, ◌++◌, length, Option, Some, None, IfSome}
 use Rattle.vx_ledger.specs.Copies.{Copy}
 use Rattle.vx_ledger.specs.declared.parcel.Parcel.{Parcel}
 use Rattle.vx_ledger.specs.declared.child.Child.{Child}
@@ -53,6 +53,10 @@ all_numbers (copies ∷ rest) = numbers_in copies ∷ all_numbers rest
 -- the numbers of what stands at a place
 abbrev pub numbers_at : {P : Type 0} → Place → List (Row P) → List (List ℕ)
 numbers_at p rows = all_numbers (copies_at p rows)
+
+-- an instance at home holds a parcel
+abbrev pub HoldsSome : {P : Type 0} → List (Row P) → ℕ → Type 0
+HoldsSome rows i = 0 < length (copies_at (Held i) rows)
 
 -- the numbers of the copies of each of some parcels
 abbrev pub parcel_numbers : List Parcel → List (List ℕ)

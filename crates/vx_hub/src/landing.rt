@@ -4,7 +4,7 @@ ghost use Rattle.vx_record.specs.Noted.{Noted};
 ghost use Rattle.vx_hub.specs.Order.{reply_behind, IsPlaceFor, IsDueOf};
 ghost use Rattle.vx_hub.specs.Failures.{HasReason};
 ghost use Rattle.vx_hub.specs.Spending.{MaySpend, IsReplied, HasRead};
-ghost use Rattle.vx_hub.specs.Away.{IsReturning, MayEnd};
+ghost use Rattle.vx_hub.specs.Away.{IsUntried, IsReturning, MayEnd};
 ghost use Rattle.vx_hub.specs.Stands.{Stands, IsTold, IsSound, IsUnlost, MayShut, IsSinkAt, facts_at};
 ghost use Rattle.vx_hub.specs.Leases.{IsBack, IsOpenAt, Adds};
 ghost use Rattle.vx_hub.specs.Turns.{event_count};
@@ -226,6 +226,8 @@ impl<P: Port> Hub<P> {
         requires out { IsOutAt self.old.rows.items instance }
         requires brings { IsSound self.old → Adds (P.told task.port) self.old.log.history instance None (Done.Attempted bytes reply) }
         requires sink { IsSinkAt self.old instance }
+        requires untried { IsUntried self.old instance }
+        requires some { 0 < length (role_parcels task.role) }
         requires writes { IsPartOf (written (role_parcels task.role)) bytes reply }
         requires held { IsHeldBy self.old instance task.role }
         requires said { IsSaidBy self.old task.role }

@@ -4,10 +4,10 @@ ghost use Rattle.vx_hub.specs.Order.{IsDueOf};
 ghost use Rattle.vx_hub.specs.Stands.{Stands, IsSound, IsUnlost, MayShut, IsDry, IsSinkAt, facts_at};
 ghost use Rattle.vx_hub.specs.Works.{IsSending};
 ghost use Rattle.vx_hub.specs.Leases.{IsLeased, IsOpenAt};
-ghost use Rattle.vx_hub.specs.Away.{IsAway, HasTaken};
+ghost use Rattle.vx_hub.specs.Away.{IsAway, HasTaken, IsUntried};
 ghost use Rattle.vx_hub.specs.Rows.{CanHold};
-ghost use Rattle.vx_record.specs.Places.Place.{Outputs};
-ghost use Rattle.vx_hub.specs.Places.{numbers_at};
+ghost use Rattle.vx_record.specs.Places.Place.{Outputs, Held};
+ghost use Rattle.vx_hub.specs.Places.{numbers_at, copies_at, parcel_lists, HoldsSome};
 
 use crate::hub::Hub;
 use crate::notes::note_take;
@@ -73,6 +73,7 @@ impl<P: Port> Hub<P> {
         ensures abandoned { self.new.abandoned ≡ self.old.abandoned }
         ensures away { IsAway self.new instance }
         ensures untaken { HasTaken self.new instance 0 }
+        ensures untried { IsUntried self.new instance }
     {
         self.log.note(Ok(Entry::Lease {
             instance,
@@ -99,6 +100,8 @@ impl<P: Port> Hub<P> {
         requires due { IsSound self.old → IfSome positions (IsDueOf self.old.log.history instance) }
         requires shut { job ≡ Job.Close → MayShut self.old instance }
         requires sink { IsSending job → IsSinkAt self.old instance }
+        requires untried { IsUntried self.old instance }
+        requires some { job ≡ Job.Attempt → HoldsSome self.old.rows.items instance }
         ensures leased { IfSome result (IsLeased P.told self.new) }
         ensures none { IfNone result (Stands P.told self.new [] self.new.log.history) }
         ensures size { length self.new.rows.items ≡ length self.old.rows.items }
@@ -121,6 +124,7 @@ impl<P: Port> Hub<P> {
         ensures sent { IfSome result (λ ready. ready.job ≡ Job.Read → numbers_at (Outputs ready.instance) self.now.rows.items ≡ []) }
         ensures dry { IfSome result (λ ready. ready.job ≡ Job.Close → IsDry self.now ready.instance) }
         ensures sink { IfSome result (λ ready. IsSending ready.job → IsSinkAt self.now ready.instance) }
+        ensures some { IfSome result (λ ready. ready.job ≡ Job.Attempt → HoldsSome self.now.rows.items ready.instance) }
     {
         for i in (0..self.rows.len()).rev() {
             if let Some(job) = self.job(i, now) {
@@ -141,6 +145,7 @@ impl<P: Port> Hub<P> {
         ensures sent { IfSome result (λ job. job ≡ Job.Read → numbers_at (Outputs i) self.now.rows.items ≡ []) }
         ensures dry { IfSome result (λ job. job ≡ Job.Close → IsDry self.now i) }
         ensures sink { IfSome result (λ job. IsSending job → IsSinkAt self.now i) }
+        ensures some { IfSome result (λ job. job ≡ Job.Attempt → HoldsSome self.now.rows.items i) }
     {
         if i >= self.facts.len() || self.facts[i].closed || self.rows[i].task.is_none() {
             return None;
@@ -208,7 +213,8 @@ impl<P: Port> Hub<P> {
     /// A sink takes what is in its buffer, writes its sink batch once that is closed, and is closed in the end.
     fn sink_job(&self, i: usize, now: u64) -> Option<Job>
         requires { i < length self.now.rows.items }
-        ensures { IfSome result (λ job. job ≢ Job.Read) }
+        ensures unread { IfSome result (λ job. job ≢ Job.Read) }
+        ensures some { IfSome result (λ job. job ≡ Job.Attempt → HoldsSome self.now.rows.items i) }
     {
         if self.is_batch_closed(i, now) {
             Some(Job::Attempt)
@@ -238,6 +244,8 @@ impl<P: Port> Hub<P> {
         ensures fatal { self.new.fatal ≡ self.old.fatal }
         ensures abandoned { self.new.abandoned ≡ self.old.abandoned }
         ensures away { (i : ℕ) → IsAway self.old i → IsAway self.new i }
+        ensures untried { (i : ℕ) → IsUntried self.old i → IsUntried self.new i }
+        ensures holds { (i : ℕ) → HoldsSome self.old.rows.items i → HoldsSome self.new.rows.items i }
     {
         for _taken in 0..TAKES {
             if !self.take(instance, now) {
@@ -263,6 +271,8 @@ impl<P: Port> Hub<P> {
         ensures abandoned { self.new.abandoned ≡ self.old.abandoned }
         ensures away { (i : ℕ) → IsAway self.old i → IsAway self.new i }
         ensures taken { (n : ℕ) → HasTaken self.old instance n → HasTaken self.new instance (n + 1) }
+        ensures untried { (i : ℕ) → IsUntried self.old i → IsUntried self.new i }
+        ensures holds { (i : ℕ) → HoldsSome self.old.rows.items i → HoldsSome self.new.rows.items i }
     {
         if !self.can_hold(instance as usize) {
             return false;
@@ -281,6 +291,7 @@ impl<P: Port> Hub<P> {
         ensures read { result ≡ Job.Read → job ≡ Job.Read }
         ensures close { result ≡ Job.Close → job ≡ Job.Close }
         ensures sending { IsSending result → IsSending job }
+        ensures some { (job ≡ Job.Attempt → HoldsSome self.now.rows.items i) → result ≡ Job.Attempt → HoldsSome self.now.rows.items i }
     {
         if job == Job::Collect && self.is_batch_closed(i, now) {
             Job::Attempt
@@ -306,6 +317,7 @@ impl<P: Port> Hub<P> {
     /// The sink batch of a sink at home.
     fn sink(&self, i: usize) -> Option<&SinkCore>
         requires { i < length self.now.rows.items }
+        ensures { IfSome result (λ core. copies_at (Held i) self.now.rows.items ≡ parcel_lists core.now.held.items) }
     {
         match &self.rows[i].task {
             Some(task) => match &task.role {
@@ -329,6 +341,7 @@ impl<P: Port> Hub<P> {
     /// Whether a sink batch is written without waiting for more: it is full, or old enough, or nothing more comes.
     fn is_batch_closed(&self, i: usize, now: u64) -> bool
         requires { i < length self.now.rows.items }
+        ensures { IsTrue result → HoldsSome self.now.rows.items i }
     {
         match self.sink(i) {
             Some(core) if !core.held.is_empty() => {

@@ -2,7 +2,7 @@ ghost use Rattle.std.specs.Prelude.{◌≡◌, ◌≢◌, ◌≤◌, List, None,
 ghost use Rattle.vx_ledger.specs.declared.parcel.Parcel.{Parcel};
 ghost use Rattle.vx_hub.specs.Events.{written, IsWrittenOf};
 ghost use Rattle.vx_hub.specs.Rows.{role_copies, role_parcels};
-ghost use Rattle.vx_hub.specs.Works.{Reports, NamesBy, IsReading, IsAttempted, IsSending, event_count_of};
+ghost use Rattle.vx_hub.specs.Works.{Reports, NamesBy, IsReading, IsAttempted, event_count_of};
 ghost use Rattle.vx_hub.specs.Leases.{IsLeased, IsBack};
 ghost use Rattle.vx_hub.specs.declared.hub.Hub.{Hub};
 ghost use Rattle.vx_hub.specs.declared.work.Done.{Done};
@@ -74,7 +74,7 @@ impl<P: Port> Work<P> {
         ensures names { NamesBy self.positions result.confirmed result.done }
         ensures reads { IsReading result.done → self.job ≡ Job.Read }
         ensures closes { result.done ≡ Done.Closed → self.job ≡ Job.Close }
-        ensures sends { IsAttempted result.done → IsSending self.job }
+        ensures sends { IsAttempted result.done → self.job ≡ Job.Attempt }
         ensures events { event_count_of result.done ≤ 65536 }
         ensures writes { IsWrittenOf (role_parcels self.task.role) result.done }
         ensures back { (hub : Hub P) → IsLeased P.told hub self → IsBack P.told hub result }
@@ -118,7 +118,7 @@ fn confirm_and_act<P: Port>(
     ensures writes { IsWrittenOf (role_parcels role.old) result.done }
     ensures reads { IsReading result.done → job ≡ Job.Read }
     ensures closes { result.done ≡ Done.Closed → job ≡ Job.Close }
-    ensures sends { IsAttempted result.done → IsSending job }
+    ensures sends { IsAttempted result.done → job ≡ Job.Attempt }
     ensures events { event_count_of result.done ≤ 65536 }
 {
     match confirm(port, positions) {
@@ -141,7 +141,7 @@ fn act<P: Port>(alloc: Global, job: Job, port: &mut P, role: &mut Role) -> Done
     ensures events { event_count_of result ≤ 65536 }
     ensures reads { IsReading result → job ≡ Job.Read }
     ensures closes { result ≡ Done.Closed → job ≡ Job.Close }
-    ensures sends { IsAttempted result → IsSending job }
+    ensures sends { IsAttempted result → job ≡ Job.Attempt }
     ensures writes { IsWrittenOf (role_parcels role.old) result }
 {
     match (job, role) {

@@ -1,5 +1,5 @@
 -- How a Read moves the counts of lines.
-use Rattle.std.proofs.Common.{◌≡◌, ℕ, ◌+◌, ◌^◌, ◌<◌, ◌≤◌, Bool, true, false, ◌&&◌, Some, unwrap_or, nat_eq, [], ◌∷◌, sym, refl, ap, ◌∙◌, arith, length, inl, inr}
+use Rattle.std.proofs.Common.{◌≡◌, ℕ, ◌+◌, ◌^◌, ◌<◌, Bool, true, false, ◌&&◌, Some, unwrap_or, nat_eq, ◌∷◌, sym, refl, ap, ◌∙◌, arith, length, inl, inr}
 use Rattle.std.specs.Prelude.{if◌then◌else◌, ◌==◌, nat_lt}
 use Rattle.std.specs.HashMap as table
 use Rattle.std.proofs.lemmas.Bool.Decides.{nat_tests}
@@ -12,7 +12,7 @@ use Rattle.vx_record.specs.declared.cut.Cut.{Cut}
 use Rattle.vx_record.specs.declared.line_counts.LineCounts.{LineCounts}
 use Rattle.vx_record.specs.Records.{Record, capped}
 use Rattle.vx_record.specs.Reads.{has_bytes, last_stream, stream_of, still_open, open_bytes, limit_of, new_lines, new_overlong}
-use Rattle.vx_record.specs.Tallies.{one_if, lines_read, overlong_read}
+use Rattle.vx_record.specs.Tallies.{one_if}
 use Rattle.vx_record.specs.Lengths.{is_within, is_over, left_of, ends, left_behind}
 use Rattle.vx_record.specs.Cuts.{IsCut}
 use Rattle.vx_record.specs.declared.entry.Entry.{Entry}

@@ -135,7 +135,7 @@ new_overlong h i stream took = overlong_past (limit_of h i) (open_bytes h i (str
 
 -- the event of a line of codec bytes: the line as the message, and the type of its source
 abbrev pub line_event : Settings → Word → Event
-line_event settings text = record { fields = from_source (type_name settings) None (message_of text); }
+line_event settings text = record { fields = from_source (type_name settings) None (message_of text) }
 
 -- the events of some lines by a codec: of codec bytes each line gives one
 abbrev pub decoded : Decoding → Settings → List Frame → List Event

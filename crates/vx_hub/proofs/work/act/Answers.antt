@@ -4,7 +4,7 @@ use Rattle.vx_hub.specs.Rows.{role_parcels}
 use Rattle.vx_hub.specs.declared.work.Done.{Done}
 use Rattle.vx_hub.specs.declared.task.Role.{Role}
 use Rattle.vx_hub.specs.declared.work.Done.TheVariants.{Closed, Nothing}
-use Rattle.vx_hub.specs.Works.{IsAttempted, IsSending}
+use Rattle.vx_hub.specs.Works.{IsAttempted}
 use Rattle.vx_hub.proofs.work.act.Goals.{in-Read-Source, in-Attempt-Sink, in-Close-default, in_default}
 use Rattle.vx_hub.proofs.work.act.Goals as goal
 
@@ -19,7 +19,7 @@ returns-clause-closes g c closed = elim c.match-job.branch [
 pub returns-clause-sends : goal.returns-clause-sends
 returns-clause-sends g c sent = elim c.match-job.branch [
   | in-Read-Source w ↦ absurd (w.read.ensures.unsent (subst IsAttempted w.result-is sent))
-  | in-Attempt-Sink w ↦ subst IsSending (sym w.in-Attempt-Sink.is-0) tt
+  | in-Attempt-Sink w ↦ w.in-Attempt-Sink.is-0
   | in-Close-default w ↦ absurd (unsent_closed (subst IsAttempted (w.result-is ∙ w.close.ensures.closed) sent))
   | in_default w ↦ absurd (unsent_nothing (subst IsAttempted (w.result-is ∙ w.nothing.ensures.none) sent))
 ]

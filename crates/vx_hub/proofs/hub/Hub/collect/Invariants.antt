@@ -1,8 +1,8 @@
 use Rattle.std.proofs.Common.{◌≡◌, ℕ, length, []}
 use Rattle.vx_record.specs.Places.Place.{Outputs}
-use Rattle.vx_hub.specs.Places.{numbers_at}
+use Rattle.vx_hub.specs.Places.{numbers_at, HoldsSome}
 use Rattle.vx_hub.specs.Stands.{Stands, MayShut}
-use Rattle.vx_hub.specs.Away.{IsAway, HasTaken}
+use Rattle.vx_hub.specs.Away.{IsAway, HasTaken, IsUntried}
 use Rattle.vx_hub.proofs.hub.Hub.collect.Given as goal
 
 abbrev pub invariant-loop-taken : goal.invariant-loop-taken
@@ -12,6 +12,8 @@ invariant-loop-taken g l = record {
   outputs : (i : ℕ) → numbers_at (Outputs i) l.self.rows.items ≡ numbers_at (Outputs i) l.fn.self.rows.items;
   shut : MayShut l.fn.self l.fn.instance → MayShut l.self l.fn.instance;
   fatal : l.self.fatal ≡ l.fn.self.fatal;
+  untried : (i : ℕ) → IsUntried l.fn.self i → IsUntried l.self i;
+  holds : (i : ℕ) → HoldsSome l.fn.self.rows.items i → HoldsSome l.self.rows.items i;
   away : (i : ℕ) → IsAway l.fn.self i → IsAway l.self i;
   abandoned : l.self.abandoned ≡ l.fn.self.abandoned;
   size : length l.self.rows.items ≡ length l.fn.self.rows.items;

@@ -1,16 +1,15 @@
-use Rattle.std.proofs.Common.{refl, sym, subst, List, [], Option, Some, None, ◌<◌, ◌∙◌, ap}
+use Rattle.std.proofs.Common.{refl, sym, subst, List, [], Option, Some, None, ◌<◌, ◌∙◌, ap, length, arith}
 use Rattle.std.specs.Prelude.{IfNone}
 use Rattle.vx_ledger.specs.Copies.{Copy}
 use Rattle.vx_record.specs.Places.Place.{Outputs, Held}
-use Rattle.vx_hub.specs.Places.{IsPlaced}
+use Rattle.vx_hub.specs.Places.{IsPlaced, all_numbers}
 use Rattle.vx_hub.specs.Stands.{IsTold}
 use Rattle.vx_hub.specs.Rows.{role_copies, role_parcels, row_at, port_at}
 use Rattle.vx_hub.proofs.StandsLaws.{hand_balanced, same_balanced}
 use Rattle.vx_hub.proofs.Touching.{stands_out, out_port, taken_told}
 use Rattle.vx_hub.proofs.Placing.{places_all}
 use Rattle.vx_hub.proofs.Owning.{placed_leased, placed_same}
-use Rattle.vx_hub.proofs.Homing.{role_same}
-use Rattle.vx_hub.specs.Places.{all_numbers}
+use Rattle.vx_hub.proofs.Homing.{role_same, length_lists}
 use Rattle.vx_hub.proofs.hub.Hub.hand_out.Goals as goal
 
 pub returns-clause-leased : goal.returns-clause-leased
@@ -38,6 +37,8 @@ returns-clause-leased g c =
       sent = λ read. ap all_numbers (c.take_task.ensures.places.others (Outputs i) refl) ∙ c.requires.sent read;
       due = λ sound. c.requires.due (record { whole = sound.whole; fed = sound.fed });
       sink = c.requires.sink;
+      untried = λ sound. c.requires.untried (record { whole = sound.whole; fed = sound.fed });
+      some = λ attempt. let had = c.requires.some attempt in let n = ap length c.in_ok-task.ensures.held in let m = length_lists (role_parcels role) in omega (arith, had, n, m);
       shut = λ close sound. c.requires.shut close (record { whole = sound.whole; fed = sound.fed });
     }
 

@@ -9,6 +9,7 @@ use Rattle.vx_record.specs.Places.Place.{Outputs}
 use Rattle.vx_hub.specs.Places.{numbers_at}
 use Rattle.vx_hub.proofs.Homing.{held_on}
 use Rattle.vx_hub.proofs.EventLaws.{said_by_on}
+use Rattle.vx_hub.proofs.Leaving.{untried_noted}
 use Rattle.vx_hub.proofs.hub.Hub.land_confirm.Goals as goal
 
 pub returns-in-Some-clause-back : goal.returns-in-Some-clause-back
@@ -33,6 +34,8 @@ returns-in-Some-clause-back g c =
       due = λ sound. tt;
       shut = λ closed. c.note_confirm.ensures.shut (c.requires.shut closed);
       sink = λ sent. c.note_confirm.ensures.sink (c.requires.sink sent);
+      untried = untried_noted c.args.self.now c.note_confirm.new.self _ c.note_confirm.ensures.noted c.note_confirm.ensures.starved (λ k j none. none) i c.requires.untried;
+      some = c.requires.some;
       events = c.requires.events;
       closed = c.requires.closed;
     }

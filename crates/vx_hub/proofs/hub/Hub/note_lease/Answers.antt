@@ -12,9 +12,10 @@ use Rattle.vx_hub.proofs.Owning.{placed_still}
 use Rattle.vx_hub.proofs.Noticing.{running_still}
 use Rattle.vx_hub.proofs.Ceasing.{hub_comes, leased_on}
 use Rattle.vx_hub.proofs.Retiring.{unclosed_unretired}
-use Rattle.std.proofs.Common.{true, ap}
+use Rattle.std.proofs.Common.{true, ap, ◌∷◌}
+use Rattle.std.specs.List.{list_any}
 use Rattle.std.specs.Prelude.{◌==◌, if◌then◌else◌}
-use Rattle.vx_record.specs.Turns.{is_out}
+use Rattle.vx_record.specs.Turns.{is_out, since_lease, is_attempt_of}
 use Rattle.vx_hub.proofs.Silence.{same_test}
 use Rattle.vx_hub.specs.Away.{OnlyTook}
 use Rattle.vx_hub.proofs.Leaving.{untaken_leased}
@@ -70,6 +71,13 @@ returns-clause-away g c sound =
     let h = c.args.self.now.log.history in
     let i = c.args.instance in
     subst (λ (k : Record). is_out k i ≡ true) (sym (c.note.ensures.noted.whole sound.whole).1) (ap (λ t. if t then true else is_out h i) (same_test i))
+
+pub returns-clause-untried : goal.returns-clause-untried
+returns-clause-untried g c sound =
+    let h = c.args.self.now.log.history in
+    let i = c.args.instance in
+    subst (λ (k : Record). list_any (is_attempt_of i) (since_lease k i) ≡ false) (sym (c.note.ensures.noted.whole sound.whole).1)
+    (ap (λ t. list_any (is_attempt_of i) (if t then [] else Lease i c.args.worker c.args.now 0 ∷ since_lease h i)) (same_test i))
 
 pub returns-clause-sink : goal.returns-clause-sink
 returns-clause-sink g c sink =

@@ -1,17 +1,17 @@
-use Rattle.std.proofs.Common.{refl, ◌∙◌, [], ap, arith}
+use Rattle.std.proofs.Common.{refl, ◌∙◌, [], ap, arith, sym, subst, List, length, ◌<◌, ◌∷◌}
 use Rattle.vx_hub.proofs.StandsLaws.{same_next, stands_quiet, stands_moved, moved_balanced, same_balanced, bare_but, bare_by}
 use Rattle.vx_hub.specs.Numbers.{numbers_in}
+use Rattle.vx_ledger.specs.Copies.{Copy}
 use Rattle.vx_record.specs.declared.entry.Entry.TheVariants.{Take}
-use Rattle.vx_record.specs.Places.Place.{Contents, Outputs}
+use Rattle.vx_record.specs.Places.Place.{Contents, Outputs, Held}
 use Rattle.vx_hub.proofs.Placing.{oldest_is}
 use Rattle.vx_hub.proofs.Rooming.{take_first}
 use Rattle.vx_hub.proofs.Owning.{placed_held, placed_same}
-use Rattle.vx_hub.proofs.Homing.{is_oldest}
+use Rattle.vx_hub.proofs.Homing.{is_oldest, holds_put}
 use Rattle.vx_hub.specs.Places.{all_numbers}
-use Rattle.std.proofs.Common.{◌∷◌}
 use Rattle.vx_hub.proofs.Noticing.{running_on}
 use Rattle.vx_hub.proofs.Ceasing.{hub_comes}
-use Rattle.vx_hub.proofs.Leaving.{away_noted, away_same, taken_more, taken_same}
+use Rattle.vx_hub.proofs.Leaving.{away_noted, away_same, taken_more, taken_same, untried_noted, untried_same}
 use Rattle.vx_hub.proofs.Saids.{rows_on, said_on}
 use Rattle.vx_hub.proofs.hub.Hub.take.Goals as goal
 
@@ -65,3 +65,17 @@ returns-clause-taken g c = taken_more c.args.self.now _ c.args.instance 0 (numbe
 
 pub returns-in_default-clause-taken : goal.returns-in_default-clause-taken
 returns-in_default-clause-taken g c = taken_same c.args.self.now _ c.args.instance refl refl
+
+pub returns-in_default-clause-untried : goal.returns-in_default-clause-untried
+returns-in_default-clause-untried g c = untried_same c.args.self.now _ refl refl
+
+pub returns-clause-untried : goal.returns-clause-untried
+returns-clause-untried g c = untried_noted c.args.self.now _ (Take c.args.instance 0 (numbers_in c.in-Some.parcel.finalizers)) c.note_take.ensures refl (λ h k none. none)
+
+pub returns-in_default-clause-holds : goal.returns-in_default-clause-holds
+returns-in_default-clause-holds g c i some = subst (λ (ps : List (List Copy)). 0 < length ps) (sym (c.in_default.ensures.none (Held i))) some
+
+pub returns-clause-holds : goal.returns-clause-holds
+returns-clause-holds g c i some =
+    holds_put (Held c.args.instance) i c.in-Some.parcel.finalizers c.pop_buffer.new.rows.items c.hold.new.rows.items c.hold.ensures.last
+    (subst (λ (ps : List (List Copy)). 0 < length ps) (sym (c.in-Some.ensures.oldest.others (Held i) refl)) some)
