@@ -1,19 +1,17 @@
 -- Seats come and go at the end of a list.
-use Rattle.std.proofs.Common.{◌≡◌, ℕ, zero, suc, ◌+◌, ◌<◌, ◌≤◌, true, false, List, [], ◌∷◌, ◌++◌, length, Some, IfSome, refl, sym, ap, subst, arith, get_or}
-use Rattle.std.specs.Prelude.{remove, ◌^◌, drop, slice_get, Bool}
+use Rattle.std.proofs.Common.{◌≡◌, ℕ, zero, suc, ◌+◌, ◌<◌, ◌≤◌, true, false, List, [], ◌∷◌, ◌++◌, length, Some, IfSome, refl, sym, ap, subst, arith, get_or, ◌∙◌}
+use Rattle.std.specs.Prelude.{remove, ◌^◌, drop, slice_get, Bool, Option, None, IsSome, IsSomeAnd}
 use Rattle.vx_hub.proofs.Drying.{taken_none}
 use Rattle.vx_hub.specs.declared.seat.Seat.{Seat}
 use Rattle.vx_hub.specs.declared.facts.Facts.{Facts}
 use Rattle.vx_hub.specs.declared.row.Row.{Row}
 use Rattle.vx_ledger.specs.Copies.{copies_of}
-use Rattle.vx_hub.specs.Making.{IsUnused, AreUnused, IsFittedTo, IsSeatOf, room_at, room_named, AreFitted, IsUntouched, AreUntouched, AreNew}
+use Rattle.vx_hub.specs.Making.{IsUnused, AreUnused, IsFittedTo, IsSeatOf, room_at, room_named, AreFitted, IsUntouched, AreUntouched, AreNew, IsBegun}
 use Rattle.vx_hub.specs.Rows.{row_at, row_copies, copies_in, port_at, task_port, task_parcels, role_parcels, role_copies, parcel_copies}
 use Rattle.vx_plan.specs.declared.plan.Plan.{Plan}
 use Rattle.vx_plan.specs.declared.component.Component.{Component}
 use Rattle.vx_record.specs.Wirings.{begun}
-use Rattle.vx_record.proofs.FirstWiring.{targets_of_first}
-use Rattle.std.specs.Prelude.{Option, None, IsSome, IsSomeAnd}
-use Rattle.std.proofs.Common.{◌∙◌}
+use Rattle.vx_record.proofs.FirstWiring.{component_of_first, targets_of_first}
 use Rattle.vx_hub.specs.declared.parts.Named.{Named}
 use Rattle.vx_hub.specs.Stands.{Stands, IsTold, IsKnown, IsRecorded, HasRooms, facts_at, spec_of}
 use Rattle.vx_hub.specs.Beginning.{Begins, HasFirst}
@@ -31,7 +29,8 @@ use Rattle.vx_hub.specs.Places.{copies_at, copies_here, copies_if, parcel_lists,
 use Rattle.vx_hub.proofs.Owning.{placed_none}
 use Rattle.vx_ledger.specs.declared.parcel.Parcel.{Parcel}
 use Rattle.vx_ledger.specs.declared.child.Child.{Child}
-use Rattle.vx_hub.specs.Events.{IsSaid, Each, EachChild, HasEach, AreSaid}
+use Rattle.vx_hub.specs.Events.{IsSaid, Each, EachChild, IsSaidAt, AreSaid}
+use Rattle.vx_hub.specs.Abreast.{IsMadeFor, IsAbreast, HasCome, HasComeHome}
 use Rattle.vx_hub.proofs.StandsLaws.{some_mapped}
 
 pub unused_more : (seats : List Seat) (seat : Seat) → AreUnused seats → IsUnused seat → AreUnused (seats ++ seat ∷ [])
@@ -119,13 +118,41 @@ pub said_none : {P : Type 0} (h : Record) (rows : List (Row P)) → rows ≡ [] 
 said_none h [] is i = tt
 said_none h (r ∷ rows) is i = cc
 
-pub said_more : {P : Type 0} (h : Record) (rows : List (Row P)) (new : Row P) → AreSaid h rows → new.outputs.items ≡ [] → new.waiting.items ≡ [] → new.buffer.items ≡ [] → task_parcels new.task ≡ [] → AreSaid h (rows ++ new ∷ [])
-said_more h rows new all outputs waiting buffer held = rows_more (HasEach (IsSaid h)) rows new all (record {
-  outputs = subst (λ (ps : List Parcel). Each (IsSaid h) ps) (sym outputs) tt;
-  waiting = subst (λ (cs : List Child). EachChild (IsSaid h) cs) (sym waiting) tt;
-  buffer = subst (λ (ps : List Parcel). Each (IsSaid h) ps) (sym buffer) tt;
-  held = subst (λ (ps : List Parcel). Each (IsSaid h) ps) (sym held) tt;
+rows_more_at : {P : Type 0} (G : ℕ → Row P → Type 0) (rows : List (Row P)) (new : Row P) → ((i : ℕ) → IfSome (row_at rows i) (G i)) → G (length rows) new → (i : ℕ) → IfSome (row_at (rows ++ new ∷ []) i) (G i)
+rows_more_at G [] new all f zero = f
+rows_more_at G [] new all f (suc i) = tt
+rows_more_at G (r ∷ rows) new all f zero = all zero
+rows_more_at G (r ∷ rows) new all f (suc i) = rows_more_at (λ k. G (suc k)) rows new (λ j. all (suc j)) f i
+
+pub said_more : {P : Type 0} (h : Record) (rows : List (Row P)) (new : Row P) → AreSaid h rows → new.outputs.items ≡ [] → new.waiting.items ≡ [] → new.buffer.items ≡ [] → task_parcels new.task ≡ [] → HasComeHome h (length rows) new.task → AreSaid h (rows ++ new ∷ [])
+said_more h rows new all outputs waiting buffer held come = rows_more_at (IsSaidAt h) rows new all (record {
+  parcels = record {
+    outputs = subst (λ (ps : List Parcel). Each (IsSaid h) ps) (sym outputs) tt;
+    waiting = subst (λ (cs : List Child). EachChild (IsSaid h) cs) (sym waiting) tt;
+    buffer = subst (λ (ps : List Parcel). Each (IsSaid h) ps) (sym buffer) tt;
+    held = subst (λ (ps : List Parcel). Each (IsSaid h) ps) (sym held) tt;
+  };
+  come = come;
 })
+
+-- a source that begins is abreast of a record that begins
+pub role_begun : (plan : Plan) (once : Bool) (now k : ℕ) (role : Role) → IsSomeAnd (slice_get plan.components k) (λ (c : Component). IsBegun c.settings role) → HasCome (begun plan once now) k role
+role_begun plan once now k (Sink core) b = tt
+role_begun plan once now k (Source core) b = go (slice_get plan.components k) refl b
+  where
+    go : (o : Option Component) → slice_get plan.components k ≡ o → IsSomeAnd o (λ (c : Component). IsBegun c.settings (Source core)) → IsAbreast (begun plan once now) k core
+    go None is b = absurd b
+    go (Some c) is b = record {
+      made_for = λ apart. subst (λ (o : Option Component). IsSomeAnd o (λ (x : Component). IsMadeFor x.settings core)) (sym (component_of_first plan once now k c apart is))
+          (record { limit = b.0.limit_is; source_type = b.0.type_is; decoding_is = b.1 });
+      last = b.0.none;
+      taken = b.0.fresh;
+      ended = λ s there. refl;
+    }
+
+pub seat_role : (plan : Plan) (o : Option Component) (seat : Seat) → IsSomeAnd o (λ component. IsSeatOf plan component seat) → IsSomeAnd o (λ component. IsBegun component.settings seat.role)
+seat_role plan None seat is = is
+seat_role plan (Some c) seat is = is.role
 
 home_some : {P : Type 0} (o : Option P) → IsSome o → o ≡ None → ⊥
 home_some None some none = cc
@@ -206,7 +233,7 @@ begun_stands told_by plan hub b mine first none room few = record {
     bytes = b.bytes;
     next = b.next;
     order = ((record { first = refl; zeroth = refl; all_new = refl }, λ b w. w, λ gone. cc), tt);
-    said = b.said (begun plan first.once first.now);
+    said = b.said first.once first.now;
     outs = λ i l none. absurd (home_some (port_at hub.rows.items i) (b.home i l) none);
     noticeless = λ b w. w;
     statuses = subst (λ (rs : List OpenBatch). AreRunning (begun plan first.once first.now) rs) (sym b.batches) tt;

@@ -19,7 +19,7 @@ use Rattle.vx_record.specs.declared.entry.Entry.TheVariants.{Read, SourceLost, A
 use Rattle.vx_hub.specs.declared.hub.Hub.{Hub}
 use Rattle.vx_hub.specs.declared.facts.Facts.{Facts}
 use Rattle.vx_hub.specs.Order.{lost_at, cause_of, TakesNoMore, IsOfClass, IsTurnOf, IsDueOf, IsReadBy, IsOrderly}
-use Rattle.vx_hub.specs.Stands.{Stands, IsKnown, IsClosing, MayShut, IsSpent, IsDry, component_in, facts_at}
+use Rattle.vx_hub.specs.Stands.{Stands, IsKnown, IsClosing, MayShut, IsSpent, IsDry, component_in, facts_at, IsReadable}
 
 -- another read tells no end
 pub unended : (a b r : Bool) → a ≡ false → ((a && b) || r) ≡ r
@@ -123,8 +123,8 @@ pub sink_known : (h : Record) (i : ℕ) (o : Option Facts) → IsSomeAnd o (λ f
 sink_known h i None sink known = absurd sink
 sink_known h i (Some f) sink known = class_is (component_in (in_force h) i) f.class Sink known.class sink
 
-pub turn_of : (h : Record) (i : ℕ) (f : Facts) → is_out h i ≡ true → IsKnown f h i → (f.lost ≡ None) × (f.class ≡ Source) → IsTurnOf h i
-turn_of h i f out known is = record { out = out; unlost = sym known.lost ∙ is.0; source = class_known h i f known is.1 }
+pub turn_of : (h : Record) (i : ℕ) (f : Facts) → is_out h i ≡ true → IsKnown f h i → IsReadable f → IsTurnOf h i
+turn_of h i f out known is = record { out = out; unlost = sym known.lost ∙ is.0.0; source = class_known h i f known is.0.1 }
 
 -- what is known, by the component of the instance
 known_class : (o : Option Component) (x y : Class) → IsSomeAnd o (λ component. x ≡ component.class) → IsSomeAnd o (λ component. component.class ≡ y) → x ≡ y

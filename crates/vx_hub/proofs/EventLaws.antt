@@ -25,7 +25,8 @@ use Rattle.vx_hub.specs.declared.row.Row.{Row}
 use Rattle.vx_hub.specs.declared.task.Task.{Task}
 use Rattle.vx_hub.specs.declared.task.Role.{Role}
 use Rattle.vx_hub.specs.Births.{IsSaidBy}
-use Rattle.vx_hub.specs.Events.{written, IsPartOf, IsSaid, Each, EachChild, HasEach, ArePaired}
+use Rattle.vx_hub.specs.Abreast.{HasCome, HasComeHome}
+use Rattle.vx_hub.specs.Events.{written, IsPartOf, IsSaid, Each, EachChild, HasEach, IsSaidAt, AreSaid, ArePaired}
 use Rattle.vx_hub.specs.Numbers.{numbers_in}
 use Rattle.vx_plan.specs.declared.class.Class.TheVariants.{Sink}
 use Rattle.vx_hub.specs.Order.{IsAttemptOf, IsOfClass}
@@ -85,13 +86,22 @@ pub task_each : {P : Type 0} (F : Parcel → Type 0) (t : Option (Task P)) → E
 task_each F None all = tt
 task_each F (Some task) all = all
 
--- ROWS
-pub row_each : {P : Type 0} (F : Parcel → Type 0) (rows : List (Row P)) (i : ℕ) (row : Row P) → i < length rows → row ≡ get_or rows i row → ((j : ℕ) → IfSome (row_at rows j) (HasEach F)) → HasEach F row
-row_each {P} F rows i row l at all = row_has (λ (r : Row P). HasEach F r) rows i row l at (all i)
+-- a task that was taken
+pub task_said : {P : Type 0} (h : Record) (i : ℕ) (t : Option (Task P)) → Each (IsSaid h) (task_parcels t) → HasComeHome h i t → IfSome t (λ task. Each (IsSaid h) (role_parcels task.role) × HasCome h i task.role)
+task_said h i None all come = tt
+task_said h i (Some task) all come = (all, come)
 
-pub rows_each : {P : Type 0} (F : Parcel → Type 0) (rows : List (Row P)) (i : ℕ) (new : Row P) → i < length rows → ((j : ℕ) → IfSome (row_at rows j) (HasEach F)) → HasEach F new →
-    (j : ℕ) → IfSome (row_at (slice_set rows i new) j) (HasEach F)
-rows_each {P} F rows i new l all here = rows_keep (λ j (r : Option (Row P)). IfSome r (HasEach F)) rows i new l here (λ j other. all j)
+-- ROWS
+pub row_said : {P : Type 0} (h : Record) (rows : List (Row P)) (i : ℕ) (row : Row P) → i < length rows → row ≡ get_or rows i row → AreSaid h rows → IsSaidAt h i row
+row_said {P} h rows i row l at all = row_has (λ (r : Row P). IsSaidAt h i r) rows i row l at (all i)
+
+pub row_each : {P : Type 0} (h : Record) (rows : List (Row P)) (i : ℕ) (row : Row P) → i < length rows → row ≡ get_or rows i row → AreSaid h rows → HasEach (IsSaid h) row
+row_each {P} h rows i row l at all = (row_said h rows i row l at all).parcels
+
+-- a row is written whose task stands as far as the one that was there
+pub rows_said : {P : Type 0} (h : Record) (rows : List (Row P)) (i : ℕ) (row new : Row P) → i < length rows → row ≡ get_or rows i row → AreSaid h rows → (HasComeHome h i row.task → HasComeHome h i new.task) → HasEach (IsSaid h) new → AreSaid h (slice_set rows i new)
+rows_said {P} h rows i row new l at all comes here =
+    rows_keep (λ j (r : Option (Row P)). IfSome r (IsSaidAt h j)) rows i new l (record { parcels = here; come = comes (row_said h rows i row l at all).come }) (λ j other. all j)
 
 -- what a role holds
 pub said_by_on : {P : Type 0} (d e : Hub P) (entry : Entry) (role : Role) → Noted d.log entry e.log → e.starved ≡ d.starved → IsSaidBy d role → IsSaidBy e role

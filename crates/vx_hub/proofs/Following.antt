@@ -1,19 +1,19 @@
 -- A source stays abreast of the record.
-use Rattle.std.proofs.Common.{◌≡◌, ℕ, zero, suc, ◌+◌, ◌-◌, ◌<◌, ◌≤◌, Bool, true, false, List, [], ◌∷◌, ◌++◌, length, map, Option, Some, None, inl, inr, arith, refl, sym, subst, ◌∙◌, ap}
-use Rattle.std.specs.Prelude.{◌≢◌, ◌⊎◌, ◌==◌, ◌&&◌, ◌||◌, not, if◌then◌else◌, unwrap_or, IsSomeAnd, IfSome, slice_index_or, Contains}
+use Rattle.std.proofs.Common.{◌≡◌, ℕ, zero, suc, ◌+◌, ◌-◌, ◌<◌, Bool, true, false, List, [], ◌∷◌, ◌++◌, length, map, Option, Some, None, inl, inr, arith, refl, sym, subst, ◌∙◌, ap}
+use Rattle.std.specs.Prelude.{◌≢◌, ◌⊎◌, ◌==◌, ◌&&◌, ◌||◌, not, if◌then◌else◌, unwrap_or, IsSomeAnd, slice_index_or, Contains}
 use Rattle.std.proofs.lemmas.Bool.Decides.{nat_tests}
 use Rattle.std.proofs.lemmas.List.{append-nil}
 use Rattle.std.proofs.lemmas.List.Elements.{Contains-append_left, Contains-append_right, Contains-append_cases, Contains-push}
 use Rattle.vx_value.specs.declared.event.Event.{Event}
 use Rattle.vx_value.specs.Texts.{Word, is_empty}
 use Rattle.vx_frame.specs.Frames.{Frame, frames, capped}
-use Rattle.vx_frame.specs.Framings.{Framing, HasTaken, unfinished, untouched, left_behind, line_of}
+use Rattle.vx_frame.specs.Framings.{Framing, HasTaken, untouched, left_behind, line_of}
 use Rattle.vx_frame.specs.declared.line.Line.{Line}
 use Rattle.vx_plan.specs.declared.component.Component.{Component}
 use Rattle.vx_record.specs.Records.{Record}
 use Rattle.vx_record.specs.Installs.{component_of}
 use Rattle.vx_record.specs.Sourcing.{IsYieldOf}
-use Rattle.vx_record.specs.Reads.{taken, all_ended, last_stream, open_bytes, still_open, stream_of, ended_streams, ended_by, has_bytes, is_end, new_lines, end_of, last_end}
+use Rattle.vx_record.specs.Reads.{taken, all_ended, last_stream, open_bytes, still_open, stream_of, ended_streams, ended_by, has_bytes, is_end, new_lines, last_end}
 use Rattle.vx_record.specs.declared.entry.Entry.{Entry}
 use Rattle.vx_record.specs.declared.entry.Entry.TheVariants.{Install, Read}
 use Rattle.vx_record.specs.declared.taken.Taken.{Taken}
@@ -27,7 +27,7 @@ use Rattle.vx_hub.specs.declared.task.Role.{Role}
 use Rattle.vx_hub.specs.declared.task.Role.TheVariants.{Source, Sink}
 use Rattle.vx_hub.specs.declared.task.Task.{Task}
 use Rattle.vx_hub.specs.Stands.{IsMute, touched}
-use Rattle.vx_hub.specs.Abreast.{AreNamedApart, IsMadeFor, IsAbreast, HasCome, HasComeHome, Yields, HasTurned}
+use Rattle.vx_hub.specs.Abreast.{IsMadeFor, IsAbreast, HasCome, HasComeHome, Yields, HasTurned}
 use Rattle.vx_hub.proofs.Silence.{same_test, other_test}
 use Rattle.vx_hub.proofs.Bridging.{Adds, given_by}
 

@@ -27,6 +27,7 @@ mod Writing
 mod Lining
 mod Bridging
 mod Following
+mod Yielding
 pub mod EventLaws
 mod Saids
 mod Ceasing

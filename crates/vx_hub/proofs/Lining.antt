@@ -1,9 +1,9 @@
 -- The lines that a source's turn completes, and their events.
-use Rattle.std.proofs.Common.{◌≡◌, ℕ, zero, suc, ◌+◌, ◌<◌, ◌≤◌, Bool, true, false, cond, List, [], ◌∷◌, ◌++◌, ◌&&◌, length, take, map, leb, eqb, arith, get_or, refl, sym, ◌∙◌, ap}
+use Rattle.std.proofs.Common.{◌≡◌, ℕ, zero, suc, ◌+◌, ◌<◌, ◌≤◌, Bool, true, false, cond, List, [], ◌∷◌, ◌++◌, length, take, map, leb, eqb, arith, get_or, refl, sym, ◌∙◌, ap}
 use Rattle.std.specs.Prelude.{Result, Ok, Err, IfOk}
 use Rattle.vx_value.specs.Texts.{Word}
 use Rattle.vx_value.specs.declared.event.Event.{Event}
-use Rattle.vx_frame.specs.Frames.{Frame, Parts, cut, before, capped, kept, some_byte, lines_of}
+use Rattle.vx_frame.specs.Frames.{Frame, Parts, cut, capped, kept, some_byte, lines_of}
 use Rattle.vx_frame.specs.Framings.{lines_behind, line_of}
 use Rattle.vx_frame.specs.declared.unfinished.Unfinished.{Unfinished}
 use Rattle.vx_frame.specs.declared.line.Line.{Line}

@@ -9,8 +9,7 @@ use Rattle.vx_status.specs.declared.outcome.Outcome.{Outcome}
 use Rattle.vx_status.specs.declared.outcome.Outcome.TheVariants.{NoConsumer, Abandoned, Filtered, NewestDropped}
 use Rattle.vx_value.specs.declared.event.Event.{Event}
 use Rattle.vx_value.specs.declared.want_of_memory.WantOfMemory.{WantOfMemory}
-use Rattle.vx_ledger.specs.Copies.{Copy, numbered, renumbered}
-use Rattle.vx_ledger.specs.Copies.{copies_of}
+use Rattle.vx_ledger.specs.Copies.{Copy, numbered, renumbered, copies_of}
 use Rattle.vx_ledger.specs.Ledger.{Ledger, IsShort, live_count}
 use Rattle.vx_ledger.specs.Routing.{children_for, targets_of, IfChildren, IfNoConsumer, IsNoConsumer}
 use Rattle.vx_ledger.specs.declared.routed.Routed.{Routed}
@@ -43,6 +42,8 @@ use Rattle.vx_hub.specs.Numbers.{numbers_in, noted_of}
 use Rattle.vx_hub.specs.Events.{IsSaid}
 use Rattle.vx_hub.specs.Order.{IsBirthOf, IsReadBy, IsSplitOf, IsReason, IsOrderly, readers_at, reply_behind, cause_of}
 use Rattle.vx_hub.specs.Spending.{IsGiven, AreAnswered, IsSpentFor, MaySpend, IsReplied}
+use Rattle.vx_record.specs.Sourcing.{IsYield}
+use Rattle.vx_hub.specs.Abreast.{AreNamedApart}
 use Rattle.vx_hub.specs.Stands.{Stands, IsSound, IsBalanced}
 use Rattle.vx_hub.proofs.Porting.{output_on_first, first_routes}
 use Rattle.vx_hub.proofs.StandsLaws.{unmade}
@@ -65,13 +66,14 @@ length_counting first zero = refl
 length_counting first (suc n) = ap suc (length_counting (first + 1) n)
 
 -- a batch that the ledger bore is in order
-pub birth_in_order : (h : Record) (i next n batch : ℕ) (copies : List Copy) (events : List Event) → IsReadBy h i → next ≡ next_copy h → batch ≡ next → copies ≡ numbered n next next next → length events ≡ n → 0 < n → next + n ≤ 2 ^ 63 →
-    IsBirthOf h i batch (numbers_in copies) events false
-birth_in_order h i next n batch copies events read now first are each some fits =
+pub birth_in_order : (h : Record) (i next n batch : ℕ) (copies : List Copy) (events : List Event) (stream end : ℕ) → IsReadBy h i → (AreNamedApart h → 0 < length events → IsYield h i events stream end) → next ≡ next_copy h → batch ≡ next → copies ≡ numbered n next next next → length events ≡ n → 0 < n → next + n ≤ 2 ^ 63 →
+    IsBirthOf h i batch (numbers_in copies) events false stream end
+birth_in_order h i next n batch copies events stream end read yield now first are each some fits =
     let counted : numbers_in copies ≡ counting next n = ap numbers_in are ∙ numbers_numbered n next next next in
     let many : length (numbers_in copies) ≡ n = ap length counted ∙ length_counting next n in
     record {
       read = read;
+      yield = λ apart. yield apart (omega (arith, each, some));
       unwaiting = refl;
       some = omega (arith, many, some);
       one_each = many ∙ sym each;

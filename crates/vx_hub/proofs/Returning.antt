@@ -1,10 +1,11 @@
 -- A task that was handed out comes home with what was done.
 use Rattle.std.proofs.Common.{◌≡◌, ℕ, ◌+◌, ◌<◌, ◌≤◌, ◌++◌, false, length, List, [], Option, Some, None, IfSome, refl, sym, ap, subst, ◌∙◌, arith}
+use Rattle.std.specs.Prelude.{IsSomeAnd}
 use Rattle.vx_ends.specs.Told.{Told, Grows}
 use Rattle.vx_ledger.specs.Copies.{Copy}
 use Rattle.vx_ends.specs.declared.position.Position.{Position}
 use Rattle.vx_record.specs.Records.{Record, capped}
-use Rattle.vx_record.specs.Reads.{taken}
+use Rattle.vx_record.specs.Reads.{taken, all_ended}
 use Rattle.vx_record.specs.Encoding.{given}
 use Rattle.vx_record.specs.Confirms.{confirmed}
 use Rattle.vx_record.specs.PortCounts.{fault_count, refusal_count, idle_count}
@@ -21,13 +22,19 @@ use Rattle.vx_record.specs.Places.Place.{Outputs}
 use Rattle.vx_hub.specs.Places.{parcel_numbers, numbers_at}
 use Rattle.vx_hub.specs.Rows.{role_copies, role_parcels, IsOutAt}
 use Rattle.vx_hub.specs.declared.confirming.Confirmed.{Confirmed}
-use Rattle.vx_hub.specs.Works.{Did, Reports, Names, NamesBy, IsReading, IsAttempted, IsSending, event_count_of, taken_by, given_by, ended_by, confirmed_by, confirm_faults, faults_by, refusals_by, idles_by}
+use Rattle.vx_hub.specs.Works.{Did, Moves, IsMovedBy, Reports, Names, NamesBy, IsReading, IsAttempted, IsSending, event_count_of, taken_by, given_by, ended_by, confirmed_by, confirm_faults, faults_by, refusals_by, idles_by}
 use Rattle.vx_ends.specs.declared.port_spec.PortSpec.{PortSpec}
 use Rattle.vx_hub.specs.declared.work.Job.TheVariants as job
-use Rattle.vx_hub.specs.Stands.{Stands, IsTold, IsUnlost, MayShut, IsSinkAt, spec_at}
+use Rattle.vx_hub.specs.Stands.{Stands, IsTold, IsKnown, IsReadable, facts_at, IsUnlost, MayShut, IsSinkAt, spec_at}
 use Rattle.vx_hub.specs.Leases.{IsLeased, IsBack, IsOpenAt, Adds, Brings}
 use Rattle.vx_ledger.specs.declared.parcel.Parcel.{Parcel}
 use Rattle.vx_hub.specs.Events.{IsSaid, Each, IsWrittenOf}
+use Rattle.vx_hub.specs.declared.facts.Facts.{Facts}
+use Rattle.vx_hub.specs.declared.task.Role.{Role}
+use Rattle.vx_hub.specs.declared.task.Role.TheVariants.{Source, Sink}
+use Rattle.vx_hub.specs.Abreast.{HasCome, HasDone, RoleHasTurned}
+use Rattle.vx_hub.specs.Turns.{IsOfOpen}
+use Rattle.vx_hub.proofs.Following.{has_turned}
 use Rattle.vx_hub.proofs.Touching.{not_true}
 
 -- what was told, and what is told after more
@@ -74,11 +81,29 @@ named_by given (Some c) (Read turned) due names is = named_due given (Some c) du
 named_by given (Some c) (Attempted bytes reply) due names is = named_due given (Some c) due names is
 named_by given (Some c) Closed due names is = named_due given (Some c) due names is
 
+-- the end of all wasn't told to a source that may be read
+going_on : (h : Record) (i : ℕ) (o : Option Facts) → IfSome o (λ f. IsKnown f h i) → IsSomeAnd o IsReadable → all_ended h i ≡ false
+going_on h i None known is = absurd is
+going_on h i (Some f) known is = sym known.over ∙ is.1
+
+-- what is done leaves a source abreast of the record
+done_of : (old new : Told) (confirm : Option Confirmed) (done : Done) (h : Record) (i : ℕ) (was now : Role) → Reports old confirm done new → IsTold old h i → (IsReading done → all_ended h i ≡ false) → HasCome h i was → Moves was done now → HasDone h i now done
+done_of old new confirm Starved h i was now reports told going come moves = tt
+done_of old new confirm Nothing h i was now reports told going come moves = subst (λ (r : Role). HasCome h i r) (sym moves) come
+done_of old new confirm (Attempted bytes reply) h i was now reports told going come moves = subst (λ (r : Role). HasCome h i r) (sym moves) come
+done_of old new confirm Closed h i was now reports told going come moves = subst (λ (r : Role). HasCome h i r) (sym moves) come
+done_of old new confirm (Read turned) h i was now reports told going come moves = go was now come moves
+  where
+    go : (was now : Role) → HasCome h i was → IsMovedBy was turned now → RoleHasTurned h i now turned
+    go (Source core) (Source next) come moves = has_turned h i core turned next (going tt) come reports.some (subst (λ (es : List ℕ). IsOfOpen es turned) told.ended reports.open_at) moves
+    go (Source core) (Sink next) come moves = absurd moves
+    go (Sink core) now come moves = absurd moves
+
 -- what was handed out may land
 pub back_of : {P : Type 0} (told_by : P → Told) (hub : Hub P) (work : Work P) (landing : Landing P) → IsLeased told_by hub work → landing.instance ≡ work.instance →
     role_copies landing.task.role ≡ role_copies work.task.role → role_parcels landing.task.role ≡ role_parcels work.task.role → Reports (told_by work.task.port) landing.confirmed landing.done (told_by landing.task.port) → NamesBy work.positions landing.confirmed landing.done → event_count_of landing.done ≤ 65536 →
-    (IsReading landing.done → work.job ≡ job.Read) → (landing.done ≡ Closed → work.job ≡ job.Close) → (IsAttempted landing.done → work.job ≡ job.Attempt) → IsWrittenOf (role_parcels work.task.role) landing.done → IsBack told_by hub landing
-back_of {P} told_by hub work landing leased instance copies parcels reports names events reads closes sends writes = record {
+    (IsReading landing.done → work.job ≡ job.Read) → (landing.done ≡ Closed → work.job ≡ job.Close) → (IsAttempted landing.done → work.job ≡ job.Attempt) → IsWrittenOf (role_parcels work.task.role) landing.done → Moves work.task.role landing.done landing.task.role → IsBack told_by hub landing
+back_of {P} told_by hub work landing leased instance copies parcels reports names events reads closes sends writes moves = record {
   stands = subst (λ (cs : List Copy). Stands told_by hub cs hub.log.history) (sym copies) leased.stands;
   open_at = subst (λ (i : ℕ). IsOpenAt hub i) (sym instance) leased.open_at;
   out = subst (λ (i : ℕ). IsOutAt hub.rows.items i) (sym instance) leased.out;
@@ -87,6 +112,9 @@ back_of {P} told_by hub work landing leased instance copies parcels reports name
   unlost = λ reading. subst (λ (i : ℕ). IsUnlost hub i) (sym instance) (leased.unlost (reads reading));
   held = λ sound. subst (λ (i : ℕ). held hub.log.history i ≡ parcel_numbers (role_parcels landing.task.role)) (sym instance) (leased.held sound ∙ ap parcel_numbers (sym parcels));
   said = λ sound. subst (λ (ps : List Parcel). Each (IsSaid hub.log.history) ps) (sym parcels) (leased.said sound);
+  come = λ sound. subst (λ (i : ℕ). HasDone hub.log.history i landing.task.role landing.done) (sym instance)
+      (done_of (told_by work.task.port) (told_by landing.task.port) landing.confirmed landing.done hub.log.history work.instance work.task.role landing.task.role reports (leased.told sound)
+      (λ reading. going_on hub.log.history work.instance (facts_at hub.facts.items work.instance) ((leased.stands.recorded sound).facts work.instance) (leased.unlost (reads reading))) (leased.come sound) moves);
   writes = subst (λ (ps : List Parcel). IsWrittenOf ps landing.done) (sym parcels) writes;
   sent = λ reading. subst (λ (i : ℕ). numbers_at (Outputs i) hub.rows.items ≡ []) (sym instance) (leased.sent (reads reading));
   due = λ sound. subst (λ (i : ℕ). IfSome landing.confirmed (λ c. IsDueOf hub.log.history i c.positions)) (sym instance) (named_by work.positions landing.confirmed landing.done (IsDueOf hub.log.history work.instance) names (leased.due sound));

@@ -1,6 +1,6 @@
 -- A copy keeps the event that it was made with.
-use Rattle.std.proofs.Common.{◌≡◌, ℕ, ◌-◌, ◌<◌, ◌≤◌, Bool, true, false, List, [], ◌∷◌, Option, Some, None, IfSome, refl, sym, ◌∙◌, arith}
-use Rattle.std.specs.Prelude.{nat_lt, if◌then◌else◌, slice_index_or}
+use Rattle.std.proofs.Common.{◌≡◌, ℕ, ◌-◌, ◌<◌, ◌≤◌, Bool, true, false, List, [], ◌∷◌, Option, Some, None, IfSome, inl, inr, subst, refl, sym, ◌∙◌, arith}
+use Rattle.std.specs.Prelude.{◌≢◌, ◌⊎◌, nat_lt, if◌then◌else◌, slice_index_or}
 use Rattle.std.proofs.lemmas.Bool.Decides.{nat_tests}
 use Rattle.vx_ledger.specs.declared.parcel.Parcel.{Parcel}
 use Rattle.vx_ledger.specs.declared.child.Child.{Child}
@@ -10,9 +10,13 @@ use Rattle.vx_record.specs.Parcels.{no_event, event_of, first_copy}
 use Rattle.vx_record.specs.declared.entry.Entry.{Entry}
 use Rattle.vx_record.specs.declared.entry.Entry.TheVariants.{Born, Split}
 use Rattle.vx_hub.specs.declared.row.Row.{Row}
-use Rattle.vx_hub.specs.Events.{IsSaid, Each, EachChild, HasEach, AreSaid}
+use Rattle.vx_hub.specs.declared.task.Task.{Task}
+use Rattle.vx_hub.specs.Abreast.{HasComeHome}
+use Rattle.vx_hub.specs.Events.{IsSaid, Each, EachChild, HasEach, IsSaidAt, AreSaid}
+use Rattle.vx_hub.specs.Stands.{touched}
+use Rattle.vx_hub.proofs.Following.{IsUnread, decided, home_on, role_other}
 use Rattle.vx_hub.specs.Numbers.{numbers_in}
-use Rattle.vx_hub.specs.Rows.{row_at, task_parcels}
+use Rattle.vx_hub.specs.Rows.{row_at, task_parcels, IsOutAt}
 
 pub chosen_true : {X : Type 0} (b : Bool) (x y : X) → b ≡ true → (if b then x else y) ≡ x
 chosen_true true x y e = refl
@@ -51,14 +55,33 @@ child_on : (h : Record) (e : Entry) (cs : List Child) → EachChild (IsSaid h) c
 child_on h e [] all = tt
 child_on h e (c ∷ cs) all = (said_on h e c.parcel all.0, child_on h e cs all.1)
 
-pub rows_on : {P : Type 0} (h : Record) (e : Entry) (rows : List (Row P)) → AreSaid h rows → AreSaid (e ∷ h) rows
-rows_on {P} h e rows all i = go (row_at rows i) (all i)
+parcels_on : {P : Type 0} (h : Record) (e : Entry) (row : Row P) → HasEach (IsSaid h) row → HasEach (IsSaid (e ∷ h)) row
+parcels_on h e row a = record {
+  outputs = each_on h e row.outputs.items a.outputs;
+  waiting = child_on h e row.waiting.items a.waiting;
+  buffer = each_on h e row.buffer.items a.buffer;
+  held = each_on h e (task_parcels row.task) a.held;
+}
+
+-- an entry that is no install and no read
+pub rows_on : {P : Type 0} (h : Record) (e : Entry) → IsUnread e → (rows : List (Row P)) → AreSaid h rows → AreSaid (e ∷ h) rows
+rows_on {P} h e u rows all i = go (row_at rows i) (all i)
   where
-    go : (r : Option (Row P)) → IfSome r (HasEach (IsSaid h)) → IfSome r (HasEach (IsSaid (e ∷ h)))
+    go : (r : Option (Row P)) → IfSome r (IsSaidAt h i) → IfSome r (IsSaidAt (e ∷ h) i)
     go None a = tt
-    go (Some row) a = record {
-      outputs = each_on h e row.outputs.items a.outputs;
-      waiting = child_on h e row.waiting.items a.waiting;
-      buffer = each_on h e row.buffer.items a.buffer;
-      held = each_on h e (task_parcels row.task) a.held;
-    }
+    go (Some row) a = record { parcels = parcels_on h e row a.parcels; come = home_on h e i row.task u a.come }
+
+-- an entry of an instance that is out
+pub rows_told : {P : Type 0} (h : Record) (e : Entry) (i : ℕ) (rows : List (Row P)) → touched e ≡ Some i → IsOutAt rows i → AreSaid h rows → AreSaid (e ∷ h) rows
+rows_told {P} h e i rows touch out all j = go (row_at rows j) refl (all j)
+  where
+    go : (r : Option (Row P)) → row_at rows j ≡ r → IfSome r (IsSaidAt h j) → IfSome r (IsSaidAt (e ∷ h) j)
+    go None is a = tt
+    go (Some row) is a = record { parcels = parcels_on h e row a.parcels; come = by_instance (decided i j) row.task refl a.come }
+      where
+        by_instance : (i ≡ j) ⊎ (i ≢ j) → (t : Option (Task P)) → row.task ≡ t → HasComeHome h j t → HasComeHome (e ∷ h) j t
+        by_instance same None at come = tt
+        by_instance (inr other) (Some task) at come = role_other h e i j task.role touch other come
+        by_instance (inl same) (Some task) at come =
+            let none : row.task ≡ None = subst (λ (o : Option (Row P)). IfSome o (λ r. r.task ≡ None)) is (subst (λ k. IsOutAt rows k) same out) in
+            cc

@@ -371,7 +371,7 @@ stands_abandoned {P} told_by d log cause s once reason noted = record {
         bytes = r.bytes;
         next = same_next d.batches d.batches d.log.history (Abandon cause) refl refl r.next;
         order = ((record { first = sym r.cause ∙ once; reason = reason fine }, r.noticeless, comes_going d.log.history (Abandon cause) (sym r.cause ∙ once)), r.order);
-        said = rows_on d.log.history (Abandon cause) d.rows.items r.said;
+        said = rows_on d.log.history (Abandon cause) tt d.rows.items r.said;
         outs = r.outs;
         noticeless = λ b w. w;
         statuses = running_still d.log.history (Abandon cause) d.batches.open_rows tt r.statuses;
@@ -412,7 +412,7 @@ stands_home {P} told_by d e log i s noted back same = subst (λ (x : Hub P). Sta
       next = same_next d.batches d.batches d.log.history (Home i) refl refl;
       order = back.away;
       comes = λ fine. left_out d.log.history i (s.recorded fine).order (back.away fine);
-      said = λ fine. rows_on d.log.history (Home i) d.rows.items;
+      said = λ fine. rows_on d.log.history (Home i) tt d.rows.items;
       outs = λ fine k none out. home_on (i == k) (is_out d.log.history k) (other_test i k (λ e. let at : IsSome (port_at d.rows.items k) = subst (λ (n : ℕ). IsSome (port_at d.rows.items n)) (sym e) back.home in not_none (port_at d.rows.items k) none at)) out;
       places = λ fine kept. placed_still d.rows.items [] d.log.history (Home i) tt kept.1;
       due = λ fine. still_quiet d.log.history (Home i) tt;
@@ -452,7 +452,7 @@ stands_noticed {P} told_by d e hand after i c outcome batch status mid s balance
             next = same_next d.batches e.batches (first ∷ h) second refl next (same_next d.batches d.batches h first refl refl r.next);
             order = ((so fine, tt, λ gone. refl), ordered);
             outs = subst (λ (v : _). AreOut v.items (second ∷ first ∷ h)) (sym rows) r.outs;
-            said = subst (λ (v : _). AreSaid (second ∷ first ∷ h) v.items) (sym rows) (rows_on (first ∷ h) second d.rows.items (rows_on h first d.rows.items r.said));
+            said = subst (λ (v : _). AreSaid (second ∷ first ∷ h) v.items) (sym rows) (rows_on (first ∷ h) second tt d.rows.items (rows_on h first tt d.rows.items r.said));
             noticeless = λ b w. w;
             statuses = running_still (first ∷ h) second e.batches.open_rows tt (statuses fine);
             ledger = ledger;

@@ -4,7 +4,7 @@ use Rattle.std.proofs.lemmas.List.{append-nil}
 use Rattle.vx_ends.specs.Told.{Told, Rose, Grows, Shrinks, SameBytes}
 use Rattle.vx_ends.specs.declared.position.Position.{Position}
 use Rattle.vx_ends.proofs.Growing.{grows_nothing}
-use Rattle.vx_hub.specs.Turns.{taken_in, ended_in, NothingLeft, LeavesNothing, OnlyTakes, FailsBy, BringsSome}
+use Rattle.vx_hub.specs.Turns.{taken_in, ended_in, NothingLeft, LeavesNothing, OnlyTakes, FailsBy, BringsSome, IsOfOpen}
 use Rattle.vx_hub.specs.declared.source.Turned.{Turned}
 use Rattle.vx_hub.specs.declared.source.Turned.TheVariants.{Lines, StreamEnded, AllEnded, Idle, Failed}
 use Rattle.vx_record.specs.Records.{capped}
@@ -12,7 +12,7 @@ use Rattle.vx_hub.specs.Attempts.{OnlyGives}
 use Rattle.vx_hub.specs.declared.confirming.Confirmed.{Confirmed}
 use Rattle.vx_hub.specs.declared.work.Done.{Done}
 use Rattle.vx_hub.specs.declared.work.Done.TheVariants.{Nothing, Read, Attempted, Closed, Starved}
-use Rattle.vx_hub.specs.Works.{Did, Reports, Counts, turn_faults, turn_idles, taken_by, given_by, ended_by, confirmed_by, confirm_faults, faults_by, refusals_by, idles_by}
+use Rattle.vx_hub.specs.Works.{Did, Reports, Counts, IsOfOpenBy, turn_faults, turn_idles, taken_by, given_by, ended_by, confirmed_by, confirm_faults, faults_by, refusals_by, idles_by}
 
 -- a count that rose after it had stood or risen
 pub rose_on : (a b c : ℕ) → a ≤ b → Rose b c → b ≤ c → Rose a c
@@ -64,8 +64,12 @@ did_after a b c confirm done first next = record {
   idles = capped_first a.idles b.idles c.idles (idles_by done) first.idles next.idles;
   closed = next.closed;
   some = next.some;
+  open_at = open_before a b done (first.ended ∙ append-nil a.ended) next.open_at;
   spec = next.spec ∙ first.spec;
 }
+  where
+    open_before : (a b : Told) (done : Done) → b.ended ≡ a.ended → IsOfOpenBy b.ended done → IsOfOpenBy a.ended done
+    open_before a b done same unended = subst (λ (es : List ℕ). IsOfOpenBy es done) same unended
 
 pub reports_after : (a b c : Told) (confirm : Option Confirmed) (done : Done) → Did a confirm Nothing b → Reports b None done c → Reports a confirm done c
 reports_after a b c confirm Starved first next = tt
@@ -88,6 +92,7 @@ did_nothing t = record {
   idles = omega arith;
   closed = λ done. cc;
   some = tt;
+  open_at = tt;
   spec = refl;
 }
 
@@ -105,6 +110,7 @@ did_close old new same closed faults refusals idles = record {
   idles = omega arith;
   closed = λ done started. cc;
   some = tt;
+  open_at = tt;
   spec = same.spec;
 }
 
@@ -145,8 +151,8 @@ nothing_left old new gone shrinks none stream = left_after (old.left stream) (ne
 
 -- a port that a turn took from
 pub did_turn : (old new : Told) (turned : Turned) → ((stream : ℕ) → Grows (old.taken stream) (new.taken stream) (taken_in turned stream)) → new.ended ≡ old.ended ++ ended_in turned →
-    LeavesNothing new turned → OnlyTakes old new → FailsBy old new turned → BringsSome turned → Did old None (Read turned) new
-did_turn old new turned taken ended over others fails some = record {
+    LeavesNothing new turned → OnlyTakes old new → FailsBy old new turned → BringsSome turned → IsOfOpen old.ended turned → Did old None (Read turned) new
+did_turn old new turned taken ended over others fails some unended = record {
   taken = taken;
   given = subst (λ (o : Option (List ℕ)). Grows old.given o []) (sym others.given) (grows_nothing old.given);
   confirms = subst (λ (o : Option (List Position)). Grows old.confirmed o []) (sym others.confirmed) (grows_nothing old.confirmed);
@@ -158,5 +164,6 @@ did_turn old new turned taken ended over others fails some = record {
   idles = turn_rests old new turned others fails;
   closed = λ done. cc;
   some = some;
+  open_at = unended;
   spec = others.spec;
 }

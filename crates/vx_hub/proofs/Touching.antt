@@ -36,7 +36,8 @@ use Rattle.vx_record.specs.Abandoning.{MayStillCome}
 use Rattle.vx_record.specs.Turns.{is_out}
 use Rattle.vx_hub.proofs.Ceasing.{left_out, comes_left, out_touched}
 use Rattle.vx_hub.specs.Events.{AreSaid}
-use Rattle.vx_hub.proofs.Saids.{rows_on}
+use Rattle.vx_hub.proofs.Saids.{rows_on, rows_told}
+use Rattle.vx_hub.proofs.Following.{mute_unread}
 use Rattle.vx_hub.specs.Order.{IsAttemptOf, IsInOrder, readers_at}
 use Rattle.vx_ledger.specs.Routing.{targets_of}
 use Rattle.vx_hub.proofs.Ordering.{first_targets}
@@ -263,7 +264,7 @@ stands_touched {P} told_by d e hand entry i f g s out within at written closed r
             bytes = bytes r.bytes;
             next = same_next d.batches e.batches d.log.history entry none_made (ap (λ (l : Ledger). l.next) batches) r.next;
             order = ((order fine mine (r.outs i (subst (λ n. i < n) s.size within) none), in_turn d.log.history entry r.noticeless, comes_left d.log.history entry i touch still (left_out d.log.history i r.order (r.outs i (subst (λ n. i < n) s.size within) none))), r.order);
-            said = subst (λ (v : _). AreSaid (entry ∷ d.log.history) v.items) (sym rows) (rows_on d.log.history entry d.rows.items r.said);
+            said = subst (λ (v : _). AreSaid (entry ∷ d.log.history) v.items) (sym rows) (rows_told d.log.history entry i d.rows.items touch out r.said);
             outs = subst (λ (v : _). AreOut v.items (entry ∷ d.log.history)) (sym rows) (λ k l away. out_touched d.log.history entry i k touch ∙ r.outs k l away);
             noticeless = still_quiet d.log.history entry still;
             statuses = subst (λ (l : Ledger). AreRunning (entry ∷ d.log.history) l.open_rows) (sym batches) (running_still d.log.history entry d.batches.open_rows still r.statuses);
@@ -321,7 +322,7 @@ stands_marked {P} told_by d e hand after entry i f g s within at written rows be
             bytes = bytes ∙ r.bytes ∙ ap capped (sym (bytes_mute d.log.history entry mute));
             next = next r.next;
             order = ((order fine, in_turn d.log.history entry r.noticeless, comes fine), r.order);
-            said = subst (λ (v : _). AreSaid (entry ∷ d.log.history) v.items) (sym rows) (rows_on d.log.history entry d.rows.items r.said);
+            said = subst (λ (v : _). AreSaid (entry ∷ d.log.history) v.items) (sym rows) (rows_on d.log.history entry (mute_unread entry mute) d.rows.items r.said);
             outs = subst (λ (v : _). AreOut v.items (entry ∷ d.log.history)) (sym rows) (λ k l away. outs k (r.outs k l away));
             noticeless = due;
             statuses = statuses fine (accounted d.log.history r.order) r.statuses;
@@ -564,7 +565,7 @@ stands_attempted {P} told_by d log hand i copies bytes reply s within out names 
             bytes = r.bytes;
             next = same_next d.batches d.batches d.log.history e refl refl r.next;
             order = ((names (record { whole = w.0; fed = sound.fed }) (r.outs i within none), r.noticeless, left_out d.log.history i r.order (r.outs i within none)), r.order);
-            said = rows_on d.log.history e d.rows.items r.said;
+            said = rows_on d.log.history e tt d.rows.items r.said;
             outs = r.outs;
             noticeless = λ b w. w;
             statuses = running_still d.log.history e d.batches.open_rows tt r.statuses;

@@ -48,7 +48,7 @@ pub record Begins {P : Type 0} (told_by : P → Told) (plan : Plan) (hub : Hub P
   pub kept : IsKept hub.batches
   pub copies : (batch place : ℕ) → copies_in batch place hub.rows.items ≡ 0
   pub places : (p : Place) → copies_at p hub.rows.items ≡ []
-  pub said : (h : Record) → AreSaid h hub.rows.items
+  pub said : (once : Bool) (now : ℕ) → AreSaid (begun plan once now) hub.rows.items
   pub home : (i : ℕ) → i < length hub.rows.items → IsSome (port_at hub.rows.items i)
   pub ports : (i : ℕ) → IfSome (port_at hub.rows.items i) (λ port. IsUntouched (spec_of (slice_get plan.components i)) (told_by port))
   pub facts : (i : ℕ) → IfSome (facts_at hub.facts.items i) AreNew

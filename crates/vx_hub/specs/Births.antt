@@ -6,6 +6,8 @@ use Rattle.vx_record.specs.Lists.{outputs, held}
 use Rattle.vx_record.specs.Moving.{singles}
 use Rattle.vx_hub.specs.declared.hub.Hub.{Hub}
 use Rattle.vx_hub.specs.declared.task.Role.{Role}
+use Rattle.vx_hub.specs.declared.work.Done.{Done}
+use Rattle.vx_hub.specs.Abreast.{HasCome, HasDone}
 use Rattle.vx_hub.specs.Numbers.{numbers_in}
 use Rattle.vx_hub.specs.Places.{parcel_numbers}
 use Rattle.vx_hub.specs.Rows.{role_parcels}
@@ -16,6 +18,14 @@ use Rattle.vx_value.specs.declared.event.Event.{Event}
 -- where the record has all that happened, it has the events of the parcels that a task holds
 abbrev pub IsSaidBy : {P : Type 0} → Hub P → Role → Type 0
 IsSaidBy hub role = IsSound hub → Each (IsSaid hub.log.history) (role_parcels role)
+
+-- where the record has all that happened, it has what an instance took, if it is a source
+abbrev pub HasComeBy : {P : Type 0} → Hub P → ℕ → Role → Type 0
+HasComeBy hub i role = IsSound hub → HasCome hub.log.history i role
+
+-- and what it brings home
+abbrev pub HasDoneBy : {P : Type 0} → Hub P → ℕ → Role → Done → Type 0
+HasDoneBy hub i role done = IsSound hub → HasDone hub.log.history i role done
 
 -- where the record has all that happened, it has some events as those that the copies were made with
 abbrev pub ArePairedBy : {P : Type 0} → Hub P → List Event → List Copy → Type 0

@@ -15,6 +15,7 @@ use Rattle.vx_record.specs.Parcels.{first_copy, parcel_event, event_of}
 use Rattle.vx_hub.specs.declared.row.Row.{Row}
 use Rattle.vx_hub.specs.declared.work.Done.{Done}
 use Rattle.vx_hub.specs.declared.work.Done.TheVariants.{Attempted}
+use Rattle.vx_hub.specs.Abreast.{HasComeHome}
 use Rattle.vx_hub.specs.Numbers.{numbers_in}
 use Rattle.vx_hub.specs.Rows.{row_at, task_parcels}
 
@@ -59,9 +60,13 @@ pub record HasEach {P : Type 0} (F : Parcel → Type 0) (row : Row P) : Type 0 w
   pub buffer : Each F row.buffer.items
   pub held : Each F (task_parcels row.task)
 
--- the record has the event of each parcel that stands at an instance
+-- the record has the event of each parcel that stands at an instance, and what the instance took, if it is a source at home
+pub record IsSaidAt {P : Type 0} (h : Record) (i : ℕ) (row : Row P) : Type 0 where
+  pub parcels : HasEach (IsSaid h) row
+  pub come : HasComeHome h i row.task
+
 abbrev pub AreSaid : {P : Type 0} → Record → List (Row P) → Type 0
-AreSaid h rows = (i : ℕ) → IfSome (row_at rows i) (HasEach (IsSaid h))
+AreSaid h rows = (i : ℕ) → IfSome (row_at rows i) (IsSaidAt h i)
 
 -- the record has each of some events as the one that the copy in its place was made with
 abbrev pub ArePaired : Record → List Event → List Copy → Type 0

@@ -1,8 +1,7 @@
 -- What an instance that is out takes along, and what it brings home.
 use Rattle.std.specs.Prelude.{◌≡◌, ◌<◌, ◌≤◌, ◌+◌, ◌++◌, ℕ, [], true, false, length, Option, Some, IfSome, IsSomeAnd}
 use Rattle.vx_ends.specs.Told.{Told}
-use Rattle.vx_record.specs.Records.{Record}
-use Rattle.vx_record.specs.Records.{capped}
+use Rattle.vx_record.specs.Records.{Record, capped}
 use Rattle.vx_record.specs.Reads.{taken, all_ended, ended_streams}
 use Rattle.vx_record.specs.Confirms.{confirmed}
 use Rattle.vx_record.specs.PortCounts.{fault_count, refusal_count, idle_count}
@@ -15,7 +14,7 @@ use Rattle.vx_hub.specs.declared.work.Done.TheVariants.{Closed, Starved}
 use Rattle.vx_record.specs.Places.Place.{Outputs}
 use Rattle.vx_hub.specs.Places.{numbers_at}
 use Rattle.vx_hub.specs.Away.{IsUntried}
-use Rattle.vx_hub.specs.Births.{IsHeldBy, IsSaidBy}
+use Rattle.vx_hub.specs.Births.{IsHeldBy, IsSaidBy, HasComeBy, HasDoneBy}
 use Rattle.vx_hub.specs.Events.{IsWrittenOf}
 use Rattle.vx_hub.specs.Rows.{role_copies, role_parcels, IsOutAt}
 use Rattle.vx_hub.specs.declared.confirming.Confirmed.{Confirmed}
@@ -38,6 +37,7 @@ pub record IsLeased {P : Type 0} (told_by : P → Told) (hub : Hub P) (work : Wo
   pub told : IsSound hub → IsTold (told_by work.task.port) hub.log.history work.instance
   pub held : IsHeldBy hub work.instance work.task.role
   pub said : IsSaidBy hub work.task.role
+  pub come : HasComeBy hub work.instance work.task.role
   pub unlost : work.job ≡ job.Read → IsUnlost hub work.instance
   pub sent : work.job ≡ job.Read → numbers_at (Outputs work.instance) hub.rows.items ≡ []
   pub due : IsSound hub → IfSome work.positions (IsDueOf hub.log.history work.instance)
@@ -71,6 +71,7 @@ pub record IsBack {P : Type 0} (told_by : P → Told) (hub : Hub P) (landing : L
   pub brings : IsSound hub → Brings (told_by landing.task.port) hub.log.history landing.instance landing.confirmed landing.done
   pub held : IsHeldBy hub landing.instance landing.task.role
   pub said : IsSaidBy hub landing.task.role
+  pub come : HasDoneBy hub landing.instance landing.task.role landing.done
   pub writes : IsWrittenOf (role_parcels landing.task.role) landing.done
   pub unlost : IsReading landing.done → IsUnlost hub landing.instance
   pub sent : IsReading landing.done → numbers_at (Outputs landing.instance) hub.rows.items ≡ []

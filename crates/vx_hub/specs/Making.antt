@@ -6,9 +6,15 @@ use Rattle.vx_ends.specs.Told.{Told}
 use Rattle.vx_ends.specs.declared.port_spec.PortSpec.{PortSpec}
 use Rattle.vx_plan.specs.declared.component.Component.{Component}
 use Rattle.vx_plan.specs.Ports.{port_of}
-use Rattle.vx_plan.specs.Components.{component_named, stages}
+use Rattle.vx_plan.specs.Components.{component_named, stages, longest_line}
 use Rattle.vx_plan.specs.declared.stage.Stage.{Stage}
 use Rattle.vx_value.specs.Texts.{Word}
+use Rattle.vx_plan.specs.declared.decoding.Decoding.TheVariants as codec
+use Rattle.vx_plan.specs.declared.settings.Settings.{Settings}
+use Rattle.vx_plan.specs.Options.{decoding, type_name}
+use Rattle.vx_hub.specs.Sources.{IsFresh}
+use Rattle.vx_hub.specs.declared.task.Role.{Role}
+use Rattle.vx_hub.specs.declared.task.Role.TheVariants.{Source, Sink}
 use Rattle.vx_hub.specs.declared.facts.Facts.{Facts}
 use Rattle.vx_hub.specs.declared.parts.Named.{Named}
 use Rattle.vx_hub.specs.declared.seat.Seat.{Seat}
@@ -54,10 +60,16 @@ room_named plan name = elim (component_named plan name) [ None ↦ 0 | Some comp
 abbrev pub room_at : Plan → ℕ → ℕ
 room_at plan i = elim (slice_get plan.components i) [ None ↦ 0 | Some component ↦ room_named plan component.name ]
 
+-- a source begins with the lines of its component, of each of which it makes the event that the codec makes of it
+abbrev pub IsBegun : Settings → Role → Type 0
+IsBegun settings (Source core) = IsFresh (longest_line settings) (type_name settings) core × (decoding settings ≡ Some codec.Bytes)
+IsBegun settings (Sink core) = Unit {0}
+
 -- a seat is for a component
 pub record IsSeatOf (plan : Plan) (component : Component) (seat : Seat) : Type 0 where
   pub fitted : IsFittedTo plan component seat.facts
   pub room : seat.buffer.room ≡ room_named plan component.name
+  pub role : IsBegun component.settings seat.role
 
 -- each seat is for the component in its place
 abbrev pub AreFitted : Plan → List Component → List Seat → Type 0

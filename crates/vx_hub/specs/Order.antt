@@ -32,9 +32,11 @@ use Rattle.vx_plan.specs.declared.component.Component.{Component}
 use Rattle.vx_plan.specs.declared.plan.Plan.{Plan}
 use Rattle.vx_record.specs.Reads.{bytes_taken, bytes_of_all, all_ended}
 use Rattle.vx_record.specs.Confirms.{born_positions, is_unconfirmed}
-use Rattle.vx_record.specs.Sourcing.{failed_starts}
+use Rattle.vx_record.specs.Sourcing.{failed_starts, IsYield}
 use Rattle.vx_record.specs.Spending.{WasAnswered, HadNoTarget, oldest}
 use Rattle.vx_record.specs.SinkBatches.{failures_with, attempts_allowed}
+use Rattle.vx_hub.specs.Abreast.{AreNamedApart}
+pub use Rattle.vx_record.specs.Spending.{last_reply}
 use Rattle.vx_record.specs.declared.entry.Entry.{Entry}
 use Rattle.vx_record.specs.declared.entry.Entry.TheVariants.{Install, Lease, Home, Read, Idle, SourceLost, Born, Split, Push, Take, Attempt, Spent, Notice, Confirm, Closed, Retired, Abandon}
 use Rattle.vx_record.specs.declared.abandon_cause.AbandonCause.{AbandonCause}
@@ -99,10 +101,12 @@ abbrev pub IsReadBy : Record → ℕ → Type 0
 IsReadBy (Read j stream took ∷ h) i = j ≡ i
 IsReadBy h i = ⊥
 
--- a batch stands directly behind a read of its source, and doesn't wait yet; it has one copy for each of its events,
--- with the next numbers, and the number of the first of them
-pub record IsBirthOf (h : Record) (i batch : ℕ) (copies : List ℕ) (events : List Event) (waits : Bool) : Type 0 where
+-- a batch stands directly behind a read of its source, and doesn't wait yet; where names differ, its events are those of
+-- the lines that the read completes, and it ends where the last of them ends; it has one copy for each of its events, with
+-- the next numbers, and the number of the first of them
+pub record IsBirthOf (h : Record) (i batch : ℕ) (copies : List ℕ) (events : List Event) (waits : Bool) (stream end : ℕ) : Type 0 where
   pub read : IsReadBy h i
+  pub yield : AreNamedApart h → IsYield h i events stream end
   pub unwaiting : waits ≡ false
   pub some : 0 < length copies
   pub one_each : length copies ≡ length events
@@ -240,7 +244,7 @@ IsInOrder h (Home j) = is_out h j ≡ true
 IsInOrder h (Read j stream took) = IsTurnOf h j
 IsInOrder h (Idle j failed) = IsTryOf h j failed
 IsInOrder h (SourceLost j at failed) = IsLossOf h j at failed
-IsInOrder h (Born j batch place copies events waits stream end) = IsBirthOf h j batch copies events waits
+IsInOrder h (Born j batch place copies events waits stream end) = IsBirthOf h j batch copies events waits stream end
 IsInOrder h (Split j ports copies event children) = IsSplitOf h j ports copies event children
 IsInOrder h (Push j t s copies) = IsPushOf h j t s copies
 IsInOrder h (Take j s copies) = IsTakeOf h j s copies

@@ -195,9 +195,12 @@ pub record IsOpenTarget {P : Type 0} (hub : Hub P) (target : ℕ) : Type 0 where
 abbrev pub IsSinkAt : {P : Type 0} → Hub P → ℕ → Type 0
 IsSinkAt hub i = IsSomeAnd (facts_at hub.facts.items i) (λ f. f.class ≡ Sink)
 
--- a source that wasn't lost
+-- a source that wasn't lost, and wasn't told the end of all
+abbrev pub IsReadable : Facts → Type 0
+IsReadable f = ((f.lost ≡ None) × (f.class ≡ Source)) × (f.over ≡ false)
+
 abbrev pub IsUnlost : {P : Type 0} → Hub P → ℕ → Type 0
-IsUnlost hub i = IsSomeAnd (facts_at hub.facts.items i) (λ f. (f.lost ≡ None) × (f.class ≡ Source))
+IsUnlost hub i = IsSomeAnd (facts_at hub.facts.items i) IsReadable
 
 -- the instance of whose port or births an entry tells
 abbrev pub touched : Entry → Option ℕ

@@ -5,7 +5,10 @@ use Rattle.vx_ends.specs.declared.position.Position.{Position}
 use Rattle.vx_record.specs.Records.{capped}
 use Rattle.vx_record.specs.SinkBatches.{is_failed}
 use Rattle.vx_record.specs.PortCounts.{is_refused}
-use Rattle.vx_hub.specs.Turns.{taken_in, event_count, ended_in, ends_all, NothingLeft, BringsSome}
+use Rattle.vx_hub.specs.Turns.{taken_in, event_count, ended_in, ends_all, NothingLeft, BringsSome, IsOfOpen}
+use Rattle.vx_hub.specs.Sources.{HasBrought}
+use Rattle.vx_hub.specs.declared.task.Role.{Role}
+use Rattle.vx_hub.specs.declared.task.Role.TheVariants.{Source, Sink}
 use Rattle.vx_hub.specs.declared.source.Turned.{Turned}
 use Rattle.vx_hub.specs.declared.source.Turned.TheVariants.{Failed, Idle}
 use Rattle.vx_hub.specs.declared.confirming.Confirmed.{Confirmed}
@@ -82,6 +85,11 @@ abbrev pub BringsBy : Done → Type 0
 BringsBy (Read turned) = BringsSome turned
 BringsBy other = Unit {0}
 
+-- what was taken is of no stream that has ended
+abbrev pub IsOfOpenBy : List ℕ → Done → Type 0
+IsOfOpenBy ended (Read turned) = IsOfOpen ended turned
+IsOfOpenBy ended other = Unit {0}
+
 -- what the port told before, what was confirmed and then done, and what the port tells now
 pub record Did (old : Told) (confirmed : Option Confirmed) (done : Done) (new : Told) : Type 0 where
   pub taken : (stream : ℕ) → Grows (old.taken stream) (new.taken stream) (taken_by done stream)
@@ -96,11 +104,24 @@ pub record Did (old : Told) (confirmed : Option Confirmed) (done : Done) (new : 
   pub idles : Counts old.idles new.idles (idles_by done)
   pub closed : done ≡ Closed → IsTrue new.started → ⊥
   pub some : BringsBy done
+  pub open_at : IsOfOpenBy old.ended done
 
 -- the same, but for a call that found no memory
 abbrev pub Reports : Told → Option Confirmed → Done → Told → Type 0
 Reports old confirmed Starved new = Unit {0}
 Reports old confirmed done new = Did old confirmed done new
+
+-- a turn moves a source on
+abbrev pub IsMovedBy : Role → Turned → Role → Type 0
+IsMovedBy (Source old) turned (Source new) = HasBrought old turned new
+IsMovedBy (Source old) turned (Sink new) = ⊥
+IsMovedBy (Sink old) turned new = ⊥
+
+-- what an instance does is moved on by a turn alone; where no memory was found it isn't known how far
+abbrev pub Moves : Role → Done → Role → Type 0
+Moves old (Read turned) new = IsMovedBy old turned new
+Moves old Starved new = Unit {0}
+Moves old other new = new ≡ old
 
 -- a confirm names the positions that it was given, and there is one where some were given
 abbrev pub Names : Option (List Position) → Option Confirmed → Type 0

@@ -9,7 +9,7 @@ ghost use Rattle.vx_hub.specs.Events.{IsSaid};
 ghost use Rattle.vx_hub.specs.Ending.{AreMovedTo};
 ghost use Rattle.vx_hub.specs.Failures.{HasReason};
 ghost use Rattle.vx_hub.specs.Leases.{IsOpenAt};
-ghost use Rattle.vx_hub.specs.Spending.{HasRead};
+ghost use Rattle.vx_hub.specs.Spending.{HasRead, HasYielded};
 ghost use Rattle.vx_hub.specs.Rows.{HasOutputRoom};
 
 use crate::due::moved;
@@ -39,6 +39,7 @@ impl<P: Port> Hub<P> {
         requires stands { Stands P.told self.old [] self.old.log.history }
         requires open { IsOpenAt self.old instance }
         requires read { HasRead self.old instance }
+        requires yields { HasYielded self.old instance events position }
         requires few { length events ≤ 65536 }
         requires sent { numbers_at (Outputs instance) self.old.rows.items ≡ [] }
         ensures stands { Stands P.told self.new [] self.new.log.history }
@@ -71,6 +72,7 @@ impl<P: Port> Hub<P> {
         requires stands { Stands P.told self.old [] self.old.log.history }
         requires open { IsOpenAt self.old instance }
         requires read { HasRead self.old instance }
+        requires yields { HasYielded self.old instance events position }
         requires going { self.old.abandoned ≡ None }
         requires some { 0 < length events }
         requires few { length events ≤ 65536 }
@@ -111,6 +113,7 @@ impl<P: Port> Hub<P> {
         requires stands { Stands P.told self.old [] self.old.log.history }
         requires open { IsOpenAt self.old instance }
         requires read { HasRead self.old instance }
+        requires yields { HasYielded self.old instance events.now position }
         requires going { self.old.abandoned ≡ None }
         requires some { 0 < length events.now }
         requires few { length events.now ≤ 65536 }

@@ -1,16 +1,18 @@
 ghost use Rattle.std.specs.Prelude.{◌≡◌, ℕ, ◌<◌, ◌≤◌, ◌++◌, List, [], length, IfSome, IsSome, IsSomeAnd, Some, None, false, true, IsTrue, OnOk, OnErr, IfErr};
+ghost use Rattle.vx_value.specs.declared.event.Event.{Event};
+ghost use Rattle.vx_ends.specs.declared.position.Position.{Position};
 ghost use Rattle.vx_ledger.specs.Copies.{Copy};
 ghost use Rattle.vx_record.specs.Noted.{Noted};
 ghost use Rattle.vx_hub.specs.Order.{reply_behind, IsPlaceFor, IsDueOf};
 ghost use Rattle.vx_hub.specs.Failures.{HasReason};
-ghost use Rattle.vx_hub.specs.Spending.{MaySpend, IsReplied, HasRead};
+ghost use Rattle.vx_hub.specs.Spending.{MaySpend, IsReplied, HasRead, HasYielded};
 ghost use Rattle.vx_hub.specs.Away.{IsUntried, IsReturning, MayEnd};
 ghost use Rattle.vx_hub.specs.Stands.{Stands, IsTold, IsSound, IsUnlost, MayShut, IsSinkAt, facts_at};
 ghost use Rattle.vx_hub.specs.Leases.{IsBack, IsOpenAt, Adds};
 ghost use Rattle.vx_hub.specs.Turns.{event_count};
 ghost use Rattle.vx_record.specs.Places.Place.{Outputs, Held};
 ghost use Rattle.vx_hub.specs.Places.{numbers_at};
-ghost use Rattle.vx_hub.specs.Births.{IsHeldBy, IsSaidBy};
+ghost use Rattle.vx_hub.specs.Births.{IsHeldBy, IsSaidBy, HasComeBy};
 ghost use Rattle.vx_hub.specs.Events.{written, IsPartOf};
 ghost use Rattle.vx_hub.specs.Rows.{role_copies, role_parcels, port_at, IsOutAt};
 
@@ -172,12 +174,14 @@ impl<P: Port> Hub<P> {
         requires told { IsSound self.old → IsTold (P.told task.port) self.old.log.history instance }
         requires held { IsHeldBy self.old instance task.role }
         requires said { IsSaidBy self.old task.role }
+        requires come { HasComeBy self.old instance task.role }
         ensures stands { Stands P.told self.new [] self.new.log.history }
         ensures port { port_at self.new.rows.items instance ≡ Some task.port }
         ensures facts { self.new.facts ≡ self.old.facts }
         ensures log { self.new.log ≡ self.old.log }
         ensures starved { self.new.starved ≡ self.old.starved }
         ensures read { (i : ℕ) → HasRead self.old i → HasRead self.new i }
+        ensures yields { (i : ℕ) → (events : List Event) → (position : Position) → HasYielded self.old i events position → HasYielded self.new i events position }
         ensures outputs { (i : ℕ) → numbers_at (Outputs i) self.new.rows.items ≡ numbers_at (Outputs i) self.old.rows.items }
         ensures shut { MayShut self.old instance → MayShut self.new instance }
         ensures size { length self.new.rows.items ≡ length self.old.rows.items }
@@ -231,6 +235,7 @@ impl<P: Port> Hub<P> {
         requires writes { IsPartOf (written (role_parcels task.role)) bytes reply }
         requires held { IsHeldBy self.old instance task.role }
         requires said { IsSaidBy self.old task.role }
+        requires come { HasComeBy self.old instance task.role }
         ensures stands { Stands P.told self.new [] self.new.log.history }
         ensures replied { IsReplied self.new instance reply }
         ensures facts { self.new.facts ≡ self.old.facts }

@@ -187,7 +187,7 @@ impl<P: Port> Hub<P> {
         ensures unlost { IsTrue result → IsUnlost self.now i }
         ensures sent { IsTrue result → numbers_at (Outputs i) self.now.rows.items ≡ [] }
     {
-        if self.is_lost(i) {
+        if self.is_lost(i) || self.has_ended(i) {
             return false;
         }
         self.has_sent(i) && !self.is_dry(i)
@@ -196,7 +196,8 @@ impl<P: Port> Hub<P> {
     /// Whether a source was told the end of all.
     fn has_ended(&self, i: usize) -> bool
         requires { i < length self.now.facts.items }
-        ensures { IsTrue result → IsSomeAnd (facts_at self.now.facts.items i) (λ f. f.over ≡ true) }
+        ensures going { result ≡ false → IsSomeAnd (facts_at self.now.facts.items i) (λ f. f.over ≡ false) }
+        ensures over { IsTrue result → IsSomeAnd (facts_at self.now.facts.items i) (λ f. f.over ≡ true) }
     {
         self.facts[i].over
     }

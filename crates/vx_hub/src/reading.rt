@@ -7,7 +7,7 @@ ghost use Rattle.vx_hub.specs.Leases.{IsOpenAt, Adds};
 ghost use Rattle.vx_hub.specs.Spending.{HasRead};
 ghost use Rattle.vx_record.specs.Places.Place.{Outputs};
 ghost use Rattle.vx_hub.specs.Places.{numbers_at};
-ghost use Rattle.vx_hub.specs.Births.{IsHeldBy, IsSaidBy};
+ghost use Rattle.vx_hub.specs.Births.{IsHeldBy, IsSaidBy, HasDoneBy};
 ghost use Rattle.vx_hub.specs.Turns.{event_count};
 ghost use Rattle.vx_hub.specs.Failures.{IsFailureOf, HasReason};
 ghost use Rattle.vx_hub.specs.declared.work.Done.TheVariants.{Read};
@@ -41,6 +41,7 @@ impl<P: Port> Hub<P> {
         requires unlost { IsUnlost self.old instance }
         requires held { IsHeldBy self.old instance task.role }
         requires said { IsSaidBy self.old task.role }
+        requires come { HasDoneBy self.old instance task.role (Read turned) }
         requires sent { numbers_at (Outputs instance) self.old.rows.items ≡ [] }
         ensures stands { Stands P.told self.new [] self.new.log.history }
         ensures reason { IfErr result (HasReason self.new) }

@@ -4,6 +4,7 @@ ghost use Rattle.vx_record.specs.Places.Place.{Outputs, Waiting, Contents, Held}
 ghost use Rattle.vx_hub.specs.Places.{parcel_lists, copies_at, SamePlaces, TakesOldest, TakesFrom, PutsLast, Fills, FillsWaiting, IsFirstChild};
 ghost use Rattle.vx_hub.specs.Works.{IsClosedBy};
 ghost use Rattle.vx_record.specs.Records.{Record};
+ghost use Rattle.vx_hub.specs.Abreast.{HasCome};
 ghost use Rattle.vx_hub.specs.Events.{IsSaid, Each, EachChild, AreSaid};
 ghost use Rattle.vx_hub.specs.Rows.{child_copies, role_copies, role_parcels, option_copies, task_copies, port_at, Loses, Gains, SamePorts, SameOtherPorts, KeepsBare, KeepsOthersBare, HasOutputRoom, HasRoom, HasBuffer, SameRooms, NoneWaits, HasChild, IsOutAt, IsBareAt, CanHold};
 
@@ -163,7 +164,7 @@ pub(crate) fn take_task<P>(rows: &mut Vec<Row<P>>, i: usize) -> Option<Task<P>>
     ensures held { IfSome result (λ task. copies_at (Held i) rows.old.items ≡ parcel_lists (role_parcels task.role)) }
     ensures places { Fills (Held i) [] rows.old.items rows.new.items }
     ensures none { IfNone result (SamePlaces rows.old.items rows.new.items) }
-    ensures said { (h : Record) → AreSaid h rows.old.items → AreSaid h rows.new.items × IfSome result (λ task. Each (IsSaid h) (role_parcels task.role)) }
+    ensures said { (h : Record) → AreSaid h rows.old.items → AreSaid h rows.new.items × IfSome result (λ task. Each (IsSaid h) (role_parcels task.role) × HasCome h i task.role) }
 {
     rows[i].task.take()
 }
@@ -179,7 +180,7 @@ pub(crate) fn put_task<P>(rows: &mut Vec<Row<P>>, i: usize, task: Task<P>)
     ensures size { length rows.new.items ≡ length rows.old.items }
     ensures same_rooms { SameRooms rows.old.items rows.new.items }
     ensures places { Fills (Held i) (parcel_lists (role_parcels task.role)) rows.old.items rows.new.items }
-    ensures said { (h : Record) → AreSaid h rows.old.items → Each (IsSaid h) (role_parcels task.role) → AreSaid h rows.new.items }
+    ensures said { (h : Record) → AreSaid h rows.old.items → Each (IsSaid h) (role_parcels task.role) → HasCome h i task.role → AreSaid h rows.new.items }
 {
     match mem::replace(&mut rows[i].task, Some(task)) {
         None => {}

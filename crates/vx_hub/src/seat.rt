@@ -1,7 +1,7 @@
 ghost use Rattle.std.specs.Prelude.{◌≡◌, ◌++◌, ◌∷◌, [], length, IfOk};
 ghost use Rattle.vx_plan.specs.Numbers.{reader_numbers};
 ghost use Rattle.vx_plan.specs.Components.{stages, sink_stages};
-ghost use Rattle.vx_hub.specs.Making.{IsUnused, AreUnused, IsSeatOf, AreFitted, first_size, room_named};
+ghost use Rattle.vx_hub.specs.Making.{IsUnused, AreUnused, IsSeatOf, AreFitted, first_size, room_named, IsBegun};
 ghost use Rattle.vx_hub.specs.Rows.{role_parcels};
 
 use crate::facts::Facts;
@@ -50,7 +50,7 @@ pub(crate) fn seats(alloc: Global, plan: &Plan) -> Result<Vec<Seat>, WantOfMemor
 /// What a component begins with.
 fn make_seat(alloc: Global, plan: &Plan, component: &Component) -> Result<Seat, WantOfMemory>
     ensures unused { IfOk result IsUnused }
-    ensures fitted { IfOk result (λ seat. IsSeatOf plan.now component.now seat) }
+    ensures fitted { IfOk result (IsSeatOf plan.now component.now) }
 {
     let facts = Facts {
         name: component.name.copy(alloc)?,
@@ -135,7 +135,8 @@ fn sink_room(settings: &Settings) -> usize
 
 /// What a component does with its port.
 fn role(alloc: Global, settings: &Settings) -> Result<Role, WantOfMemory>
-    ensures { IfOk result (λ role. role_parcels role ≡ []) }
+    ensures none { IfOk result (λ role. role_parcels role ≡ []) }
+    ensures begun { IfOk result (IsBegun settings.now) }
 {
     match settings.sink() {
         None => {

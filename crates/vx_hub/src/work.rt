@@ -2,10 +2,11 @@ ghost use Rattle.std.specs.Prelude.{◌≡◌, ◌≢◌, ◌≤◌, List, None,
 ghost use Rattle.vx_ledger.specs.declared.parcel.Parcel.{Parcel};
 ghost use Rattle.vx_hub.specs.Events.{written, IsWrittenOf};
 ghost use Rattle.vx_hub.specs.Rows.{role_copies, role_parcels};
-ghost use Rattle.vx_hub.specs.Works.{Reports, NamesBy, IsReading, IsAttempted, event_count_of};
+ghost use Rattle.vx_hub.specs.Works.{Reports, NamesBy, IsReading, IsAttempted, event_count_of, IsSending, Moves};
 ghost use Rattle.vx_hub.specs.Leases.{IsLeased, IsBack};
 ghost use Rattle.vx_hub.specs.declared.hub.Hub.{Hub};
 ghost use Rattle.vx_hub.specs.declared.work.Done.{Done};
+ghost use Rattle.vx_hub.specs.declared.task.Role.{Role};
 
 use crate::confirming::{Confirmed, confirm};
 use crate::line::write_text;
@@ -77,6 +78,7 @@ impl<P: Port> Work<P> {
         ensures sends { IsAttempted result.done → self.job ≡ Job.Attempt }
         ensures events { event_count_of result.done ≤ 65536 }
         ensures writes { IsWrittenOf (role_parcels self.task.role) result.done }
+        ensures moves { Moves self.task.role result.done result.task.role }
         ensures back { (hub : Hub P) → IsLeased P.told hub self → IsBack P.told hub result }
     {
         let Work {
@@ -120,6 +122,7 @@ fn confirm_and_act<P: Port>(
     ensures closes { result.done ≡ Done.Closed → job ≡ Job.Close }
     ensures sends { IsAttempted result.done → job ≡ Job.Attempt }
     ensures events { event_count_of result.done ≤ 65536 }
+    ensures moves { Moves role.old result.done role.new }
 {
     match confirm(port, positions) {
         Ok(confirmed) => {
@@ -143,6 +146,7 @@ fn act<P: Port>(alloc: Global, job: Job, port: &mut P, role: &mut Role) -> Done
     ensures closes { result ≡ Done.Closed → job ≡ Job.Close }
     ensures sends { IsAttempted result → job ≡ Job.Attempt }
     ensures writes { IsWrittenOf (role_parcels role.old) result }
+    ensures moves { Moves role.old result role.new }
 {
     match (job, role) {
         (Job::Read, Role::Source(core)) => read(port, core),
@@ -178,6 +182,7 @@ fn read<P: Port>(port: &mut P, core: &mut SourceCore) -> Done
     ensures unsent { IsAttempted result → ⊥ }
     ensures unclosed { result ≢ Done.Closed }
     ensures writes { (ps : List Parcel) → IsWrittenOf ps result }
+    ensures moves { Moves (Role.Source core.old) result (Role.Source core.new) }
 {
     match core.turn(port) {
         Ok(turned) => Done::Read(turned),
@@ -192,6 +197,7 @@ fn send<P: Port>(alloc: Global, port: &mut P, core: &SinkCore) -> Done
     ensures unread { IsReading result → ⊥ }
     ensures unclosed { result ≢ Done.Closed }
     ensures writes { IsWrittenOf core.now.held.items result }
+    ensures moves { (role : Role) → Moves role result role }
 {
     let Ok(mut bytes) = encode(alloc, core) else {
         return Done::Starved;

@@ -1,3 +1,4 @@
+use Rattle.vx_record.specs.Wirings.{begun}
 use Rattle.std.proofs.Common.{refl, IfSome, arith, ap, ◌≡◌, ◌∙◌, ◌+◌, ◌<◌, ℕ, List, length, subst, sym}
 use Rattle.std.specs.Prelude.{drop, slice_get, IsSomeAnd}
 use Rattle.vx_hub.specs.declared.row.Row.{Row}
@@ -21,7 +22,7 @@ loop-seats-init g c =
         kept = c.requires.room.kept;
         copies = λ batch place. ap (copies_in batch place) c.requires.room.rows;
         places = λ p. none_at c.args.room.rows.items p c.requires.room.rows;
-        said = λ h. said_none h c.args.room.rows.items c.requires.room.rows;
+        said = λ once now. said_none (begun c.args.plan once now) c.args.room.rows.items c.requires.room.rows;
         home = λ i l. absurd (omega (arith, none, l));
         ports = λ i. subst (λ (rows : List (Row _)). IfSome (port_at rows i) (λ port. IsUntouched (spec_of (slice_get c.args.plan.components i)) (g.P.Port.told port))) (sym c.requires.room.rows) tt;
         facts = λ i. subst (λ (fs : List Facts). IfSome (facts_at fs i) AreNew) (sym c.requires.room.facts) tt;

@@ -6,8 +6,9 @@ use Rattle.vx_hub.specs.Works.{IsClosedBy}
 use Rattle.vx_hub.proofs.Parcels.{row_counts}
 use Rattle.vx_hub.proofs.RowLaws.{rooms_written, rows_lose, row_read, row_written, other_ports, bare_kept}
 use Rattle.vx_hub.proofs.PlaceLaws.{places_kept, same_task}
+use Rattle.vx_hub.specs.Abreast.{HasComeHome}
 use Rattle.vx_hub.specs.Events.{IsSaid, Each, HasEach}
-use Rattle.vx_hub.proofs.EventLaws.{row_each, rows_each}
+use Rattle.vx_hub.proofs.EventLaws.{row_each, rows_said}
 use Rattle.vx_hub.proofs.rows.close_at.Goals as goal
 
 pub returns-clause-loses : goal.returns-clause-loses
@@ -47,8 +48,8 @@ pub returns-clause-said : goal.returns-clause-said
 returns-clause-said g c h said =
     let rows = c.args.rows.now.items in
     let row = c.index_mut.result.now in
-    let all : HasEach (IsSaid h) row = row_each (IsSaid h) rows c.args.i row c.requires.within c.index_mut.ensures.value said in
-    rows_each (IsSaid h) rows c.args.i _ c.requires.within said (record {
+    let all : HasEach (IsSaid h) row = row_each h rows c.args.i row c.requires.within c.index_mut.ensures.value said in
+    rows_said h rows c.args.i row _ c.requires.within c.index_mut.ensures.value said (λ was. subst (λ (t : _). HasComeHome h c.args.i t) c.in-Some.is was) (record {
       outputs = all.outputs;
       waiting = all.waiting;
       buffer = all.buffer;

@@ -11,7 +11,7 @@ use Rattle.vx_hub.proofs.PlaceLaws.{read_at, written_at, places_but, but_task, n
 use Rattle.std.proofs.Common.{subst, List}
 use Rattle.vx_ledger.specs.declared.parcel.Parcel.{Parcel}
 use Rattle.vx_hub.specs.Events.{IsSaid, Each, HasEach}
-use Rattle.vx_hub.proofs.EventLaws.{row_each, rows_each, each-append}
+use Rattle.vx_hub.proofs.EventLaws.{row_each, rows_said, each-append}
 use Rattle.vx_hub.proofs.rows.hold.Goals as goal
 
 pub returns-clause-gains : goal.returns-clause-gains
@@ -45,8 +45,8 @@ pub returns-clause-said : goal.returns-clause-said
 returns-clause-said g c h said is =
     let rows = c.args.rows.now.items in
     let row = c.index_mut.result.now in
-    let all : HasEach (IsSaid h) row = row_each (IsSaid h) rows c.args.i row c.requires.within c.index_mut.ensures.value said in
-    rows_each (IsSaid h) rows c.args.i _ c.requires.within said (record {
+    let all : HasEach (IsSaid h) row = row_each h rows c.args.i row c.requires.within c.index_mut.ensures.value said in
+    rows_said h rows c.args.i row _ c.requires.within c.index_mut.ensures.value said (λ was. tt) (record {
       outputs = all.outputs;
       waiting = all.waiting;
       buffer = all.buffer;

@@ -9,8 +9,9 @@ use Rattle.vx_hub.specs.Places.{parcel_lists}
 use Rattle.vx_hub.proofs.PlaceLaws.{read_at, written_at, places_but, but_task, places_kept, same_task, popped_queue, popped_none, task_holds}
 use Rattle.std.proofs.Common.{subst, List}
 use Rattle.vx_ledger.specs.declared.parcel.Parcel.{Parcel}
+use Rattle.vx_hub.specs.Abreast.{HasComeHome}
 use Rattle.vx_hub.specs.Events.{IsSaid, Each, HasEach}
-use Rattle.vx_hub.proofs.EventLaws.{row_each, rows_each, queue_each}
+use Rattle.vx_hub.proofs.EventLaws.{row_each, rows_said, queue_each}
 use Rattle.vx_hub.specs.Rows.{task_parcels}
 use Rattle.vx_hub.proofs.rows.pop_held.Goals as goal
 
@@ -54,17 +55,17 @@ pub returns-in-Sink-clause-said : goal.returns-in-Sink-clause-said
 returns-in-Sink-clause-said g c h said =
     let rows = c.args.rows.now.items in
     let row = c.index_mut.result.now in
-    let all : HasEach (IsSaid h) row = row_each (IsSaid h) rows c.args.i row c.requires c.index_mut.ensures.value said in
+    let all : HasEach (IsSaid h) row = row_each h rows c.args.i row c.requires c.index_mut.ensures.value said in
     let out = queue_each (IsSaid h) c.pop.result c.in-Sink.core.held.items c.pop.new.self.items c.pop.ensures.some c.pop.ensures.empty
     (subst (λ (ps : List Parcel). Each (IsSaid h) ps) (task_holds row.task c.in-Some.task c.in-Sink.core c.in-Some.is c.in-Sink.is) all.held) in
-    (rows_each (IsSaid h) rows c.args.i _ c.requires said (record { outputs = all.outputs; waiting = all.waiting; buffer = all.buffer; held = out.0 }), out.1)
+    (rows_said h rows c.args.i row _ c.requires c.index_mut.ensures.value said (λ was. tt) (record { outputs = all.outputs; waiting = all.waiting; buffer = all.buffer; held = out.0 }), out.1)
 
 pub returns-in-Source-clause-said : goal.returns-in-Source-clause-said
 returns-in-Source-clause-said g c h said =
     let rows = c.args.rows.now.items in
     let row = c.index_mut.result.now in
-    let all : HasEach (IsSaid h) row = row_each (IsSaid h) rows c.args.i row c.requires c.index_mut.ensures.value said in
-    (rows_each (IsSaid h) rows c.args.i _ c.requires said (record { outputs = all.outputs; waiting = all.waiting; buffer = all.buffer; held = subst (λ (t : _). Each (IsSaid h) (task_parcels t)) c.in-Some.is all.held }), tt)
+    let all : HasEach (IsSaid h) row = row_each h rows c.args.i row c.requires c.index_mut.ensures.value said in
+    (rows_said h rows c.args.i row _ c.requires c.index_mut.ensures.value said (λ was. subst (λ (t : _). HasComeHome h c.args.i t) c.in-Some.is was) (record { outputs = all.outputs; waiting = all.waiting; buffer = all.buffer; held = subst (λ (t : _). Each (IsSaid h) (task_parcels t)) c.in-Some.is all.held }), tt)
 
 pub returns-in-Sink-clause-same_rooms : goal.returns-in-Sink-clause-same_rooms
 returns-in-Sink-clause-same_rooms g c = rooms_written c.args.rows.now.items c.args.i c.index_mut.result.now _ c.requires c.index_mut.ensures.value refl

@@ -6,7 +6,7 @@ use Rattle.vx_record.specs.Places.{same_place}
 use Rattle.vx_record.specs.Places.Place.{Outputs}
 use Rattle.vx_hub.proofs.PlaceLaws.{read_at, written_at, places_but, but_outputs, places_kept, same_outputs, popped_stack, popped_none}
 use Rattle.vx_hub.specs.Events.{IsSaid, HasEach}
-use Rattle.vx_hub.proofs.EventLaws.{row_each, rows_each, stack_each}
+use Rattle.vx_hub.proofs.EventLaws.{row_each, rows_said, stack_each}
 use Rattle.vx_hub.proofs.rows.pop_output.Goals as goal
 
 pub returns-clause-loses : goal.returns-clause-loses
@@ -57,9 +57,9 @@ pub returns-clause-said : goal.returns-clause-said
 returns-clause-said g c h said =
     let rows = c.args.rows.now.items in
     let row = c.index_mut.result.now in
-    let all : HasEach (IsSaid h) row = row_each (IsSaid h) rows c.args.i row c.requires c.index_mut.ensures.value said in
+    let all : HasEach (IsSaid h) row = row_each h rows c.args.i row c.requires c.index_mut.ensures.value said in
     let out = stack_each (IsSaid h) c.pop.result row.outputs.items c.pop.new.self.items c.pop.ensures.some c.pop.ensures.empty all.outputs in
-    (rows_each (IsSaid h) rows c.args.i _ c.requires said (record { outputs = out.0; waiting = all.waiting; buffer = all.buffer; held = all.held }), out.1)
+    (rows_said h rows c.args.i row _ c.requires c.index_mut.ensures.value said (λ was. was) (record { outputs = out.0; waiting = all.waiting; buffer = all.buffer; held = all.held }), out.1)
 
 pub returns-clause-same_rooms : goal.returns-clause-same_rooms
 returns-clause-same_rooms g c = rooms_written c.args.rows.now.items c.args.i c.index_mut.result.now _ c.requires c.index_mut.ensures.value refl

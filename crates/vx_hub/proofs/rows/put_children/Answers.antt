@@ -9,7 +9,7 @@ use Rattle.vx_hub.specs.Places.{waiting_lists}
 use Rattle.vx_hub.proofs.PlaceLaws.{written_at, places_but, but_waiting}
 use Rattle.std.proofs.Common.{subst, sym}
 use Rattle.vx_hub.specs.Events.{IsSaid, EachChild, HasEach}
-use Rattle.vx_hub.proofs.EventLaws.{row_each, rows_each}
+use Rattle.vx_hub.proofs.EventLaws.{row_each, rows_said}
 use Rattle.vx_hub.proofs.rows.put_children.Goals as goal
 
 pub returns-clause-gains : goal.returns-clause-gains
@@ -41,8 +41,8 @@ pub returns-clause-said : goal.returns-clause-said
 returns-clause-said g c h said are =
     let rows = c.args.rows.now.items in
     let row = c.index_mut.result.now in
-    let all : HasEach (IsSaid h) row = row_each (IsSaid h) rows c.args.i row c.requires.within c.index_mut.ensures.value said in
-    rows_each (IsSaid h) rows c.args.i _ c.requires.within said (record {
+    let all : HasEach (IsSaid h) row = row_each h rows c.args.i row c.requires.within c.index_mut.ensures.value said in
+    rows_said h rows c.args.i row _ c.requires.within c.index_mut.ensures.value said (λ was. was) (record {
       outputs = all.outputs;
       waiting = subst (λ (v : _). EachChild (IsSaid h) v.items) (sym c.replace-none.ensures.after) (subst (λ (cs : _). EachChild (IsSaid h) cs) (sym c.into_vec.ensures) are);
       buffer = all.buffer;

@@ -9,8 +9,9 @@ use Rattle.vx_hub.specs.Rows.{task_parcels}
 use Rattle.vx_hub.specs.Places.{parcel_lists}
 use Rattle.vx_hub.proofs.PlaceLaws.{written_at, places_but, but_task}
 use Rattle.std.proofs.Common.{subst, sym}
+use Rattle.vx_hub.specs.Abreast.{HasComeHome}
 use Rattle.vx_hub.specs.Events.{IsSaid, Each, HasEach}
-use Rattle.vx_hub.proofs.EventLaws.{row_each, rows_each}
+use Rattle.vx_hub.proofs.EventLaws.{row_each, rows_said}
 use Rattle.vx_hub.proofs.rows.put_task.Goals as goal
 
 pub returns-clause-gains : goal.returns-clause-gains
@@ -40,11 +41,11 @@ returns-clause-places g c = record {
 }
 
 pub returns-clause-said : goal.returns-clause-said
-returns-clause-said g c h said are =
+returns-clause-said g c h said are come =
     let rows = c.args.rows.now.items in
     let row = c.index_mut.result.now in
-    let all : HasEach (IsSaid h) row = row_each (IsSaid h) rows c.args.i row c.requires.within c.index_mut.ensures.value said in
-    rows_each (IsSaid h) rows c.args.i _ c.requires.within said (record { outputs = all.outputs; waiting = all.waiting; buffer = all.buffer; held = subst (λ (t : _). Each (IsSaid h) (task_parcels t)) (sym c.replace.ensures.after) are })
+    let all : HasEach (IsSaid h) row = row_each h rows c.args.i row c.requires.within c.index_mut.ensures.value said in
+    rows_said h rows c.args.i row _ c.requires.within c.index_mut.ensures.value said (λ was. subst (λ (t : _). HasComeHome h c.args.i t) (sym c.replace.ensures.after) come) (record { outputs = all.outputs; waiting = all.waiting; buffer = all.buffer; held = subst (λ (t : _). Each (IsSaid h) (task_parcels t)) (sym c.replace.ensures.after) are })
 
 pub returns-clause-same_rooms : goal.returns-clause-same_rooms
 returns-clause-same_rooms g c = rooms_written c.args.rows.now.items c.args.i c.index_mut.result.now _ c.requires.within c.index_mut.ensures.value refl

@@ -8,7 +8,7 @@ use Rattle.vx_hub.proofs.PlaceLaws.{places_kept, same_outputs}
 use Rattle.std.proofs.Common.{subst, sym, List}
 use Rattle.vx_ledger.specs.declared.parcel.Parcel.{Parcel}
 use Rattle.vx_hub.specs.Events.{IsSaid, Each, HasEach}
-use Rattle.vx_hub.proofs.EventLaws.{row_each, rows_each}
+use Rattle.vx_hub.proofs.EventLaws.{row_each, rows_said}
 use Rattle.vx_hub.proofs.rows.reserve_outputs.Goals as goal
 
 pub returns-clause-loses : goal.returns-clause-loses
@@ -44,8 +44,8 @@ pub returns-clause-said : goal.returns-clause-said
 returns-clause-said g c h said =
     let rows = c.args.rows.now.items in
     let row = c.index_mut.result.now in
-    let all : HasEach (IsSaid h) row = row_each (IsSaid h) rows c.args.i row c.requires c.index_mut.ensures.value said in
-    rows_each (IsSaid h) rows c.args.i _ c.requires said (record {
+    let all : HasEach (IsSaid h) row = row_each h rows c.args.i row c.requires c.index_mut.ensures.value said in
+    rows_said h rows c.args.i row _ c.requires c.index_mut.ensures.value said (λ was. was) (record {
       outputs = subst (λ (ps : List Parcel). Each (IsSaid h) ps) (sym c.reserve.ensures.items) all.outputs;
       waiting = all.waiting;
       buffer = all.buffer;

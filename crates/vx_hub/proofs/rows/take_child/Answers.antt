@@ -9,7 +9,7 @@ use Rattle.vx_hub.specs.Places.{waiting_lists, NoneBefore}
 use Rattle.vx_hub.proofs.PlaceLaws.{read_at, written_at, places_but, but_target, first_removed, other_removed}
 use Rattle.std.proofs.Common.{subst}
 use Rattle.vx_hub.specs.Events.{IsSaid, EachChild, HasEach}
-use Rattle.vx_hub.proofs.EventLaws.{row_each, rows_each, child_each}
+use Rattle.vx_hub.proofs.EventLaws.{row_each, rows_said, child_each}
 use Rattle.vx_hub.proofs.rows.take_child.Goals as goal
 
 pub returns-clause-loses : goal.returns-clause-loses
@@ -57,10 +57,10 @@ pub returns-clause-said : goal.returns-clause-said
 returns-clause-said g c h said =
     let rows = c.args.rows.now.items in
     let row = c.index_mut.result.now in
-    let all : HasEach (IsSaid h) row = row_each (IsSaid h) rows c.args.i row c.requires.within c.index_mut.ensures.value said in
+    let all : HasEach (IsSaid h) row = row_each h rows c.args.i row c.requires.within c.index_mut.ensures.value said in
     let l : c.args.k < length row.waiting.items = row_has (λ r. c.args.k < length r.waiting.items) rows c.args.i row c.requires.within c.index_mut.ensures.value c.requires.child in
     let out = child_each (IsSaid h) row.waiting.items c.args.k c.remove.result l c.remove.ensures.value all.waiting in
-    (rows_each (IsSaid h) rows c.args.i _ c.requires.within said (record { outputs = all.outputs; waiting = subst (λ (cs : _). EachChild (IsSaid h) cs) (sym c.remove.ensures.items) out.0; buffer = all.buffer; held = all.held }), out.1)
+    (rows_said h rows c.args.i row _ c.requires.within c.index_mut.ensures.value said (λ was. was) (record { outputs = all.outputs; waiting = subst (λ (cs : _). EachChild (IsSaid h) cs) (sym c.remove.ensures.items) out.0; buffer = all.buffer; held = all.held }), out.1)
 
 pub returns-clause-same_rooms : goal.returns-clause-same_rooms
 returns-clause-same_rooms g c = rooms_written c.args.rows.now.items c.args.i c.index_mut.result.now _ c.requires.within c.index_mut.ensures.value refl

@@ -12,7 +12,7 @@ use Rattle.vx_hub.proofs.Silence.{same_test}
 use Rattle.vx_hub.proofs.PlaceLaws.{read_at, written_at, places_but, but_target, waiting-more, places_kept, same_waiting}
 use Rattle.std.proofs.Common.{subst}
 use Rattle.vx_hub.specs.Events.{IsSaid, EachChild, HasEach}
-use Rattle.vx_hub.proofs.EventLaws.{row_each, rows_each, last_child_each}
+use Rattle.vx_hub.proofs.EventLaws.{row_each, rows_said, last_child_each}
 use Rattle.vx_hub.proofs.rows.take_last_child.Goals as goal
 
 pub returns-in-Some-clause-loses : goal.returns-in-Some-clause-loses
@@ -88,16 +88,16 @@ pub returns-in-Some-clause-said : goal.returns-in-Some-clause-said
 returns-in-Some-clause-said g c h said =
     let rows = c.args.rows.now.items in
     let row = c.index_mut.result.now in
-    let all : HasEach (IsSaid h) row = row_each (IsSaid h) rows c.args.i row c.requires c.index_mut.ensures.value said in
+    let all : HasEach (IsSaid h) row = row_each h rows c.args.i row c.requires c.index_mut.ensures.value said in
     let out = last_child_each (IsSaid h) row.waiting.items c.pop.new.self.items c.in-Some.field-0 c.in-Some.ensures.items all.waiting in
-    (rows_each (IsSaid h) rows c.args.i _ c.requires said (record { outputs = all.outputs; waiting = out.0; buffer = all.buffer; held = all.held }), out.1)
+    (rows_said h rows c.args.i row _ c.requires c.index_mut.ensures.value said (λ was. was) (record { outputs = all.outputs; waiting = out.0; buffer = all.buffer; held = all.held }), out.1)
 
 pub returns-in-None-clause-said : goal.returns-in-None-clause-said
 returns-in-None-clause-said g c h said =
     let rows = c.args.rows.now.items in
     let row = c.index_mut.result.now in
-    let all : HasEach (IsSaid h) row = row_each (IsSaid h) rows c.args.i row c.requires c.index_mut.ensures.value said in
-    (rows_each (IsSaid h) rows c.args.i _ c.requires said (record { outputs = all.outputs; waiting = subst (λ (cs : _). EachChild (IsSaid h) cs) (c.in-None.ensures.items ∙ append-nil c.pop.new.self.items) all.waiting; buffer = all.buffer; held = all.held }), tt)
+    let all : HasEach (IsSaid h) row = row_each h rows c.args.i row c.requires c.index_mut.ensures.value said in
+    (rows_said h rows c.args.i row _ c.requires c.index_mut.ensures.value said (λ was. was) (record { outputs = all.outputs; waiting = subst (λ (cs : _). EachChild (IsSaid h) cs) (c.in-None.ensures.items ∙ append-nil c.pop.new.self.items) all.waiting; buffer = all.buffer; held = all.held }), tt)
 
 pub returns-in-Some-clause-same_rooms : goal.returns-in-Some-clause-same_rooms
 returns-in-Some-clause-same_rooms g c = rooms_written c.args.rows.now.items c.args.i c.index_mut.result.now _ c.requires c.index_mut.ensures.value refl

@@ -9,8 +9,9 @@ use Rattle.vx_hub.specs.Rows.{task_parcels}
 use Rattle.vx_hub.specs.Places.{parcel_lists}
 use Rattle.vx_hub.proofs.PlaceLaws.{written_at, places_but, but_task}
 use Rattle.std.proofs.Common.{subst}
+use Rattle.vx_hub.specs.Abreast.{HasComeHome}
 use Rattle.vx_hub.specs.Events.{IsSaid, Each, HasEach}
-use Rattle.vx_hub.proofs.EventLaws.{row_each, rows_each, task_each}
+use Rattle.vx_hub.proofs.EventLaws.{row_said, row_each, rows_said, task_said}
 use Rattle.vx_hub.proofs.rows.take_task.Goals as goal
 
 pub returns-clause-loses : goal.returns-clause-loses
@@ -47,9 +48,9 @@ pub returns-clause-said : goal.returns-clause-said
 returns-clause-said g c h said =
     let rows = c.args.rows.now.items in
     let row = c.index_mut.result.now in
-    let all : HasEach (IsSaid h) row = row_each (IsSaid h) rows c.args.i row c.requires c.index_mut.ensures.value said in (
-      rows_each (IsSaid h) rows c.args.i _ c.requires said (record { outputs = all.outputs; waiting = all.waiting; buffer = all.buffer; held = subst (λ (t : _). Each (IsSaid h) (task_parcels t)) (sym c.take.ensures.after) tt }),
-      task_each (IsSaid h) c.take.result (subst (λ (t : _). Each (IsSaid h) (task_parcels t)) (sym c.take.ensures.value) all.held),
+    let all : HasEach (IsSaid h) row = row_each h rows c.args.i row c.requires c.index_mut.ensures.value said in (
+      rows_said h rows c.args.i row _ c.requires c.index_mut.ensures.value said (λ was. subst (λ (t : _). HasComeHome h c.args.i t) (sym c.take.ensures.after) tt) (record { outputs = all.outputs; waiting = all.waiting; buffer = all.buffer; held = subst (λ (t : _). Each (IsSaid h) (task_parcels t)) (sym c.take.ensures.after) tt }),
+      task_said h c.args.i c.take.result (subst (λ (t : _). Each (IsSaid h) (task_parcels t)) (sym c.take.ensures.value) all.held) (subst (λ (t : _). HasComeHome h c.args.i t) (sym c.take.ensures.value) (row_said h rows c.args.i row c.requires c.index_mut.ensures.value said).come),
     )
 
 pub returns-clause-same_rooms : goal.returns-clause-same_rooms

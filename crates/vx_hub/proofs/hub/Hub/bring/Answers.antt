@@ -23,7 +23,7 @@ returns-clause-stands g c =
     c.put_task.ensures.port c.put_task.ensures.ports c.put_task.ensures.bare c.put_task.ensures.same_rooms refl refl refl refl refl refl
     (λ fine kept placed. placed_home d.rows.items c.put_task.new.rows.items d.log.history c.args.instance (role_parcels role) kept
     (subst (λ (cs : List Copy). IsPlaced d.rows.items cs d.log.history) (role_same role) placed) (c.requires.held fine) c.put_task.ensures.places)
-    (λ fine said. c.put_task.ensures.said d.log.history said (c.requires.said fine))
+    (λ fine said. c.put_task.ensures.said d.log.history said (c.requires.said fine) (c.requires.come fine))
 
 pub returns-clause-outputs : goal.returns-clause-outputs
 returns-clause-outputs g c i = ap all_numbers (c.put_task.ensures.places.others (Outputs i) refl)

@@ -1,4 +1,6 @@
-use Rattle.std.proofs.Common.{IsTrue, refl, sym, subst, ◌∙◌}
+use Rattle.std.proofs.Common.{IsTrue, refl, sym, subst, ◌∙◌, ◌≡◌, Some, ap}
+use Rattle.vx_hub.proofs.Yielding.{come_on}
+use Rattle.std.specs.Prelude.{if◌then◌else◌}
 use Rattle.vx_record.specs.Records.{Record}
 use Rattle.vx_record.specs.declared.log.Log.{Log}
 use Rattle.vx_record.specs.Places.Place.{Held}
@@ -36,6 +38,9 @@ returns-clause-replied g c sound =
     subst (λ (l : Log). AreAnswered l.history i reply) (sym same)
     (subst (λ (now : Record). AreAnswered now i reply) (sym (c.note_attempt.ensures.whole whole).1)
     (answered_now h i copies c.args.bytes reply (stands_still h (Attempt i copies c.args.bytes reply) (Held i) tt (conserved h (c.requires.stands.recorded fine).order)) (held_numbers h i c.args.task.role (c.requires.held fine))))
+
+pub bring-requires-clause-come : goal.bring-requires-clause-come
+bring-requires-clause-come g c = come_on c.args.self.now _ (Attempt c.args.instance (numbers_in (role_copies c.args.task.role)) c.args.bytes c.args.reply) c.args.instance c.args.task.role tt c.note_attempt.ensures refl c.requires.come
 
 pub bring-requires-clause-said : goal.bring-requires-clause-said
 bring-requires-clause-said g c = said_by_on c.args.self.now _ (Attempt c.args.instance (numbers_in (role_copies c.args.task.role)) c.args.bytes c.args.reply) c.args.task.role c.note_attempt.ensures refl c.requires.said

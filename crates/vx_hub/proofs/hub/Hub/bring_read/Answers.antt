@@ -1,3 +1,8 @@
+use Rattle.std.proofs.Common.{subst}
+use Rattle.vx_record.specs.declared.taken.Taken.TheVariants as taken
+use Rattle.vx_hub.specs.declared.source.Turned.{Turned}
+use Rattle.vx_hub.specs.Abreast.{RoleHasTurned}
+use Rattle.vx_hub.proofs.Yielding.{yielded, lines_role, stream_role, all_role}
 use Rattle.vx_hub.specs.Rows.{role_copies}
 use Rattle.vx_hub.proofs.hub.Hub.bring_read.Goals as goal
 
@@ -24,3 +29,30 @@ give_birth-requires-in-StreamEnded-clause-read g c = c.bring-in-StreamEnded.ensu
 
 pub give_birth-requires-in-AllEnded-clause-read : goal.give_birth-requires-in-AllEnded-clause-read
 give_birth-requires-in-AllEnded-clause-read g c = c.bring-in-AllEnded.ensures.read c.args.instance c.note_end-in-AllEnded.ensures.read
+
+pub give_birth-requires-clause-yields : goal.give_birth-requires-clause-yields
+give_birth-requires-clause-yields g c =
+    let d = c.args.self.now in
+    let i = c.args.instance in
+    let role = c.args.task.role in
+    c.bring.ensures.yields i c.in-Lines.events (record { stream = c.in-Lines.stream; end = c.in-Lines.end })
+    (yielded d c.note_taken.new.self i c.in-Lines.stream (taken.Bytes c.in-Lines.bytes) c.in-Lines.events (record { stream = c.in-Lines.stream; end = c.in-Lines.end }) c.note_taken.ensures.noted c.note_taken.ensures.starved
+    (λ sound. (lines_role d.log.history i c.in-Lines.stream c.in-Lines.bytes c.in-Lines.events c.in-Lines.end role (subst (λ (t : Turned). RoleHasTurned d.log.history i role t) c.in-Lines.is (c.requires.come sound))).1))
+
+pub give_birth-requires-in-StreamEnded-clause-yields : goal.give_birth-requires-in-StreamEnded-clause-yields
+give_birth-requires-in-StreamEnded-clause-yields g c =
+    let d = c.args.self.now in
+    let i = c.args.instance in
+    let role = c.args.task.role in
+    c.bring-in-StreamEnded.ensures.yields i c.in-StreamEnded.events (record { stream = c.in-StreamEnded.stream; end = c.in-StreamEnded.end })
+    (yielded d c.note_end.new.self i c.in-StreamEnded.stream taken.StreamEnded c.in-StreamEnded.events (record { stream = c.in-StreamEnded.stream; end = c.in-StreamEnded.end }) c.note_end.ensures.noted c.note_end.ensures.starved
+    (λ sound. (stream_role d.log.history i c.in-StreamEnded.stream c.in-StreamEnded.events c.in-StreamEnded.end role (subst (λ (t : Turned). RoleHasTurned d.log.history i role t) c.in-StreamEnded.is (c.requires.come sound))).1))
+
+pub give_birth-requires-in-AllEnded-clause-yields : goal.give_birth-requires-in-AllEnded-clause-yields
+give_birth-requires-in-AllEnded-clause-yields g c =
+    let d = c.args.self.now in
+    let i = c.args.instance in
+    let role = c.args.task.role in
+    c.bring-in-AllEnded.ensures.yields i c.in-AllEnded.events (record { stream = c.in-AllEnded.stream; end = c.in-AllEnded.end })
+    (yielded d c.note_end-in-AllEnded.new.self i c.in-AllEnded.stream taken.AllEnded c.in-AllEnded.events (record { stream = c.in-AllEnded.stream; end = c.in-AllEnded.end }) c.note_end-in-AllEnded.ensures.noted c.note_end-in-AllEnded.ensures.starved
+    (λ sound. (all_role d.log.history i c.in-AllEnded.stream c.in-AllEnded.events c.in-AllEnded.end role (subst (λ (t : Turned). RoleHasTurned d.log.history i role t) c.in-AllEnded.is (c.requires.come sound))).1))

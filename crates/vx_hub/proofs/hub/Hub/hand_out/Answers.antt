@@ -27,7 +27,8 @@ returns-clause-leased g c =
           (λ kept placed. subst (λ (cs : List Copy). IsPlaced rows cs d.log.history) (sym (role_same role))
           (placed_leased d.rows.items rows d.log.history i (role_parcels role) kept placed c.in_ok-task.ensures.held c.take_task.ensures.places))
           c.requires.away (λ fine said. (c.take_task.ensures.said d.log.history said).0);
-      said = λ sound. (c.in_ok-task.ensures.said d.log.history (s.recorded (record { whole = sound.whole; fed = sound.fed })).said).1;
+      said = λ sound. (c.in_ok-task.ensures.said d.log.history (s.recorded (record { whole = sound.whole; fed = sound.fed })).said).1.0;
+      come = λ sound. (c.in_ok-task.ensures.said d.log.history (s.recorded (record { whole = sound.whole; fed = sound.fed })).said).1.1;
       open_at = record { within = subst (λ n. i < n) (sym c.take_task.ensures.size) c.requires.open.within; unclosed = c.requires.open.unclosed };
       out = c.take_task.ensures.out;
       told = λ sound. taken_told (λ port. IsTold (g.P.Port.told port) d.log.history i) (port_at d.rows.items i) task.port c.in_ok-task.ensures.port

@@ -1,3 +1,4 @@
+use Rattle.vx_hub.proofs.Yielding.{done_on}
 use Rattle.std.proofs.Common.{◌∙◌, sym, subst, Option, None}
 use Rattle.vx_record.specs.Records.{Record}
 use Rattle.vx_hub.specs.declared.confirming.Confirmed.{Confirmed}
@@ -29,6 +30,7 @@ returns-in-Some-clause-back g c =
       unlost = λ reading. c.note_confirm.ensures.unlost (c.requires.unlost reading);
       held = held_on g.P.Port.told c.args.self.now c.note_confirm.new.self (role_copies c.args.landing.task.role) i c.args.landing.task.role _ c.requires.stands c.note_confirm.ensures.noted c.note_confirm.ensures.starved tt c.requires.held;
       said = said_by_on c.args.self.now c.note_confirm.new.self _ c.args.landing.task.role c.note_confirm.ensures.noted c.note_confirm.ensures.starved c.requires.said;
+      come = done_on c.args.self.now c.note_confirm.new.self i c.in-Some.confirmed.positions c.in-Some.confirmed.made i c.args.landing.task.role c.args.landing.done c.note_confirm.ensures.noted c.note_confirm.ensures.starved c.requires.come;
       writes = c.requires.writes;
       sent = λ reading. subst (λ (r : _). numbers_at (Outputs i) r.items ≡ []) (sym c.note_confirm.ensures.rows) (c.requires.sent reading);
       due = λ sound. tt;

@@ -1,8 +1,9 @@
-use Rattle.std.proofs.Common.{refl, false, ◌≡◌, ap, sym, None}
+use Rattle.vx_hub.specs.Stands.{IsReadable}
+use Rattle.std.proofs.Common.{refl, false, ◌≡◌, ap, sym}
 use Rattle.std.specs.Prelude.{if◌then◌else◌, not}
 use Rattle.vx_record.specs.Confirms.{is_unconfirmed}
 use Rattle.vx_record.specs.declared.entry.Entry.TheVariants as entry
-use Rattle.vx_plan.specs.declared.class.Class.TheVariants.{Source, Sink}
+use Rattle.vx_plan.specs.declared.class.Class.TheVariants.{Sink}
 use Rattle.vx_hub.proofs.Drying.{closing_on}
 use Rattle.vx_hub.proofs.StandsLaws.{ends_on, to_confirm_on}
 use Rattle.vx_hub.proofs.Naming.{device_known}
@@ -40,8 +41,8 @@ returns-clause-open g c open_at = record {
 }
 
 pub returns-clause-unlost : goal.returns-clause-unlost
-returns-clause-unlost g c unlost = facts_get (λ f. (f.lost ≡ None) × (f.class ≡ Source)) c.args.self.now.facts.items c.args.instance _ c.requires.within
-    (facts_surely (λ f. (f.lost ≡ None) × (f.class ≡ Source)) c.args.self.now.facts.items c.args.instance c.index_mut-facts.result.now c.requires.within c.index_mut-facts.ensures.value unlost)
+returns-clause-unlost g c unlost = facts_get IsReadable c.args.self.now.facts.items c.args.instance _ c.requires.within
+    (facts_surely IsReadable c.args.self.now.facts.items c.args.instance c.index_mut-facts.result.now c.requires.within c.index_mut-facts.ensures.value unlost)
 
 pub returns-clause-sink : goal.returns-clause-sink
 returns-clause-sink g c sink = facts_get (λ f. f.class ≡ Sink) c.args.self.now.facts.items c.args.instance _ c.requires.within

@@ -1,11 +1,11 @@
-use Rattle.std.proofs.Common.{refl, false, true, ◌≡◌, ◌∙◌, ap, sym, None, subst}
+use Rattle.vx_hub.specs.Stands.{IsReadable}
+use Rattle.std.proofs.Common.{refl, false, true, ◌≡◌, ◌∙◌, ap, sym, subst}
 use Rattle.std.specs.Prelude.{if◌then◌else◌, ◌==◌}
 use Rattle.vx_record.specs.Sourcing.{failed_starts}
 use Rattle.vx_record.specs.Reads.{bytes_of, bytes_taken, bytes_of_all, is_end, all_ended}
 use Rattle.vx_record.specs.declared.entry.Entry.TheVariants as entry
 use Rattle.vx_record.specs.Records.{Record}
 use Rattle.vx_hub.specs.Order.{IsReadBy}
-use Rattle.vx_plan.specs.declared.class.Class.TheVariants.{Source}
 use Rattle.vx_hub.proofs.Drying.{turn_of, closing_on, ended_here}
 use Rattle.vx_hub.proofs.StandsLaws.{ends_on, to_confirm_on}
 use Rattle.vx_hub.proofs.Silence.{same_test}
@@ -32,7 +32,7 @@ returns-clause-stands g c hand s =
       retired = known.retired;
     })
     (λ bytes. bytes ∙ no_bytes true (bytes_of_all c.args.self.now.log.history) (bytes_of c.args.taken) c.requires.end)
-    refl (λ fine known out. turn_of c.args.self.now.log.history c.args.instance c.index_mut-facts.result.now out known (facts_surely (λ f. (f.lost ≡ None) × (f.class ≡ Source)) c.args.self.now.facts.items c.args.instance c.index_mut-facts.result.now c.requires.within c.index_mut-facts.ensures.value c.requires.unlost))
+    refl (λ fine known out. turn_of c.args.self.now.log.history c.args.instance c.index_mut-facts.result.now out known (facts_surely IsReadable c.args.self.now.facts.items c.args.instance c.index_mut-facts.result.now c.requires.within c.index_mut-facts.ensures.value c.requires.unlost))
 
 pub returns-clause-open : goal.returns-clause-open
 returns-clause-open g c open_at = record {

@@ -1,8 +1,8 @@
-use Rattle.std.proofs.Common.{refl, false, ◌≡◌, ◌+◌, ◌<◌, ◌∙◌, ap, sym, subst, None}
+use Rattle.vx_hub.specs.Stands.{IsReadable}
+use Rattle.std.proofs.Common.{refl, false, ◌≡◌, ◌+◌, ◌<◌, ◌∙◌, ap, sym, subst}
 use Rattle.std.specs.Prelude.{if◌then◌else◌}
 use Rattle.vx_record.specs.Sourcing.{failed_starts}
 use Rattle.vx_record.specs.declared.entry.Entry.TheVariants as entry
-use Rattle.vx_plan.specs.declared.class.Class.TheVariants.{Source}
 use Rattle.vx_hub.proofs.Drying.{turn_of, closing_on}
 use Rattle.vx_hub.proofs.StandsLaws.{ends_on, to_confirm_on}
 use Rattle.vx_hub.proofs.Naming.{device_known}
@@ -30,7 +30,7 @@ returns-clause-stands g c hand s =
       retired = known.retired;
     })
     (λ bytes. bytes)
-    refl (λ fine known out. record { turn = turn_of c.args.self.now.log.history c.args.instance c.index_mut-facts.result.now out known (facts_surely (λ f. (f.lost ≡ None) × (f.class ≡ Source)) c.args.self.now.facts.items c.args.instance c.index_mut-facts.result.now c.requires.within c.index_mut-facts.ensures.value c.requires.unlost); device = device_known c.args.self.now.log.history c.args.instance c.index_mut-facts.result.now (s.recorded fine).order known; few = λ failed. subst (λ n. n < 4) known.failed_starts (facts_surely (λ f. f.failed_starts < 4) c.args.self.now.facts.items c.args.instance c.index_mut-facts.result.now c.requires.within c.index_mut-facts.ensures.value (c.requires.few failed)) })
+    refl (λ fine known out. record { turn = turn_of c.args.self.now.log.history c.args.instance c.index_mut-facts.result.now out known (facts_surely IsReadable c.args.self.now.facts.items c.args.instance c.index_mut-facts.result.now c.requires.within c.index_mut-facts.ensures.value c.requires.unlost); device = device_known c.args.self.now.log.history c.args.instance c.index_mut-facts.result.now (s.recorded fine).order known; few = λ failed. subst (λ n. n < 4) known.failed_starts (facts_surely (λ f. f.failed_starts < 4) c.args.self.now.facts.items c.args.instance c.index_mut-facts.result.now c.requires.within c.index_mut-facts.ensures.value (c.requires.few failed)) })
 
 pub returns-clause-open : goal.returns-clause-open
 returns-clause-open g c open_at = record {

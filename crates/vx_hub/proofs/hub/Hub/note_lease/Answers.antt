@@ -1,9 +1,9 @@
-use Rattle.std.proofs.Common.{[], refl, false, ◌≡◌, ◌<◌, sym, subst, length, Option, None, IfSome, arith}
+use Rattle.std.proofs.Common.{[], refl, false, ◌≡◌, ◌<◌, sym, subst, length, Option, IfSome, arith}
 use Rattle.vx_record.specs.Confirms.{born_positions}
-use Rattle.vx_hub.specs.Stands.{IsShut, IsGone, IsKnown}
+use Rattle.vx_hub.specs.Stands.{IsReadable, IsShut, IsGone, IsKnown}
 use Rattle.vx_record.specs.Records.{Record}
 use Rattle.vx_record.specs.declared.entry.Entry.TheVariants.{Lease}
-use Rattle.vx_plan.specs.declared.class.Class.TheVariants.{Source, Sink}
+use Rattle.vx_plan.specs.declared.class.Class.TheVariants.{Sink}
 use Rattle.vx_hub.specs.Order.{IsDueOf}
 use Rattle.vx_hub.proofs.Drying.{confirm_of, confirm_on, taken_none}
 use Rattle.vx_hub.proofs.StandsLaws.{known_quiet, born_same, same_next}
@@ -63,8 +63,8 @@ returns-clause-due g c sound =
 pub returns-clause-unlost : goal.returns-clause-unlost
 returns-clause-unlost g c unlost =
     let within : c.args.instance < length c.args.self.now.facts.items = omega (arith, c.requires.stands.size, c.requires.open.within) in
-    facts_get (λ f. (f.lost ≡ None) × (f.class ≡ Source)) c.args.self.now.facts.items c.args.instance _ within
-    (facts_surely (λ f. (f.lost ≡ None) × (f.class ≡ Source)) c.args.self.now.facts.items c.args.instance c.index_mut-facts.result.now within c.index_mut-facts.ensures.value unlost)
+    facts_get IsReadable c.args.self.now.facts.items c.args.instance _ within
+    (facts_surely IsReadable c.args.self.now.facts.items c.args.instance c.index_mut-facts.result.now within c.index_mut-facts.ensures.value unlost)
 
 pub returns-clause-away : goal.returns-clause-away
 returns-clause-away g c sound =

@@ -1,8 +1,7 @@
 use Rattle.std.proofs.Common.{refl, false, ◌≡◌, ◌≤◌, ap, sym, subst, Some, None}
 use Rattle.std.specs.Prelude.{if◌then◌else◌}
-use Rattle.vx_hub.specs.Stands.{lost_at}
+use Rattle.vx_hub.specs.Stands.{IsReadable, lost_at}
 use Rattle.vx_record.specs.declared.entry.Entry.TheVariants as entry
-use Rattle.vx_plan.specs.declared.class.Class.TheVariants.{Source}
 use Rattle.vx_hub.proofs.Drying.{turn_of, closing_on}
 use Rattle.vx_hub.proofs.StandsLaws.{ends_on, to_confirm_on}
 use Rattle.vx_hub.proofs.Naming.{device_known}
@@ -30,7 +29,7 @@ returns-clause-stands g c hand s =
       retired = known.retired;
     })
     (λ bytes. bytes)
-    refl (λ fine known out. record { first = turn_of c.args.self.now.log.history c.args.instance c.index_mut-facts.result.now out known (facts_surely (λ f. (f.lost ≡ None) × (f.class ≡ Source)) c.args.self.now.facts.items c.args.instance c.index_mut-facts.result.now c.requires.within c.index_mut-facts.ensures.value c.requires.unlost); device = device_known c.args.self.now.log.history c.args.instance c.index_mut-facts.result.now (s.recorded fine).order known; after = known.taken; many = λ failed. subst (λ n. 4 ≤ n) known.failed_starts (facts_surely (λ f. 4 ≤ f.failed_starts) c.args.self.now.facts.items c.args.instance c.index_mut-facts.result.now c.requires.within c.index_mut-facts.ensures.value (c.requires.many failed)) })
+    refl (λ fine known out. record { first = turn_of c.args.self.now.log.history c.args.instance c.index_mut-facts.result.now out known (facts_surely IsReadable c.args.self.now.facts.items c.args.instance c.index_mut-facts.result.now c.requires.within c.index_mut-facts.ensures.value c.requires.unlost); device = device_known c.args.self.now.log.history c.args.instance c.index_mut-facts.result.now (s.recorded fine).order known; after = known.taken; many = λ failed. subst (λ n. 4 ≤ n) known.failed_starts (facts_surely (λ f. 4 ≤ f.failed_starts) c.args.self.now.facts.items c.args.instance c.index_mut-facts.result.now c.requires.within c.index_mut-facts.ensures.value (c.requires.many failed)) })
 
 pub returns-clause-open : goal.returns-clause-open
 returns-clause-open g c open_at = record {

@@ -1,4 +1,5 @@
-use Rattle.std.proofs.Common.{refl, false, ◌≡◌, ◌+◌, ◌∙◌, ap, sym, length, None, subst}
+use Rattle.vx_hub.specs.Stands.{IsReadable}
+use Rattle.std.proofs.Common.{refl, false, ◌≡◌, ◌+◌, ◌∙◌, ap, sym, length, subst}
 use Rattle.std.specs.Prelude.{if◌then◌else◌, min, ◌^◌, ◌-◌, ◌==◌}
 use Rattle.vx_record.specs.Sourcing.{failed_starts}
 use Rattle.vx_record.specs.Reads.{all_ended}
@@ -6,7 +7,6 @@ use Rattle.vx_record.specs.declared.entry.Entry.TheVariants as entry
 use Rattle.vx_record.specs.declared.taken.Taken.TheVariants as taken
 use Rattle.vx_record.specs.Records.{Record}
 use Rattle.vx_hub.specs.Order.{IsReadBy}
-use Rattle.vx_plan.specs.declared.class.Class.TheVariants.{Source}
 use Rattle.vx_hub.proofs.Drying.{turn_of, closing_on, not_ended}
 use Rattle.vx_hub.proofs.StandsLaws.{ends_on, to_confirm_on}
 use Rattle.vx_hub.proofs.Silence.{same_test}
@@ -33,7 +33,7 @@ returns-clause-stands g c hand s =
       retired = known.retired;
     })
     (λ bytes. c.saturating_add-self.ensures ∙ ap (λ n. min (c.args.self.now.bytes + n) (2 ^ 64 - 1)) c.len-n.ensures ∙ capped_on c.args.self.now.bytes _ (length c.args.bytes) _ bytes)
-    refl (λ fine known out. turn_of c.args.self.now.log.history c.args.instance c.index_mut-facts.result.now out known (facts_surely (λ f. (f.lost ≡ None) × (f.class ≡ Source)) c.args.self.now.facts.items c.args.instance c.index_mut-facts.result.now c.requires.within c.index_mut-facts.ensures.value c.requires.unlost))
+    refl (λ fine known out. turn_of c.args.self.now.log.history c.args.instance c.index_mut-facts.result.now out known (facts_surely IsReadable c.args.self.now.facts.items c.args.instance c.index_mut-facts.result.now c.requires.within c.index_mut-facts.ensures.value c.requires.unlost))
 
 pub returns-clause-open : goal.returns-clause-open
 returns-clause-open g c open_at = record {

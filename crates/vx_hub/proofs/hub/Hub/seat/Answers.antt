@@ -1,4 +1,5 @@
-use Rattle.std.proofs.Common.{arith, ap, List, subst, sym, Some, IfSome}
+use Rattle.vx_record.specs.Wirings.{begun}
+use Rattle.std.proofs.Common.{arith, ap, List, subst, sym, Some, IfSome, ◌∙◌, refl, ◌≡◌}
 use Rattle.vx_ledger.specs.Copies.{copies_of}
 use Rattle.vx_hub.specs.declared.row.Row.{Row}
 use Rattle.vx_hub.specs.declared.facts.Facts.{Facts}
@@ -7,11 +8,9 @@ use Rattle.std.specs.Prelude.{slice_get, IsSome, IsSomeAnd, ℕ, ◌<◌, length
 use Rattle.vx_hub.specs.Stands.{facts_at, spec_of, HasRooms}
 use Rattle.vx_hub.specs.Rows.{parcel_copies, child_copies, copies_in, port_at}
 use Rattle.vx_hub.proofs.Parcels.{row_counts}
-use Rattle.vx_hub.proofs.Beginning.{ports_more, said_more, home_more, facts_more, fitted_more_at, rooms_more, seat_room, seat_fitted, copies_more, role_counts}
-use Rattle.std.proofs.Common.{◌∙◌, refl, ◌≡◌}
+use Rattle.vx_hub.proofs.Beginning.{ports_more, said_more, home_more, facts_more, fitted_more_at, rooms_more, seat_room, seat_fitted, copies_more, role_counts, role_begun, seat_role, places_more, unused_here}
 use Rattle.vx_hub.specs.Places.{copies_at}
 use Rattle.vx_hub.specs.Events.{AreSaid}
-use Rattle.vx_hub.proofs.Beginning.{places_more, unused_here}
 use Rattle.vx_hub.proofs.hub.Hub.seat.Goals as goal
 
 pub returns-clause-begins : goal.returns-clause-begins
@@ -34,8 +33,9 @@ returns-clause-begins g c plan begins untouched fitted =
       );
       places = λ p. ap (copies_at p) c.push_reserved-3.ensures.items ∙ places_more c.args.self.now.rows.items row begins.places
           (unused_here row c.requires.unused.outputs c.new.ensures.items c.requires.unused.buffer c.requires.unused.held) p;
-      said = λ h. subst (λ (rows : List (Row _)). AreSaid h rows) (sym c.push_reserved-3.ensures.items)
-          (said_more h c.args.self.now.rows.items row (begins.said h) c.requires.unused.outputs c.new.ensures.items c.requires.unused.buffer c.requires.unused.held);
+      said = λ once now. subst (λ (rows : List (Row _)). AreSaid (begun plan once now) rows) (sym c.push_reserved-3.ensures.items)
+          (said_more (begun plan once now) c.args.self.now.rows.items row (begins.said once now) c.requires.unused.outputs c.new.ensures.items c.requires.unused.buffer c.requires.unused.held
+          (role_begun plan once now (length c.args.self.now.rows.items) c.args.seat.role (seat_role plan (slice_get plan.components (length c.args.self.now.rows.items)) c.args.seat fitted)));
       home = λ i l. subst (λ (rows : List (Row _)). IsSome (port_at rows i)) (sym c.push_reserved-3.ensures.items)
           (home_more c.args.self.now.rows.items row begins.home refl i (subst (λ (rows : List (Row _)). i < length rows) c.push_reserved-3.ensures.items l));
       ports = λ i. subst (λ (rows : List (Row _)). IfSome (port_at rows i) (λ port. IsUntouched (spec_of (slice_get plan.components i)) (g.P.Port.told port))) (sym c.push_reserved-3.ensures.items)

@@ -69,7 +69,7 @@ returns-in-Ok-Children-clause-stands g c =
           let r = s.recorded fine in
           let after = Split c.args.instance 1 (numbers_in parcel.finalizers) parcel.event (noted_of cs) ∷ d.log.history in
           let standing : 0 < length parcel.finalizers = omega (arith, length_numbers parcel.finalizers, oldest_some d.log.history (Outputs c.args.instance) (numbers_in parcel.finalizers) _ (oldest_is (Outputs c.args.instance) parcel.finalizers d.rows.items c.pop_output.new.rows.items d.log.history r.places.standing c.in-Some.ensures.oldest)) in
-          c.put_children.ensures.said after (rows_on d.log.history (Split c.args.instance 1 (numbers_in parcel.finalizers) parcel.event (noted_of cs)) c.pop_output.new.rows.items (c.in-Some.ensures.said d.log.history said).0)
+          c.put_children.ensures.said after (rows_on d.log.history (Split c.args.instance 1 (numbers_in parcel.finalizers) parcel.event (noted_of cs)) tt c.pop_output.new.rows.items (c.in-Some.ensures.said d.log.history said).0)
           (subst (λ (ch : List Child). EachChild (IsSaid after) ch) (sym (sym c.as_slice.ensures ∙ are))
           (children_said d.log.history c.args.instance 1 (numbers_in parcel.finalizers) parcel.event (noted_of cs) parcel targets d.batches.next refl standing (omega (arith, r.next))
           (let n = split_next d.log.history d.batches.next c.route.new.batches.next targets parcel cs are more r.next in omega (arith, n, more))));

@@ -39,7 +39,7 @@ returns-clause-stands g c =
           let e = Take c.args.instance 0 (numbers_in c.in-Some.parcel.finalizers) in
           let h = c.args.self.now.log.history in
           let out = c.in-Some.ensures.said h said in
-          c.hold.ensures.said (e ∷ h) (rows_on h e c.pop_buffer.new.rows.items out.0) (said_on h e c.in-Some.parcel out.1);
+          c.hold.ensures.said (e ∷ h) (rows_on h e tt c.pop_buffer.new.rows.items out.0) (said_on h e c.in-Some.parcel out.1);
       outs = λ fine i none out. out;
       comes = hub_comes g.P.Port.told c.args.self.now [] (Take c.args.instance 0 (numbers_in c.in-Some.parcel.finalizers)) c.requires.stands c.requires.going;
       places = λ fine kept placed. placed_held c.args.self.now.rows.items c.pop_buffer.new.rows.items c.hold.new.rows.items c.args.self.now.log.history c.args.instance c.in-Some.parcel.finalizers kept placed c.in-Some.ensures.oldest c.hold.ensures.last;

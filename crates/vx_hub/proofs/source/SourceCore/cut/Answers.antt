@@ -1,4 +1,4 @@
-use Rattle.std.proofs.Common.{◌≡◌, ◌∙◌, ◌++◌, false, List, subst, ap, map}
+use Rattle.std.proofs.Common.{◌∙◌, ◌++◌, false, List, subst, ap, map}
 use Rattle.vx_frame.specs.Framings.{unfinished, lines_behind, line_of}
 use Rattle.vx_frame.specs.declared.line.Line.{Line}
 use Rattle.vx_hub.specs.Sources.{AreOf}
