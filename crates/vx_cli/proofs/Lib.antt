@@ -1,3 +1,4 @@
 pub mod Given
 pub mod OneCommand
 pub mod Spelled
+pub mod Hyphened

@@ -31,12 +31,12 @@ unnamed words other rest e =
     let bad : true ≡ false = subst P same other in cc
 
 -- what a run needs
-run_of : (words : List Word) (file : Word) → (first_byte words == 118) ≡ false → IsTaken run_grammar words
+pub run_of : (words : List Word) (file : Word) → (first_byte words == 118) ≡ false → IsTaken run_grammar words
     → HasValue run_grammar words (codes "config") file → IsRun words file
 run_of words file other taken value = record { unnamed = unnamed words other; taken = taken; config = value }
 
 -- what a judging needs
-validate_of : (rest : List Word) (file : Word) → IsTaken validate_grammar rest
+pub validate_of : (rest : List Word) (file : Word) → IsTaken validate_grammar rest
     → HasValue validate_grammar rest (codes "path") file → IsValidate (codes "validate" ∷ rest) file
 validate_of rest file taken value = record { rest = rest; named = refl; taken = taken; path = value }
 
@@ -100,7 +100,7 @@ behind_dashes file = validate_of _ file refl refl
 -- ---- refusals
 
 -- whether there is a fault
-abbrev is_faulty : Kinds → Bool
+abbrev pub is_faulty : Kinds → Bool
 is_faulty [] = false
 is_faulty (k ∷ ks) = true
 
@@ -109,13 +109,13 @@ not_taken grammar words faulty taken =
     let P : Kinds → Type 0 = λ ks. is_faulty ks ≡ true in
     let bad : false ≡ true = subst P taken faulty in cc
 
-no_run : (words : List Word) → (first_byte words == 118) ≡ false → is_faulty (fault_of run_grammar words) ≡ true → IsNoCommand words
+pub no_run : (words : List Word) → (first_byte words == 118) ≡ false → is_faulty (fault_of run_grammar words) ≡ true → IsNoCommand words
 no_run words other faulty = record {
   run = λ _. not_taken run_grammar words faulty;
   validate = λ rest named _. unnamed words other rest named;
 }
 
-no_validate : (rest : List Word) → is_faulty (fault_of validate_grammar rest) ≡ true → IsNoCommand (codes "validate" ∷ rest)
+pub no_validate : (rest : List Word) → is_faulty (fault_of validate_grammar rest) ≡ true → IsNoCommand (codes "validate" ∷ rest)
 no_validate rest faulty = record {
   run = λ unnamed _. unnamed rest refl;
   validate = λ others named taken.

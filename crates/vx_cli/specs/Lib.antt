@@ -3,3 +3,5 @@ pub mod Commands
 pub mod Faults
 pub mod Grammars
 pub mod Spellings
+pub mod Statuses
+pub mod Texts

@@ -1,7 +1,8 @@
 ghost use Rattle.std.specs.Prelude.{◌≡◌, ◌≢◌, ℕ, ◌++◌, ◌∷◌, [], List, codes};
+ghost use Rattle.std.specs.Str.{IsUtf8};
 ghost use Rattle.vx_value.specs.Texts.{Word};
 ghost use Rattle.vx_cli.specs.Commands.{IsCommand, IsNoCommand};
-ghost use Rattle.vx_cli.specs.Spellings.{IsPlain};
+ghost use Rattle.vx_cli.specs.Spellings.{IsHyphened, IsPlain};
 ghost use Rattle.vx_cli.specs.declared.command.Command.{Command};
 ghost use Rattle.vx_cli.specs.declared.command.Command.TheVariants.{Run, Validate};
 
@@ -14,18 +15,23 @@ pub fn one_command()
 /// How a file is named: by each spelling of the option, and to `validate`.
 ///
 /// Behind `=`, and behind the `--` of `validate`, it is any word. Right behind `-c` it has a byte, and doesn't begin
-/// with `=`. As a word of its own it is shown here only where it doesn't begin with a hyphen.
+/// with `=`. As a word of its own it doesn't begin with a hyphen, or is a hyphen alone; `refusals` tells of other words.
 pub fn spellings()
     ensures long { (file : Word) → IsPlain file → IsCommand (codes "--config" ∷ file ∷ []) (Run file) }
     ensures long_sign { (file : Word) → IsCommand ((codes "--config=" ++ file) ∷ []) (Run file) }
     ensures short { (file : Word) → IsPlain file → IsCommand (codes "-c" ∷ file ∷ []) (Run file) }
     ensures short_sign { (file : Word) → IsCommand ((codes "-c=" ++ file) ∷ []) (Run file) }
     ensures short_at_once { (b : ℕ) (rest : Word) → b ≢ 61 → IsCommand ((codes "-c" ++ b ∷ rest) ∷ []) (Run (b ∷ rest)) }
+    ensures hyphen { IsCommand (codes "--config" ∷ codes "-" ∷ []) (Run (codes "-")) × IsCommand (codes "-c" ∷ codes "-" ∷ []) (Run (codes "-")) }
     ensures validate { (file : Word) → IsPlain file → IsCommand (codes "validate" ∷ file ∷ []) (Validate file) }
+    ensures validate_hyphen { IsCommand (codes "validate" ∷ codes "-" ∷ []) (Validate (codes "-")) }
     ensures behind_dashes { (file : Word) → IsCommand (codes "validate" ∷ codes "--" ∷ file ∷ []) (Validate file) }
 {}
 
 /// Words that are no command: too few, the option twice, a word too many, and the words for help and version.
+///
+/// A text that begins with a hyphen and has more behind it is no value of the option in a word of its own, and no first
+/// FILE of `validate`, whatever words follow.
 pub fn refusals()
     ensures none { IsNoCommand [] }
     ensures long_alone { IsNoCommand (codes "--config" ∷ []) }
@@ -36,6 +42,10 @@ pub fn refusals()
     ensures more { (file word : Word) → IsPlain word → IsNoCommand ((codes "--config=" ++ file) ∷ word ∷ []) }
     ensures validate_alone { IsNoCommand (codes "validate" ∷ []) }
     ensures validate_two { (file word : Word) → IsPlain file → IsPlain word → IsNoCommand (codes "validate" ∷ file ∷ word ∷ []) }
+    ensures long_hyphened { (word : Word) (rest : List Word) → IsUtf8 word → IsHyphened word → IsNoCommand (codes "--config" ∷ word ∷ rest) }
+    ensures short_hyphened { (word : Word) (rest : List Word) → IsUtf8 word → IsHyphened word → IsNoCommand (codes "-c" ∷ word ∷ rest) }
+    ensures validate_dashes { IsNoCommand (codes "validate" ∷ codes "--" ∷ []) }
+    ensures validate_hyphened { (word : Word) (rest : List Word) → IsUtf8 word → IsHyphened word → word ≢ codes "--" → IsNoCommand (codes "validate" ∷ word ∷ rest) }
     ensures validate_option { (file : Word) → IsNoCommand (codes "validate" ∷ (codes "--config=" ++ file) ∷ []) }
     ensures help { IsNoCommand (codes "--help" ∷ []) × IsNoCommand (codes "-h" ∷ []) }
     ensures version { IsNoCommand (codes "--version" ∷ []) × IsNoCommand (codes "-V" ∷ []) }

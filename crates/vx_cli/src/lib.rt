@@ -1,15 +1,21 @@
-//! The words of the program are read: a list of words is a command, or there is a fault.
+//! What an operator types and reads: the words of the program are a command, or there is a fault; the faults that a
+//! run may end with, their exit statuses, and what is printed of them.
 #![tactic(auto)]
 
 mod cli_fault;
 mod command;
+mod fault;
 mod grammars;
 mod laws;
+mod plan_texts;
 mod reading;
 #[cfg(test)]
 mod tests;
+mod texts;
 
 pub use cli_fault::CliFault;
 pub use command::Command;
+pub use fault::Fault;
 pub use laws::{one_command, refusals, spellings};
 pub use reading::read_words;
+pub use texts::fault_text;

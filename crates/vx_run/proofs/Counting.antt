@@ -25,8 +25,8 @@ use Rattle.vx_run.specs.Judging.{IsSure}
 use Rattle.vx_run.specs.Answers.{IsReady, IsAnswer, IsJudged, NoneLost, WentOn, component_at}
 use Rattle.vx_run.specs.Running.{IsTrueTo, HasInstalled, IsInForce, AreKept, AreNoticed, AllRead, AllReadOrLost, IsReadOut, AreEnded, IsCounted, HasAll, HasEach, NoneMissing}
 use Rattle.vx_run.specs.Telling.{IsKept}
-use Rattle.vx_run.specs.declared.fault.Fault.{Fault}
-use Rattle.vx_run.specs.declared.fault.Fault.TheVariants.{Usage, ConfigRead, ConfigRefused, Numbers, TooLong, SourceFailed, ConfirmFailed, PrintFailed, WantOfMemory}
+use Rattle.vx_cli.specs.declared.fault.Fault.{Fault}
+use Rattle.vx_cli.specs.declared.fault.Fault.TheVariants.{Usage, ConfigRead, ConfigRefused, Numbers, TooLong, SourceFailed, ConfirmFailed, PrintFailed, WantOfMemory}
 
 -- what is counted of a record is what is counted, whatever the fault
 pub counted_so : (h : Record) (n : ℕ) (tallies : List Tally) (fault : Option Fault) → tallies ≡ tallies_of h n → IsCounted h n tallies fault

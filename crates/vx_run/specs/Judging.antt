@@ -3,10 +3,10 @@ use Rattle.std.specs.Prelude.{◌≡◌, ℕ, slice_get, Option, Some, IsSomeAnd
 use Rattle.vx_plan.specs.declared.plan.Plan.{Plan}
 use Rattle.vx_hub.specs.declared.hub.Hub.{Hub}
 use Rattle.vx_hub.specs.Stands.{IsSound}
-use Rattle.vx_run.specs.declared.fault.Fault.{Fault}
+use Rattle.vx_cli.specs.declared.fault.Fault.{Fault}
 use Rattle.vx_record.specs.declared.abandon_cause.AbandonCause.{AbandonCause}
 use Rattle.vx_record.specs.declared.abandon_cause.AbandonCause.TheVariants as cause
-use Rattle.vx_run.specs.declared.fault.Fault.TheVariants.{Numbers, SourceFailed, ConfirmFailed, WantOfMemory}
+use Rattle.vx_cli.specs.declared.fault.Fault.TheVariants.{Numbers, SourceFailed, ConfirmFailed, WantOfMemory}
 
 -- but for want of memory the record has all that happened
 abbrev pub IsSure : {P : Type 0} → Hub P → Option Fault → Type 0

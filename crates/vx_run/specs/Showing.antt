@@ -11,8 +11,8 @@ use Rattle.vx_plan.specs.declared.component.Component.{Component}
 use Rattle.vx_plan.specs.declared.plan.Plan.{Plan}
 use Rattle.vx_cli.specs.Commands.{IsCommand}
 use Rattle.vx_cli.specs.declared.command.Command.TheVariants.{Run}
-use Rattle.vx_run.specs.declared.fault.Fault.{Fault}
-use Rattle.vx_run.specs.declared.fault.Fault.TheVariants.{PrintFailed, WantOfMemory}
+use Rattle.vx_cli.specs.declared.fault.Fault.{Fault}
+use Rattle.vx_cli.specs.declared.fault.Fault.TheVariants.{PrintFailed, WantOfMemory}
 use Rattle.vx_run.specs.Answers.{IsPlanAt, IsValid, IsUnready}
 
 -- whether two classes are the same

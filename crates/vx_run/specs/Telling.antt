@@ -2,9 +2,9 @@
 use Rattle.std.specs.Prelude.{◌≡◌, ◌≢◌, ◌⊎◌, ℕ, [], ◌∷◌, Option, Some, None}
 use Rattle.vx_value.specs.Texts.{Word}
 use Rattle.vx_ends.specs.Told.{Grows, Rose}
-use Rattle.vx_run.specs.declared.fault.Fault.{Fault}
-use Rattle.vx_run.specs.declared.fault.Fault.TheVariants.{WantOfMemory}
-use Rattle.vx_run.specs.Texts.{text_of}
+use Rattle.vx_cli.specs.declared.fault.Fault.{Fault}
+use Rattle.vx_cli.specs.declared.fault.Fault.TheVariants.{WantOfMemory}
+use Rattle.vx_cli.specs.Texts.{text_of}
 
 -- a text is printed, or the printer's count of faults rose and nothing was; with an empty text the printer stays the same
 abbrev pub IsPrinted : Type 0 → Option Word → Option Word → ℕ → ℕ → Word → Type 0

@@ -1,4 +1,4 @@
-use crate::fault::Fault;
+use vx_cli::Fault;
 use vx_ends::World;
 use vx_hub::NumberedList;
 use vx_record::{Record, TallyList};

@@ -4,8 +4,8 @@ ghost use Rattle.vx_record.specs.Reads.{bytes_of_all};
 ghost use Rattle.vx_run.specs.Answers.{IsJudged, WentOn, NoneLost};
 ghost use Rattle.vx_run.specs.Judging.{IsSure, IsNamed, IsUnconfirmedAt, IsUnasked, IsFaultOf};
 
-use crate::fault::Fault;
 use std::alloc::Global;
+use vx_cli::Fault;
 use vx_ends::Port;
 use vx_hub::{Hub, MOST_BYTES};
 use vx_plan::Plan;

@@ -6,8 +6,8 @@ ghost use Rattle.vx_hub.specs.Making.{IsUntouched, AreUntouched};
 ghost use Rattle.vx_reading.specs.Reading.{IsReading};
 ghost use Rattle.vx_run.specs.Answers.{IsPlanAt, IsUnready, IsUnread, IsMisread};
 
-use crate::fault::Fault;
 use std::alloc::Global;
+use vx_cli::Fault;
 use vx_ends::{Port, PortSpec, Trouble, World};
 use vx_hub::{Named, NamedList, Parts};
 use vx_plan::{Component, Plan};

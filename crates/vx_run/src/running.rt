@@ -10,13 +10,12 @@ ghost use Rattle.vx_run.specs.Showing.{IsShown};
 ghost use Rattle.vx_run.specs.Running.{IsTrueTo, HasInstalled, IsInForce, AreKept, AreNoticed, IsReadOut, AreEnded, IsCounted, HasEach, NoneMissing};
 
 use crate::driver::drive;
-use crate::fault::Fault;
 use crate::judging::judge;
 use crate::preparing::prepare;
 use crate::validating::validate;
 use std::alloc::Global;
 use std::sync::Wait;
-use vx_cli::{CliFault, Command, read_words};
+use vx_cli::{CliFault, Command, Fault, read_words};
 use vx_ends::{Clock, Port, Printer, World};
 use vx_hub::{Hub, NumberedList, Parts, Remains};
 use vx_plan::Plan;

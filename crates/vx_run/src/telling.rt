@@ -1,10 +1,9 @@
 ghost use Rattle.std.specs.Prelude.{◌≡◌};
 ghost use Rattle.vx_run.specs.Telling.{IsKept, IsSaid, IsPrinted};
-ghost use Rattle.vx_run.specs.Faults.{ended_status};
+ghost use Rattle.vx_cli.specs.Statuses.{ended_status};
 
-use crate::fault::Fault;
-use crate::texts::fault_text;
 use std::alloc::Global;
+use vx_cli::{Fault, fault_text};
 use vx_ends::Printer;
 use vx_value::{Bytes, WantOfMemory};
 

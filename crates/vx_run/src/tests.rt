@@ -1,6 +1,6 @@
 mod ends;
-mod faults;
 mod plans;
+mod printers;
 mod runs;
 mod tallies;
 mod validates;

@@ -1,7 +1,7 @@
 ghost use Rattle.std.specs.Prelude.{◌≡◌, length};
 ghost use Rattle.vx_hub.specs.Remains.{AreNumbered, AreClosed};
 ghost use Rattle.vx_run.specs.Answers.{IsAnswer};
-ghost use Rattle.vx_run.specs.Faults.{ended_status};
+ghost use Rattle.vx_cli.specs.Statuses.{ended_status};
 ghost use Rattle.vx_run.specs.Running.{IsTrueTo, HasInstalled, AreKept, AreNoticed, IsReadOut, AreEnded, IsCounted, NoneMissing};
 ghost use Rattle.vx_run.specs.Showing.{IsShown};
 ghost use Rattle.vx_run.specs.Telling.{IsSaid};

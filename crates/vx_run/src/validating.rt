@@ -1,9 +1,9 @@
 ghost use Rattle.std.specs.Prelude.{◌≡◌, ◌≤◌, length, IfOk, string_bytes};
 ghost use Rattle.vx_run.specs.Showing.{IsJudgedSo, count_of, same_class, valid_text};
 
-use crate::fault::Fault;
 use crate::preparing::plan_at;
 use std::alloc::{AllocError, Global};
+use vx_cli::Fault;
 use vx_ends::{Printer, World};
 use vx_plan::{Class, Component, Plan};
 use vx_value::{Text, VariableList};
@@ -34,7 +34,7 @@ pub(crate) fn validate<W: World, P: Printer>(
 }
 
 /// What is printed of a configuration that stands for a plan.
-fn valid_text(alloc: Global, plan: &Plan) -> Result<String, AllocError>
+pub(crate) fn valid_text(alloc: Global, plan: &Plan) -> Result<String, AllocError>
     ensures { IfOk result (λ text. string_bytes text ≡ valid_text plan.now) }
 {
     let components = plan.components.as_slice();

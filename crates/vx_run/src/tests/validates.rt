@@ -1,12 +1,14 @@
 use super::plans::TWO_SINKS;
-use super::runs::{FIRST, run_onto, two_words, world};
+use super::runs::{FIRST, add, run_onto, two_words, world};
+use crate::validating::valid_text;
 use crate::{Ended, Fault};
 use std::alloc::Global;
 use std::process::Abort;
 use std::sync::Wait;
 use std::test::Fail;
 use vx_ends::{MemoryPrinter, MemoryWorld, StepList};
-use vx_value::VariableList;
+use vx_plan::{Component, ComponentList, Plan, first_plan};
+use vx_value::{Text, VariableList, WantOfMemory};
 
 /// Judges a text, and checks the status and what is printed. Nothing is run.
 fn judged<R: Wait + Abort>(
@@ -40,6 +42,35 @@ fn validate_counts(rt: HostRuntime) -> Result<(), Fail> {
     judged(&rt, alloc, FIRST, &mut out, 0, "")?;
     let counts = "valid: 1 sources, 0 transforms, 1 sinks\n";
     assert!(rt; out.printed() == counts.as_bytes());
+    Ok(())
+}
+
+/// The same component under another name.
+fn renamed(alloc: Global, component: &Component, name: &str) -> Result<Component, WantOfMemory> {
+    let mut copy = component.copy(alloc)?;
+    copy.name = Text::copy_of(alloc, name)?;
+    Ok(copy)
+}
+
+/// A plan of two sources and three consoles.
+fn two_and_three(alloc: Global) -> Result<Plan, WantOfMemory> {
+    let mut plan = first_plan(alloc)?;
+    let mut components = ComponentList::new(alloc);
+    for (place, name) in [(0, "i1"), (0, "i2"), (1, "o1"), (1, "o2"), (1, "o3")] {
+        if let Some(component) = plan.components.get(place) {
+            add(&mut components, renamed(alloc, component, name)?)?;
+        }
+    }
+    plan.components = components;
+    Ok(plan)
+}
+
+#[test]
+fn each_class_has_its_own_count(rt: HostRuntime) -> Result<(), Fail> {
+    let alloc = rt.alloc();
+    let text = valid_text(alloc, &two_and_three(alloc)?)?;
+    let counts = "valid: 2 sources, 0 transforms, 3 sinks\n";
+    assert_eq!(rt; text.as_str(), counts);
     Ok(())
 }
 

@@ -1,4 +1,5 @@
 use Rattle.vx_cli.proofs.Spelled.{none, long_alone, short_alone, option_as_file, twice, twice_short, more, validate_alone, validate_two, validate_option, help, version}
+use Rattle.vx_cli.proofs.Hyphened.{long_hyphened, short_hyphened, validate_dashes, validate_hyphened}
 use Rattle.vx_cli.proofs.laws.refusals.Goals as goal
 
 pub returns : goal.returns
@@ -12,6 +13,10 @@ returns c = record {
   more = more;
   validate_alone = validate_alone;
   validate_two = validate_two;
+  long_hyphened = long_hyphened;
+  short_hyphened = short_hyphened;
+  validate_dashes = validate_dashes;
+  validate_hyphened = validate_hyphened;
   validate_option = validate_option;
   help = help;
   version = version;

@@ -1,4 +1,5 @@
 use Rattle.vx_cli.proofs.Spelled.{long, long_sign, short, short_sign, short_at_once, validate, behind_dashes}
+use Rattle.vx_cli.proofs.Hyphened.{run_hyphen, validate_hyphen}
 use Rattle.vx_cli.proofs.laws.spellings.Goals as goal
 
 pub returns : goal.returns
@@ -8,6 +9,8 @@ returns c = record {
   short = short;
   short_sign = short_sign;
   short_at_once = short_at_once;
+  hyphen = run_hyphen;
   validate = validate;
+  validate_hyphen = validate_hyphen;
   behind_dashes = behind_dashes;
 }

@@ -1,5 +1,5 @@
 ghost use Rattle.std.specs.Prelude.{◌≡◌, ◌++◌, OnOk, OnErr, IfOk, string_bytes};
-ghost use Rattle.vx_run.specs.Texts.{text_of, reason_of, failed_after};
+ghost use Rattle.vx_cli.specs.Texts.{text_of, reason_of, failed_after};
 
 use crate::fault::Fault;
 use crate::plan_texts::plan_text;

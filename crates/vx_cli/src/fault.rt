@@ -1,5 +1,5 @@
 ghost use Rattle.std.specs.Prelude.{◌≡◌};
-ghost use Rattle.vx_run.specs.Faults.{status_of};
+ghost use Rattle.vx_cli.specs.Statuses.{status_of};
 
 use vx_graph::GraphFault;
 use vx_reading::PlanFault;

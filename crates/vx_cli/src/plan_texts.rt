@@ -1,5 +1,5 @@
 ghost use Rattle.std.specs.Prelude.{◌≡◌, IfOk, string_bytes};
-ghost use Rattle.vx_run.specs.Texts.{listed, of_component, graph_text, plan_text};
+ghost use Rattle.vx_cli.specs.Texts.{listed, of_component, graph_text, plan_text};
 
 use std::alloc::{AllocError, Global};
 use vx_graph::GraphFault;
