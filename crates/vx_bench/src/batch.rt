@@ -30,7 +30,8 @@ pub fn count_events(alloc: Global, lines: &LineList) -> Result<usize, WantOfMemo
     Ok(count)
 }
 
-/// Writes a line in the one spelling of its event, with a line feed, where it is one, and else nothing.
+/// Writes a line in the one spelling of its event, with a line feed, where it is one, and else nothing. For want of memory
+/// a part may be written.
 fn copy_line(alloc: Global, line: &[u8], out: &mut Bytes) -> Result<bool, WantOfMemory>
     ensures { IfOk result (λ done. IsCopied line.now done out.old out.new) }
 {
@@ -45,7 +46,8 @@ fn copy_line(alloc: Global, line: &[u8], out: &mut Bytes) -> Result<bool, WantOf
     }
 }
 
-/// Writes the lines that are events, each in its one spelling and with a line feed.
+/// Writes the lines that are events, each in its one spelling and with a line feed. For want of memory a part may be
+/// written.
 #[tactic(auto, using(crate::proofs::Appending::copy_next))]
 pub fn copy_lines(alloc: Global, lines: &LineList, out: &mut Bytes) -> Result<(), WantOfMemory>
     ensures { OnOk result (AreCopied lines.now out.old out.new) }

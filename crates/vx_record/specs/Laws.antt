@@ -1,7 +1,8 @@
 -- The laws over every legal record, and over every record of which some of that holds.
-use Rattle.std.specs.Prelude.{ℕ, ◌+◌, ◌^◌, ◌<◌, ◌≤◌, ◌≡◌, false, None, List, [], ◌∷◌, ◌++◌, length, map, if◌then◌else◌, ◌==◌, ◌↔◌}
+use Rattle.std.specs.Prelude.{ℕ, ◌+◌, ◌^◌, ◌<◌, ◌≤◌, ◌≡◌, false, None, List, [], ◌∷◌, ◌++◌, length, map, if◌then◌else◌, ◌==◌, ◌↔◌, codes}
+use Rattle.std.specs.Str.Lossy.{utf8_lossy}
 use Rattle.vx_value.specs.Texts.{Word}
-use Rattle.vx_value.specs.Datum.{NamedDatum}
+use Rattle.vx_value.specs.Datum.{NamedDatum, Words}
 use Rattle.vx_value.specs.declared.event.Event.{Event}
 use Rattle.vx_json.specs.declared.decoding.Decoding.TheVariants as decoding
 use Rattle.vx_json.specs.LineEvents.{IsLineEvent}
@@ -167,8 +168,14 @@ abbrev pub PrefixGrows : Type 0
 PrefixGrows =
     (later earlier : Record) (i : ℕ) → (more : List Birth) × (confirm_prefix (later ++ earlier) i ≡ confirm_prefix earlier i ++ more)
 
--- under codec bytes a line gives one event, with no file's path
+-- the fields of a line's event under codec bytes: the line as a text, and the type of its source
+abbrev pub line_fields : Settings → Word → List NamedDatum
+line_fields settings text =
+    record { name = codes "message"; value = Words (utf8_lossy text) } ∷ record { name = codes "source_type"; value = Words (type_name settings) } ∷ []
+
+-- under codec bytes a line gives one event, with no file's path, and a record has that of it
 abbrev pub LineGives : Type 0
 LineGives =
-    (settings : Settings) (text : Word) (fields : List NamedDatum) →
-    IsLineEvent decoding.Bytes (type_name settings) None text fields ↔ (fields ≡ (line_event settings text).fields)
+    (settings : Settings) (text : Word) →
+    ((line_event settings text).fields ≡ line_fields settings text)
+    × ((fields : List NamedDatum) → IsLineEvent decoding.Bytes (type_name settings) None text fields ↔ (fields ≡ line_fields settings text))

@@ -155,7 +155,7 @@ last_end [] = 0
 last_end (line ∷ []) = line.end
 last_end (line ∷ next ∷ rest) = last_end (next ∷ rest)
 
--- the position behind the last line that a Read completes, in the stream's bytes
+-- the position behind the last line that a Read completes, in the stream's bytes; an entry has it capped, as a line has its end
 abbrev pub end_of : Record → ℕ → ℕ → Taken → ℕ
 end_of h i stream took =
     let s = stream_of h i stream took in

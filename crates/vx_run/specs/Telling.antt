@@ -6,10 +6,11 @@ use Rattle.vx_cli.specs.declared.fault.Fault.{Fault}
 use Rattle.vx_cli.specs.declared.fault.Fault.TheVariants.{WantOfMemory}
 use Rattle.vx_cli.specs.Texts.{text_of}
 
--- a text is printed, or the printer's count of faults rose and nothing was; with an empty text the printer stays the same
+-- a text is printed, and the printer's count of faults stays, or that rose and nothing was; with an empty text the printer
+-- stays the same
 abbrev pub IsPrinted : Type 0 → Option Word → Option Word → ℕ → ℕ → Word → Type 0
 IsPrinted same old new before now [] = same
-IsPrinted same old new before now (c ∷ text) = Grows old new (c ∷ text) ⊎ ((new ≡ old) × Rose before now)
+IsPrinted same old new before now (c ∷ text) = (Grows old new (c ∷ text) × (now ≡ before)) ⊎ ((new ≡ old) × Rose before now)
 
 -- the fault's text is printed; of a run that ended well the printer stays the same
 abbrev pub IsSaid : Type 0 → Option Word → Option Word → ℕ → ℕ → Option Fault → Type 0

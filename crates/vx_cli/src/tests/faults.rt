@@ -169,10 +169,20 @@ fn graph_faults_name_components(rt: HostRuntime) -> Result<(), Fail> {
 }
 
 #[test]
-fn statuses_are_those_of_sysexits(rt: HostRuntime) {
+fn statuses_are_those_of_sysexits(rt: HostRuntime) -> Result<(), Fail> {
+    let alloc = rt.alloc();
     assert_eq!(rt; Fault::Usage.status(), 64);
-    assert_eq!(rt; Fault::ConfigRefused(PlanFault::NotToml).status(), 78);
+    let name = Text::copy_of(alloc, "in")?;
+    assert_eq!(rt; Fault::SourceFailed { name, at: 2 }.status(), 69);
+    assert_eq!(rt; Fault::Numbers { next: 1, wanted: 2 }.status(), 70);
+    assert_eq!(rt; Fault::WantOfMemory.status(), 71);
+    assert_eq!(rt; Fault::ConfigRefused(PlanFault::WantOfMemory).status(), 71);
+    let path = Text::copy_of(alloc, "no.toml")?;
+    assert_eq!(rt; Fault::ConfigRead { path }.status(), 74);
+    let name = Text::copy_of(alloc, "in")?;
+    assert_eq!(rt; Fault::ConfirmFailed { name }.status(), 74);
     assert_eq!(rt; Fault::TooLong.status(), 74);
     assert_eq!(rt; Fault::PrintFailed.status(), 74);
-    assert_eq!(rt; Fault::WantOfMemory.status(), 71);
+    assert_eq!(rt; Fault::ConfigRefused(PlanFault::NotToml).status(), 78);
+    Ok(())
 }

@@ -1,6 +1,6 @@
 ghost use Rattle.std.specs.Prelude.{[], Some};
 
-use super::runs::{FIRST, add, one_piece, run_onto, two_words, words, world};
+use super::runs::{FIRST, add, one_piece, two_words, words, world};
 use crate::{Fault, vector};
 use std::alloc::Global;
 use std::process::Abort;
@@ -28,17 +28,18 @@ impl Printer for FailingPrinter {
     }
 }
 
-/// Does what those words ask for, where no print to standard error succeeds. Checks the status and that one print
-/// failed, and answers the fault.
+/// Does what those words ask for, where the file has that text and no print to standard error succeeds. Checks the
+/// status and that one print failed, and answers the fault.
 fn untold<R: Wait + Abort>(
     rt: &R,
     alloc: Global,
     words: &TextList,
+    text: &str,
     steps: StepList,
     status: u8,
 ) -> Result<Option<Fault>, Fail> {
     let environment = VariableList::new(alloc);
-    let world = world(alloc, FIRST, steps)?;
+    let world = world(alloc, text, steps)?;
     let clock = MemoryClock::new();
     let mut out = MemoryPrinter::new(alloc, None);
     let mut err = FailingPrinter { faults: 0 };
@@ -63,7 +64,7 @@ fn a_lost_source_keeps_its_status_untold(rt: HostRuntime) -> Result<(), Fail> {
     let alloc = rt.alloc();
     let mut steps = one_piece(alloc, "a\n")?;
     add(&mut steps, Step::Fail)?;
-    let fault = untold(&rt, alloc, &words(alloc, "first.toml")?, steps, 69)?;
+    let fault = untold(&rt, alloc, &words(alloc, "first.toml")?, FIRST, steps, 69)?;
     assert!(rt; matches!(fault, Some(Fault::SourceFailed { name: _, at: 2 })));
     Ok(())
 }
@@ -72,7 +73,7 @@ fn a_lost_source_keeps_its_status_untold(rt: HostRuntime) -> Result<(), Fail> {
 fn a_missing_file_keeps_its_status_untold(rt: HostRuntime) -> Result<(), Fail> {
     let alloc = rt.alloc();
     let steps = StepList::new(alloc);
-    let fault = untold(&rt, alloc, &words(alloc, "second.toml")?, steps, 74)?;
+    let fault = untold(&rt, alloc, &words(alloc, "second.toml")?, FIRST, steps, 74)?;
     assert!(rt; matches!(fault, Some(Fault::ConfigRead { path: _ })));
     Ok(())
 }
@@ -81,7 +82,7 @@ fn a_missing_file_keeps_its_status_untold(rt: HostRuntime) -> Result<(), Fail> {
 fn other_words_keep_their_status_untold(rt: HostRuntime) -> Result<(), Fail> {
     let alloc = rt.alloc();
     let steps = StepList::new(alloc);
-    let fault = untold(&rt, alloc, &TextList::new(alloc), steps, 64)?;
+    let fault = untold(&rt, alloc, &TextList::new(alloc), FIRST, steps, 64)?;
     assert!(rt; matches!(fault, Some(Fault::Usage)));
     Ok(())
 }
@@ -90,19 +91,13 @@ fn other_words_keep_their_status_untold(rt: HostRuntime) -> Result<(), Fail> {
 fn a_refusal_keeps_its_status_untold(rt: HostRuntime) -> Result<(), Fail> {
     let alloc = rt.alloc();
     let words = two_words(alloc, "validate", "first.toml")?;
-    let environment = VariableList::new(alloc);
-    let world = world(alloc, "", StepList::new(alloc))?;
-    let mut out = MemoryPrinter::new(alloc, None);
-    let mut err = MemoryPrinter::new(alloc, Some(0));
-    let ended = run_onto(&rt, alloc, &words, &environment, world, &mut out, &mut err);
-    assert_eq!(rt; ended.status, 78);
+    let steps = StepList::new(alloc);
+    let fault = untold(&rt, alloc, &words, "", steps, 78)?;
     assert!(rt;
         matches!(
-            ended.fault,
+            fault,
             Some(Fault::ConfigRefused(PlanFault::Graph(GraphFault::NoSources)))
         )
     );
-    assert!(rt; err.printed().is_empty());
-    assert!(rt; out.printed().is_empty());
     Ok(())
 }

@@ -4,7 +4,10 @@ use Rattle.vx_json.specs.LineEvents.{message_of, from_source}
 use Rattle.vx_record.proofs.laws.line_events.Goals as goal
 
 pub returns : goal.returns
-returns c settings text fields = (
-  (λ given. given.2 ∙ ap (from_source (type_name settings) None) given.1),
-  (λ same. (message_of text, refl, same)),
+returns c settings text = (
+  refl,
+  (λ fields. (
+    (λ given. given.2 ∙ ap (from_source (type_name settings) None) given.1),
+    (λ same. (message_of text, refl, same)),
+  )),
 )
