@@ -214,6 +214,7 @@ new_known f plan once now i (Some component) is n fit = record {
   done = λ closed. absurd (never (sym n.closed ∙ closed));
   closed = n.closed;
   retired = n.retired;
+  leased = n.leased;
 }
 
 -- what follows from two facts on a value

@@ -6,7 +6,8 @@ use Rattle.std.proofs.lemmas.List.Elements.{All-head, All-tail}
 use Rattle.vx_value.specs.Texts.{is_empty}
 use Rattle.vx_ends.specs.Told.{Told}
 use Rattle.vx_record.specs.Records.{Record}
-use Rattle.vx_record.specs.declared.entry.Entry.TheVariants.{Closed, Retired}
+use Rattle.vx_record.specs.declared.entry.Entry.TheVariants.{Lease, Home, Closed, Retired}
+use Rattle.vx_record.specs.Turns.{is_out}
 use Rattle.vx_record.specs.Installs.{is_closed, is_retired}
 use Rattle.vx_record.specs.Places.{Place, Put, owner, same_place}
 use Rattle.vx_record.specs.Places.Place.{Outputs, Waiting, Contents, Held}
@@ -48,6 +49,7 @@ known_closed f h i done k = record {
   done = λ closed. closing_on h i (Closed i) refl done;
   closed = ap (λ t. t || is_closed h i) (sym (same_test i));
   retired = k.retired;
+  leased = k.leased;
 }
 
 pub known_closed_other : (f : Facts) (h : Record) (i j : ℕ) → j ≢ i → IsKnown f h j → IsKnown f (Closed i ∷ h) j
@@ -65,6 +67,7 @@ known_closed_other f h i j other k = record {
   done = λ closed. closing_on h j (Closed i) refl (k.done closed);
   closed = or_other (i == j) (is_closed h j) f.closed (other_test i j other) k.closed;
   retired = k.retired;
+  leased = k.leased;
 }
 
 -- the same where one is retired
@@ -83,6 +86,7 @@ known_retired f h i k = record {
   done = λ closed. closing_on h i (Retired i) refl (k.done closed);
   closed = k.closed;
   retired = ap (λ t. t || is_retired h i) (sym (same_test i));
+  leased = k.leased;
 }
 
 pub known_retired_other : (f : Facts) (h : Record) (i j : ℕ) → j ≢ i → IsKnown f h j → IsKnown f (Retired i ∷ h) j
@@ -100,12 +104,87 @@ known_retired_other f h i j other k = record {
   done = λ closed. closing_on h j (Retired i) refl (k.done closed);
   closed = k.closed;
   retired = or_other (i == j) (is_retired h j) f.retired (other_test i j other) k.retired;
+  leased = k.leased;
+}
+
+-- what is known of an instance behind a lease, or a return, of one
+pub known_leased : (f : Facts) (h : Record) (i worker now polls : ℕ) → IsKnown f h i → IsKnown (record f { leased = true }) (Lease i worker now polls ∷ h) i
+known_leased f h i worker now polls k = record {
+  taken = k.taken;
+  lost = k.lost;
+  failed_starts = k.failed_starts;
+  ends = ends_on f h i (Lease i worker now polls) refl k.ends;
+  to_confirm = to_confirm_on f h i (Lease i worker now polls) refl k.to_confirm;
+  confirm_failed = k.confirm_failed;
+  outlet = k.outlet;
+  over = k.over;
+  class = k.class;
+  confirms = k.confirms;
+  done = λ closed. closing_on h i (Lease i worker now polls) refl (k.done closed);
+  closed = k.closed;
+  retired = k.retired;
+  leased = sym (ap (λ t. if t then true else is_out h i) (same_test i));
+}
+
+pub known_leased_other : (f : Facts) (h : Record) (i j worker now polls : ℕ) → j ≢ i → IsKnown f h j → IsKnown f (Lease i worker now polls ∷ h) j
+known_leased_other f h i j worker now polls other k = record {
+  taken = k.taken;
+  lost = k.lost;
+  failed_starts = k.failed_starts;
+  ends = ends_on f h j (Lease i worker now polls) refl k.ends;
+  to_confirm = to_confirm_on f h j (Lease i worker now polls) refl k.to_confirm;
+  confirm_failed = k.confirm_failed;
+  outlet = k.outlet;
+  over = k.over;
+  class = k.class;
+  confirms = k.confirms;
+  done = λ closed. closing_on h j (Lease i worker now polls) refl (k.done closed);
+  closed = k.closed;
+  retired = k.retired;
+  leased = k.leased ∙ sym (ap (λ t. if t then true else is_out h j) (other_test i j other));
+}
+
+pub known_home : (f : Facts) (h : Record) (i : ℕ) → IsKnown f h i → IsKnown (record f { leased = false }) (Home i ∷ h) i
+known_home f h i k = record {
+  taken = k.taken;
+  lost = k.lost;
+  failed_starts = k.failed_starts;
+  ends = ends_on f h i (Home i) refl k.ends;
+  to_confirm = to_confirm_on f h i (Home i) refl k.to_confirm;
+  confirm_failed = k.confirm_failed;
+  outlet = k.outlet;
+  over = k.over;
+  class = k.class;
+  confirms = k.confirms;
+  done = λ closed. closing_on h i (Home i) refl (k.done closed);
+  closed = k.closed;
+  retired = k.retired;
+  leased = sym (ap (λ t. if t then false else is_out h i) (same_test i));
+}
+
+pub known_home_other : (f : Facts) (h : Record) (i j : ℕ) → j ≢ i → IsKnown f h j → IsKnown f (Home i ∷ h) j
+known_home_other f h i j other k = record {
+  taken = k.taken;
+  lost = k.lost;
+  failed_starts = k.failed_starts;
+  ends = ends_on f h j (Home i) refl k.ends;
+  to_confirm = to_confirm_on f h j (Home i) refl k.to_confirm;
+  confirm_failed = k.confirm_failed;
+  outlet = k.outlet;
+  over = k.over;
+  class = k.class;
+  confirms = k.confirms;
+  done = λ closed. closing_on h j (Home i) refl (k.done closed);
+  closed = k.closed;
+  retired = k.retired;
+  leased = k.leased ∙ sym (ap (λ t. if t then false else is_out h j) (other_test i j other));
 }
 
 -- what isn't closed isn't retired
-pub unclosed_unretired : (h : Record) (f : Facts) (i : ℕ) (gone : IsTrue f.retired → IsTrue f.closed) → f.closed ≡ false → IsOrderly h → IsKnown f h i → IsLeaseOf h i 0
-unclosed_unretired h f i gone unclosed order k = record {
+pub unclosed_unretired : (h : Record) (f : Facts) (i : ℕ) (gone : IsTrue f.retired → IsTrue f.closed) → f.closed ≡ false → f.leased ≡ false → IsOrderly h → IsKnown f h i → IsLeaseOf h i 0
+unclosed_unretired h f i gone unclosed unleased order k = record {
   known = there_known h i f order k;
+  home = sym k.leased ∙ unleased;
   unclosed = sym k.closed ∙ unclosed;
   unretired = sym k.retired ∙ go f.retired refl;
   unpolled = refl;

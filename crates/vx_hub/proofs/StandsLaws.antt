@@ -1,16 +1,16 @@
 -- The steps by which the hub goes on standing for the record.
 use Rattle.std.proofs.Common.{◌≡◌, inr, ℕ, Bool, true, false, IsTrue, List, [], ◌∷◌, ◌++◌, length, Option, Some, None, IfSome, refl, sym, ap, subst, ◌∙◌, arith}
-use Rattle.std.specs.Prelude.{IsSome, IsSomeAnd, ◌==◌, ◌≢◌, ◌<◌, ◌≤◌, map, not, if◌then◌else◌}
+use Rattle.std.specs.Prelude.{IsSomeAnd, ◌==◌, ◌≢◌, ◌<◌, ◌≤◌, map, not, if◌then◌else◌}
 use Rattle.std.proofs.lemmas.Bool.Decides.{nat_tests}
 use Rattle.vx_ends.specs.Told.{Told}
 use Rattle.vx_ledger.specs.Copies.{Copy, copies_of}
-use Rattle.vx_ledger.specs.Ledger.{Ledger, live_count, Exchanges, AreLive}
+use Rattle.vx_ledger.specs.Ledger.{Ledger, live_count, Exchanges, AreLive, IsKept}
 use Rattle.vx_ledger.proofs.CopyLaws.{copies_of-append}
 use Rattle.vx_record.specs.Records.{Record}
 use Rattle.vx_record.specs.Noted.{Noted}
 use Rattle.vx_record.specs.declared.log.Log.{Log}
 use Rattle.vx_record.specs.declared.entry.Entry.{Entry}
-use Rattle.vx_record.specs.declared.entry.Entry.TheVariants.{Install, Home, Read, Idle, SourceLost, Born, Attempt, Spent, Notice, Confirm, Closed, Retired, Abandon}
+use Rattle.vx_record.specs.declared.entry.Entry.TheVariants.{Install, Lease, Home, Read, Idle, SourceLost, Born, Attempt, Spent, Notice, Confirm, Closed, Retired, Abandon}
 use Rattle.vx_record.specs.declared.abandon_cause.AbandonCause.{AbandonCause}
 use Rattle.vx_hub.proofs.Drying.{closing_on}
 use Rattle.vx_hub.specs.declared.facts.Facts.{Facts}
@@ -27,27 +27,24 @@ use Rattle.std.proofs.lemmas.List.{append-nil}
 use Rattle.vx_record.specs.Installs.{in_force}
 use Rattle.vx_record.specs.Reads.{bytes_of_all}
 use Rattle.vx_ends.specs.declared.position.Position.{Position}
-use Rattle.vx_record.specs.Confirms.{Birth, births, births_in, born_positions, last_of_each, position_of}
+use Rattle.vx_record.specs.Confirms.{Birth, births, births_in, born_positions, last_of_each, position_of, is_unconfirmed}
 use Rattle.vx_record.specs.Copies.{next_copy, makes}
-use Rattle.vx_record.specs.Confirms.{is_unconfirmed}
 use Rattle.vx_record.specs.Moving.{IsConserved}
 use Rattle.vx_hub.specs.Places.{IsPlaced}
 use Rattle.vx_record.specs.Abandoning.{MayStillCome}
 use Rattle.vx_record.specs.Turns.{is_out}
-use Rattle.vx_hub.specs.Away.{IsReturning}
 use Rattle.vx_hub.specs.Events.{AreSaid}
 use Rattle.vx_hub.proofs.Saids.{rows_on}
 use Rattle.vx_hub.specs.Order.{IsInOrder, IsOrderly, IsUnknown, IsReason}
-use Rattle.vx_ledger.specs.Ledger.{IsKept}
 use Rattle.vx_status.specs.declared.outcome.Outcome.{Outcome}
 use Rattle.vx_status.specs.declared.batch_status.BatchStatus.{BatchStatus}
 use Rattle.vx_record.specs.Accounting.{IsNoticedSo}
 use Rattle.vx_record.specs.Batches.{NoNoticeDue}
 use Rattle.vx_hub.specs.Batching.{AreRunning}
 use Rattle.vx_hub.proofs.Placing.{conserved}
-use Rattle.vx_hub.proofs.Noticing.{in_turn, still_quiet, running_still}
+use Rattle.vx_hub.proofs.Noticing.{in_turn, running_still}
 use Rattle.vx_hub.proofs.Owning.{placed_still}
-use Rattle.vx_hub.proofs.Ceasing.{comes_going, left_out, home_on}
+use Rattle.vx_hub.proofs.Ceasing.{comes_going}
 use Rattle.vx_hub.proofs.Silence.{told_silent, silent_mute, other_test}
 
 -- a quiet entry is mute
@@ -82,6 +79,8 @@ to_confirm_on f h i e none k = subst (λ (ps : List Position). IfSome f.to_confi
 -- a quiet entry changes nothing of what is known
 pub known_quiet : (f : Facts) (h : Record) (i : ℕ) (e : Entry) → IsQuiet e → IsKnown f h i → IsKnown f (e ∷ h) i
 known_quiet f h i (Install version plan once instances now) q k = absurd q
+known_quiet f h i (Lease j worker now polls) q k = absurd q
+known_quiet f h i (Home j) q k = absurd q
 known_quiet f h i (Read j stream took) q k = absurd q
 known_quiet f h i (Idle j failed) q k = absurd q
 known_quiet f h i (SourceLost j at failed) q k = absurd q
@@ -104,6 +103,7 @@ known_quiet f h i e q k = record {
   done = λ closed. closing_on h i e refl (k.done closed);
   closed = k.closed;
   retired = k.retired;
+  leased = k.leased;
 }
 
 pub bytes_mute : (h : Record) (e : Entry) → IsMute e → bytes_of_all (e ∷ h) ≡ bytes_of_all h
@@ -353,6 +353,7 @@ known_abandoned f h i cause k = record {
   done = λ closed. closing_on h i (Abandon cause) refl (k.done closed);
   closed = k.closed;
   retired = k.retired;
+  leased = k.leased;
 }
 
 -- a run is abandoned
@@ -403,26 +404,20 @@ stands_counted {P} told_by d e hand same s = subst (λ (x : Hub P). Stands told_
   rooms = s.rooms;
 })
 
--- an instance at home is told to be there, and then whether the hub goes on
-pub stands_home : {P : Type 0} (told_by : P → Told) (d e : Hub P) (log : Log) (i : ℕ) → Stands told_by d [] d.log.history → Noted d.log (Home i) log → IsReturning d i → e ≡ record d { log = log; fatal = e.fatal } → Stands told_by e [] e.log.history
-stands_home {P} told_by d e log i s noted back same = subst (λ (x : Hub P). Stands told_by x [] x.log.history) (sym same)
-    (stands_quiet told_by d (record d { log = log; fatal = e.fatal }) [] [] (Home i) s s.balanced refl (λ k. refl) (bare_stays d.facts.items d.rows.items) refl noted
-    (record {
-      quiet = tt;
-      next = same_next d.batches d.batches d.log.history (Home i) refl refl;
-      order = back.away;
-      comes = λ fine. left_out d.log.history i (s.recorded fine).order (back.away fine);
-      said = λ fine. rows_on d.log.history (Home i) tt d.rows.items;
-      outs = λ fine k none out. home_on (i == k) (is_out d.log.history k) (other_test i k (λ e. let at : IsSome (port_at d.rows.items k) = subst (λ (n : ℕ). IsSome (port_at d.rows.items n)) (sym e) back.home in not_none (port_at d.rows.items k) none at)) out;
-      places = λ fine kept. placed_still d.rows.items [] d.log.history (Home i) tt kept.1;
-      due = λ fine. still_quiet d.log.history (Home i) tt;
-      statuses = λ fine. running_still d.log.history (Home i) d.batches.open_rows tt;
-      ledger = λ kept. kept;
-    }) refl refl refl)
-  where
-    not_none : (o : Option P) → o ≡ None → IsSome o → ⊥
-    not_none None none some = cc
-    not_none (Some p) none some = cc
+-- whether the hub goes on says nothing of the record
+pub stands_settled : {P : Type 0} (told_by : P → Told) (d e : Hub P) (hand : List Copy) → e ≡ record d { fatal = e.fatal } → Stands told_by d hand d.log.history → Stands told_by e hand e.log.history
+stands_settled {P} told_by d e hand same s = subst (λ (x : Hub P). Stands told_by x hand x.log.history) (sym same) (record {
+  history = refl;
+  balanced = s.balanced;
+  recorded = λ sound.
+      let r : IsRecorded told_by d hand d.log.history = s.recorded (record { whole = sound.whole; fed = sound.fed }) in
+      record { ports = r.ports; facts = r.facts; bytes = r.bytes; next = r.next; order = r.order; unknown = r.unknown; cause = r.cause; installed = r.installed; noticeless = r.noticeless; statuses = r.statuses; ledger = r.ledger; places = r.places; outs = r.outs; said = r.said };
+  shut = s.shut;
+  gone = s.gone;
+  size = s.size;
+  berths = s.berths;
+  rooms = s.rooms;
+})
 
 -- a copy is spent, and its batch gets its notice
 pub stands_noticed : {P : Type 0} (told_by : P → Told) (d e : Hub P) (hand after : List Copy) (i c : ℕ) (outcome : Outcome) (batch : ℕ) (status : BatchStatus) (mid : Log) →

@@ -5,7 +5,7 @@ use Rattle.std.proofs.lemmas.Bool.Decides.{nat_tests}
 use Rattle.std.proofs.lemmas.List.{length-set}
 use Rattle.vx_ends.specs.Told.{Told}
 use Rattle.vx_ledger.specs.Copies.{Copy, copies_of, numbered}
-use Rattle.vx_ledger.specs.Ledger.{Ledger, live_count}
+use Rattle.vx_ledger.specs.Ledger.{Ledger, live_count, IsKept}
 use Rattle.vx_ledger.proofs.CopyLaws.{copies_of-append}
 use Rattle.vx_record.specs.Records.{Record}
 use Rattle.vx_ends.specs.declared.trouble.Reply.{Reply}
@@ -41,7 +41,6 @@ use Rattle.vx_hub.proofs.Following.{mute_unread}
 use Rattle.vx_hub.specs.Order.{IsAttemptOf, IsInOrder, readers_at}
 use Rattle.vx_ledger.specs.Routing.{targets_of}
 use Rattle.vx_hub.proofs.Ordering.{first_targets}
-use Rattle.vx_ledger.specs.Ledger.{IsKept}
 use Rattle.vx_record.specs.Batches.{NoNoticeDue}
 use Rattle.vx_record.specs.Accounting.{IsAccounted}
 use Rattle.vx_hub.specs.Batching.{AreRunning}
@@ -74,6 +73,7 @@ known_other f h i j (Read k stream took) t other s =
       done = λ closed. closing_on h j (Read k stream took) refl (s.done closed);
       closed = s.closed;
       retired = s.retired;
+      leased = s.leased;
     }
 known_other f h i j (Idle k failed) t other s =
     let k_is : k ≡ i = cc in
@@ -92,6 +92,7 @@ known_other f h i j (Idle k failed) t other s =
       done = λ closed. closing_on h j (Idle k failed) refl (s.done closed);
       closed = s.closed;
       retired = s.retired;
+      leased = s.leased;
     }
 known_other f h i j (SourceLost k at failed) t other s =
     let k_is : k ≡ i = cc in
@@ -110,6 +111,7 @@ known_other f h i j (SourceLost k at failed) t other s =
       done = λ closed. closing_on h j (SourceLost k at failed) refl (s.done closed);
       closed = s.closed;
       retired = s.retired;
+      leased = s.leased;
     }
 known_other f h i j (Attempt k copies bytes reply) t other s =
     record {
@@ -126,6 +128,7 @@ known_other f h i j (Attempt k copies bytes reply) t other s =
       done = λ closed. closing_on h j (Attempt k copies bytes reply) refl (s.done closed);
       closed = s.closed;
       retired = s.retired;
+      leased = s.leased;
     }
 known_other f h i j (Confirm k positions made) t other s =
     let k_is : k ≡ i = cc in
@@ -144,6 +147,7 @@ known_other f h i j (Confirm k positions made) t other s =
       done = λ closed. closing_on h j (Confirm k positions made) refl (s.done closed);
       closed = s.closed;
       retired = s.retired;
+      leased = s.leased;
     }
 known_other f h i j (Born k b place copies events waits stream end) t other s =
     let k_is : k ≡ i = cc in
@@ -162,6 +166,7 @@ known_other f h i j (Born k b place copies events waits stream end) t other s =
       done = λ closed. closing_on h j (Born k b place copies events waits stream end) refl (s.done closed);
       closed = s.closed;
       retired = s.retired;
+      leased = s.leased;
     }
 known_other f h i j e t other s = cc
 
@@ -294,7 +299,7 @@ pub stands_marked : {P : Type 0} (told_by : P → Told) (d e : Hub P) (hand afte
     Stands told_by d hand d.log.history → i < length d.facts.items → f ≡ get_or d.facts.items i f →
     e.facts.items ≡ slice_set d.facts.items i g →
     e.rows ≡ d.rows → spare_of e ≡ spare_of d → IsBalanced e.batches d.rows.items after → e.starved ≡ d.starved → e.bytes ≡ d.bytes → Noted d.log entry e.log → IsMute entry →
-    (d.batches.next ≡ next_copy d.log.history → e.batches.next ≡ next_copy (entry ∷ d.log.history)) → (IsSound d → IsInOrder d.log.history entry) → (IsSound d → MayStillCome d.log.history entry) → ((k : ℕ) → is_out d.log.history k ≡ true → is_out (entry ∷ d.log.history) k ≡ true) →
+    (d.batches.next ≡ next_copy d.log.history → e.batches.next ≡ next_copy (entry ∷ d.log.history)) → (IsSound d → IsInOrder d.log.history entry) → (IsSound d → MayStillCome d.log.history entry) → ((k : ℕ) → port_at d.rows.items k ≡ None → is_out d.log.history k ≡ true → is_out (entry ∷ d.log.history) k ≡ true) →
     cause_of (entry ∷ d.log.history) ≡ cause_of d.log.history →
     (IsSound d → IsKnown f d.log.history i → IsKnown g (entry ∷ d.log.history) i) →
     ((x : Facts) (k : ℕ) → k ≢ i → IsKnown x d.log.history k → IsKnown x (entry ∷ d.log.history) k) →
@@ -323,7 +328,7 @@ stands_marked {P} told_by d e hand after entry i f g s within at written rows be
             next = next r.next;
             order = ((order fine, in_turn d.log.history entry r.noticeless, comes fine), r.order);
             said = subst (λ (v : _). AreSaid (entry ∷ d.log.history) v.items) (sym rows) (rows_on d.log.history entry (mute_unread entry mute) d.rows.items r.said);
-            outs = subst (λ (v : _). AreOut v.items (entry ∷ d.log.history)) (sym rows) (λ k l away. outs k (r.outs k l away));
+            outs = subst (λ (v : _). AreOut v.items (entry ∷ d.log.history)) (sym rows) (λ k l away. outs k away (r.outs k l away));
             noticeless = due;
             statuses = statuses fine (accounted d.log.history r.order) r.statuses;
             ledger = ledger r.ledger;
@@ -542,6 +547,7 @@ known_attempt f h i j copies bytes reply k = record {
   done = λ closed. closing_on h j (Attempt i copies bytes reply) refl (k.done closed);
   closed = k.closed;
   retired = k.retired;
+  leased = k.leased;
 }
 
 -- an attempt of an instance that is out is told

@@ -31,6 +31,7 @@ pub record AreNew (f : Facts) : Type 0 where
   pub confirm_failed : f.confirm_failed ≡ false
   pub closed : f.closed ≡ false
   pub retired : f.retired ≡ false
+  pub leased : f.leased ≡ false
 
 -- nothing stands at a seat, and its instance begins
 pub record IsUnused (seat : Seat) : Type 0 where

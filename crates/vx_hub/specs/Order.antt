@@ -214,9 +214,10 @@ pub record IsGivenUp (h : Record) (cause : AbandonCause) : Type 0 where
   pub first : cause_of h ≡ None
   pub reason : IsReason h cause
 
--- an instance is leased that is there and isn't retired, and whose port isn't closed for good
+-- an instance is leased that is there, isn't out and isn't retired, and whose port isn't closed for good
 pub record IsLeaseOf (h : Record) (j polls : ℕ) : Type 0 where
   pub known : is_some (component_of h j) ≡ true
+  pub home : is_out h j ≡ false
   pub unclosed : is_closed h j ≡ false
   pub unretired : is_retired h j ≡ false
   pub unpolled : polls ≡ 0

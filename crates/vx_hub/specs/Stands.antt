@@ -12,7 +12,7 @@ use Rattle.vx_record.specs.Turns.{is_out}
 use Rattle.vx_record.specs.PortCounts.{fault_count, refusal_count, idle_count}
 use Rattle.vx_record.specs.Encoding.{given}
 use Rattle.vx_record.specs.declared.entry.Entry.{Entry}
-use Rattle.vx_record.specs.declared.entry.Entry.TheVariants.{Install, Read, Idle, SourceLost, Born, Attempt, Confirm, Closed, Retired, Abandon}
+use Rattle.vx_record.specs.declared.entry.Entry.TheVariants.{Install, Lease, Home, Read, Idle, SourceLost, Born, Attempt, Confirm, Closed, Retired, Abandon}
 use Rattle.vx_record.specs.declared.abandon_cause.AbandonCause.{AbandonCause}
 use Rattle.vx_hub.specs.declared.facts.Facts.{Facts}
 use Rattle.vx_hub.specs.declared.row.Row.{Row}
@@ -78,6 +78,7 @@ pub record IsKnown (f : Facts) (h : Record) (i : ℕ) : Type 0 where
   pub done : f.closed ≡ true → IsClosing h i
   pub closed : f.closed ≡ is_closed h i
   pub retired : f.retired ≡ is_retired h i
+  pub leased : f.leased ≡ is_out h i
 
 -- whatever is live stands at an instance or in the hand
 abbrev pub IsBalanced : {P : Type 0} → Ledger → List (Row P) → List Copy → Type 0
@@ -165,8 +166,11 @@ IsMute (Attempt i copies bytes reply) = ⊥
 IsMute (Confirm i positions made) = ⊥
 IsMute other = Unit {0}
 
--- an entry that installs nothing, tells nothing of any port, bears no batch, abandons nothing and ends no instance
+-- an entry that installs nothing, leases nobody and brings nobody home, tells nothing of any port, bears no batch, abandons
+-- nothing and ends no instance
 abbrev pub IsQuiet : Entry → Type 0
+IsQuiet (Lease i worker now polls) = ⊥
+IsQuiet (Home i) = ⊥
 IsQuiet (Install version plan once instances now) = ⊥
 IsQuiet (Read i stream took) = ⊥
 IsQuiet (Idle i failed) = ⊥

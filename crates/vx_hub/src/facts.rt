@@ -29,6 +29,8 @@ pub struct Facts {
     pub closed: bool,
     /// Whether it ended.
     pub retired: bool,
+    /// Whether it was leased and hasn't come home.
+    pub leased: bool,
 }
 
 /// How far a source has come.

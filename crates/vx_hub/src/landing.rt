@@ -46,8 +46,23 @@ impl<P: Port> Hub<P> {
         let instance = landing.instance;
         let landing = self.land_confirm(landing);
         let landed = self.land_done(landing);
-        self.log.note(Ok(Entry::Home { instance }));
+        self.note_home(instance);
         self.settled(landed)
+    }
+
+    /// Notes that an instance came home.
+    fn note_home(&mut self, instance: u32)
+        requires stands { Stands P.told self.old [] self.old.log.history }
+        requires returning { IsReturning self.old instance }
+        requires within { instance < length self.old.rows.items }
+        ensures stands { Stands P.told self.new [] self.new.log.history }
+        ensures noted { Noted self.old.log (Entry.Home instance) self.new.log }
+        ensures starved { self.new.starved ≡ self.old.starved }
+        ensures rows { self.new.rows ≡ self.old.rows }
+        ensures plan { self.new.plan ≡ self.old.plan }
+    {
+        self.log.note(Ok(Entry::Home { instance }));
+        self.facts[instance as usize].leased = false;
     }
 
     /// Brings a task home, and notes what was done.

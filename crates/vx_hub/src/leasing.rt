@@ -60,6 +60,7 @@ impl<P: Port> Hub<P> {
     fn note_lease(&mut self, instance: u32, worker: u32, now: u64) -> Option<PositionList>
         requires stands { Stands P.told self.old [] self.old.log.history }
         requires open { IsOpenAt self.old instance }
+        requires unleased { IsSomeAnd (facts_at self.old.facts.items instance) (λ f. f.leased ≡ false) }
         requires going { self.old.abandoned ≡ None }
         ensures stands { Stands P.told self.new [] self.new.log.history }
         ensures open { IsOpenAt self.new instance }
@@ -82,6 +83,7 @@ impl<P: Port> Hub<P> {
             polls: 0,
         }));
         let facts = &mut self.facts[instance as usize];
+        facts.leased = true;
         facts.to_confirm.take()
     }
 
@@ -120,6 +122,7 @@ impl<P: Port> Hub<P> {
     /// The instance that is leased next: the last one that has work.
     fn ready(&self, now: u64) -> Option<Ready>
         ensures open { IfSome result (λ ready. IsOpenAt self.now ready.instance) }
+        ensures unleased { IfSome result (λ ready. IsSomeAnd (facts_at self.now.facts.items ready.instance) (λ f. f.leased ≡ false)) }
         ensures unlost { IfSome result (λ ready. ready.job ≡ Job.Read → IsUnlost self.now ready.instance) }
         ensures sent { IfSome result (λ ready. ready.job ≡ Job.Read → numbers_at (Outputs ready.instance) self.now.rows.items ≡ []) }
         ensures dry { IfSome result (λ ready. ready.job ≡ Job.Close → IsDry self.now ready.instance) }
@@ -141,13 +144,14 @@ impl<P: Port> Hub<P> {
     fn job(&self, i: usize, now: u64) -> Option<Job>
         requires { i < length self.now.rows.items }
         ensures open { IfSome result (λ job. IsOpenAt self.now i) }
+        ensures unleased { IfSome result (λ job. IsSomeAnd (facts_at self.now.facts.items i) (λ f. f.leased ≡ false)) }
         ensures unlost { IfSome result (λ job. job ≡ Job.Read → IsUnlost self.now i) }
         ensures sent { IfSome result (λ job. job ≡ Job.Read → numbers_at (Outputs i) self.now.rows.items ≡ []) }
         ensures dry { IfSome result (λ job. job ≡ Job.Close → IsDry self.now i) }
         ensures sink { IfSome result (λ job. IsSending job → IsSinkAt self.now i) }
         ensures some { IfSome result (λ job. job ≡ Job.Attempt → HoldsSome self.now.rows.items i) }
     {
-        if i >= self.facts.len() || self.facts[i].closed || self.rows[i].task.is_none() {
+        if i >= self.facts.len() || !self.can_lease(i) || self.rows[i].task.is_none() {
             return None;
         }
         match self.facts[i].class {
@@ -155,6 +159,15 @@ impl<P: Port> Hub<P> {
             Class::Transform => None,
             Class::Sink => self.sink_job(i, now),
         }
+    }
+
+    /// Whether an instance isn't out, and its port isn't closed for good.
+    fn can_lease(&self, i: usize) -> bool
+        requires { i < length self.now.facts.items }
+        ensures unclosed { IsTrue result → IsSomeAnd (facts_at self.now.facts.items i) (λ f. f.closed ≡ false) }
+        ensures unleased { IsTrue result → IsSomeAnd (facts_at self.now.facts.items i) (λ f. f.leased ≡ false) }
+    {
+        !self.facts[i].closed && !self.facts[i].leased
     }
 
     /// A source is read until it is dry, and closed once all its batches have their notices and the last confirm was

@@ -65,6 +65,7 @@ fn make_seat(alloc: Global, plan: &Plan, component: &Component) -> Result<Seat, 
         confirm_failed: false,
         closed: false,
         retired: false,
+        leased: false,
     };
     let buffer = Queue::new(alloc, buffer_room(plan, component.name.as_str()))?;
     match role(alloc, &component.settings) {

@@ -29,6 +29,7 @@ returns-clause-stands g c hand s =
       done = λ closed. closing_on c.args.self.now.log.history c.args.instance (entry.Confirm c.args.instance c.args.confirmed.positions c.args.confirmed.made) refl (known.done closed);
       closed = known.closed;
       retired = known.retired;
+      leased = known.leased;
     })
     (λ bytes. bytes)
     refl (λ fine known out. record { out = out; device = device_known c.args.self.now.log.history c.args.instance c.index_mut-facts.result.now (s.recorded fine).order known; due = c.requires.due fine })

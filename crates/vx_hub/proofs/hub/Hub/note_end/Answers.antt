@@ -30,6 +30,7 @@ returns-clause-stands g c hand s =
       done = λ closed. closing_on c.args.self.now.log.history c.args.instance (entry.Read c.args.instance c.args.stream c.args.taken) refl (known.done closed);
       closed = known.closed;
       retired = known.retired;
+      leased = known.leased;
     })
     (λ bytes. bytes ∙ no_bytes true (bytes_of_all c.args.self.now.log.history) (bytes_of c.args.taken) c.requires.end)
     refl (λ fine known out. turn_of c.args.self.now.log.history c.args.instance c.index_mut-facts.result.now out known (facts_surely IsReadable c.args.self.now.facts.items c.args.instance c.index_mut-facts.result.now c.requires.within c.index_mut-facts.ensures.value c.requires.unlost))

@@ -28,6 +28,7 @@ returns-clause-stands g c hand s =
       done = λ closed. closing_on c.args.self.now.log.history c.args.instance (entry.Idle c.args.instance c.args.start_failed) refl (known.done closed);
       closed = known.closed;
       retired = known.retired;
+      leased = known.leased;
     })
     (λ bytes. bytes)
     refl (λ fine known out. record { turn = turn_of c.args.self.now.log.history c.args.instance c.index_mut-facts.result.now out known (facts_surely IsReadable c.args.self.now.facts.items c.args.instance c.index_mut-facts.result.now c.requires.within c.index_mut-facts.ensures.value c.requires.unlost); device = device_known c.args.self.now.log.history c.args.instance c.index_mut-facts.result.now (s.recorded fine).order known; few = λ failed. subst (λ n. n < 4) known.failed_starts (facts_surely (λ f. f.failed_starts < 4) c.args.self.now.facts.items c.args.instance c.index_mut-facts.result.now c.requires.within c.index_mut-facts.ensures.value (c.requires.few failed)) })

@@ -27,6 +27,7 @@ returns-clause-stands g c hand s =
       done = λ closed. closing_on c.args.self.now.log.history c.args.instance (entry.SourceLost c.args.instance c.index_mut-facts.result.now.taken c.args.start_failed) refl (known.done closed);
       closed = known.closed;
       retired = known.retired;
+      leased = known.leased;
     })
     (λ bytes. bytes)
     refl (λ fine known out. record { first = turn_of c.args.self.now.log.history c.args.instance c.index_mut-facts.result.now out known (facts_surely IsReadable c.args.self.now.facts.items c.args.instance c.index_mut-facts.result.now c.requires.within c.index_mut-facts.ensures.value c.requires.unlost); device = device_known c.args.self.now.log.history c.args.instance c.index_mut-facts.result.now (s.recorded fine).order known; after = known.taken; many = λ failed. subst (λ n. 4 ≤ n) known.failed_starts (facts_surely (λ f. 4 ≤ f.failed_starts) c.args.self.now.facts.items c.args.instance c.index_mut-facts.result.now c.requires.within c.index_mut-facts.ensures.value (c.requires.many failed)) })

@@ -43,7 +43,7 @@ returns-clause-stands g c =
     (λ fine. birth_in_order h c.args.instance next c.len-n.result c.in-Ok.born.0 copies c.args.events.now c.args.position.stream c.args.position.end (c.requires.read fine) (c.requires.yields fine) (s.recorded fine).next c.in-Ok.ensures.number c.in-Ok.ensures.copies (sym c.len-n.ensures)
     (omega (arith, c.requires.some, c.len-n.ensures)) (omega (arith, c.born.ensures.kept.numbers, c.in-Ok.ensures.next)))
     (hub_comes g.P.Port.told c.args.self.now [] (Born c.args.instance c.in-Ok.born.0 c.in-Ok.born.0 (numbers_in copies) c.args.events.now false c.args.position.stream c.args.position.end) s c.requires.going)
-    (λ k out. out) refl
+    (λ k none out. out) refl
     (λ fine known. record {
       taken = known.taken;
       lost = known.lost;
@@ -58,6 +58,7 @@ returns-clause-stands g c =
       done = λ closed. closing_on c.args.self.now.log.history c.args.instance (Born c.args.instance c.in-Ok.born.0 c.in-Ok.born.0 (numbers_in copies) c.args.events.now false c.args.position.stream c.args.position.end) refl (known.done closed);
       closed = known.closed;
       retired = known.retired;
+      leased = known.leased;
     })
     (λ x k other known. known_other x h c.args.instance k _ refl other known)
     (facts_has (IsShut g.P.Port.told c.args.self.now.rows.items c.args.instance) c.args.self.now.facts.items c.args.instance c.index_mut-facts.result.now within c.index_mut-facts.ensures.value (s.shut c.args.instance))
