@@ -1,5 +1,5 @@
 -- An instance that comes home goes on doing so, until the record tells it.
-use Rattle.std.proofs.Common.{◌≡◌, ℕ, ◌+◌, Bool, true, false, List, [], ◌∷◌, length, sym, ap, subst, ◌∙◌, arith}
+use Rattle.std.proofs.Common.{◌≡◌, ℕ, ◌+◌, Bool, true, false, List, [], ◌∷◌, length, sym, ap, subst, ◌∙◌, arith, inl, inr, refl}
 use Rattle.std.specs.Prelude.{IsSome, IsTrue, Option, ◌==◌, ◌&&◌, if◌then◌else◌}
 use Rattle.std.specs.List.{list_all, list_any}
 use Rattle.vx_record.specs.Records.{Record}
@@ -7,12 +7,16 @@ use Rattle.vx_record.specs.Noted.{Noted}
 use Rattle.vx_record.specs.Turns.{is_out, is_take_of, since_lease, is_attempt_of}
 use Rattle.vx_record.specs.declared.log.Log.{Log}
 use Rattle.vx_record.specs.declared.entry.Entry.{Entry}
-use Rattle.vx_record.specs.declared.entry.Entry.TheVariants.{Lease, Take}
+use Rattle.vx_record.specs.declared.entry.Entry.TheVariants.{Lease, Take, Idle, SourceLost}
 use Rattle.vx_hub.specs.declared.hub.Hub.{Hub}
-use Rattle.vx_hub.specs.Away.{IsAway, IsReturning, OnlyTook, HasTaken, IsUntried}
+use Rattle.vx_hub.specs.Away.{IsAway, IsReturning, OnlyTook, HasTaken, IsUntried, IsSettled, IsArrived}
 use Rattle.vx_hub.specs.Rows.{SamePorts}
+use Rattle.vx_record.specs.SinkBatches.{attempts_with}
+use Rattle.vx_hub.specs.Order.{AreSettled}
+use Rattle.vx_hub.specs.Failures.{IsFailureOf}
 use Rattle.vx_hub.proofs.Ordering.{sound_before}
 use Rattle.vx_hub.proofs.Silence.{same_test}
+use Rattle.vx_hub.proofs.Settling.{settled_on}
 
 -- behind an entry that brings nobody home
 pub away_noted : {P : Type 0} (d e : Hub P) (entry : Entry) → Noted d.log entry e.log → e.starved ≡ d.starved → ((h : Record) (k : ℕ) → is_out h k ≡ true → is_out (entry ∷ h) k ≡ true) → (i : ℕ) → IsAway d i → IsAway e i
@@ -59,11 +63,33 @@ untried_same d e log starved i untried sound =
     subst (λ (l : Log). list_any (is_attempt_of i) (since_lease l.history i) ≡ false) (sym log) (untried (record { whole = subst (λ (l : Log). IsTrue l.whole) log sound.whole; fed = sym starved ∙ sound.fed }))
 
 -- behind an entry that brings nobody home an instance that comes home does so still
-pub returning_noted : {P : Type 0} (d e : Hub P) (entry : Entry) → SamePorts d.rows.items e.rows.items → Noted d.log entry e.log → e.starved ≡ d.starved → ((h : Record) (k : ℕ) → is_out h k ≡ true → is_out (entry ∷ h) k ≡ true) →
-    (i : ℕ) → IsReturning d i → IsReturning e i
-returning_noted d e entry ports noted starved stays i back =
+pub arrived_noted : {P : Type 0} (d e : Hub P) (entry : Entry) → SamePorts d.rows.items e.rows.items → Noted d.log entry e.log → e.starved ≡ d.starved → ((h : Record) (k : ℕ) → is_out h k ≡ true → is_out (entry ∷ h) k ≡ true) →
+    (i : ℕ) → IsArrived d i → IsArrived e i
+arrived_noted d e entry ports noted starved stays i back =
     record { home = subst (λ (o : Option _). IsSome o) (sym (ports i)) back.home; away = away_noted d e entry noted starved stays i back.away }
+
+pub arrived_moved : {P : Type 0} (d e : Hub P) → SamePorts d.rows.items e.rows.items → e.log ≡ d.log → e.starved ≡ d.starved → (i : ℕ) → IsArrived d i → IsArrived e i
+arrived_moved d e ports log starved i back =
+    record { home = subst (λ (o : Option _). IsSome o) (sym (ports i)) back.home; away = away_same d e log starved i back.away }
+
+-- and owes nothing where the entry is no attempt
+pub settled_noted : {P : Type 0} (d e : Hub P) (entry : Entry) → Noted d.log entry e.log → e.starved ≡ d.starved → ((h : Record) (k c : ℕ) → attempts_with (entry ∷ h) k c ≡ attempts_with h k c) → (i : ℕ) → IsSettled d i → IsSettled e i
+settled_noted d e entry noted starved same i settled sound =
+    subst (λ (h : Record). AreSettled h i) (sym (noted.whole sound.whole).1) (settled_on d.log.history entry i (same d.log.history i) (settled (sound_before d e entry noted starved sound)))
+
+pub settled_same : {P : Type 0} (d e : Hub P) → e.log ≡ d.log → e.starved ≡ d.starved → (i : ℕ) → IsSettled d i → IsSettled e i
+settled_same d e log starved i settled sound =
+    subst (λ (l : Log). AreSettled l.history i) (sym log) (settled (record { whole = subst (λ (l : Log). IsTrue l.whole) log sound.whole; fed = sym starved ∙ sound.fed }))
+
+pub settled_failed : {P : Type 0} (d e : Hub P) (i : ℕ) (at_start : Bool) → IsFailureOf i at_start d.log e.log → e.starved ≡ d.starved → IsSettled d i → IsSettled e i
+settled_failed d e i at_start (inl idle) starved settled = settled_noted d e (Idle i true) idle.1 starved (λ h k c. refl) i settled
+settled_failed d e i at_start (inr lost) starved settled = settled_noted d e (SourceLost i lost.0 at_start) lost.1 starved (λ h k c. refl) i settled
+
+pub returning_noted : {P : Type 0} (d e : Hub P) (entry : Entry) → SamePorts d.rows.items e.rows.items → Noted d.log entry e.log → e.starved ≡ d.starved → ((h : Record) (k : ℕ) → is_out h k ≡ true → is_out (entry ∷ h) k ≡ true) →
+    ((h : Record) (k c : ℕ) → attempts_with (entry ∷ h) k c ≡ attempts_with h k c) → (i : ℕ) → IsReturning d i → IsReturning e i
+returning_noted d e entry ports noted starved stays same i back =
+    record { arrived = arrived_noted d e entry ports noted starved stays i back.arrived; settled = settled_noted d e entry noted starved same i back.settled }
 
 pub returning_moved : {P : Type 0} (d e : Hub P) → SamePorts d.rows.items e.rows.items → e.log ≡ d.log → e.starved ≡ d.starved → (i : ℕ) → IsReturning d i → IsReturning e i
 returning_moved d e ports log starved i back =
-    record { home = subst (λ (o : Option _). IsSome o) (sym (ports i)) back.home; away = away_same d e log starved i back.away }
+    record { arrived = arrived_moved d e ports log starved i back.arrived; settled = settled_same d e log starved i back.settled }

@@ -34,3 +34,4 @@ mod Ceasing
 mod Retiring
 mod Shrinking
 mod Causing
+mod Settling

@@ -190,6 +190,11 @@ pub popped_none : (r : Option Parcel) (old new : List Parcel) (F : Type 0) → (
 popped_none None old new F none empty keep = keep (empty ∙ sym (none.0 refl))
 popped_none (Some x) old new F none empty keep = tt
 
+-- where none was popped, there was none
+pub none_popped : (r : Option Parcel) (old new : List Parcel) (F : Type 0) → IfNone r (new ≡ []) → (new ≡ [] → F) → IfNone r F
+none_popped None old new F empty keep = keep empty
+none_popped (Some x) old new F empty keep = tt
+
 -- a sink's task
 pub task_holds : {P : Type 0} (t : Option (Task P)) (task : Task P) (core : SinkCore) → t ≡ Some task → task.role ≡ Sink core → task_parcels t ≡ core.held.items
 task_holds t task core is sink = ap task_parcels is ∙ ap role_parcels sink

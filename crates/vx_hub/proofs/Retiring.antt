@@ -1,6 +1,6 @@
 -- An instance is closed, and retired.
 use Rattle.std.proofs.Common.{◌≡◌, ℕ, zero, suc, ◌<◌, Bool, true, false, List, [], ◌∷◌, length, Option, Some, None, IfSome, refl, sym, ap, subst, ◌∙◌, arith}
-use Rattle.std.specs.Prelude.{◌==◌, ◌≢◌, ◌||◌, ◌&&◌, if◌then◌else◌, IsTrue, All}
+use Rattle.std.specs.Prelude.{◌==◌, ◌≢◌, ◌||◌, ◌&&◌, if◌then◌else◌, All}
 use Rattle.std.proofs.lemmas.Bool.Decides.{nat_tests}
 use Rattle.std.proofs.lemmas.List.Elements.{All-head, All-tail}
 use Rattle.vx_value.specs.Texts.{is_empty}
@@ -180,19 +180,6 @@ known_home_other f h i j other k = record {
   leased = k.leased ∙ sym (ap (λ t. if t then false else is_out h j) (other_test i j other));
 }
 
--- what isn't closed isn't retired
-pub unclosed_unretired : (h : Record) (f : Facts) (i : ℕ) (gone : IsTrue f.retired → IsTrue f.closed) → f.closed ≡ false → f.leased ≡ false → IsOrderly h → IsKnown f h i → IsLeaseOf h i 0
-unclosed_unretired h f i gone unclosed unleased order k = record {
-  known = there_known h i f order k;
-  home = sym k.leased ∙ unleased;
-  unclosed = sym k.closed ∙ unclosed;
-  unretired = sym k.retired ∙ go f.retired refl;
-  unpolled = refl;
-}
-  where
-    go : (b : Bool) → f.retired ≡ b → b ≡ false
-    go true e = let c : f.closed ≡ true = gone e in cc
-    go false e = refl
 
 place_itself : (p : Place) → same_place p p ≡ true
 place_itself (Outputs i) = same_test i

@@ -38,7 +38,7 @@ count_left : (d : ℕ) (gone xs : List ℕ) → count d gone ≡ 0 → count d (
 count_left d gone xs none = count-without d gone xs ∙ ap (λ n. unless n (count d xs)) none
 
 -- what isn't gone stands there still
-count_shrunk : (d : ℕ) (gone : List ℕ) (ps : List (List ℕ)) → count d gone ≡ 0 → count d (joined (shrunk gone ps)) ≡ count d (joined ps)
+pub count_shrunk : (d : ℕ) (gone : List ℕ) (ps : List (List ℕ)) → count d gone ≡ 0 → count d (joined (shrunk gone ps)) ≡ count d (joined ps)
 count_shrunk d gone [] none = refl
 count_shrunk d gone (p ∷ ps) none =
     let a = joined_and_rest d (without gone p) (shrunk gone ps) in

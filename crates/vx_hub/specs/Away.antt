@@ -6,6 +6,7 @@ use Rattle.vx_record.specs.Turns.{is_out, is_take_of, since_lease, is_attempt_of
 use Rattle.vx_record.specs.Abandoning.{abandoned}
 use Rattle.vx_hub.specs.declared.hub.Hub.{Hub}
 use Rattle.vx_hub.specs.Rows.{port_at}
+use Rattle.vx_hub.specs.Order.{AreSettled}
 use Rattle.vx_hub.specs.Stands.{IsSound}
 
 -- where the record has all that happened, the instance was leased there, and hasn't come home since
@@ -16,10 +17,19 @@ IsAway hub i = IsSound hub → is_out hub.log.history i ≡ true
 abbrev pub IsUntried : {P : Type 0} → Hub P → ℕ → Type 0
 IsUntried hub i = IsSound hub → list_any (is_attempt_of i) (since_lease hub.log.history i) ≡ false
 
+-- where the record has all that happened, each copy that the instance attempted is spent
+abbrev pub IsSettled : {P : Type 0} → Hub P → ℕ → Type 0
+IsSettled hub i = IsSound hub → AreSettled hub.log.history i
+
 -- the instance's task is at home already, and the record doesn't tell it yet
-pub record IsReturning {P : Type 0} (hub : Hub P) (i : ℕ) : Type 0 where
+pub record IsArrived {P : Type 0} (hub : Hub P) (i : ℕ) : Type 0 where
   pub home : IsSome (port_at hub.rows.items i)
   pub away : IsAway hub i
+
+-- and no spend is due
+pub record IsReturning {P : Type 0} (hub : Hub P) (i : ℕ) : Type 0 where
+  pub arrived : IsArrived hub i
+  pub settled : IsSettled hub i
 
 -- an instance did nothing but take since its last lease, and that so often at the most
 pub record OnlyTook (h : Record) (i most : ℕ) : Type 0 where

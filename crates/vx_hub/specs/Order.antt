@@ -8,7 +8,7 @@ use Rattle.vx_status.specs.declared.outcome.Outcome.TheVariants.{Delivered, Atte
 use Rattle.vx_ends.specs.declared.position.Position.{Position}
 use Rattle.vx_value.specs.declared.event.Event.{Event}
 use Rattle.vx_record.specs.Records.{Record, capped}
-use Rattle.vx_record.specs.Copies.{count, joined, counting, children_of, next_copy, IsLive}
+use Rattle.vx_record.specs.Copies.{count, joined, counting, children_of, next_copy, times_spent, IsLive}
 use Rattle.vx_record.specs.Places.{Place, owner}
 use Rattle.vx_record.specs.Places.Place.{Outputs, Held}
 use Rattle.vx_record.specs.Lists.{outputs, waiting, all_waiting, contents, held, stands, parcels_at, is_bare}
@@ -34,9 +34,10 @@ use Rattle.vx_record.specs.Reads.{bytes_taken, bytes_of_all, all_ended}
 use Rattle.vx_record.specs.Confirms.{born_positions, is_unconfirmed}
 use Rattle.vx_record.specs.Sourcing.{failed_starts, IsYield}
 use Rattle.vx_record.specs.Spending.{WasAnswered, HadNoTarget, oldest}
-use Rattle.vx_record.specs.SinkBatches.{failures_with, attempts_allowed}
+use Rattle.vx_record.specs.SinkBatches.{failures_with, attempts_allowed, attempts_with}
 use Rattle.vx_hub.specs.Abreast.{AreNamedApart}
 pub use Rattle.vx_record.specs.Spending.{last_reply}
+use Rattle.vx_record.specs.Owing.{owes_spends_in}
 use Rattle.vx_record.specs.declared.entry.Entry.{Entry}
 use Rattle.vx_record.specs.declared.entry.Entry.TheVariants.{Install, Lease, Home, Read, Idle, SourceLost, Born, Split, Push, Take, Attempt, Spent, Notice, Confirm, Closed, Retired, Abandon}
 use Rattle.vx_record.specs.declared.abandon_cause.AbandonCause.{AbandonCause}
@@ -214,10 +215,20 @@ pub record IsGivenUp (h : Record) (cause : AbandonCause) : Type 0 where
   pub first : cause_of h ≡ None
   pub reason : IsReason h cause
 
--- an instance is leased that is there, isn't out and isn't retired, and whose port isn't closed for good
+-- each copy that an instance attempted is spent
+abbrev pub AreSettled : Record → ℕ → Type 0
+AreSettled h i = (c : ℕ) → 0 < attempts_with h i c → 0 < times_spent h c
+
+-- what comes home was out, and has spent all that it attempted
+pub record IsReturnOf (h : Record) (j : ℕ) : Type 0 where
+  pub out : is_out h j ≡ true
+  pub settled : AreSettled h j
+
+-- an instance is leased that is there, isn't out, owes no spend and isn't retired, and whose port isn't closed for good
 pub record IsLeaseOf (h : Record) (j polls : ℕ) : Type 0 where
   pub known : is_some (component_of h j) ≡ true
   pub home : is_out h j ≡ false
+  pub settled : owes_spends_in h h j ≡ false
   pub unclosed : is_closed h j ≡ false
   pub unretired : is_retired h j ≡ false
   pub unpolled : polls ≡ 0
@@ -241,7 +252,7 @@ pub record IsEndOf (h : Record) (j : ℕ) : Type 0 where
 abbrev pub IsInOrder : Record → Entry → Type 0
 IsInOrder h (Install version plan once instances now) = MayInstall h version plan instances
 IsInOrder h (Lease j worker now polls) = IsLeaseOf h j polls
-IsInOrder h (Home j) = is_out h j ≡ true
+IsInOrder h (Home j) = IsReturnOf h j
 IsInOrder h (Read j stream took) = IsTurnOf h j
 IsInOrder h (Idle j failed) = IsTryOf h j failed
 IsInOrder h (SourceLost j at failed) = IsLossOf h j at failed

@@ -6,12 +6,12 @@ ghost use Rattle.vx_record.specs.Noted.{Noted};
 ghost use Rattle.vx_hub.specs.Order.{reply_behind, IsPlaceFor, IsDueOf};
 ghost use Rattle.vx_hub.specs.Failures.{HasReason};
 ghost use Rattle.vx_hub.specs.Spending.{MaySpend, IsReplied, HasRead, HasYielded};
-ghost use Rattle.vx_hub.specs.Away.{IsUntried, IsReturning, MayEnd};
+ghost use Rattle.vx_hub.specs.Away.{IsUntried, IsReturning, MayEnd, IsSettled, IsArrived};
 ghost use Rattle.vx_hub.specs.Stands.{Stands, IsTold, IsSound, IsUnlost, MayShut, IsSinkAt, facts_at};
 ghost use Rattle.vx_hub.specs.Leases.{IsBack, IsOpenAt, Adds};
 ghost use Rattle.vx_hub.specs.Turns.{event_count};
 ghost use Rattle.vx_record.specs.Places.Place.{Outputs, Held};
-ghost use Rattle.vx_hub.specs.Places.{numbers_at};
+ghost use Rattle.vx_hub.specs.Places.{numbers_at, copies_at};
 ghost use Rattle.vx_hub.specs.Births.{IsHeldBy, IsSaidBy, HasComeBy};
 ghost use Rattle.vx_hub.specs.Events.{written, IsPartOf};
 ghost use Rattle.vx_hub.specs.Rows.{role_copies, role_parcels, port_at, IsOutAt};
@@ -201,7 +201,8 @@ impl<P: Port> Hub<P> {
         ensures shut { MayShut self.old instance → MayShut self.new instance }
         ensures size { length self.new.rows.items ≡ length self.old.rows.items }
         ensures plan { self.new.plan ≡ self.old.plan }
-        ensures returning { IsReturning self.new instance }
+        ensures arrived { IsArrived self.new instance }
+        ensures returning { IsSettled self.old instance → IsReturning self.new instance }
     {
         put_task(&mut self.rows, instance as usize, task);
     }
@@ -256,7 +257,7 @@ impl<P: Port> Hub<P> {
         ensures facts { self.new.facts ≡ self.old.facts }
         ensures size { length self.new.rows.items ≡ length self.old.rows.items }
         ensures plan { self.new.plan ≡ self.old.plan }
-        ensures returning { IsReturning self.new instance }
+        ensures arrived { IsArrived self.new instance }
     {
         note_attempt(
             self.alloc,
@@ -274,10 +275,11 @@ impl<P: Port> Hub<P> {
         requires stands { Stands P.told self.old [] self.old.log.history }
         requires replied { IsReplied self.old instance reply }
         requires within { instance < length self.old.rows.items }
+        requires arrived { IsArrived self.old instance }
         ensures stands { Stands P.told self.new [] self.new.log.history }
         ensures size { length self.new.rows.items ≡ length self.old.rows.items }
         ensures plan { self.new.plan ≡ self.old.plan }
-        ensures returning { (i : ℕ) → IsReturning self.old i → IsReturning self.new i }
+        ensures returning { IsReturning self.new instance }
     {
         let outcome = self.outcome_now(reply);
         self.spend_held(instance, outcome);
@@ -294,8 +296,8 @@ impl<P: Port> Hub<P> {
         }
     }
 
-    /// Spends what a sink at home holds.
-    pub(crate) fn spend_held(&mut self, instance: u32, outcome: Outcome)
+    /// Spends all that a sink at home holds.
+    fn spend_held(&mut self, instance: u32, outcome: Outcome)
         requires stands { Stands P.told self.old [] self.old.log.history }
         requires cause { MaySpend self.old instance outcome }
         requires held { IsPlaceFor outcome instance (Held instance) }
@@ -304,13 +306,10 @@ impl<P: Port> Hub<P> {
         ensures facts { self.new.facts ≡ self.old.facts }
         ensures size { length self.new.rows.items ≡ length self.old.rows.items }
         ensures plan { self.new.plan ≡ self.old.plan }
-        ensures returning { (i : ℕ) → IsReturning self.old i → IsReturning self.new i }
+        ensures arrived { (i : ℕ) → IsArrived self.old i → IsArrived self.new i }
+        ensures none { copies_at (Held instance) self.new.rows.items ≡ [] }
     {
-        for _ in 0..u64::MAX {
-            if !self.spend_first(instance, outcome) {
-                break;
-            }
-        }
+        while self.spend_first(instance, outcome) {}
     }
 
     /// Spends the oldest parcel that a sink at home holds, if there is one.
@@ -324,7 +323,9 @@ impl<P: Port> Hub<P> {
         ensures facts { self.new.facts ≡ self.old.facts }
         ensures size { length self.new.rows.items ≡ length self.old.rows.items }
         ensures plan { self.new.plan ≡ self.old.plan }
-        ensures returning { (i : ℕ) → IsReturning self.old i → IsReturning self.new i }
+        ensures arrived { (i : ℕ) → IsArrived self.old i → IsArrived self.new i }
+        ensures fewer { IsTrue result → length (copies_at (Held instance) self.new.rows.items) < length (copies_at (Held instance) self.old.rows.items) }
+        ensures none { result ≡ false → copies_at (Held instance) self.new.rows.items ≡ [] }
     {
         match pop_held(&mut self.rows, instance as usize) {
             Some(parcel) => {

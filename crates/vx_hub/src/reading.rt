@@ -1,7 +1,7 @@
 ghost use Rattle.std.specs.Prelude.{◌≡◌, ◌<◌, ◌≤◌, ◌+◌, ◌||◌, ℕ, [], length, List, None, IfErr, IsSomeAnd, true, if◌then◌else◌};
 ghost use Rattle.vx_ledger.specs.Copies.{Copy};
 ghost use Rattle.vx_record.specs.Noted.{Noted};
-ghost use Rattle.vx_hub.specs.Away.{IsReturning};
+ghost use Rattle.vx_hub.specs.Away.{IsSettled, IsReturning};
 ghost use Rattle.vx_hub.specs.Stands.{Stands, IsTold, IsSound, IsUnlost, facts_at};
 ghost use Rattle.vx_hub.specs.Leases.{IsOpenAt, Adds};
 ghost use Rattle.vx_hub.specs.Spending.{HasRead};
@@ -39,6 +39,7 @@ impl<P: Port> Hub<P> {
         requires brings { IsSound self.old → Adds (P.told task.port) self.old.log.history instance None (Read turned) }
         requires events { event_count turned ≤ 65536 }
         requires unlost { IsUnlost self.old instance }
+        requires settled { IsSettled self.old instance }
         requires held { IsHeldBy self.old instance task.role }
         requires said { IsSaidBy self.old task.role }
         requires come { HasDoneBy self.old instance task.role (Read turned) }

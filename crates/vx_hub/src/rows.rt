@@ -198,6 +198,7 @@ pub(crate) fn pop_held<P>(rows: &mut Vec<Row<P>>, i: usize) -> Option<Parcel>
     ensures same_rooms { SameRooms rows.old.items rows.new.items }
     ensures oldest { IfSome result (λ parcel. TakesOldest (Held i) parcel.finalizers rows.old.items rows.new.items) }
     ensures none { IfNone result (SamePlaces rows.old.items rows.new.items) }
+    ensures empty { IfNone result (copies_at (Held i) rows.new.items ≡ []) }
     ensures said { (h : Record) → AreSaid h rows.old.items → AreSaid h rows.new.items × IfSome result (IsSaid h) }
 {
     match &mut rows[i].task {

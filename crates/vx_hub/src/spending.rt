@@ -4,7 +4,7 @@ ghost use Rattle.vx_ledger.specs.Ledger.{AreLive};
 ghost use Rattle.vx_status.specs.declared.outcome.Outcome.{Outcome};
 ghost use Rattle.vx_record.specs.Noted.{Noted};
 ghost use Rattle.vx_hub.specs.Spending.{MaySpend, ComeFrom};
-ghost use Rattle.vx_hub.specs.Away.{IsReturning};
+ghost use Rattle.vx_hub.specs.Away.{IsArrived};
 ghost use Rattle.vx_hub.specs.Stands.{Stands};
 
 use crate::hub::Hub;
@@ -25,7 +25,7 @@ impl<P: Port> Hub<P> {
         ensures plan { self.new.plan ≡ self.old.plan }
         ensures facts { self.new.facts ≡ self.old.facts }
         ensures abandoned { self.new.abandoned ≡ self.old.abandoned }
-        ensures returning { (i : ℕ) → IsReturning self.old i → IsReturning self.new i }
+        ensures arrived { (i : ℕ) → IsArrived self.old i → IsArrived self.new i }
     {
         let Parcel {
             event: _,
@@ -49,7 +49,7 @@ impl<P: Port> Hub<P> {
         ensures plan { self.new.plan ≡ self.old.plan }
         ensures facts { self.new.facts ≡ self.old.facts }
         ensures abandoned { self.new.abandoned ≡ self.old.abandoned }
-        ensures returning { (i : ℕ) → IsReturning self.old i → IsReturning self.new i }
+        ensures arrived { (i : ℕ) → IsArrived self.old i → IsArrived self.new i }
     {
         let copy = finalizer.number();
         let notice = self.batches.spend(finalizer, outcome);

@@ -1,18 +1,17 @@
-use Rattle.std.proofs.Common.{arith, refl, ap, sym, Some, ◌≡◌, ◌∙◌, ◌∷◌, false}
-use Rattle.vx_hub.specs.Rows.{task_port}
+use Rattle.std.proofs.Common.{arith, refl, ap, sym, Some, ◌≡◌, ◌∙◌, ◌∷◌, false, subst, List}
+use Rattle.vx_hub.specs.Rows.{task_port, task_parcels, role_parcels}
 use Rattle.vx_hub.specs.declared.task.Role.TheVariants.{Sink}
 use Rattle.vx_hub.proofs.Parcels.{row_counts, popped_first, held_copies, none_held, none_first}
 use Rattle.vx_hub.proofs.RowLaws.{rooms_written, rows_lose, ports_kept, bare_kept}
 use Rattle.vx_record.specs.Places.{same_place}
 use Rattle.vx_record.specs.Places.Place.{Held}
 use Rattle.vx_hub.specs.Places.{parcel_lists}
-use Rattle.vx_hub.proofs.PlaceLaws.{read_at, written_at, places_but, but_task, places_kept, same_task, popped_queue, popped_none, task_holds}
-use Rattle.std.proofs.Common.{subst, List}
+use Rattle.vx_hub.proofs.PlaceLaws.{read_at, written_at, places_but, but_task, places_kept, same_task, popped_queue, popped_none, none_popped, task_holds}
 use Rattle.vx_ledger.specs.declared.parcel.Parcel.{Parcel}
 use Rattle.vx_hub.specs.Abreast.{HasComeHome}
 use Rattle.vx_hub.specs.Events.{IsSaid, Each, HasEach}
 use Rattle.vx_hub.proofs.EventLaws.{row_each, rows_said, queue_each}
-use Rattle.vx_hub.specs.Rows.{task_parcels}
+use Rattle.vx_hub.specs.declared.task.Role.{Role}
 use Rattle.vx_hub.proofs.rows.pop_held.Goals as goal
 
 pub returns-in-Sink-clause-loses : goal.returns-in-Sink-clause-loses
@@ -69,3 +68,13 @@ returns-in-Source-clause-said g c h said =
 
 pub returns-in-Sink-clause-same_rooms : goal.returns-in-Sink-clause-same_rooms
 returns-in-Sink-clause-same_rooms g c = rooms_written c.args.rows.now.items c.args.i c.index_mut.result.now _ c.requires c.index_mut.ensures.value refl
+
+pub returns-in-Sink-clause-empty : goal.returns-in-Sink-clause-empty
+returns-in-Sink-clause-empty g c = none_popped c.pop.result c.in-Sink.core.held.items c.pop.new.self.items _ c.pop.ensures.empty
+    (λ empty. written_at (Held c.args.i) c.args.rows.now.items c.args.i _ c.requires refl ∙ ap parcel_lists empty)
+
+pub returns-in-Source-clause-empty : goal.returns-in-Source-clause-empty
+returns-in-Source-clause-empty g c = written_at (Held c.args.i) c.args.rows.now.items c.args.i _ c.requires refl ∙ ap (λ (r : Role). parcel_lists (role_parcels r)) c.in-Source.is
+
+pub returns-in-None-clause-empty : goal.returns-in-None-clause-empty
+returns-in-None-clause-empty g c = written_at (Held c.args.i) c.args.rows.now.items c.args.i _ c.requires refl ∙ ap (λ t. parcel_lists (task_parcels t)) c.in-None.is

@@ -28,10 +28,21 @@ returns-clause-stands g c =
 pub returns-clause-outputs : goal.returns-clause-outputs
 returns-clause-outputs g c i = ap all_numbers (c.put_task.ensures.places.others (Outputs i) refl)
 
-pub returns-clause-returning : goal.returns-clause-returning
-returns-clause-returning g c =
+pub returns-clause-arrived : goal.returns-clause-arrived
+returns-clause-arrived g c =
     let d = c.args.self.now in
     record {
       home = subst (λ (o : Option _). IsSome o) (sym c.put_task.ensures.port) refl;
       away = λ sound. (c.requires.stands.recorded (record { whole = sound.whole; fed = sound.fed })).outs c.args.instance c.requires.open.within (out_port (row_at d.rows.items c.args.instance) c.requires.out);
+    }
+
+pub returns-clause-returning : goal.returns-clause-returning
+returns-clause-returning g c settled =
+    let d = c.args.self.now in
+    record {
+      arrived = record {
+        home = subst (λ (o : Option _). IsSome o) (sym c.put_task.ensures.port) refl;
+        away = λ sound. (c.requires.stands.recorded (record { whole = sound.whole; fed = sound.fed })).outs c.args.instance c.requires.open.within (out_port (row_at d.rows.items c.args.instance) c.requires.out);
+      };
+      settled = λ sound. settled (record { whole = sound.whole; fed = sound.fed });
     }

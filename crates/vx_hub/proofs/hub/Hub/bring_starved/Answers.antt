@@ -8,8 +8,11 @@ use Rattle.vx_hub.proofs.hub.Hub.bring_starved.Goals as goal
 
 pub returns-clause-returning : goal.returns-clause-returning
 returns-clause-returning g c = record {
-  home = subst (λ (o : Option _). IsSome o) (sym c.put_task.ensures.port) refl;
-  away = λ sound. let no : true ≡ false = sound.fed in cc;
+  arrived = record {
+    home = subst (λ (o : Option _). IsSome o) (sym c.put_task.ensures.port) refl;
+    away = λ sound. let no : true ≡ false = sound.fed in cc;
+  };
+  settled = λ sound. let no : true ≡ false = sound.fed in cc;
 }
 
 pub returns-clause-stands : goal.returns-clause-stands

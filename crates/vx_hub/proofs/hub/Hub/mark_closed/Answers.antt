@@ -26,4 +26,4 @@ returns-clause-stands g c =
     (λ b w. w) (λ fine sound. running_still d.log.history (Closed i) d.batches.open_rows tt) (λ ledger. ledger)
 
 pub returns-clause-returning : goal.returns-clause-returning
-returns-clause-returning g c = returning_noted c.args.self.now _ (Closed c.args.instance) (λ i. refl) c.note.ensures.noted refl (λ h k out. out)
+returns-clause-returning g c = returning_noted c.args.self.now _ (Closed c.args.instance) (λ i. refl) c.note.ensures.noted refl (λ h k out. out) (λ h k c. refl)

@@ -21,9 +21,9 @@ returns-clause-stands g c =
     let within : i < length d.facts.items = omega (arith, c.requires.stands.size, c.requires.within) in
     stands_marked g.P.Port.told d _ [] [] _ i f _ c.requires.stands within c.index_mut.ensures.value
     refl refl refl c.requires.stands.balanced refl refl c.note.ensures.noted tt (same_next d.batches d.batches d.log.history (Home i) refl refl)
-    c.requires.returning.away
-    (λ fine. left_out d.log.history i (c.requires.stands.recorded fine).order (c.requires.returning.away fine))
-    (λ k none out. home_on (i == k) (is_out d.log.history k) (other_test i k (λ e. let at : IsSome (port_at d.rows.items k) = subst (λ (n : ℕ). IsSome (port_at d.rows.items n)) (sym e) c.requires.returning.home in not_none (port_at d.rows.items k) none at)) out)
+    (λ fine. record { out = c.requires.returning.arrived.away fine; settled = c.requires.returning.settled (record { whole = fine.whole; fed = fine.fed }) })
+    (λ fine. left_out d.log.history i (c.requires.stands.recorded fine).order (c.requires.returning.arrived.away fine))
+    (λ k none out. home_on (i == k) (is_out d.log.history k) (other_test i k (λ e. let at : IsSome (port_at d.rows.items k) = subst (λ (n : ℕ). IsSome (port_at d.rows.items n)) (sym e) c.requires.returning.arrived.home in not_none (port_at d.rows.items k) none at)) out)
     refl (λ fine known. known_home f d.log.history i known) (λ x k other known. known_home_other x d.log.history i k other known)
     (facts_has (IsShut g.P.Port.told d.rows.items i) d.facts.items i f within c.index_mut.ensures.value (c.requires.stands.shut i))
     (facts_has (IsGone d.rows.items i) d.facts.items i f within c.index_mut.ensures.value (c.requires.stands.gone i))

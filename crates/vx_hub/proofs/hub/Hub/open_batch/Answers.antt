@@ -102,7 +102,7 @@ returns-clause-lined g c sound =
     (lined_born d.rows.items h c.args.instance c.in-Ok.born.0 c.in-Ok.born.0 (numbers_in copies) c.args.events.now false c.args.position.stream c.args.position.end (order.next, conserved h (s.recorded fine).order) (s.recorded fine).places.standing c.requires.sent)
 
 pub returns-clause-returning : goal.returns-clause-returning
-returns-clause-returning g c = returning_noted c.args.self.now _ (Born c.args.instance c.in-Ok.born.0 c.in-Ok.born.0 (numbers_in c.in-Ok.born.1) c.args.events.now false c.args.position.stream c.args.position.end) (λ i. refl) c.note_born.ensures refl (λ h k out. out)
+returns-clause-returning g c = returning_noted c.args.self.now _ (Born c.args.instance c.in-Ok.born.0 c.in-Ok.born.0 (numbers_in c.in-Ok.born.1) c.args.events.now false c.args.position.stream c.args.position.end) (λ i. refl) c.note_born.ensures refl (λ h k out. out) (λ h k c. refl)
 
 pub returns-clause-paired : goal.returns-clause-paired
 returns-clause-paired g c sound =

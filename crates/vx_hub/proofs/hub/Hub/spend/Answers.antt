@@ -25,7 +25,7 @@ loop-finalizer-preserved g c = record {
       (subst (λ (fs : List Copy). Stands g.P.Port.told c.loop-finalizer.self fs c.loop-finalizer.self.log.history) c.in-Some.ensures.some c.loop-finalizer.invariant.stands)
       (subst (λ (fs : List Copy). ComeFrom c.loop-finalizer.self c.args.instance c.args.outcome fs) c.in-Some.ensures.some c.loop-finalizer.invariant.from);
   rows = c.spend_one.ensures.rows ∙ c.loop-finalizer.invariant.rows;
-  returning = λ i back. c.spend_one.ensures.returning i (c.loop-finalizer.invariant.returning i back);
+  arrived = λ i back. c.spend_one.ensures.arrived i (c.loop-finalizer.invariant.arrived i back);
   plan = c.spend_one.ensures.plan ∙ c.loop-finalizer.invariant.plan;
   facts = c.spend_one.ensures.facts ∙ c.loop-finalizer.invariant.facts;
   abandoned = c.spend_one.ensures.abandoned ∙ c.loop-finalizer.invariant.abandoned;

@@ -1,7 +1,7 @@
 use Rattle.std.proofs.Common.{◌≡◌, ℕ, length}
 use Rattle.vx_hub.specs.Spending.{MaySpend, ComeFrom}
 use Rattle.vx_hub.specs.Stands.{Stands}
-use Rattle.vx_hub.specs.Away.{IsReturning}
+use Rattle.vx_hub.specs.Away.{IsArrived}
 use Rattle.vx_hub.proofs.hub.Hub.spend.Given as goal
 
 abbrev pub invariant-loop-finalizer : goal.invariant-loop-finalizer
@@ -11,7 +11,7 @@ invariant-loop-finalizer g l = record {
   from : ComeFrom l.self l.instance l.outcome l.finalizers;
   rows : l.self.rows ≡ l.fn.self.rows;
   plan : l.self.plan ≡ l.fn.self.plan;
-  returning : (i : ℕ) → IsReturning l.fn.self i → IsReturning l.self i;
+  arrived : (i : ℕ) → IsArrived l.fn.self i → IsArrived l.self i;
   facts : l.self.facts ≡ l.fn.self.facts;
   abandoned : l.self.abandoned ≡ l.fn.self.abandoned;
 }

@@ -17,7 +17,7 @@ use Rattle.vx_hub.specs.declared.hub.Hub.{Hub}
 use Rattle.vx_hub.proofs.Standing.{spending, from_spent, from_noticed}
 use Rattle.vx_record.specs.declared.entry.Entry.TheVariants.{Notice}
 use Rattle.vx_hub.specs.Rows.{port_at}
-use Rattle.vx_hub.proofs.Leaving.{returning_noted}
+use Rattle.vx_hub.proofs.Leaving.{arrived_noted}
 use Rattle.vx_hub.proofs.Saids.{rows_on}
 use Rattle.vx_hub.proofs.hub.Hub.spend_one.Goals as goal
 
@@ -93,12 +93,12 @@ returns-in-Some-clause-from g c rest s from =
     from_noticed g.P.Port.told c.args.self.now (record c.args.self.now { batches = c.spend-notice.new.self; log = c.note.new.self }) c.tell.new.self c.args.instance rest c.args.finalizer c.number-copy.result c.args.outcome
     c.in-Some.notice.batch c.in-Some.notice.status c.number-copy.ensures s from c.note.ensures.noted refl c.tell.ensures.noted (ap (λ (x : Hub _). x.starved) c.tell.ensures.rest)
 
-pub returns-in_default-clause-returning : goal.returns-in_default-clause-returning
-returns-in_default-clause-returning g c =
-    returning_noted c.args.self.now (record c.args.self.now { batches = c.spend-notice.new.self; log = c.note.new.self }) (Spent c.args.instance c.number-copy.result c.args.outcome) (λ i. refl) c.note.ensures.noted refl (λ h k out. out)
+pub returns-in_default-clause-arrived : goal.returns-in_default-clause-arrived
+returns-in_default-clause-arrived g c =
+    arrived_noted c.args.self.now (record c.args.self.now { batches = c.spend-notice.new.self; log = c.note.new.self }) (Spent c.args.instance c.number-copy.result c.args.outcome) (λ i. refl) c.note.ensures.noted refl (λ h k out. out)
 
-pub returns-in-Some-clause-returning : goal.returns-in-Some-clause-returning
-returns-in-Some-clause-returning g c i back =
+pub returns-in-Some-clause-arrived : goal.returns-in-Some-clause-arrived
+returns-in-Some-clause-arrived g c i back =
     let mid : Hub _ = record c.args.self.now { batches = c.spend-notice.new.self; log = c.note.new.self } in
-    returning_noted mid c.tell.new.self (Notice c.in-Some.notice.batch c.in-Some.notice.status) (λ k. ap (λ (x : Hub _). port_at x.rows.items k) c.tell.ensures.rest) c.tell.ensures.noted (ap (λ (x : Hub _). x.starved) c.tell.ensures.rest) (λ h k out. out) i
-    (returning_noted c.args.self.now mid (Spent c.args.instance c.number-copy.result c.args.outcome) (λ k. refl) c.note.ensures.noted refl (λ h k out. out) i back)
+    arrived_noted mid c.tell.new.self (Notice c.in-Some.notice.batch c.in-Some.notice.status) (λ k. ap (λ (x : Hub _). port_at x.rows.items k) c.tell.ensures.rest) c.tell.ensures.noted (ap (λ (x : Hub _). x.starved) c.tell.ensures.rest) (λ h k out. out) i
+    (arrived_noted c.args.self.now mid (Spent c.args.instance c.number-copy.result c.args.outcome) (λ k. refl) c.note.ensures.noted refl (λ h k out. out) i back)

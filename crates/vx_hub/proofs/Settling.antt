@@ -1,0 +1,216 @@
+-- What was attempted is held or spent, and spent where its instance is at home.
+use Rattle.std.proofs.Common.{◌≡◌, ℕ, zero, suc, ◌+◌, ◌<◌, ◌≤◌, Bool, true, false, List, [], ◌∷◌, ◌++◌, length, refl, sym, ap, subst, ◌∙◌, arith, inl, inr}
+use Rattle.std.specs.Prelude.{if◌then◌else◌, nat_lt, ◌==◌, ◌&&◌, ◌||◌}
+use Rattle.std.specs.List.{list_any}
+use Rattle.std.proofs.lemmas.Bool.Decides.{nat_tests}
+use Rattle.std.proofs.lemmas.Bool.{cases_lt}
+use Rattle.vx_ends.specs.Told.{Told}
+use Rattle.vx_ledger.specs.Copies.{Copy}
+use Rattle.vx_record.specs.Records.{Record}
+use Rattle.vx_record.specs.declared.entry.Entry.{Entry}
+use Rattle.vx_record.specs.declared.entry.Entry.TheVariants.{Lease, Home, Attempt, Spent}
+use Rattle.vx_record.specs.Copies.{count, contains, joined, spends, all_of, times_spent}
+use Rattle.vx_record.specs.Places.{kind, leaves, puts}
+use Rattle.vx_record.specs.Places.Place.{Held}
+use Rattle.vx_record.specs.Lists.{shrunk, held}
+use Rattle.vx_record.specs.Turns.{is_out, since_lease, is_attempt_of}
+use Rattle.vx_record.specs.SinkBatches.{attempts_with, failures_with, attempts_allowed}
+use Rattle.vx_record.specs.Parcels.{first_copy}
+use Rattle.vx_record.specs.Owing.{is_decided, unspent_of, owes_spends_in}
+use Rattle.vx_record.specs.Moving.{IsConserved}
+use Rattle.vx_record.proofs.Counts.{count-append}
+use Rattle.vx_record.proofs.Changes.{parcels_after, put_at}
+use Rattle.vx_record.proofs.Hands.{stands_still}
+use Rattle.std.specs.Prelude.{IsTrue}
+use Rattle.vx_hub.specs.declared.facts.Facts.{Facts}
+use Rattle.vx_hub.specs.declared.hub.Hub.{Hub}
+use Rattle.vx_hub.specs.Order.{IsOrderly, AreSettled, IsLeaseOf}
+use Rattle.vx_hub.specs.Away.{IsUntried, IsSettled}
+use Rattle.vx_hub.specs.Rows.{IsOutAt, row_at}
+use Rattle.vx_hub.specs.Places.{all_numbers, copies_at}
+use Rattle.vx_hub.specs.Stands.{Stands, IsKnown}
+use Rattle.vx_hub.proofs.Naming.{there_known}
+use Rattle.vx_hub.proofs.Silence.{same_test, other_test}
+use Rattle.vx_hub.proofs.Placing.{conserved, places_all}
+use Rattle.vx_hub.proofs.Standing.{count_shrunk}
+use Rattle.vx_hub.proofs.Touching.{out_port}
+
+-- an entry that is no attempt of the instance leaves it settled
+pub settled_on : (h : Record) (e : Entry) (i : ℕ) → ((c : ℕ) → attempts_with (e ∷ h) i c ≡ attempts_with h i c) → AreSettled h i → AreSettled (e ∷ h) i
+settled_on h e i same s c l =
+    let before = s c (let n = same c in omega (arith, l, n)) in
+    let all = count-append c (all_of spends h) (spends e) in
+    omega (arith, before, all)
+
+not_tried : (t b : Bool) (n : ℕ) → t ≡ false → n + (if t && b then 1 else 0) ≡ n
+not_tried true b n e = cc
+not_tried false b n e = omega arith
+
+not_leased : (b c : Bool) → (if b then true else c) ≡ false → c ≡ false
+not_leased true c e = cc
+not_leased false c e = e
+
+was_out : (b c : Bool) → (if b then false else c) ≡ true → c ≡ true
+was_out true c e = cc
+was_out false c e = e
+
+or_left : (a b : Bool) → (a || b) ≡ false → a ≡ false
+or_left true b e = cc
+or_left false b e = refl
+
+or_right : (a b : Bool) → (a || b) ≡ false → b ≡ false
+or_right true b e = cc
+or_right false b e = e
+
+-- an instance at home has spent all that it attempted
+pub settled_home : (h : Record) (i : ℕ) → IsOrderly h → is_out h i ≡ false → AreSettled h i
+settled_home [] i o home = λ c l. absurd (omega (arith, l))
+settled_home (Lease j worker now polls ∷ h) i o home = settled_on h (Lease j worker now polls) i (λ c. refl) (settled_home h i o.1 (not_leased (j == i) (is_out h i) home))
+settled_home (Home j ∷ h) i o home = go (j == i) refl home (settled_home h i o.1)
+  where
+    go : (b : Bool) → (j == i) ≡ b → (if b then false else is_out h i) ≡ false → (is_out h i ≡ false → AreSettled h i) → AreSettled (Home j ∷ h) i
+    go true e at rest = let same : j ≡ i = grind (arith, nat_tests) in settled_on h (Home j) i (λ c. refl) (subst (λ (k : ℕ). AreSettled h k) same o.0.0.settled)
+    go false e at rest = settled_on h (Home j) i (λ c. refl) (rest at)
+settled_home (Attempt j copies bytes reply ∷ h) i o home =
+    let off : (j == i) ≡ false = other_test j i (λ e. let out : is_out h i ≡ true = subst (λ (k : ℕ). is_out h k ≡ true) (sym e) o.0.0.out in let no : true ≡ false = sym out ∙ home in cc) in
+    settled_on h (Attempt j copies bytes reply) i (λ c. not_tried (j == i) (contains copies c) (attempts_with h i c) off) (settled_home h i o.1 home)
+settled_home (e ∷ h) i o home = settled_on h e i (λ c. refl) (settled_home h i o.1 home)
+
+-- so has one that is out and made no attempt yet
+pub settled_untried : (h : Record) (i : ℕ) → IsOrderly h → is_out h i ≡ true → list_any (is_attempt_of i) (since_lease h i) ≡ false → AreSettled h i
+settled_untried [] i o out none = cc
+settled_untried (Lease j worker now polls ∷ h) i o out none = go (j == i) refl out none (settled_untried h i o.1)
+  where
+    go : (b : Bool) → (j == i) ≡ b → (if b then true else is_out h i) ≡ true → list_any (is_attempt_of i) (if b then [] else Lease j worker now polls ∷ since_lease h i) ≡ false →
+        (is_out h i ≡ true → list_any (is_attempt_of i) (since_lease h i) ≡ false → AreSettled h i) → AreSettled (Lease j worker now polls ∷ h) i
+    go true e at un rest = let same : j ≡ i = grind (arith, nat_tests) in
+        settled_on h (Lease j worker now polls) i (λ c. refl) (settled_home h i o.1 (subst (λ (k : ℕ). is_out h k ≡ false) same o.0.0.home))
+    go false e at un rest = settled_on h (Lease j worker now polls) i (λ c. refl) (rest at un)
+settled_untried (Home j ∷ h) i o out none = settled_on h (Home j) i (λ c. refl) (settled_untried h i o.1 (was_out (j == i) (is_out h i) out) none)
+settled_untried (Attempt j copies bytes reply ∷ h) i o out none =
+    settled_on h (Attempt j copies bytes reply) i (λ c. not_tried (j == i) (contains copies c) (attempts_with h i c) (or_left (j == i) _ none))
+    (settled_untried h i o.1 out (or_right (j == i) _ none))
+settled_untried (e ∷ h) i o out none = settled_on h e i (λ c. refl) (settled_untried h i o.1 out none)
+
+joined_more : (c : ℕ) (xs ys : List (List ℕ)) → count c (joined (xs ++ ys)) ≡ count c (joined xs) + count c (joined ys)
+joined_more c [] ys = omega arith
+joined_more c (x ∷ xs) ys =
+    let a = count-append c x (joined (xs ++ ys)) in
+    let b = count-append c x (joined xs) in
+    let ih = joined_more c xs ys in
+    omega (arith, a, b, ih)
+
+-- what is held stays held, but for what leaves
+held_stays : (h : Record) (e : Entry) (i c : ℕ) → IsConserved (e ∷ h) → count c (leaves (kind (Held i)) e) ≡ 0 → 0 < count c (joined (held h i)) → 0 < count c (joined (held (e ∷ h) i))
+held_stays h e i c kept none l =
+    let now = ap (λ (ps : List (List ℕ)). count c (joined ps)) (parcels_after h e (Held i) kept) in
+    let more = joined_more c (shrunk (leaves (kind (Held i)) e) (held h i)) (put_at (Held i) (puts e)) in
+    let same = count_shrunk c (leaves (kind (Held i)) e) (held h i) none in
+    omega (arith, l, now, more, same)
+
+-- what was attempted and isn't spent is held
+attempted_held : (h : Record) (i c : ℕ) → IsOrderly h → 0 < attempts_with h i c → times_spent h c ≡ 0 → 0 < count c (joined (held h i))
+attempted_held [] i c o l none = absurd (omega (arith, l))
+attempted_held (Attempt j copies bytes reply ∷ h) i c o l none =
+    subst (λ (ps : List (List ℕ)). 0 < count c (joined ps)) (sym (stands_still h (Attempt j copies bytes reply) (Held i) tt (conserved h o.1)))
+    (go (j == i) refl l (attempted_held h i c o.1))
+  where
+    before : times_spent h c ≡ 0
+    before = let all = count-append c (all_of spends h) [] in omega (arith, none, all)
+
+    named : (n m : ℕ) → n ≤ 0 → 0 < n + (if true && nat_lt 0 m then 1 else 0) → 0 < m
+    named n zero few some = absurd (omega (arith, few, some))
+    named n (suc m) few some = omega arith
+
+    go : (b : Bool) → (j == i) ≡ b → 0 < attempts_with h i c + (if b && contains copies c then 1 else 0) → (0 < attempts_with h i c → times_spent h c ≡ 0 → 0 < count c (joined (held h i))) → 0 < count c (joined (held h i))
+    go true e some rest = elim (cases_lt 0 (attempts_with h i c)) [
+      | inl tried ↦ rest tried before
+      | inr few ↦
+          let same : j ≡ i = grind (arith, nat_tests) in
+          let here : 0 < count c (joined (held h j)) = subst (λ (cs : List ℕ). 0 < count c cs) o.0.0.all (named (attempts_with h i c) (count c copies) few some) in
+          subst (λ (k : ℕ). 0 < count c (joined (held h k))) same here
+    ]
+    go false e some rest = rest (omega (arith, some)) before
+attempted_held (Spent j d outcome ∷ h) i c o l none =
+    let all = count-append c (all_of spends h) (d ∷ []) in
+    held_stays h (Spent j d outcome) i c (conserved (Spent j d outcome ∷ h) o) (omega (arith, none, all)) (attempted_held h i c o.1 l (omega (arith, none, all)))
+attempted_held (e ∷ h) i c o l none =
+    let all = count-append c (all_of spends h) [] in
+    held_stays h e i c (conserved (e ∷ h) o) refl (attempted_held h i c o.1 l (omega (arith, none, all)))
+
+-- so where nothing is held all that was attempted is spent
+pub settled_bare : (h : Record) (i : ℕ) → IsOrderly h → held h i ≡ [] → AreSettled h i
+settled_bare h i o none c l = elim (cases_lt 0 (times_spent h c)) [
+  | inl spent ↦ spent
+  | inr few ↦
+      let here = attempted_held h i c o l (omega (arith, few)) in
+      let nothing = ap (λ (ps : List (List ℕ)). count c (joined ps)) none in
+      absurd (omega (arith, here, nothing))
+]
+
+-- WHAT IS OWED
+all_false : (a b c : Bool) → c ≡ false → (a && b && c) ≡ false
+all_false true true c e = e
+all_false true false c e = refl
+all_false false b c e = refl
+
+first_false : (a b c : Bool) → a ≡ false → (a && b && c) ≡ false
+first_false true b c e = cc
+first_false false b c e = refl
+
+none_of : (a b : Bool) → a ≡ false → b ≡ false → (a || b) ≡ false
+none_of true b e f = cc
+none_of false b e f = f
+
+spent_some : (n : ℕ) → 0 < n → (n == 0) ≡ false
+spent_some n l = grind (arith, nat_tests)
+
+spent_all : (whole : Record) (copies : List ℕ) → ((c : ℕ) → 0 < count c copies → 0 < times_spent whole c) → unspent_of whole copies ≡ false
+spent_all whole [] all = refl
+spent_all whole (c ∷ cs) all =
+    none_of (times_spent whole c == 0) (unspent_of whole cs)
+    (spent_some (times_spent whole c) (all c (let t = same_test c in grind (arith, nat_tests))))
+    (spent_all whole cs (λ d l. all d (omega (arith, l))))
+
+tried : (t : Bool) (n m : ℕ) → t ≡ true → 0 < m → 0 < n + (if t && nat_lt 0 m then 1 else 0)
+tried t n m e l = subst (λ (b : Bool). 0 < n + (if b && nat_lt 0 m then 1 else 0)) (sym e) go
+  where
+    go : 0 < n + (if true && nat_lt 0 m then 1 else 0)
+    go = grind (arith, nat_tests, l)
+
+-- an instance that has spent all that it attempted owes no spend
+pub owes_none : (h whole : Record) (i : ℕ) → ((c : ℕ) → 0 < attempts_with h i c → 0 < times_spent whole c) → owes_spends_in h whole i ≡ false
+owes_none [] whole i all = refl
+owes_none (Attempt j copies bytes reply ∷ h) whole i all =
+    none_of ((j == i) && is_decided reply (failures_with h i (first_copy copies) + 1) (attempts_allowed h i) && unspent_of whole copies) (owes_spends_in h whole i)
+    (go (j == i) refl) (owes_none h whole i (λ c l. all c (omega (arith, l))))
+  where
+    go : (b : Bool) → (j == i) ≡ b → ((j == i) && is_decided reply (failures_with h i (first_copy copies) + 1) (attempts_allowed h i) && unspent_of whole copies) ≡ false
+    go true e = all_false (j == i) _ (unspent_of whole copies) (spent_all whole copies (λ c l. all c (tried (j == i) (attempts_with h i c) (count c copies) e l)))
+    go false e = first_false (j == i) _ _ e
+owes_none (e ∷ h) whole i all = owes_none h whole i all
+
+-- what isn't closed isn't retired
+pub unclosed_unretired : (h : Record) (f : Facts) (i : ℕ) (gone : IsTrue f.retired → IsTrue f.closed) → f.closed ≡ false → f.leased ≡ false → IsKnown f h i → IsOrderly h → IsLeaseOf h i 0
+unclosed_unretired h f i gone unclosed unleased k orderly = record {
+  known = there_known h i f orderly k;
+  home = sym k.leased ∙ unleased;
+  settled = owes_none h h i (settled_home h i orderly (sym k.leased ∙ unleased));
+  unclosed = sym k.closed ∙ unclosed;
+  unretired = sym k.retired ∙ go f.retired refl;
+  unpolled = refl;
+}
+  where
+    go : (b : Bool) → f.retired ≡ b → b ≡ false
+    go true e = let c : f.closed ≡ true = gone e in cc
+    go false e = refl
+
+pub untried_settled : {P : Type 0} (told_by : P → Told) (d : Hub P) (hand : List Copy) (i : ℕ) → Stands told_by d hand d.log.history → IsOutAt d.rows.items i → i < length d.rows.items → IsUntried d i → IsSettled d i
+untried_settled told_by d hand i s out within untried sound =
+    let r = s.recorded sound in
+    settled_untried d.log.history i r.order (r.outs i within (out_port (row_at d.rows.items i) out)) (untried sound)
+
+pub bare_settled : {P : Type 0} (told_by : P → Told) (d : Hub P) (i : ℕ) → Stands told_by d [] d.log.history → copies_at (Held i) d.rows.items ≡ [] → IsSettled d i
+bare_settled told_by d i s none sound =
+    let r = s.recorded sound in
+    settled_bare d.log.history i r.order (places_all d.rows.items d.log.history r.places.standing (Held i) ∙ ap all_numbers none)
