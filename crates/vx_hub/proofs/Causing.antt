@@ -12,9 +12,9 @@ use Rattle.vx_record.specs.Records.{Record}
 use Rattle.vx_record.specs.declared.child.Child.{Child}
 use Rattle.vx_record.specs.declared.entry.Entry.TheVariants.{Born, Split, Push, Take, Attempt}
 use Rattle.vx_record.specs.Copies.{count, joined, contains, next_copy}
-use Rattle.vx_record.specs.Places.{Place, Put, Kind, kind, same_place, puts, one_each, all_puts, left}
+use Rattle.vx_record.specs.Places.{Place, Put, Kind, kind, same_place, puts, one_each, all_puts, left, owner}
 use Rattle.vx_record.specs.Places.Place.{Outputs, Waiting, Held}
-use Rattle.vx_record.specs.Lists.{without, unless_empty, standing, stands, parcels_at, outputs}
+use Rattle.vx_record.specs.Lists.{without, unless_empty, standing, stands, parcels_at, outputs, places, times_among}
 use Rattle.vx_record.specs.Installs.{component_of, wired}
 use Rattle.vx_record.specs.Parcels.{ports_of, first_copy, parcel_ports, port_list}
 use Rattle.vx_record.specs.Routing.{routes, is_dry, is_sent, wired_targets}
@@ -22,7 +22,8 @@ use Rattle.vx_record.specs.SinkBatches.{failures_with, attempts_allowed, retries
 use Rattle.vx_record.specs.Spending.{WasAnswered, last_attempted, last_reply, oldest}
 use Rattle.vx_record.specs.Moving.{IsConserved}
 use Rattle.vx_record.proofs.Counts.{count-append, count-without, counting_before, counting_after}
-use Rattle.vx_hub.specs.Order.{IsCaused, AreSpentFrom, readers_at}
+use Rattle.vx_record.proofs.Changes.{places_meant, same_place_is}
+use Rattle.vx_hub.specs.Order.{IsCaused, AreSpentFrom, readers_at, IsPlaceFor}
 use Rattle.vx_hub.specs.Spending.{IsSpentFor, AreAnswered}
 use Rattle.vx_hub.proofs.Ceasing.{has_abandoned}
 use Rattle.vx_hub.proofs.Retiring.{waiting_puts}
@@ -200,3 +201,27 @@ caused h i c NoConsumer kept s from =
 caused h i c Abandoned kept s from = has_abandoned h (s.given_up refl)
 caused h i c Filtered kept s from = absurd s.given
 caused h i c NewestDropped kept s from = absurd s.given
+
+-- WHERE IT STANDS
+-- what stands at a place of an instance stands at the instance
+owned : (p : Place) (ps : List Place) → 0 < times_among p ps → 0 < count (owner p) (map owner ps)
+owned p [] l = absurd (omega (arith, l))
+owned p (q ∷ rest) l = go (same_place q p) refl l (owned p rest)
+  where
+    go : (b : Bool) → same_place q p ≡ b → 0 < (if b then 1 else 0) + times_among p rest → (0 < times_among p rest → 0 < count (owner p) (map owner rest)) → 0 < count (owner p) (owner q ∷ map owner rest)
+    go true e some others =
+        let same : (owner q == owner p) ≡ true = ap (λ (r : Place). owner r == owner p) (same_place_is q p e) ∙ same_test (owner p) in
+        subst (λ (b : Bool). 0 < (if b then 1 else 0) + count (owner p) (map owner rest)) (sym same) (omega arith)
+    go false e some others = let n = others (omega (arith, some)) in omega (arith, n)
+
+place_owner : (outcome : Outcome) (i : ℕ) (p : Place) → IsPlaceFor outcome i p → owner p ≡ i
+place_owner NoConsumer i p meant = ap owner meant
+place_owner Abandoned i p meant = meant
+place_owner outcome i p meant = ap owner meant
+
+-- a copy that is spent where it stands is at its instance
+pub spent_here : (h : Record) (i c : ℕ) (outcome : Outcome) → AreSpentFrom h i outcome (c ∷ []) → 0 < count i (map owner (places h c))
+spent_here h i c outcome from =
+    let there = from.there c (itself c) in
+    let times = places_meant h c from.place in
+    subst (λ (k : ℕ). 0 < count k (map owner (places h c))) (place_owner outcome i from.place from.meant) (owned from.place (places h c) (omega (arith, there, times)))

@@ -25,7 +25,7 @@ use Rattle.vx_hub.specs.Order.{AreSpentFrom, IsSpending, IsPlaceFor, reply_behin
 use Rattle.vx_hub.specs.Places.{TakesFrom, TakesOldest, copies_at, all_numbers}
 use Rattle.vx_hub.specs.Spending.{IsSpentFor, ComeFrom}
 use Rattle.vx_hub.specs.Stands.{Stands, IsSound}
-use Rattle.vx_hub.proofs.Causing.{caused}
+use Rattle.vx_hub.proofs.Causing.{caused, spent_here}
 use Rattle.vx_hub.proofs.Shrinking.{shrinks, oldest_left}
 use Rattle.vx_hub.proofs.Ordering.{sound_before}
 use Rattle.vx_hub.proofs.Placing.{places_all, all_numbers-append, numbers-append, spent_live, conserved}
@@ -140,8 +140,8 @@ answered_place (Some cause) outcome reply i going given_up = subst (λ (o : Outc
 -- a copy of the hand is spent in order
 pub spending : (h : Record) (i : ℕ) (f : Copy) (n : ℕ) (outcome : Outcome) → n ≡ f.number → IsConserved h → IsLive h n → IsSpentFor h i outcome → AreSpentFrom h i outcome (f.number ∷ []) → IsSpending h i n outcome
 spending h i f n outcome same kept live cause from =
-    let here : AreSpentFrom h i outcome (n ∷ []) = subst (λ (k : ℕ). AreSpentFrom h i outcome (k ∷ [])) (sym same) from in
-    record { live = live; cause = caused h i n outcome kept cause here; left = cause.left; from = here }
+    let alone : AreSpentFrom h i outcome (n ∷ []) = subst (λ (k : ℕ). AreSpentFrom h i outcome (k ∷ [])) (sym same) from in
+    record { live = live; here = spent_here h i n outcome alone; cause = caused h i n outcome kept cause alone; left = cause.left; from = alone }
 
 -- a record behind which a copy of the hand is spent
 kept_spent : {P : Type 0} (told_by : P → Told) (d : Hub P) (i : ℕ) (rest : List Copy) (f : Copy) (n : ℕ) (outcome : Outcome) → n ≡ f.number → Stands told_by d (rest ++ f ∷ []) d.log.history → IsSound d →

@@ -11,7 +11,7 @@ use Rattle.vx_record.specs.Records.{Record, capped}
 use Rattle.vx_record.specs.Copies.{count, joined, counting, children_of, next_copy, times_spent, IsLive}
 use Rattle.vx_record.specs.Places.{Place, owner}
 use Rattle.vx_record.specs.Places.Place.{Outputs, Held}
-use Rattle.vx_record.specs.Lists.{outputs, waiting, all_waiting, contents, held, stands, parcels_at, is_bare}
+use Rattle.vx_record.specs.Lists.{outputs, waiting, all_waiting, contents, held, stands, parcels_at, places, is_bare}
 use Rattle.vx_record.specs.Sending.{IsOldest}
 use Rattle.vx_record.specs.Stages.{first_room, first_filled}
 use Rattle.vx_record.specs.Moving.{Divides}
@@ -197,9 +197,10 @@ pub record AreSpentFrom (h : Record) (i : ℕ) (outcome : Outcome) (copies : Lis
   pub there : (c : ℕ) → 0 < count c copies → 0 < count c (joined (parcels_at place (stands h)))
   pub next : outcome ≡ NoConsumer → (c : ℕ) → 0 < count c copies → 0 < count c (oldest (outputs h i))
 
--- a live copy is spent where it stands, and for a cause; behind an abandonment only as abandoned
+-- a live copy is spent at its instance, where it stands, and for a cause; behind an abandonment only as abandoned
 pub record IsSpending (h : Record) (i c : ℕ) (outcome : Outcome) : Type 0 where
   pub live : IsLive h c
+  pub here : 0 < count i (map owner (places h c))
   pub cause : IsCaused h i c outcome
   pub left : IsSome (cause_of h) → outcome ≡ Abandoned
   pub from : AreSpentFrom h i outcome (c ∷ [])
