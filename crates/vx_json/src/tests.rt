@@ -6,7 +6,10 @@ use super::word_place::WordPlace;
 use super::{Codec, DemoSettings, JsonFault, encode_event, read, write, write_value};
 use std::alloc::Global;
 use std::test::Fail;
-use vx_value::{Bytes, Event, FieldList, ItemList, Path, Text, Value, ValueList, WantOfMemory};
+use vx_value::{
+    Bytes, Event, FieldList, ItemList, Path, PathFault, PutFault, Text, Value, ValueList,
+    WantOfMemory,
+};
 
 /// What some bytes are read as: the event in its one spelling, or the fault in words.
 fn said(alloc: Global, bytes: &[u8]) -> Result<String, Fail> {
@@ -38,6 +41,25 @@ fn json_faults(rt: HostRuntime) -> Result<(), Fail> {
         let answer = said(alloc, text.as_bytes())?;
         assert_eq!(rt; answer.as_str(), want);
     }
+    Ok(())
+}
+
+#[test]
+fn put_and_lossy(rt: HostRuntime) -> Result<(), Fail> {
+    let alloc = rt.alloc();
+    let below = Path::read(alloc, ".a.b")?;
+    let mut event = read(alloc, b"{\"a\":1}")?;
+    let refused = event.put(&below, Value::Whole(2));
+    assert_eq!(rt; refused, Err(PutFault::Blocked { names: 1 }));
+    let mut event = read(alloc, b"{}")?;
+    event.put(&below, Value::Whole(2))?;
+    assert_eq!(rt; spelled(alloc, &event)?.as_str(), "{\"a\":{\"b\":2}}");
+    match Path::read(alloc, "a..b") {
+        Err(fault) => assert_eq!(rt; fault, PathFault::Syntax { at: 2 }),
+        Ok(_) => return Err(Fail::from(PathFault::Long)),
+    }
+    let lossy = Text::lossy(alloc, b"a\xE2\x82b")?;
+    assert_eq!(rt; lossy.as_str(), "a\u{FFFD}b");
     Ok(())
 }
 
