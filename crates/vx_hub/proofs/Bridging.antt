@@ -99,11 +99,11 @@ pub given_by : (h : Record) (i stream : ℕ) (took : Taken) (core : SourceCore) 
     (events ≡ events_of h i stream took) × (end ≡ capped (record_end (new_lines h i stream took)))
 given_by h i stream took core behind events end made adds are = (
   told_some (component_of h i) (λ c. IsMadeFor c.settings core) [] events (λ c. events_of_lines c.settings lines) made
-    (λ c m. are.each ∙ ap (λ (w : Word). map (λ (line : CutLine). event_of_line w line.bytes) (map (line_of s) behind)) m.source_type
-    ∙ ap (λ (fs : List Frame). map (λ (line : CutLine). event_of_line (type_name c.settings) line.bytes) (map (line_of s) fs)) (sym framed)
-    ∙ sym (events_by c.settings s lines) ∙ sym (decoded_by c.settings lines m.decoding_is)),
+      (λ c m. are.each ∙ ap (λ (w : Word). map (λ (line : CutLine). event_of_line w line.bytes) (map (line_of s) behind)) m.source_type
+      ∙ ap (λ (fs : List Frame). map (λ (line : CutLine). event_of_line (type_name c.settings) line.bytes) (map (line_of s) fs)) (sym framed)
+      ∙ sym (events_by c.settings s lines) ∙ sym (decoded_by c.settings lines m.decoding_is)),
   are.last ∙ ap (λ (fs : List Frame). last_end (map (line_of s) fs)) (sym framed) ∙ sym (end_by s lines)
-  ∙ sym (still (record_end lines) (subst fits (sym framed) (added_fit (limit_of h i) (open_bytes h i s) took behind added))),
+      ∙ sym (still (record_end lines) (subst fits (sym framed) (added_fit (limit_of h i) (open_bytes h i s) took behind added))),
 )
   where
     s : ℕ

@@ -31,7 +31,7 @@ use Rattle.vx_hub.specs.Numbers.{numbers_in}
 use Rattle.vx_plan.specs.declared.class.Class.TheVariants.{Sink}
 use Rattle.vx_hub.specs.Order.{IsAttemptOf, IsOfClass}
 use Rattle.vx_hub.specs.Places.{parcel_numbers}
-use Rattle.vx_hub.specs.Rows.{row_at, task_parcels, role_parcels, role_copies}
+use Rattle.vx_hub.specs.Rows.{task_parcels, role_parcels, role_copies}
 use Rattle.vx_hub.proofs.Homing.{held_numbers, held_some}
 use Rattle.vx_hub.proofs.Ordering.{sound_before}
 use Rattle.vx_hub.proofs.RowLaws.{rows_keep, row_has}

@@ -25,6 +25,7 @@ use Rattle.vx_record.specs.Records.{Record}
 use Rattle.vx_record.specs.Copies.{counting, children_of, next_copy}
 use Rattle.vx_record.specs.Lists.{all_waiting, waiting, outputs}
 use Rattle.vx_record.specs.Places.{puts}
+use Rattle.vx_record.specs.Turns.{is_out}
 use Rattle.vx_record.specs.Spending.{last_attempted, last_reply}
 use Rattle.vx_record.specs.Sending.{IsOldest}
 use Rattle.vx_record.specs.Noted.{Noted}
@@ -97,15 +98,16 @@ pub length_noted : (targets : List ℕ) (first : ℕ) (parcel : Parcel) (childre
 length_noted targets first parcel children are = ap (λ (cs : List Child). length (noted_of cs)) are ∙ ap length (noted_children targets first parcel) ∙ length_children first (length parcel.finalizers) targets
 
 -- a split that the ledger made is in order
-pub split_in_order : (h : Record) (i next : ℕ) (targets : List ℕ) (parcel : Parcel) (children : List Child) → IsOrderly h → all_waiting h i ≡ [] → targets ≡ readers_at h i → IsOldest (numbers_in parcel.finalizers) (outputs h i) → next ≡ next_copy h → children ≡ children_for targets next parcel → 0 < length targets →
+pub split_in_order : (h : Record) (i next : ℕ) (targets : List ℕ) (parcel : Parcel) (children : List Child) → IsOrderly h → is_out h i ≡ false → all_waiting h i ≡ [] → targets ≡ readers_at h i → IsOldest (numbers_in parcel.finalizers) (outputs h i) → next ≡ next_copy h → children ≡ children_for targets next parcel → 0 < length targets →
     next + length targets * length parcel.finalizers ≤ 2 ^ 63 → IsSaid h parcel → IsSplitOf h i 1 (numbers_in parcel.finalizers) parcel.event (noted_of children)
-split_in_order h i next targets parcel children order waits routed oldest now are some fits said =
+split_in_order h i next targets parcel children order home waits routed oldest now are some fits said =
     let m = length parcel.finalizers in
     let many : length (numbers_in parcel.finalizers) ≡ m = length_numbers parcel.finalizers in
     let count : length (noted_of children) ≡ length targets = length_noted targets next parcel children are in
     let made : noted_of children ≡ children_of (next_copy h) (length (numbers_in parcel.finalizers)) targets =
     ap noted_of are ∙ noted_children targets next parcel ∙ ap (λ k. children_of k m targets) now ∙ ap (λ k. children_of (next_copy h) k targets) (sym many) in
     record {
+      home = home;
       divides = record { oldest = oldest; made = (targets, made) };
       none_waits = waits;
       on_ports = output_on_first h i (numbers_in parcel.finalizers) order oldest;

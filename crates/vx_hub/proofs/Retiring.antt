@@ -15,7 +15,7 @@ use Rattle.vx_record.specs.Lists.{stands, parcels_at, parcels_where, is_bare, is
 use Rattle.vx_hub.specs.declared.facts.Facts.{Facts}
 use Rattle.vx_hub.specs.declared.row.Row.{Row}
 use Rattle.vx_hub.specs.declared.hub.Hub.{Hub}
-use Rattle.vx_hub.specs.Order.{IsEndOf, IsLeaseOf, IsClosing, IsOrderly}
+use Rattle.vx_hub.specs.Order.{IsEndOf, IsClosing}
 use Rattle.vx_hub.specs.Places.{IsThere, copies_if, all_numbers}
 use Rattle.vx_hub.specs.Remains.{HasEnds}
 use Rattle.vx_hub.specs.Rows.{row_at, IsBare, IsBareAt, NoneWaits}
@@ -180,7 +180,6 @@ known_home_other f h i j other k = record {
   leased = k.leased ∙ sym (ap (λ t. if t then false else is_out h j) (other_test i j other));
 }
 
-
 place_itself : (p : Place) → same_place p p ≡ true
 place_itself (Outputs i) = same_test i
 place_itself (Waiting i t) = both (i == i) (t == t) (same_test i) (same_test t)
@@ -256,9 +255,10 @@ pub bare_record : {P : Type 0} (rows : List (Row P)) (h : Record) (i : ℕ) → 
 bare_record rows h i placed bare = bare_puts (stands h) i (λ p own. places_all rows h placed p ∙ bare_place rows i p own bare)
 
 -- an instance that ended may be retired
-pub end_in_order : {P : Type 0} (told_by : P → Told) (d : Hub P) (i : ℕ) (f : Facts) → Stands told_by d [] d.log.history → IsSound d → IsKnown f d.log.history i → f.closed ≡ true → f.retired ≡ false → IsBareAt d.rows.items i → IsEndOf d.log.history i
-end_in_order told_by d i f s fine k closed unretired bare = record {
+pub end_in_order : {P : Type 0} (told_by : P → Told) (d : Hub P) (i : ℕ) (f : Facts) → Stands told_by d [] d.log.history → IsSound d → IsKnown f d.log.history i → f.closed ≡ true → f.retired ≡ false → f.leased ≡ false → IsBareAt d.rows.items i → IsEndOf d.log.history i
+end_in_order told_by d i f s fine k closed unretired unleased bare = record {
   known = there_known d.log.history i f (s.recorded fine).order k;
+  home = sym k.leased ∙ unleased;
   unretired = sym k.retired ∙ unretired;
   port_closed = sym k.closed ∙ closed;
   bare = bare_record d.rows.items d.log.history i (s.recorded fine).places.standing bare;

@@ -21,14 +21,14 @@ use Rattle.vx_record.specs.Moving.{IsConserved}
 use Rattle.vx_record.proofs.Counts.{count-append}
 use Rattle.vx_record.proofs.Changes.{parcels_after, put_at}
 use Rattle.vx_record.proofs.Hands.{stands_still}
-use Rattle.std.specs.Prelude.{IsTrue}
+use Rattle.std.specs.Prelude.{IsTrue, IfSome, IsSomeAnd, Option, Some, None}
 use Rattle.vx_hub.specs.declared.facts.Facts.{Facts}
 use Rattle.vx_hub.specs.declared.hub.Hub.{Hub}
 use Rattle.vx_hub.specs.Order.{IsOrderly, AreSettled, IsLeaseOf}
 use Rattle.vx_hub.specs.Away.{IsUntried, IsSettled}
 use Rattle.vx_hub.specs.Rows.{IsOutAt, row_at}
 use Rattle.vx_hub.specs.Places.{all_numbers, copies_at}
-use Rattle.vx_hub.specs.Stands.{Stands, IsKnown}
+use Rattle.vx_hub.specs.Stands.{Stands, IsKnown, IsSound, IsAtHome, facts_at}
 use Rattle.vx_hub.proofs.Naming.{there_known}
 use Rattle.vx_hub.proofs.Silence.{same_test, other_test}
 use Rattle.vx_hub.proofs.Placing.{conserved, places_all}
@@ -204,6 +204,14 @@ unclosed_unretired h f i gone unclosed unleased k orderly = record {
     go : (b : Bool) → f.retired ≡ b → b ≡ false
     go true e = let c : f.closed ≡ true = gone e in cc
     go false e = refl
+
+-- an instance at home, by what the hub knows, is at home in the record
+pub known_at_home : {P : Type 0} (told_by : P → Told) (d : Hub P) (hand : List Copy) (i : ℕ) → Stands told_by d hand d.log.history → IsAtHome d i → IsSound d → is_out d.log.history i ≡ false
+known_at_home told_by d hand i s home fine = go (facts_at d.facts.items i) ((s.recorded fine).facts i) home
+  where
+    go : (o : Option Facts) → IfSome o (λ f. IsKnown f d.log.history i) → IsSomeAnd o (λ f. f.leased ≡ false) → is_out d.log.history i ≡ false
+    go None known at = absurd at
+    go (Some f) known at = sym known.leased ∙ at
 
 pub untried_settled : {P : Type 0} (told_by : P → Told) (d : Hub P) (hand : List Copy) (i : ℕ) → Stands told_by d hand d.log.history → IsOutAt d.rows.items i → i < length d.rows.items → IsUntried d i → IsSettled d i
 untried_settled told_by d hand i s out within untried sound =

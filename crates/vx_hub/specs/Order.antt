@@ -119,10 +119,11 @@ pub record IsBirthOf (h : Record) (i batch : ℕ) (copies : List ℕ) (events : 
 abbrev pub readers_at : Record → ℕ → List ℕ
 readers_at = wired [] (wired_targets 0)
 
--- a split replaces the oldest output of its instance, none of whose children waits, and has its event and its ports; it
--- makes, for each target of those ports, one child with a copy for each of the copies that it replaces, with the next
--- numbers; the targets are the readers of the instance
+-- a split replaces the oldest output of an instance at home, none of whose children waits, and has its event and its
+-- ports; it makes, for each target of those ports, one child with a copy for each of the copies that it replaces, with the
+-- next numbers; the targets are the readers of the instance
 pub record IsSplitOf (h : Record) (i ports : ℕ) (copies : List ℕ) (event : Event) (children : List Child) : Type 0 where
+  pub home : is_out h i ≡ false
   pub divides : Divides h i copies children
   pub none_waits : all_waiting h i ≡ []
   pub on_ports : ports ≡ parcel_ports h copies
@@ -132,8 +133,10 @@ pub record IsSplitOf (h : Record) (i ports : ℕ) (copies : List ℕ) (event : E
   pub some : 0 < length children
   pub fits : next_copy h + length children * length copies ≤ 2 ^ 63
 
--- the oldest child that waits for a target enters the first stage of the target's buffer that isn't full
+-- the oldest child that waits for a target at an instance at home enters the first stage of the target's buffer that isn't
+-- full
 pub record IsPushOf (h : Record) (j t s : ℕ) (copies : List ℕ) : Type 0 where
+  pub home : is_out h j ≡ false
   pub oldest : IsOldest copies (waiting h j t)
   pub room : first_room h t ≡ Some s
 
@@ -242,9 +245,10 @@ pub record IsClosureOf (h : Record) (j : ℕ) : Type 0 where
   pub over : (is_out h j ≡ true) ⊎ (abandoned h ≡ true)
   pub done : IsClosing h j
 
--- an instance that is there is retired once, when its port is closed for good and nothing stands at it
+-- an instance that is there is retired once, at home, when its port is closed for good and nothing stands at it
 pub record IsEndOf (h : Record) (j : ℕ) : Type 0 where
   pub known : is_some (component_of h j) ≡ true
+  pub home : is_out h j ≡ false
   pub unretired : is_retired h j ≡ false
   pub port_closed : is_closed h j ≡ true
   pub bare : is_bare h j ≡ true

@@ -183,8 +183,13 @@ IsQuiet (Retired i) = ⊥
 IsQuiet (Abandon cause) = ⊥
 IsQuiet other = Unit {0}
 
--- an instance whose port is closed for good and at which nothing stands, but that isn't retired
+-- an instance that wasn't leased, or came home since, by what the hub knows
+abbrev pub IsAtHome : {P : Type 0} → Hub P → ℕ → Type 0
+IsAtHome hub i = IsSomeAnd (facts_at hub.facts.items i) (λ f. f.leased ≡ false)
+
+-- an instance at home whose port is closed for good and at which nothing stands, but that isn't retired
 pub record HasEnded {P : Type 0} (hub : Hub P) (i : ℕ) : Type 0 where
+  pub home : IsAtHome hub i
   pub closed : IsSomeAnd (facts_at hub.facts.items i) (λ f. f.closed ≡ true)
   pub unretired : IsSomeAnd (facts_at hub.facts.items i) (λ f. f.retired ≡ false)
   pub bare : IsBareAt hub.rows.items i

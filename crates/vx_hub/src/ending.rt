@@ -1,7 +1,7 @@
 ghost use Rattle.std.specs.Prelude.{◌≡◌, ◌<◌, ◌↔◌, [], length, IfSome, IsSomeAnd, IsTrue, IsSome, All, Some, None, ℕ, IfNone, false, true};
 ghost use Rattle.vx_hub.specs.Order.{IsReason};
 ghost use Rattle.vx_hub.specs.Spending.{ComeFrom};
-ghost use Rattle.vx_hub.specs.Stands.{Stands, HasEnded, IsSound, facts_at};
+ghost use Rattle.vx_hub.specs.Stands.{Stands, HasEnded, IsSound, IsAtHome, facts_at};
 ghost use Rattle.vx_hub.specs.Rows.{IsBareAt, option_copies, port_at};
 
 use crate::hub::Hub;
@@ -12,7 +12,7 @@ use vx_record::{AbandonCause, Entry};
 use vx_status::Outcome;
 
 impl<P: Port> Hub<P> {
-    /// Ends an instance whose port is closed for good and at which nothing stands. `None` where there is none.
+    /// Ends an instance at home whose port is closed for good and at which nothing stands. `None` where there is none.
     pub fn retire(&mut self) -> Option<u32>
         requires { Stands P.told self.old [] self.old.log.history }
         ensures stands { Stands P.told self.new [] self.new.log.history }
@@ -31,14 +31,14 @@ impl<P: Port> Hub<P> {
         None
     }
 
-    /// Whether an instance hasn't ended, its port is closed for good, and nothing stands at it.
+    /// Whether an instance at home isn't retired, its port is closed for good, and nothing stands at it.
     fn can_retire(&self, i: usize) -> bool
         requires { i < length self.now.rows.items }
         ensures within { IsTrue result → i < length self.now.facts.items }
         ensures ended { IsTrue result → HasEnded self.now i }
         ensures goes_on { result ≡ false → HasEnded self.now i → ⊥ }
     {
-        if self.is_closing(i) {
+        if self.is_closing(i) && !self.is_leased(i) {
             self.is_bare(i)
         } else {
             false
@@ -75,6 +75,7 @@ impl<P: Port> Hub<P> {
         requires closed { IsSomeAnd (facts_at self.old.facts.items instance) (λ f. f.closed ≡ true) }
         requires unretired { IsSomeAnd (facts_at self.old.facts.items instance) (λ f. f.retired ≡ false) }
         requires bare { IsBareAt self.old.rows.items instance }
+        requires home { IsAtHome self.old instance }
         ensures stands { Stands P.told self.new [] self.new.log.history }
         ensures rows { self.new.rows ≡ self.old.rows }
         ensures plan { self.new.plan ≡ self.old.plan }

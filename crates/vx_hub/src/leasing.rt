@@ -1,7 +1,7 @@
 ghost use Rattle.std.specs.Prelude.{◌≡◌, ◌≢◌, ◌<◌, ◌+◌, ℕ, [], length, None, IfSome, IfNone, IsSome, IsSomeAnd, IsTrue, true, false};
 ghost use Rattle.vx_plan.specs.declared.class.Class.TheVariants.{Source};
 ghost use Rattle.vx_hub.specs.Order.{IsDueOf};
-ghost use Rattle.vx_hub.specs.Stands.{Stands, IsSound, IsUnlost, MayShut, IsDry, IsSinkAt, facts_at};
+ghost use Rattle.vx_hub.specs.Stands.{Stands, IsSound, IsUnlost, MayShut, IsDry, IsSinkAt, IsAtHome, facts_at};
 ghost use Rattle.vx_hub.specs.Works.{IsSending};
 ghost use Rattle.vx_hub.specs.Leases.{IsLeased, IsOpenAt};
 ghost use Rattle.vx_hub.specs.Away.{IsAway, HasTaken, IsUntried};
@@ -168,6 +168,17 @@ impl<P: Port> Hub<P> {
         ensures unleased { IsTrue result → IsSomeAnd (facts_at self.now.facts.items i) (λ f. f.leased ≡ false) }
     {
         !self.facts[i].closed && !self.facts[i].leased
+    }
+
+    /// Whether an instance was leased, and hasn't come home since.
+    pub(crate) fn is_leased(&self, i: usize) -> bool
+        ensures home { result ≡ false → IsAtHome self.now i }
+        ensures away { IsTrue result → IsAtHome self.now i → ⊥ }
+    {
+        if i >= self.facts.len() {
+            return true;
+        }
+        self.facts[i].leased
     }
 
     /// A source is read until it is dry, and closed once all its batches have their notices and the last confirm was

@@ -3,7 +3,7 @@ ghost use Rattle.vx_record.specs.Noted.{Noted};
 ghost use Rattle.std.specs.Bool.{IsFalse};
 ghost use Rattle.vx_record.specs.declared.entry.Entry.{Entry};
 ghost use Rattle.vx_hub.specs.Numbers.{numbers_in, noted_of};
-ghost use Rattle.vx_hub.specs.Stands.{Stands, IsOpenTarget};
+ghost use Rattle.vx_hub.specs.Stands.{Stands, IsOpenTarget, IsAtHome};
 ghost use Rattle.vx_hub.specs.Failures.{HasReason};
 ghost use Rattle.vx_hub.specs.Rows.{HasChild, HasRoom, NoneWaits};
 ghost use Rattle.vx_hub.specs.Places.{IsFirstChild};
@@ -43,15 +43,15 @@ impl<P: Port> Hub<P> {
             return None;
         }
         for i in 0..self.rows.len() {
-            if self.rows[i].task.is_some() && (self.can_split(i) || self.pushable(i).is_some()) {
+            if !self.is_leased(i) && (self.can_split(i) || self.pushable(i).is_some()) {
                 return u32::try_from(i).ok();
             }
         }
         None
     }
 
-    /// Splits and pushes the parcels of an instance, as `pending` named it. Gives how many children entered a buffer,
-    /// none after an abandonment.
+    /// Splits and pushes the parcels of an instance at home, as `pending` named it. Gives how many children entered a
+    /// buffer: none where the instance is out, and none after an abandonment.
     pub fn push_pending(&mut self, instance: u32) -> Result<u32, Fatal>
         requires stands { Stands P.told self.old [] self.old.log.history }
         requires within { instance < length self.old.rows.items }
@@ -61,7 +61,7 @@ impl<P: Port> Hub<P> {
         ensures fatal { OnErr result (self.new.fatal ≡ true) }
         ensures reason { IfErr result (HasReason self.new) }
     {
-        if !self.goes_on() {
+        if !self.goes_on() || self.is_leased(instance as usize) {
             return Ok(0);
         }
         let mut pushed: u32 = 0;
@@ -123,8 +123,10 @@ impl<P: Port> Hub<P> {
         requires child { HasChild self.old.rows.items instance next.place }
         requires first { IsFirstChild self.old.rows.items instance next.target next.place }
         requires target { IsOpenTarget self.old next.target }
+        requires home { IsAtHome self.old instance }
         requires going { self.old.abandoned ≡ None }
         ensures stands { Stands P.told self.new [] self.new.log.history }
+        ensures facts { self.new.facts ≡ self.old.facts }
         ensures abandoned { self.new.abandoned ≡ self.old.abandoned }
         ensures size { length self.new.rows.items ≡ length self.old.rows.items }
         ensures plan { self.new.plan ≡ self.old.plan }
@@ -146,8 +148,10 @@ impl<P: Port> Hub<P> {
         requires stands { Stands P.told self.old [] self.old.log.history }
         requires within { instance < length self.old.rows.items }
         requires none { NoneWaits self.old.rows.items instance }
+        requires home { IsAtHome self.old instance }
         requires going { self.old.abandoned ≡ None }
         ensures stands { Stands P.told self.new [] self.new.log.history }
+        ensures facts { self.new.facts ≡ self.old.facts }
         ensures abandoned { self.new.abandoned ≡ self.old.abandoned }
         ensures size { length self.new.rows.items ≡ length self.old.rows.items }
         ensures plan { self.new.plan ≡ self.old.plan }

@@ -1,6 +1,5 @@
-use Rattle.std.proofs.Common.{IsTrue, refl, sym, subst, ◌∙◌, ◌≡◌, Some, ap}
+use Rattle.std.proofs.Common.{IsTrue, refl, sym, subst, ◌∙◌}
 use Rattle.vx_hub.proofs.Yielding.{come_on}
-use Rattle.std.specs.Prelude.{if◌then◌else◌}
 use Rattle.vx_record.specs.Records.{Record}
 use Rattle.vx_record.specs.declared.log.Log.{Log}
 use Rattle.vx_record.specs.Places.Place.{Held}

@@ -14,10 +14,11 @@ returns-clause-stands g c =
     let i = c.args.instance in
     let f = c.index_mut.result.now in
     let closed : f.closed ≡ true = facts_surely (λ x. x.closed ≡ true) d.facts.items i f c.requires.within c.index_mut.ensures.value c.requires.closed in
+    let unleased : f.leased ≡ false = facts_surely (λ x. x.leased ≡ false) d.facts.items i f c.requires.within c.index_mut.ensures.value c.requires.home in
     let unretired : f.retired ≡ false = facts_surely (λ x. x.retired ≡ false) d.facts.items i f c.requires.within c.index_mut.ensures.value c.requires.unretired in
     stands_marked g.P.Port.told d _ [] [] _ i f _ c.requires.stands c.requires.within c.index_mut.ensures.value
     refl refl refl c.requires.stands.balanced refl refl c.note.ensures.noted tt (same_next d.batches d.batches d.log.history (Retired i) refl refl)
-    (λ fine. end_in_order g.P.Port.told d i f c.requires.stands fine (facts_has (λ x. IsKnown x d.log.history i) d.facts.items i f c.requires.within c.index_mut.ensures.value ((c.requires.stands.recorded fine).facts i)) closed unretired c.requires.bare)
+    (λ fine. end_in_order g.P.Port.told d i f c.requires.stands fine (facts_has (λ x. IsKnown x d.log.history i) d.facts.items i f c.requires.within c.index_mut.ensures.value ((c.requires.stands.recorded fine).facts i)) closed unretired unleased c.requires.bare)
     (λ fine gone. refl) (λ k none out. out) refl (λ fine known. known_retired f d.log.history i known) (λ x k other known. known_retired_other x d.log.history i k other known)
     (facts_has (IsShut g.P.Port.told d.rows.items i) d.facts.items i f c.requires.within c.index_mut.ensures.value (c.requires.stands.shut i))
     (λ retired. (closed, c.requires.bare))

@@ -1,4 +1,4 @@
-use Rattle.std.proofs.Common.{refl, false, ◌≡◌, ◌≤◌, ap, sym, subst, Some, None}
+use Rattle.std.proofs.Common.{refl, false, ◌≡◌, ◌≤◌, ap, sym, subst, Some}
 use Rattle.std.specs.Prelude.{if◌then◌else◌}
 use Rattle.vx_hub.specs.Stands.{IsReadable, lost_at}
 use Rattle.vx_record.specs.declared.entry.Entry.TheVariants as entry

@@ -11,6 +11,7 @@ use Rattle.vx_hub.specs.Numbers.{numbers_in}
 use Rattle.vx_hub.proofs.StandsLaws.{stands_quiet, moved_balanced, bare_running, same_next}
 use Rattle.vx_hub.proofs.Noticing.{running_on}
 use Rattle.vx_hub.proofs.Ceasing.{hub_comes}
+use Rattle.vx_hub.proofs.Settling.{known_at_home}
 use Rattle.vx_hub.proofs.Saids.{rows_on, said_on}
 use Rattle.vx_hub.proofs.hub.Hub.push.Goals as goal
 
@@ -32,6 +33,7 @@ returns-clause-stands g c =
       quiet = tt;
       next = same_next d.batches d.batches d.log.history (Push c.args.instance c.take_child-target.result.target 0 (numbers_in copies)) refl refl;
       order = λ fine. record {
+        home = known_at_home g.P.Port.told d [] c.args.instance s c.requires.home fine;
         oldest = is_oldest (numbers_in copies) _ _ (oldest_is (Waiting c.args.instance target) copies d.rows.items c.take_child-target.new.rows.items d.log.history (s.recorded fine).places.standing takes);
         room = subst (λ t. first_room d.log.history t ≡ Some 0) (sym first.0) (push_room g.P.Port.told d c.args.next.target s fine c.requires.target.within c.requires.target.room);
       };

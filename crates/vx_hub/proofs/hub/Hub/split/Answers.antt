@@ -29,6 +29,7 @@ use Rattle.vx_hub.proofs.Retiring.{none_waiting}
 use Rattle.vx_hub.proofs.Ceasing.{going_on, hub_comes}
 use Rattle.std.proofs.Common.{◌<◌}
 use Rattle.vx_hub.specs.Events.{IsSaid, EachChild}
+use Rattle.vx_hub.proofs.Settling.{known_at_home}
 use Rattle.vx_hub.proofs.Saids.{rows_on}
 use Rattle.vx_hub.proofs.EventLaws.{children_said}
 use Rattle.vx_hub.proofs.hub.Hub.split.Goals as goal
@@ -58,6 +59,7 @@ returns-in-Ok-Children-clause-stands g c =
       quiet = tt;
       next = split_next d.log.history d.batches.next c.route.new.batches.next targets parcel cs are more;
       order = λ fine. split_in_order d.log.history c.args.instance d.batches.next targets parcel cs (s.recorded fine).order
+          (known_at_home g.P.Port.told d [] c.args.instance s c.requires.home fine)
           (none_waiting d.rows.items d.log.history c.args.instance (s.recorded fine).places.standing c.requires.none)
           (routed_as g.P.Port.told d c.args.instance c.index.result.now s c.requires.within c.index.ensures fine)
           (is_oldest (numbers_in parcel.finalizers) _ _ (oldest_is (Outputs c.args.instance) parcel.finalizers d.rows.items c.pop_output.new.rows.items d.log.history (s.recorded fine).places.standing c.in-Some.ensures.oldest))
