@@ -42,7 +42,7 @@ wired_so : (h : Record) (plan : Plan) (i : ℕ) (c : Component) → IsOrderly h 
 wired_so [] plan i c order force at = cc
 wired_so (Install version made once instances now ∷ h) plan i c order force at =
     let same : made ≡ plan = cc in
-    let row = order.0.0 in
+    let row = order.0.0.begins in
     let here : slice_get made.components i ≡ Some c = ap (λ (p : Plan). slice_get p.components i) same ∙ at in
     ap (λ (o : Option Word). elim o [ None ↦ wiring h i | Some name ↦ Some (record { plan = made; instances = instances; name = name }) ]) (name_first made.components instances i c here row.all_new)
     ∙ ap (λ (is : List Instance). Some (record { plan = made; instances = is; name = c.name })) row.all_new

@@ -32,7 +32,7 @@ use Rattle.vx_record.specs.Noted.{Noted}
 use Rattle.vx_record.specs.declared.log.Log.{Log}
 use Rattle.vx_record.specs.declared.child.Child.{Child as NotedChild}
 use Rattle.vx_record.specs.declared.entry.Entry.{Entry}
-use Rattle.vx_record.specs.declared.entry.Entry.TheVariants.{Split, Spent, Notice, Home}
+use Rattle.vx_record.specs.declared.entry.Entry.TheVariants.{Install, Split, Spent, Notice, Home}
 use Rattle.vx_record.specs.declared.abandon_cause.AbandonCause.{AbandonCause}
 use Rattle.vx_record.specs.declared.abandon_cause.AbandonCause.TheVariants as cause
 use Rattle.vx_hub.specs.declared.hub.Hub.{Hub}
@@ -66,15 +66,21 @@ length_counting : (first n : ℕ) → length (counting first n) ≡ n
 length_counting first zero = refl
 length_counting first (suc n) = ap suc (length_counting (first + 1) n)
 
+-- no two components of a plan that was installed have one name
+pub named_apart : (h : Record) → IsOrderly h → AreNamedApart h
+named_apart [] order = tt
+named_apart (Install version plan once instances now ∷ h) order = order.0.0.named
+named_apart (e ∷ h) order = named_apart h order.1
+
 -- a batch that the ledger bore is in order
-pub birth_in_order : (h : Record) (i next n batch : ℕ) (copies : List Copy) (events : List Event) (stream end : ℕ) → IsReadBy h i → (AreNamedApart h → 0 < length events → IsYield h i events stream end) → next ≡ next_copy h → batch ≡ next → copies ≡ numbered n next next next → length events ≡ n → 0 < n → next + n ≤ 2 ^ 63 →
+pub birth_in_order : (h : Record) (i next n batch : ℕ) (copies : List Copy) (events : List Event) (stream end : ℕ) → IsOrderly h → IsReadBy h i → (AreNamedApart h → 0 < length events → IsYield h i events stream end) → next ≡ next_copy h → batch ≡ next → copies ≡ numbered n next next next → length events ≡ n → 0 < n → next + n ≤ 2 ^ 63 →
     IsBirthOf h i batch (numbers_in copies) events false stream end
-birth_in_order h i next n batch copies events stream end read yield now first are each some fits =
+birth_in_order h i next n batch copies events stream end order read yield now first are each some fits =
     let counted : numbers_in copies ≡ counting next n = ap numbers_in are ∙ numbers_numbered n next next next in
     let many : length (numbers_in copies) ≡ n = ap length counted ∙ length_counting next n in
     record {
       read = read;
-      yield = λ apart. yield apart (omega (arith, each, some));
+      yield = yield (named_apart h order) (omega (arith, each, some));
       unwaiting = refl;
       some = omega (arith, many, some);
       one_each = many ∙ sym each;

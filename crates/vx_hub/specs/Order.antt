@@ -23,6 +23,8 @@ use Rattle.vx_record.specs.Encoding.{encode, is_prefix}
 use Rattle.vx_plan.specs.declared.codec.Codec.TheVariants.{Text}
 use Rattle.vx_value.specs.Texts.{Word}
 use Rattle.vx_record.specs.Starting.{MayInstall}
+use Rattle.vx_record.specs.declared.instance.Instance.{Instance}
+use Rattle.vx_record.specs.Wirings.{names_differ}
 use Rattle.vx_record.specs.Installs.{wired, in_force, component_of, device_at, is_closed, is_retired}
 use Rattle.vx_record.specs.Routing.{wired_targets, routes}
 use Rattle.vx_record.specs.declared.child.Child.{Child}
@@ -35,8 +37,6 @@ use Rattle.vx_record.specs.Confirms.{born_positions, is_unconfirmed}
 use Rattle.vx_record.specs.Sourcing.{failed_starts, IsYield}
 use Rattle.vx_record.specs.Spending.{WasAnswered, HadNoTarget, oldest}
 use Rattle.vx_record.specs.SinkBatches.{failures_with, attempts_allowed, attempts_with}
-use Rattle.vx_hub.specs.Abreast.{AreNamedApart}
-pub use Rattle.vx_record.specs.Spending.{last_reply}
 use Rattle.vx_record.specs.Owing.{owes_spends_in}
 use Rattle.vx_record.specs.declared.entry.Entry.{Entry}
 use Rattle.vx_record.specs.declared.entry.Entry.TheVariants.{Install, Lease, Home, Read, Idle, SourceLost, Born, Split, Push, Take, Attempt, Spent, Notice, Confirm, Closed, Retired, Abandon}
@@ -102,12 +102,12 @@ abbrev pub IsReadBy : Record → ℕ → Type 0
 IsReadBy (Read j stream took ∷ h) i = j ≡ i
 IsReadBy h i = ⊥
 
--- a batch stands directly behind a read of its source, and doesn't wait yet; where names differ, its events are those of
--- the lines that the read completes, and it ends where the last of them ends; it has one copy for each of its events, with
--- the next numbers, and the number of the first of them
+-- a batch stands directly behind a read of its source, and doesn't wait yet; its events are those of the lines that the
+-- read completes, and it ends where the last of them ends; it has one copy for each of its events, with the next numbers,
+-- and the number of the first of them
 pub record IsBirthOf (h : Record) (i batch : ℕ) (copies : List ℕ) (events : List Event) (waits : Bool) (stream end : ℕ) : Type 0 where
   pub read : IsReadBy h i
-  pub yield : AreNamedApart h → IsYield h i events stream end
+  pub yield : IsYield h i events stream end
   pub unwaiting : waits ≡ false
   pub some : 0 < length copies
   pub one_each : length copies ≡ length events
@@ -115,7 +115,7 @@ pub record IsBirthOf (h : Record) (i batch : ℕ) (copies : List ℕ) (events : 
   pub number : batch ≡ next_copy h
   pub fits : next_copy h + length copies ≤ 2 ^ 63
 
--- the instances that read what an instance puts out, by the Install that gave it work, in byte order of their names
+-- the instances that read the first port of an instance, by the Install that gave it work, in byte order of their names
 abbrev pub readers_at : Record → ℕ → List ℕ
 readers_at = wired [] (wired_targets 0)
 
@@ -140,8 +140,8 @@ pub record IsPushOf (h : Record) (j t s : ℕ) (copies : List ℕ) : Type 0 wher
   pub oldest : IsOldest copies (waiting h j t)
   pub room : first_room h t ≡ Some s
 
--- an instance that is out takes the oldest parcel of the first stage of its buffer that has one; since its lease it did
--- nothing but take, fewer than 64 times so far
+-- an instance that is out takes the oldest parcel of the first stage of its buffer that has one; behind its lease the
+-- record has nothing but takes of it, fewer than 64 so far
 pub record IsTakeOf (h : Record) (j s : ℕ) (copies : List ℕ) : Type 0 where
   pub out : is_out h j ≡ true
   pub only_takes : list_all (is_take_of j) (since_lease h j) ≡ true
@@ -149,7 +149,7 @@ pub record IsTakeOf (h : Record) (j s : ℕ) (copies : List ℕ) : Type 0 where
   pub first : first_filled h j ≡ Some s
   pub oldest : IsOldest copies (contents h j s)
 
--- to the port of an instance that is out the ends of all its batches are confirmed
+-- to the port of an instance that is out the end of its last batch of each stream is confirmed, or that fails
 pub record IsConfirmOf (h : Record) (j : ℕ) (positions : List Position) : Type 0 where
   pub out : is_out h j ≡ true
   pub device : device_at h j ≡ true
@@ -174,8 +174,8 @@ reply_behind Attempts = Some reply.Failed
 reply_behind Refusal = Some reply.Refused
 reply_behind other = None
 
--- what each outcome needs: the instance's last attempt had the copy and was answered so, and a failed one isn't made again;
--- the copy is in the oldest output of an instance that nobody reads; or the run was given up. Nothing filters, and no
+-- what each outcome needs: the instance's last attempt had the copy and was answered so, and with it as many failed as are
+-- allowed; the copy is in the oldest output of an instance that nobody reads; or the run was given up. Nothing filters, and no
 -- buffer drops the newest yet
 abbrev pub IsCaused : Record → ℕ → ℕ → Outcome → Type 0
 IsCaused h i c Delivered = WasAnswered h i c reply.Ok
@@ -253,9 +253,14 @@ pub record IsEndOf (h : Record) (j : ℕ) : Type 0 where
   pub port_closed : is_closed h j ≡ true
   pub bare : is_bare h j ≡ true
 
+-- an install begins the record, and no two components of its plan have one name
+pub record IsInstallOf (h : Record) (version : ℕ) (plan : Plan) (instances : List Instance) : Type 0 where
+  pub begins : MayInstall h version plan instances
+  pub named : names_differ plan.components ≡ true
+
 -- what is proved of an entry
 abbrev pub IsInOrder : Record → Entry → Type 0
-IsInOrder h (Install version plan once instances now) = MayInstall h version plan instances
+IsInOrder h (Install version plan once instances now) = IsInstallOf h version plan instances
 IsInOrder h (Lease j worker now polls) = IsLeaseOf h j polls
 IsInOrder h (Home j) = IsReturnOf h j
 IsInOrder h (Read j stream took) = IsTurnOf h j

@@ -31,11 +31,11 @@ no_more (part ∷ rest) =
     omega (arith, one_component part (kind_of part), no_more rest, length_joined (component_of part) (flat_map component_of rest))
 
 -- what is joined to nothing is nothing
-none_left : {X : Type 0} (xs ys : List X) → xs ++ ys ≡ [] → xs ≡ []
+pub none_left : {X : Type 0} (xs ys : List X) → xs ++ ys ≡ [] → xs ≡ []
 none_left [] ys is = refl
 none_left (x ∷ xs) ys is = cc
 
-none_right : {X : Type 0} (xs ys : List X) → xs ++ ys ≡ [] → ys ≡ []
+pub none_right : {X : Type 0} (xs ys : List X) → xs ++ ys ≡ [] → ys ≡ []
 none_right [] ys is = is
 none_right (x ∷ xs) ys is = cc
 

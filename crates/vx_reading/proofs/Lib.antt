@@ -5,3 +5,4 @@ pub mod OneAnswer
 pub mod Examples
 pub mod FirstRead
 pub mod Few
+pub mod Apart

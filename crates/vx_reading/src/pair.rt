@@ -1,6 +1,7 @@
 ghost use Rattle.std.specs.Prelude.{◌≡◌, IfOk};
 ghost use Rattle.toml.specs.View.{view, table_view};
 ghost use Rattle.vx_reading.specs.Judging.{pairs_of, pairs_in};
+ghost use Rattle.vx_reading.specs.Names.{AreApart, pair_names};
 ghost use Rattle.vx_reading.specs.Views.{pairs_view};
 
 use std::alloc::Global;
@@ -16,7 +17,8 @@ pub(crate) struct Pair<'a> {
 
 /// The members of a table, by the bytes of their names.
 fn pairs_of<'a>(alloc: Global, table: &'a Table) -> Result<Vec<Pair<'a>>, WantOfMemory>
-    ensures { IfOk result (λ pairs. pairs_view pairs.items ≡ pairs_of (table_view table.now)) }
+    ensures all { IfOk result (λ pairs. pairs_view pairs.items ≡ pairs_of (table_view table.now)) }
+    ensures apart { IfOk result (λ pairs. AreApart (pair_names (pairs_of (table_view table.now)))) }
 {
     let mut pairs = Vec::new(alloc);
     'members: for (name, value) in table.iter() {
@@ -34,7 +36,8 @@ fn pairs_of<'a>(alloc: Global, table: &'a Table) -> Result<Vec<Pair<'a>>, WantOf
 
 /// What a value has in it, where it is a table.
 pub(crate) fn pairs_in<'a>(alloc: Global, value: &'a Value) -> Result<Vec<Pair<'a>>, WantOfMemory>
-    ensures { IfOk result (λ pairs. pairs_view pairs.items ≡ pairs_in (view value.now)) }
+    ensures all { IfOk result (λ pairs. pairs_view pairs.items ≡ pairs_in (view value.now)) }
+    ensures apart { IfOk result (λ pairs. AreApart (pair_names (pairs_in (view value.now)))) }
 {
     match value.as_table() {
         Some(table) => pairs_of(alloc, table),

@@ -2,6 +2,7 @@ ghost use Rattle.std.specs.Prelude.{◌≡◌, ◌++◌, IfOk, OnOk, is_some, fi
 ghost use Rattle.std.specs.Option.{option_map};
 ghost use Rattle.toml.specs.View.{view};
 ghost use Rattle.vx_reading.specs.Components.{Part as SpecPart, parts, parts_in, has_part, is_taken, type_in, kind_of, reads_stdin, is_later_stdin};
+ghost use Rattle.vx_reading.specs.Names.{AreApart, part_names, AreApartByClass};
 ghost use Rattle.vx_reading.specs.Views.{part_view, parts_view};
 
 use crate::kind::Kind;
@@ -28,7 +29,8 @@ fn push_parts<'a>(
     root: &'a Value,
     class: Class,
 ) -> Result<(), WantOfMemory>
-    ensures { OnOk result (parts_view parts.new.items ≡ parts_view parts.old.items ++ parts_in (view root.now) class) }
+    ensures all { OnOk result (parts_view parts.new.items ≡ parts_view parts.old.items ++ parts_in (view root.now) class) }
+    ensures apart { OnOk result (AreApart (part_names (parts_in (view root.now) class))) }
 {
     let Some(table) = root.get(section_name(class)) else {
         return Ok(());
@@ -50,7 +52,8 @@ fn push_parts<'a>(
 
 /// The components of a document: sources, transforms, sinks.
 pub(crate) fn parts<'a>(alloc: Global, root: &'a Value) -> Result<Vec<Part<'a>>, WantOfMemory>
-    ensures { IfOk result (λ all. parts_view all.items ≡ parts (view root.now)) }
+    ensures all { IfOk result (λ all. parts_view all.items ≡ parts (view root.now)) }
+    ensures apart { IfOk result (λ all. AreApartByClass (view root.now)) }
 {
     let mut all = Vec::new(alloc);
     push_parts(alloc, &mut all, root, Class::Source)?;

@@ -1,11 +1,14 @@
-ghost use Rattle.std.specs.Prelude.{◌≡◌};
+ghost use Rattle.std.specs.Prelude.{◌≡◌, IfOk};
 ghost use Rattle.toml.specs.View.{view};
+ghost use Rattle.vx_reading.specs.Components.{parts};
+ghost use Rattle.vx_reading.specs.Names.{AreApart, names_of};
+ghost use Rattle.vx_reading.specs.Views.{parts_view};
 ghost use Rattle.vx_reading.specs.Reading.{IsJudged, IsTextRead, IsReading};
 
 use crate::findings::findings;
 use crate::first::first;
 use crate::graphs::nodes_of;
-use crate::part::parts;
+use crate::part::{Part, parts};
 use crate::plan_fault::PlanFault;
 use crate::plans::plan_of;
 use std::alloc::Global;
@@ -17,14 +20,23 @@ use vx_value::VariableList;
 
 /// The plan of a document.
 fn read_root(alloc: Global, root: &Value) -> Result<Plan, PlanFault>
-    ensures { IsJudged (view root.now) result }
+    ensures judged { IsJudged (view root.now) result }
+    ensures apart { IfOk result (λ plan. AreApart (names_of plan.components)) }
 {
     let all = parts(alloc, root)?;
-    let found = findings(alloc, root, all.as_slice())?;
+    read_parts(alloc, root, all.as_slice())
+}
+
+/// The plan of a document that has these components.
+fn read_parts(alloc: Global, root: &Value, all: &[Part<'_>]) -> Result<Plan, PlanFault>
+    requires { parts_view all.now ≡ parts (view root.now) }
+    ensures { IsJudged (view root.now) result }
+{
+    let found = findings(alloc, root, all)?;
     if let Some(fault) = first(found) {
         return Err(fault);
     }
-    let plan = plan_of(alloc, root, all.as_slice())?;
+    let plan = plan_of(alloc, root, all)?;
     let nodes = nodes_of(alloc, &plan)?;
     match check(alloc, nodes) {
         Ok(_) => Ok(plan),
@@ -35,7 +47,8 @@ fn read_root(alloc: Global, root: &Value) -> Result<Plan, PlanFault>
 
 /// The plan of a text.
 fn read_text(alloc: Global, text: &str, environment: &VariableList) -> Result<Plan, PlanFault>
-    ensures { IsTextRead environment.now text.now result }
+    ensures read { IsTextRead environment.now text.now result }
+    ensures apart { IfOk result (λ plan. AreApart (names_of plan.components)) }
 {
     let replaced = match replace(alloc, text, environment) {
         Ok(replaced) => replaced,
@@ -55,9 +68,10 @@ fn read_text(alloc: Global, text: &str, environment: &VariableList) -> Result<Pl
 ///
 /// A refusal is the first fault in the order of `PlanFault`. Within one kind the options of the whole come first, then
 /// sources, transforms and sinks, each by the bytes of the component's name, and then by the bytes of the path. Want of
-/// memory comes at any text.
+/// memory comes at any text. The components of a plan have different names.
 pub fn read_plan(alloc: Global, bytes: &[u8], environment: &VariableList) -> Result<Plan, PlanFault>
-    ensures { IsReading environment.now bytes.now result }
+    ensures read { IsReading environment.now bytes.now result }
+    ensures apart { IfOk result (λ plan. AreApart (names_of plan.components)) }
 {
     match std::str::from_utf8(bytes) {
         Ok(text) => read_text(alloc, text, environment),

@@ -1,3 +1,4 @@
 pub mod Judged
 pub mod Prepared
 pub mod Counting
+pub mod Apart

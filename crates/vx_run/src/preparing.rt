@@ -1,7 +1,8 @@
-ghost use Rattle.std.specs.Prelude.{◌≡◌, ◌≢◌, ◌↔◌, ◌<◌, ◌^◌, length, Ok, Err, Some, IfOk, IfErr, IfSome, IsSomeAnd};
+ghost use Rattle.std.specs.Prelude.{◌≡◌, ◌≢◌, ◌↔◌, ◌<◌, ◌^◌, length, true, Ok, Err, Some, IfOk, IfErr, IfSome, IsSomeAnd};
 ghost use Rattle.vx_ends.specs.Texts.{IsTextAt};
 ghost use Rattle.vx_ends.specs.Told.{Rose};
 ghost use Rattle.vx_plan.specs.Ports.{port_of};
+ghost use Rattle.vx_record.specs.Wirings.{names_differ};
 ghost use Rattle.vx_hub.specs.Making.{IsUntouched, AreUntouched};
 ghost use Rattle.vx_reading.specs.Reading.{IsReading};
 ghost use Rattle.vx_run.specs.Answers.{IsPlanAt, IsUnready, IsUnread, IsMisread};
@@ -23,6 +24,7 @@ pub(crate) fn prepare<W: World>(
 ) -> Result<Parts<W::Port>, Fault>
     ensures stands { IfOk result (λ parts. IsPlanAt environment.now (W.texts world.old) file.now parts.plan) }
     ensures few { IfOk result (λ parts. length parts.plan.components < 2 ^ 32) }
+    ensures named { IfOk result (λ parts. names_differ parts.plan.components ≡ true) }
     ensures ports { IfOk result (λ parts. length parts.ports ≡ length parts.plan.components) }
     ensures untouched { IfOk result (λ parts. AreUntouched W.Port.told parts.plan.components parts.ports) }
     ensures unready { IfErr result (IsUnready environment.now (W.texts world.old) file.now (W.faults world.old) (W.faults world.new)) }
@@ -48,6 +50,7 @@ pub(crate) fn plan_at<W: World>(
 ) -> Result<Plan, Fault>
     ensures stands { IfOk result (IsPlanAt environment.now (W.texts world.old) file.now) }
     ensures few { IfOk result (λ plan. length plan.components < 2 ^ 32) }
+    ensures named { IfOk result (λ plan. names_differ plan.components ≡ true) }
     ensures unready { IfErr result (IsUnready environment.now (W.texts world.old) file.now (W.faults world.old) (W.faults world.new)) }
     ensures texts { W.texts world.new ≡ W.texts world.old }
 {
@@ -76,6 +79,7 @@ fn config<W: World>(alloc: Global, file: &Text, world: &mut W) -> Result<Bytes, 
 fn plan_of(alloc: Global, bytes: &Bytes, environment: &VariableList) -> Result<Plan, Fault>
     ensures read { IfOk result (λ plan. IsReading environment.now bytes.now (Ok plan)) }
     ensures few { IfOk result (λ plan. length plan.components < 2 ^ 32) }
+    ensures named { IfOk result (λ plan. names_differ plan.components ≡ true) }
     ensures refused { IfErr result (IsMisread environment.now bytes.now) }
 {
     match read_plan(alloc, bytes.as_slice(), environment) {

@@ -1,4 +1,5 @@
-ghost use Rattle.std.specs.Prelude.{◌≡◌, ◌≢◌, ◌⊎◌, List, ◌<◌, ◌^◌, [], length, Some};
+ghost use Rattle.std.specs.Prelude.{◌≡◌, ◌≢◌, ◌⊎◌, List, ◌<◌, ◌^◌, [], length, true, Some};
+ghost use Rattle.vx_record.specs.Wirings.{names_differ};
 ghost use Rattle.vx_hub.specs.Making.{AreUntouched};
 ghost use Rattle.vx_hub.specs.Stands.{Stands};
 ghost use Rattle.vx_hub.specs.Remains.{AreNumbered, AreClosed};
@@ -124,6 +125,7 @@ fn begin<R: Wait, P: Port, C: Clock>(
     requires few { length parts.plan.components < 2 ^ 32 }
     requires ports { length parts.ports ≡ length parts.plan.components }
     requires untouched { AreUntouched P.told parts.plan.components parts.ports }
+    requires named { names_differ parts.plan.components ≡ true }
     ensures judged { IsJudged result.history result.fault }
     ensures told { IsTrueTo P.told result.history result.ports result.fault }
     ensures installed { IsInForce parts.plan result.history result.fault }

@@ -78,4 +78,4 @@ loop-seats-preserved g c =
 pub returns-clause-stands : goal.returns-clause-stands
 returns-clause-stands g c =
     let inv = c.loop-seats.invariant in
-    begun_stands g.P.Port.told c.args.plan c.loop-seats.hub inv.begins inv.plan inv.first inv.none (omega (arith, inv.size, inv.berths)) (omega (arith, inv.size, c.requires.few))
+    begun_stands g.P.Port.told c.args.plan c.loop-seats.hub inv.begins inv.plan c.requires.named inv.first inv.none (omega (arith, inv.size, inv.berths)) (omega (arith, inv.size, c.requires.few))

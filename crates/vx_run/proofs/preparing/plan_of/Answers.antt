@@ -1,8 +1,12 @@
 use Rattle.std.proofs.Common.{◌≤◌, length, arith}
 use Rattle.vx_reading.proofs.Few.{few_components}
+use Rattle.vx_run.proofs.Apart.{differ_apart}
 use Rattle.vx_run.proofs.preparing.plan_of.Goals as goal
 
 pub returns-in-Ok-clause-few : goal.returns-in-Ok-clause-few
 returns-in-Ok-clause-few c =
-    let few : length c.in-Ok.plan.components ≤ 256 = few_components c.args.environment.now c.as_slice.result.now c.in-Ok.plan c.in-Ok.ensures in
+    let few : length c.in-Ok.plan.components ≤ 256 = few_components c.args.environment.now c.as_slice.result.now c.in-Ok.plan c.in-Ok.ensures.read in
     omega (arith, few)
+
+pub returns-in-Ok-clause-named : goal.returns-in-Ok-clause-named
+returns-in-Ok-clause-named c = differ_apart c.in-Ok.plan.components c.in-Ok.ensures.apart

@@ -40,7 +40,7 @@ returns-clause-stands g c =
     stands_marked g.P.Port.told c.args.self.now _ [] copies _ c.args.instance c.index_mut-facts.result.now _ s within c.index_mut-facts.ensures.value
     refl refl refl (λ batch place. omega (arith, s.balanced batch place, c.in-Ok.ensures.exchange batch place)) refl refl c.note_born.ensures tt
     (λ now. omega (arith, now, c.in-Ok.ensures.next, length_numbers copies, many))
-    (λ fine. birth_in_order h c.args.instance next c.len-n.result c.in-Ok.born.0 copies c.args.events.now c.args.position.stream c.args.position.end (c.requires.read fine) (c.requires.yields fine) (s.recorded fine).next c.in-Ok.ensures.number c.in-Ok.ensures.copies (sym c.len-n.ensures)
+    (λ fine. birth_in_order h c.args.instance next c.len-n.result c.in-Ok.born.0 copies c.args.events.now c.args.position.stream c.args.position.end (s.recorded fine).order (c.requires.read fine) (c.requires.yields fine) (s.recorded fine).next c.in-Ok.ensures.number c.in-Ok.ensures.copies (sym c.len-n.ensures)
     (omega (arith, c.requires.some, c.len-n.ensures)) (omega (arith, c.born.ensures.kept.numbers, c.in-Ok.ensures.next)))
     (hub_comes g.P.Port.told c.args.self.now [] (Born c.args.instance c.in-Ok.born.0 c.in-Ok.born.0 (numbers_in copies) c.args.events.now false c.args.position.stream c.args.position.end) s c.requires.going)
     (λ k none out. out) refl
@@ -96,7 +96,7 @@ returns-clause-lined g c sound =
     let copies = c.in-Ok.born.1 in
     let w = c.note_born.ensures.whole sound.whole in
     let fine : IsSound d = record { whole = w.0; fed = sound.fed } in
-    let order = birth_in_order h c.args.instance next c.len-n.result c.in-Ok.born.0 copies c.args.events.now c.args.position.stream c.args.position.end (c.requires.read fine) (c.requires.yields fine) (s.recorded fine).next c.in-Ok.ensures.number c.in-Ok.ensures.copies (sym c.len-n.ensures)
+    let order = birth_in_order h c.args.instance next c.len-n.result c.in-Ok.born.0 copies c.args.events.now c.args.position.stream c.args.position.end (s.recorded fine).order (c.requires.read fine) (c.requires.yields fine) (s.recorded fine).next c.in-Ok.ensures.number c.in-Ok.ensures.copies (sym c.len-n.ensures)
     (omega (arith, c.requires.some, c.len-n.ensures)) (omega (arith, c.born.ensures.kept.numbers, c.in-Ok.ensures.next)) in
     subst (λ (k : Record). (done : List ℕ) × (outputs k c.args.instance ≡ singles (numbers_in copies ++ done))) (sym w.1)
     (lined_born d.rows.items h c.args.instance c.in-Ok.born.0 c.in-Ok.born.0 (numbers_in copies) c.args.events.now false c.args.position.stream c.args.position.end (order.next, conserved h (s.recorded fine).order) (s.recorded fine).places.standing c.requires.sent)
