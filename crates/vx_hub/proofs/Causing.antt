@@ -198,7 +198,7 @@ caused h i c NoConsumer kept s from =
       },
       s.unread refl,
     )
-caused h i c Abandoned kept s from = has_abandoned h (s.given_up refl)
+caused h i c Abandoned kept s from = (has_abandoned h (s.given_up refl), s.home refl)
 caused h i c Filtered kept s from = absurd s.given
 caused h i c NewestDropped kept s from = absurd s.given
 

@@ -17,7 +17,7 @@ use Rattle.vx_hub.specs.Spending.{IsSpentFor}
 use Rattle.vx_hub.specs.Stands.{Stands, IsSound, touched}
 
 -- a run without a cause wasn't given up
-unabandoned : (h : Record) → cause_of h ≡ None → abandoned h ≡ false
+pub unabandoned : (h : Record) → cause_of h ≡ None → abandoned h ≡ false
 unabandoned [] none = refl
 unabandoned (Abandon cause ∷ h) none = cc
 unabandoned (e ∷ h) none = unabandoned h none

@@ -142,12 +142,13 @@ pub sound_before : {P : Type 0} (d e : Hub P) (entry : Entry) → Noted d.log en
 sound_before d e entry noted starved sound = record { whole = (noted.whole sound.whole).0; fed = sym starved ∙ sound.fed }
 
 -- a copy may be spent for the same cause behind an entry that puts nothing and is no attempt
-spent_for : (h : Record) (e : Entry) (i : ℕ) (outcome : Outcome) → puts e ≡ [] → last_attempted (e ∷ h) i ≡ last_attempted h i → last_reply (e ∷ h) i ≡ last_reply h i → readers_at (e ∷ h) i ≡ readers_at h i → cause_of (e ∷ h) ≡ cause_of h →
+spent_for : (h : Record) (e : Entry) (i : ℕ) (outcome : Outcome) → puts e ≡ [] → last_attempted (e ∷ h) i ≡ last_attempted h i → last_reply (e ∷ h) i ≡ last_reply h i → readers_at (e ∷ h) i ≡ readers_at h i → cause_of (e ∷ h) ≡ cause_of h → is_out (e ∷ h) i ≡ is_out h i →
     IsSpentFor h i outcome → IsSpentFor (e ∷ h) i outcome
-spent_for h e i outcome none same reply readers cause before = record {
+spent_for h e i outcome none same reply readers cause out before = record {
   given = before.given;
   replied = λ answer is. answered_on h e i answer none same reply (before.replied answer is);
   given_up = λ is. subst (λ (c : Option AbandonCause). IsSome c) (sym cause) (before.given_up is);
+  home = λ is. out ∙ before.home is;
   unread = λ is. readers ∙ before.unread is;
   none_waits = λ is t. waits_none h e i t none (before.none_waits is t);
   left = λ some. before.left (subst (λ (c : Option AbandonCause). IsSome c) cause some);
@@ -157,12 +158,12 @@ spent_for h e i outcome none same reply readers cause before = record {
 pub spent_on : {P : Type 0} (d e : Hub P) (j copy : ℕ) (spent : Outcome) (i : ℕ) (outcome : Outcome) → Noted d.log (Spent j copy spent) e.log → e.starved ≡ d.starved → MaySpend d i outcome → MaySpend e i outcome
 spent_on d e j copy spent i outcome noted starved may sound =
     let before = may (sound_before d e (Spent j copy spent) noted starved sound) in
-    subst (λ (h : Record). IsSpentFor h i outcome) (sym (noted.whole sound.whole).1) (spent_for d.log.history (Spent j copy spent) i outcome refl refl refl refl refl before)
+    subst (λ (h : Record). IsSpentFor h i outcome) (sym (noted.whole sound.whole).1) (spent_for d.log.history (Spent j copy spent) i outcome refl refl refl refl refl refl before)
 
 pub noticed_on : {P : Type 0} (d e : Hub P) (batch : ℕ) (status : _) (i : ℕ) (outcome : Outcome) → Noted d.log (Notice batch status) e.log → e.starved ≡ d.starved → MaySpend d i outcome → MaySpend e i outcome
 noticed_on d e batch status i outcome noted starved may sound =
     let before = may (sound_before d e (Notice batch status) noted starved sound) in
-    subst (λ (h : Record). IsSpentFor h i outcome) (sym (noted.whole sound.whole).1) (spent_for d.log.history (Notice batch status) i outcome refl refl refl refl refl before)
+    subst (λ (h : Record). IsSpentFor h i outcome) (sym (noted.whole sound.whole).1) (spent_for d.log.history (Notice batch status) i outcome refl refl refl refl refl refl before)
 
 -- what has no cause has none
 not_left : {X : Type 0} (cause : Option AbandonCause) → cause ≡ None → IsSome cause → X
@@ -175,6 +176,7 @@ unread_may hub i goes none waits sound = record {
   given = tt;
   replied = λ reply behind. cc;
   given_up = λ is. cc;
+  home = λ is. cc;
   unread = λ is. none sound;
   none_waits = λ is. waits sound;
   left = λ some. not_left (cause_of hub.log.history) (goes sound) some;
@@ -189,11 +191,12 @@ pub first_targets : (outlet : List (List ℕ)) (readers : List ℕ) → outlet �
 first_targets outlet readers is = ap (λ (o : List (List ℕ)). targets_of 1 o) is ∙ append-nil readers
 
 -- nor one of a run that was given up
-pub abandoned_may : {P : Type 0} (told_by : P → Told) (hub : Hub P) (hand : List Copy) (i : ℕ) → Stands told_by hub hand hub.log.history → IsSome hub.abandoned → MaySpend hub i Abandoned
-abandoned_may told_by hub hand i s given_up sound = record {
+pub abandoned_may : {P : Type 0} (told_by : P → Told) (hub : Hub P) (hand : List Copy) (i : ℕ) → Stands told_by hub hand hub.log.history → IsSome hub.abandoned → (IsSound hub → is_out hub.log.history i ≡ false) → MaySpend hub i Abandoned
+abandoned_may told_by hub hand i s given_up home sound = record {
   given = tt;
   replied = λ reply behind. cc;
   given_up = λ is. subst (λ (cause : Option AbandonCause). IsSome cause) (s.recorded sound).cause given_up;
+  home = λ is. home sound;
   unread = λ is. cc;
   none_waits = λ is. cc;
   left = λ some. refl;
@@ -211,21 +214,15 @@ replied_may hub i reply outcome goes behind last sound = record {
   given = replied_given reply outcome behind;
   replied = λ answer is. let same : reply ≡ answer = cc in subst (AreAnswered hub.log.history i) same (last sound);
   given_up = λ is. let none : reply_behind outcome ≡ None = ap reply_behind is in cc;
+  home = λ is. let none : reply_behind outcome ≡ None = ap reply_behind is in cc;
   unread = λ is. let none : reply_behind outcome ≡ None = ap reply_behind is in cc;
   none_waits = λ is. let none : reply_behind outcome ≡ None = ap reply_behind is in cc;
   left = λ some. not_left (cause_of hub.log.history) (goes sound) some;
 }
 
--- and is abandoned where the run was given up
-pub answered_may : {P : Type 0} (told_by : P → Told) (hub : Hub P) (hand : List Copy) (i : ℕ) (reply : Reply) (outcome : Outcome) → Stands told_by hub hand hub.log.history → (hub.abandoned ≡ None → reply_behind outcome ≡ Some reply) →
-    (IsSome hub.abandoned → outcome ≡ Abandoned) → IsReplied hub i reply → MaySpend hub i outcome
-answered_may {P} told_by hub hand i reply outcome s going given_up last = go hub.abandoned refl
-  where
-    go : (a : Option AbandonCause) → hub.abandoned ≡ a → MaySpend hub i outcome
-    go None is = replied_may hub i reply outcome (λ sound. sym (s.recorded sound).cause ∙ is) (going is) last
-    go (Some c) is =
-        let some : IsSome hub.abandoned = subst (λ (a : Option AbandonCause). IsSome a) (sym is) refl in
-        subst (λ (o : Outcome). MaySpend hub i o) (sym (given_up some)) (abandoned_may told_by hub hand i s some)
+-- where the run goes on
+pub answered_may : {P : Type 0} (told_by : P → Told) (hub : Hub P) (hand : List Copy) (i : ℕ) (reply : Reply) (outcome : Outcome) → Stands told_by hub hand hub.log.history → hub.abandoned ≡ None → reply_behind outcome ≡ Some reply → IsReplied hub i reply → MaySpend hub i outcome
+answered_may told_by hub hand i reply outcome s going behind last = replied_may hub i reply outcome (λ sound. sym (s.recorded sound).cause ∙ going) behind last
 
 -- the reason of a landing stays, behind its end
 pub reason_home : (h : Record) (i : ℕ) (cause : AbandonCause) → IsReason h cause → IsReason (Home i ∷ h) cause
@@ -269,3 +266,8 @@ split_next h old new targets parcel children are more now =
 pub unread_balanced : {P : Type 0} (old new : Ledger) (before after : List (Row P)) (parcel back : List Copy) → IsBalanced old before [] → Loses before parcel after → new ≡ old → back ≡ parcel → IsBalanced new after back
 unread_balanced old new before after parcel back b l same put batch place =
     omega (arith, b batch place, l batch place, ap (λ (w : Ledger). live_count batch place w.open_rows) same, ap (copies_of batch place) put)
+
+-- a landing behind an abandonment fails for want of memory alone
+pub wanting_reason : {P X : Type 0} (e : Hub P) (result : Result X Fatal) → IfErr result (λ cause. cause ≡ fatal.WantOfMemory) → IfErr result (HasReason e)
+wanting_reason e (Ok x) none = tt
+wanting_reason e (Err f) none = subst (λ (g : Fatal). HasReason e g) (sym none) (λ sound. tt)

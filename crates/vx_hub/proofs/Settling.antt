@@ -8,11 +8,12 @@ use Rattle.vx_ends.specs.Told.{Told}
 use Rattle.vx_ledger.specs.Copies.{Copy}
 use Rattle.vx_record.specs.Records.{Record}
 use Rattle.vx_record.specs.declared.entry.Entry.{Entry}
-use Rattle.vx_record.specs.declared.entry.Entry.TheVariants.{Lease, Home, Attempt, Spent}
+use Rattle.vx_record.specs.declared.entry.Entry.TheVariants.{Lease, Home, Attempt, Spent, Abandon}
 use Rattle.vx_record.specs.Copies.{count, contains, joined, spends, all_of, times_spent}
 use Rattle.vx_record.specs.Places.{kind, leaves, puts}
 use Rattle.vx_record.specs.Places.Place.{Held}
 use Rattle.vx_record.specs.Lists.{shrunk, held}
+use Rattle.vx_record.specs.Abandoning.{abandoned}
 use Rattle.vx_record.specs.Turns.{is_out, since_lease, is_attempt_of}
 use Rattle.vx_record.specs.SinkBatches.{attempts_with, failures_with, attempts_allowed}
 use Rattle.vx_record.specs.Parcels.{first_copy}
@@ -35,10 +36,15 @@ use Rattle.vx_hub.proofs.Placing.{conserved, places_all}
 use Rattle.vx_hub.proofs.Standing.{count_shrunk}
 use Rattle.vx_hub.proofs.Touching.{out_port}
 
+-- a run that wasn't given up wasn't before
+went_on : (h : Record) (e : Entry) → abandoned (e ∷ h) ≡ false → abandoned h ≡ false
+went_on h (Abandon cause) going = cc
+went_on h e going = going
+
 -- an entry that is no attempt of the instance leaves it settled
 pub settled_on : (h : Record) (e : Entry) (i : ℕ) → ((c : ℕ) → attempts_with (e ∷ h) i c ≡ attempts_with h i c) → AreSettled h i → AreSettled (e ∷ h) i
-settled_on h e i same s c l =
-    let before = s c (let n = same c in omega (arith, l, n)) in
+settled_on h e i same s going c l =
+    let before = s (went_on h e going) c (let n = same c in omega (arith, l, n)) in
     let all = count-append c (all_of spends h) (spends e) in
     omega (arith, before, all)
 
@@ -64,7 +70,7 @@ or_right false b e = e
 
 -- an instance at home has spent all that it attempted
 pub settled_home : (h : Record) (i : ℕ) → IsOrderly h → is_out h i ≡ false → AreSettled h i
-settled_home [] i o home = λ c l. absurd (omega (arith, l))
+settled_home [] i o home = λ going c l. absurd (omega (arith, l))
 settled_home (Lease j worker now polls ∷ h) i o home = settled_on h (Lease j worker now polls) i (λ c. refl) (settled_home h i o.1 (not_leased (j == i) (is_out h i) home))
 settled_home (Home j ∷ h) i o home = go (j == i) refl home (settled_home h i o.1)
   where
@@ -140,7 +146,7 @@ attempted_held (e ∷ h) i c o l none =
 
 -- so where nothing is held all that was attempted is spent
 pub settled_bare : (h : Record) (i : ℕ) → IsOrderly h → held h i ≡ [] → AreSettled h i
-settled_bare h i o none c l = elim (cases_lt 0 (times_spent h c)) [
+settled_bare h i o none going c l = elim (cases_lt 0 (times_spent h c)) [
   | inl spent ↦ spent
   | inr few ↦
       let here = attempted_held h i c o l (omega (arith, few)) in
@@ -191,11 +197,11 @@ owes_none (Attempt j copies bytes reply ∷ h) whole i all =
 owes_none (e ∷ h) whole i all = owes_none h whole i all
 
 -- what isn't closed isn't retired
-pub unclosed_unretired : (h : Record) (f : Facts) (i : ℕ) (gone : IsTrue f.retired → IsTrue f.closed) → f.closed ≡ false → f.leased ≡ false → IsKnown f h i → IsOrderly h → IsLeaseOf h i 0
-unclosed_unretired h f i gone unclosed unleased k orderly = record {
+pub unclosed_unretired : (h : Record) (f : Facts) (i : ℕ) (gone : IsTrue f.retired → IsTrue f.closed) → f.closed ≡ false → f.leased ≡ false → IsKnown f h i → IsOrderly h → abandoned h ≡ false → IsLeaseOf h i 0
+unclosed_unretired h f i gone unclosed unleased k orderly going = record {
   known = there_known h i f orderly k;
   home = sym k.leased ∙ unleased;
-  settled = owes_none h h i (settled_home h i orderly (sym k.leased ∙ unleased));
+  settled = owes_none h h i (settled_home h i orderly (sym k.leased ∙ unleased) going);
   unclosed = sym k.closed ∙ unclosed;
   unretired = sym k.retired ∙ go f.retired refl;
   unpolled = refl;

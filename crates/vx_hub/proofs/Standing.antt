@@ -1,7 +1,6 @@
 -- Copies are spent where they stand.
 use Rattle.std.proofs.Common.{◌≡◌, ℕ, ◌+◌, ◌<◌, ◌≤◌, List, [], ◌∷◌, ◌++◌, Option, Some, None, IfSome, refl, sym, ap, ◌∙◌, subst, arith}
-use Rattle.std.specs.Prelude.{IsTrue, IsSome}
-use Rattle.vx_record.specs.declared.abandon_cause.AbandonCause.{AbandonCause}
+use Rattle.std.specs.Prelude.{IsTrue}
 use Rattle.vx_ends.specs.Told.{Told}
 use Rattle.vx_ends.specs.declared.trouble.Reply.{Reply}
 use Rattle.vx_status.specs.declared.outcome.Outcome.{Outcome}
@@ -128,14 +127,10 @@ child_if told_by d e i None s log starved takes = tt
 child_if told_by d e i (Some parcel) s log starved takes = taken_from told_by d e i Abandoned (Waiting i takes.0) parcel.finalizers s log starved refl takes.1 (λ is. cc)
 
 -- what was attempted is held
-reply_place : (outcome : Outcome) (reply : Reply) (i : ℕ) → reply_behind outcome ≡ Some reply → IsPlaceFor outcome i (Held i)
+pub reply_place : (outcome : Outcome) (reply : Reply) (i : ℕ) → reply_behind outcome ≡ Some reply → IsPlaceFor outcome i (Held i)
 reply_place NoConsumer reply i behind = cc
 reply_place Abandoned reply i behind = cc
 reply_place outcome reply i behind = refl
-
-pub answered_place : (a : Option AbandonCause) (outcome : Outcome) (reply : Reply) (i : ℕ) → (a ≡ None → reply_behind outcome ≡ Some reply) → (IsSome a → outcome ≡ Abandoned) → IsPlaceFor outcome i (Held i)
-answered_place None outcome reply i going given_up = reply_place outcome reply i (going refl)
-answered_place (Some cause) outcome reply i going given_up = subst (λ (o : Outcome). IsPlaceFor o i (Held i)) (sym (given_up refl)) refl
 
 -- a copy of the hand is spent in order
 pub spending : (h : Record) (i : ℕ) (f : Copy) (n : ℕ) (outcome : Outcome) → n ≡ f.number → IsConserved h → IsLive h n → IsSpentFor h i outcome → AreSpentFrom h i outcome (f.number ∷ []) → IsSpending h i n outcome

@@ -17,7 +17,7 @@ IsAway hub i = IsSound hub → is_out hub.log.history i ≡ true
 abbrev pub IsUntried : {P : Type 0} → Hub P → ℕ → Type 0
 IsUntried hub i = IsSound hub → list_any (is_attempt_of i) (since_lease hub.log.history i) ≡ false
 
--- where the record has all that happened, each copy that the instance attempted is spent
+-- where the record has all that happened, each copy that the instance attempted is spent, if the run wasn't given up
 abbrev pub IsSettled : {P : Type 0} → Hub P → ℕ → Type 0
 IsSettled hub i = IsSound hub → AreSettled hub.log.history i
 

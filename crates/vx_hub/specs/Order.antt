@@ -175,14 +175,14 @@ reply_behind Refusal = Some reply.Refused
 reply_behind other = None
 
 -- what each outcome needs: the instance's last attempt had the copy and was answered so, and with it as many failed as are
--- allowed; the copy is in the oldest output of an instance that nobody reads; or the run was given up. Nothing filters, and no
--- buffer drops the newest yet
+-- allowed; the copy is in the oldest output of an instance that nobody reads; or the run was given up, and the instance is
+-- at home. Nothing filters, and no buffer drops the newest yet
 abbrev pub IsCaused : Record → ℕ → ℕ → Outcome → Type 0
 IsCaused h i c Delivered = WasAnswered h i c reply.Ok
 IsCaused h i c Refusal = WasAnswered h i c reply.Refused
 IsCaused h i c Attempts = WasAnswered h i c reply.Failed × (attempts_allowed h i ≤ failures_with h i c)
 IsCaused h i c NoConsumer = HadNoTarget h i c × (readers_at h i ≡ [])
-IsCaused h i c Abandoned = abandoned h ≡ true
+IsCaused h i c Abandoned = (abandoned h ≡ true) × (is_out h i ≡ false)
 IsCaused h i c other = ⊥
 
 -- where a copy stands that is spent so: put out by its instance where nobody reads it, anywhere at it where the run was
@@ -219,11 +219,11 @@ pub record IsGivenUp (h : Record) (cause : AbandonCause) : Type 0 where
   pub first : cause_of h ≡ None
   pub reason : IsReason h cause
 
--- each copy that an instance attempted is spent
+-- each copy that an instance attempted is spent, where the run wasn't given up
 abbrev pub AreSettled : Record → ℕ → Type 0
-AreSettled h i = (c : ℕ) → 0 < attempts_with h i c → 0 < times_spent h c
+AreSettled h i = abandoned h ≡ false → (c : ℕ) → 0 < attempts_with h i c → 0 < times_spent h c
 
--- what comes home was out, and has spent all that it attempted
+-- what comes home was out, and has spent all that it attempted, or does so at home where the run was given up
 pub record IsReturnOf (h : Record) (j : ℕ) : Type 0 where
   pub out : is_out h j ≡ true
   pub settled : AreSettled h j

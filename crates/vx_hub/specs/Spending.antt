@@ -1,5 +1,5 @@
 -- When a batch may be born and a copy may be spent, by what the hub knows.
-use Rattle.std.specs.Prelude.{◌≡◌, ◌<◌, ℕ, List, [], Some, IsSome, length}
+use Rattle.std.specs.Prelude.{◌≡◌, ◌<◌, ℕ, false, List, [], Some, IsSome, length}
 use Rattle.vx_value.specs.declared.event.Event.{Event}
 use Rattle.vx_ends.specs.declared.position.Position.{Position}
 use Rattle.vx_record.specs.Sourcing.{IsYield}
@@ -11,6 +11,7 @@ use Rattle.vx_status.specs.declared.outcome.Outcome.TheVariants.{Filtered, Newes
 use Rattle.vx_record.specs.Records.{Record}
 use Rattle.vx_record.specs.Copies.{count, joined}
 use Rattle.vx_record.specs.Lists.{waiting, held}
+use Rattle.vx_record.specs.Turns.{is_out}
 use Rattle.vx_record.specs.Spending.{last_attempted, last_reply}
 use Rattle.vx_hub.specs.declared.hub.Hub.{Hub}
 use Rattle.vx_hub.specs.Numbers.{numbers_in}
@@ -33,6 +34,7 @@ pub record IsSpentFor (h : Record) (i : ℕ) (outcome : Outcome) : Type 0 where
   pub given : IsGiven outcome
   pub replied : (reply : Reply) → reply_behind outcome ≡ Some reply → AreAnswered h i reply
   pub given_up : outcome ≡ Abandoned → IsSome (cause_of h)
+  pub home : outcome ≡ Abandoned → is_out h i ≡ false
   pub unread : outcome ≡ NoConsumer → readers_at h i ≡ []
   pub none_waits : outcome ≡ NoConsumer → (t : ℕ) → waiting h i t ≡ []
   pub left : IsSome (cause_of h) → outcome ≡ Abandoned

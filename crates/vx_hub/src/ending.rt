@@ -92,8 +92,8 @@ impl<P: Port> Hub<P> {
         self.facts.iter().all(|f| f.retired)
     }
 
-    /// Gives the run up: spends every copy that stands at an instance as `Abandoned`, and closes the ports at home. It
-    /// takes no memory but for the record.
+    /// Gives the run up: spends every copy that stands at an instance at home as `Abandoned`, and closes the ports at
+    /// home. An instance that is out is given up when it lands. It takes no memory but for the record.
     pub fn abandon(&mut self, cause: AbandonCause)
         requires stands { Stands P.told self.old [] self.old.log.history }
         requires once { self.old.abandoned ≡ None }
@@ -106,7 +106,7 @@ impl<P: Port> Hub<P> {
         self.note_abandoned(cause);
         for i in 0..self.rows.len() {
             if let Ok(instance) = u32::try_from(i) {
-                self.abandon_at(instance);
+                self.abandon_if_home(instance);
             }
         }
     }
@@ -125,11 +125,27 @@ impl<P: Port> Hub<P> {
         self.log.note(Ok(Entry::Abandon { cause }));
     }
 
-    /// Spends every copy that stands at an instance, and closes its port if it is at home.
-    fn abandon_at(&mut self, instance: u32)
+    /// Spends every copy that stands at an instance and closes its port, unless it is out.
+    fn abandon_if_home(&mut self, instance: u32)
         requires stands { Stands P.told self.old [] self.old.log.history }
         requires given_up { IsSome self.old.abandoned }
         requires within { instance < length self.old.rows.items }
+        ensures stands { Stands P.told self.new [] self.new.log.history }
+        ensures size { length self.new.rows.items ≡ length self.old.rows.items }
+        ensures plan { self.new.plan ≡ self.old.plan }
+        ensures abandoned { self.new.abandoned ≡ self.old.abandoned }
+    {
+        if !self.is_leased(instance as usize) {
+            self.abandon_at(instance);
+        }
+    }
+
+    /// Spends every copy that stands at an instance at home, and closes its port.
+    pub(crate) fn abandon_at(&mut self, instance: u32)
+        requires stands { Stands P.told self.old [] self.old.log.history }
+        requires given_up { IsSome self.old.abandoned }
+        requires within { instance < length self.old.rows.items }
+        requires home { IsAtHome self.old instance }
         ensures stands { Stands P.told self.new [] self.new.log.history }
         ensures size { length self.new.rows.items ≡ length self.old.rows.items }
         ensures plan { self.new.plan ≡ self.old.plan }
@@ -168,7 +184,9 @@ impl<P: Port> Hub<P> {
         requires stands { Stands P.told self.old [] self.old.log.history }
         requires given_up { IsSome self.old.abandoned }
         requires within { instance < length self.old.rows.items }
+        requires home { IsAtHome self.old instance }
         ensures stands { Stands P.told self.new [] self.new.log.history }
+        ensures facts { self.new.facts ≡ self.old.facts }
         ensures size { length self.new.rows.items ≡ length self.old.rows.items }
         ensures plan { self.new.plan ≡ self.old.plan }
         ensures abandoned { self.new.abandoned ≡ self.old.abandoned }
@@ -187,7 +205,9 @@ impl<P: Port> Hub<P> {
         requires stands { Stands P.told self.old parcel.finalizers self.old.log.history }
         requires given_up { IsSome self.old.abandoned }
         requires from { ComeFrom self.old instance Outcome.Abandoned parcel.finalizers }
+        requires home { IsAtHome self.old instance }
         ensures stands { Stands P.told self.new [] self.new.log.history }
+        ensures facts { self.new.facts ≡ self.old.facts }
         ensures rows { self.new.rows ≡ self.old.rows }
         ensures plan { self.new.plan ≡ self.old.plan }
         ensures abandoned { self.new.abandoned ≡ self.old.abandoned }
@@ -201,6 +221,7 @@ impl<P: Port> Hub<P> {
         requires within { i < length self.old.rows.items }
         ensures stands { Stands P.told self.new (option_copies result) self.new.log.history }
         ensures from { IfSome result (λ parcel. ComeFrom self.new i Outcome.Abandoned parcel.finalizers) }
+        ensures facts { self.new.facts ≡ self.old.facts }
         ensures size { length self.new.rows.items ≡ length self.old.rows.items }
         ensures plan { self.new.plan ≡ self.old.plan }
         ensures abandoned { self.new.abandoned ≡ self.old.abandoned }

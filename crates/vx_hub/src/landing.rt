@@ -7,7 +7,7 @@ ghost use Rattle.vx_hub.specs.Order.{reply_behind, IsPlaceFor, IsDueOf};
 ghost use Rattle.vx_hub.specs.Failures.{HasReason};
 ghost use Rattle.vx_hub.specs.Spending.{MaySpend, IsReplied, HasRead, HasYielded};
 ghost use Rattle.vx_hub.specs.Away.{IsUntried, IsReturning, MayEnd, IsSettled, IsArrived};
-ghost use Rattle.vx_hub.specs.Stands.{Stands, IsTold, IsSound, IsUnlost, MayShut, IsSinkAt, facts_at};
+ghost use Rattle.vx_hub.specs.Stands.{Stands, IsTold, IsSound, IsUnlost, MayShut, IsSinkAt, IsAtHome, facts_at};
 ghost use Rattle.vx_hub.specs.Leases.{IsBack, IsOpenAt, Adds};
 ghost use Rattle.vx_hub.specs.Turns.{event_count};
 ghost use Rattle.vx_record.specs.Places.Place.{Outputs, Held};
@@ -33,7 +33,8 @@ impl<P: Port> Hub<P> {
     ///
     /// `Fatal` comes where a birth found no numbers or no memory, where the work found no memory, or where an entry
     /// couldn't be noted. Each entry that was made stands then, and every copy that isn't spent is still held. After an
-    /// abandonment no batch is born, and what a sink holds is spent as `Abandoned`, however its attempt was answered.
+    /// abandonment no batch is born; once the instance is home, all that stands at it is spent as `Abandoned`, however
+    /// its attempt was answered, and its port is closed for good.
     pub fn land(&mut self, landing: Landing<P>) -> Result<(), Fatal>
         requires { IsBack P.told self.old landing }
         ensures stands { Stands P.told self.new [] self.new.log.history }
@@ -47,7 +48,32 @@ impl<P: Port> Hub<P> {
         let landing = self.land_confirm(landing);
         let landed = self.land_done(landing);
         self.note_home(instance);
-        self.settled(landed)
+        if self.goes_on() {
+            self.settled(landed)
+        } else {
+            self.settled_abandoned(instance, landed)
+        }
+    }
+
+    /// Spends what stands at an instance that came home after an abandonment, and closes its port. No batch is born
+    /// there, so that memory was wanting wherever the landing failed.
+    fn settled_abandoned(&mut self, instance: u32, landed: Result<(), Fatal>) -> Result<(), Fatal>
+        requires stands { Stands P.told self.old [] self.old.log.history }
+        requires given_up { IsSome self.old.abandoned }
+        requires within { instance < length self.old.rows.items }
+        requires home { IsAtHome self.old instance }
+        ensures stands { Stands P.told self.new [] self.new.log.history }
+        ensures fatal { OnErr result (self.new.fatal ≡ true) }
+        ensures whole { OnOk result (IsTrue self.new.log.whole) }
+        ensures reason { IfErr result (HasReason self.new) }
+        ensures size { length self.new.rows.items ≡ length self.old.rows.items }
+        ensures plan { self.new.plan ≡ self.old.plan }
+    {
+        self.abandon_at(instance);
+        match landed {
+            Ok(()) => self.settled(Ok(())),
+            Err(_) => self.settled(Err(Fatal::WantOfMemory)),
+        }
     }
 
     /// Notes that an instance came home.
@@ -57,6 +83,7 @@ impl<P: Port> Hub<P> {
         requires within { instance < length self.old.rows.items }
         ensures stands { Stands P.told self.new [] self.new.log.history }
         ensures noted { Noted self.old.log (Entry.Home instance) self.new.log }
+        ensures home { IsAtHome self.new instance }
         ensures starved { self.new.starved ≡ self.old.starved }
         ensures rows { self.new.rows ≡ self.old.rows }
         ensures plan { self.new.plan ≡ self.old.plan }
@@ -270,7 +297,8 @@ impl<P: Port> Hub<P> {
         self.bring(instance, task);
     }
 
-    /// Spends what a sink at home holds, as its last attempt was answered, or as abandoned.
+    /// Spends what a sink holds whose task is back, as its last attempt was answered. After an abandonment it is spent
+    /// once the sink is home.
     fn spend_attempted(&mut self, instance: u32, reply: Reply)
         requires stands { Stands P.told self.old [] self.old.log.history }
         requires replied { IsReplied self.old instance reply }
@@ -281,18 +309,8 @@ impl<P: Port> Hub<P> {
         ensures plan { self.new.plan ≡ self.old.plan }
         ensures returning { IsReturning self.new instance }
     {
-        let outcome = self.outcome_now(reply);
-        self.spend_held(instance, outcome);
-    }
-
-    /// What becomes of the copies of a sink batch that was attempted.
-    fn outcome_now(&self, reply: Reply) -> Outcome
-        ensures going { self.now.abandoned ≡ None → reply_behind result ≡ Some reply }
-        ensures given_up { IsSome self.now.abandoned → result ≡ Outcome.Abandoned }
-    {
-        match self.abandoned {
-            None => outcome_of(reply),
-            Some(_) => Outcome::Abandoned,
+        if self.goes_on() {
+            self.spend_held(instance, outcome_of(reply));
         }
     }
 

@@ -1,5 +1,5 @@
 use Rattle.std.proofs.Common.{◌≡◌, [], length}
-use Rattle.vx_hub.specs.Stands.{Stands}
+use Rattle.vx_hub.specs.Stands.{Stands, IsAtHome}
 use Rattle.vx_hub.proofs.hub.Hub.abandon_at.Given as goal
 
 abbrev pub invariant-loop : goal.invariant-loop
@@ -7,5 +7,6 @@ invariant-loop g l = record {
   stands : Stands g.P.Port.told l.self [] l.self.log.history;
   size : length l.self.rows.items ≡ length l.fn.self.rows.items;
   plan : l.self.plan ≡ l.fn.self.plan;
+  home : IsAtHome l.self l.instance;
   abandoned : l.self.abandoned ≡ l.fn.self.abandoned;
 }

@@ -1,4 +1,6 @@
-use Rattle.std.proofs.Common.{subst}
+use Rattle.std.proofs.Common.{subst, refl}
+use Rattle.vx_record.specs.declared.entry.Entry.TheVariants.{Read}
+use Rattle.vx_hub.proofs.Leaving.{settled_noted}
 use Rattle.vx_record.specs.declared.taken.Taken.TheVariants as taken
 use Rattle.vx_hub.specs.declared.source.Turned.{Turned}
 use Rattle.vx_hub.specs.Abreast.{RoleHasTurned}
@@ -56,3 +58,18 @@ give_birth-requires-in-AllEnded-clause-yields g c =
     c.bring-in-AllEnded.ensures.yields i c.in-AllEnded.events (record { stream = c.in-AllEnded.stream; end = c.in-AllEnded.end })
     (yielded d c.note_end-in-AllEnded.new.self i c.in-AllEnded.stream taken.AllEnded c.in-AllEnded.events (record { stream = c.in-AllEnded.stream; end = c.in-AllEnded.end }) c.note_end-in-AllEnded.ensures.noted c.note_end-in-AllEnded.ensures.starved
     (λ sound. (all_role d.log.history i c.in-AllEnded.stream c.in-AllEnded.events c.in-AllEnded.end role (subst (λ (t : Turned). RoleHasTurned d.log.history i role t) c.in-AllEnded.is (c.requires.come sound))).1))
+
+pub returns-in-Lines-clause-returning : goal.returns-in-Lines-clause-returning
+returns-in-Lines-clause-returning g c =
+    c.give_birth.ensures.returning c.args.instance
+    (c.bring.ensures.returning (settled_noted c.args.self.now c.note_taken.new.self (Read c.args.instance c.in-Lines.stream (taken.Bytes c.in-Lines.bytes)) c.note_taken.ensures.noted c.note_taken.ensures.starved (λ h k n. refl) c.args.instance c.requires.settled))
+
+pub returns-in-StreamEnded-clause-returning : goal.returns-in-StreamEnded-clause-returning
+returns-in-StreamEnded-clause-returning g c =
+    c.give_birth-in-StreamEnded.ensures.returning c.args.instance
+    (c.bring-in-StreamEnded.ensures.returning (settled_noted c.args.self.now c.note_end.new.self (Read c.args.instance c.in-StreamEnded.stream taken.StreamEnded) c.note_end.ensures.noted c.note_end.ensures.starved (λ h k n. refl) c.args.instance c.requires.settled))
+
+pub returns-in-AllEnded-clause-returning : goal.returns-in-AllEnded-clause-returning
+returns-in-AllEnded-clause-returning g c =
+    c.give_birth-in-AllEnded.ensures.returning c.args.instance
+    (c.bring-in-AllEnded.ensures.returning (settled_noted c.args.self.now c.note_end-in-AllEnded.new.self (Read c.args.instance c.in-AllEnded.stream taken.AllEnded) c.note_end-in-AllEnded.ensures.noted c.note_end-in-AllEnded.ensures.starved (λ h k n. refl) c.args.instance c.requires.settled))

@@ -1,4 +1,4 @@
-use Rattle.std.proofs.Common.{arith, ◌≡◌, true, false}
+use Rattle.std.proofs.Common.{arith, ◌≡◌, false}
 use Rattle.vx_hub.proofs.Touching.{facts_says, facts_past, facts_surely}
 use Rattle.vx_hub.proofs.hub.Hub.is_leased.Goals as goal
 

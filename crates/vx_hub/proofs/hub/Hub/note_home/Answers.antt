@@ -1,10 +1,10 @@
-use Rattle.std.proofs.Common.{◌≡◌, refl, arith, [], ◌<◌, length, ℕ, Option, Some, None, sym, subst}
+use Rattle.std.proofs.Common.{◌≡◌, refl, false, arith, [], ◌<◌, length, ℕ, Option, Some, None, sym, subst}
 use Rattle.std.specs.Prelude.{IsSome, ◌==◌}
 use Rattle.vx_record.specs.Turns.{is_out}
 use Rattle.vx_hub.specs.Stands.{IsShut, IsGone}
 use Rattle.vx_hub.specs.Rows.{port_at}
 use Rattle.vx_hub.proofs.StandsLaws.{same_next}
-use Rattle.vx_hub.proofs.Touching.{stands_marked, facts_has}
+use Rattle.vx_hub.proofs.Touching.{stands_marked, facts_has, facts_get}
 use Rattle.vx_record.specs.declared.entry.Entry.TheVariants.{Home}
 use Rattle.vx_hub.proofs.Owning.{placed_still}
 use Rattle.vx_hub.proofs.Noticing.{running_still}
@@ -33,3 +33,6 @@ returns-clause-stands g c =
     not_none : {P : Type 0} (o : Option P) → o ≡ None → IsSome o → ⊥
     not_none None none some = cc
     not_none (Some p) none some = cc
+
+pub returns-clause-home : goal.returns-clause-home
+returns-clause-home g c = facts_get (λ f. f.leased ≡ false) c.args.self.now.facts.items c.args.instance _ (omega (arith, c.requires.stands.size, c.requires.within)) refl

@@ -10,7 +10,7 @@ use Rattle.vx_hub.proofs.StandsLaws.{born_same, same_next}
 use Rattle.vx_hub.proofs.Touching.{stands_marked, facts_surely, facts_get, facts_has}
 use Rattle.vx_hub.proofs.Owning.{placed_still}
 use Rattle.vx_hub.proofs.Noticing.{running_still}
-use Rattle.vx_hub.proofs.Ceasing.{hub_comes, leased_on}
+use Rattle.vx_hub.proofs.Ceasing.{hub_comes, leased_on, going_on, unabandoned}
 use Rattle.vx_hub.proofs.Retiring.{known_leased, known_leased_other}
 use Rattle.vx_hub.proofs.Settling.{unclosed_unretired}
 use Rattle.std.specs.List.{list_any}
@@ -29,7 +29,8 @@ returns-clause-stands g c =
     (λ retired. (facts_has (IsGone c.args.self.now.rows.items c.args.instance) c.args.self.now.facts.items c.args.instance c.index_mut-facts.result.now within c.index_mut-facts.ensures.value (c.requires.stands.gone c.args.instance) retired).0)
     (facts_surely (λ f. f.closed ≡ false) c.args.self.now.facts.items c.args.instance c.index_mut-facts.result.now within c.index_mut-facts.ensures.value c.requires.open.unclosed)
     (facts_surely (λ f. f.leased ≡ false) c.args.self.now.facts.items c.args.instance c.index_mut-facts.result.now within c.index_mut-facts.ensures.value c.requires.unleased)
-    (facts_has (λ f. IsKnown f c.args.self.now.log.history c.args.instance) c.args.self.now.facts.items c.args.instance c.index_mut-facts.result.now within c.index_mut-facts.ensures.value ((c.requires.stands.recorded fine).facts c.args.instance)) (c.requires.stands.recorded fine).order)
+    (facts_has (λ f. IsKnown f c.args.self.now.log.history c.args.instance) c.args.self.now.facts.items c.args.instance c.index_mut-facts.result.now within c.index_mut-facts.ensures.value ((c.requires.stands.recorded fine).facts c.args.instance)) (c.requires.stands.recorded fine).order
+    (unabandoned c.args.self.now.log.history (going_on g.P.Port.told c.args.self.now [] c.requires.stands c.requires.going fine)))
     (hub_comes g.P.Port.told c.args.self.now [] (Lease c.args.instance c.args.worker c.args.now 0) c.requires.stands c.requires.going) (λ k none out. leased_on (c.args.instance == k) (is_out c.args.self.now.log.history k) out) refl
     (λ fine known. known_leased _ c.args.self.now.log.history c.args.instance c.args.worker c.args.now 0 (record { taken = known.taken; lost = known.lost; failed_starts = known.failed_starts; ends = known.ends; to_confirm = subst (λ (o : Option _). IfSome o (λ positions. positions ≡ born_positions c.args.self.now.log.history c.args.instance)) (sym c.take.ensures.after) tt; confirm_failed = known.confirm_failed; outlet = known.outlet; over = known.over; class = known.class; confirms = λ some. absurd (taken_none _ c.take.ensures.after some); done = known.done; closed = known.closed; retired = known.retired; leased = known.leased }))
     (λ x k other known. known_leased_other x c.args.self.now.log.history c.args.instance k c.args.worker c.args.now 0 other known)
