@@ -1,5 +1,5 @@
 -- The components of an accepted configuration have different names.
-use Rattle.std.proofs.Common.{◌≡◌, Bool, true, false, List, [], ◌∷◌, ◌++◌, map, Option, Some, None, Result, Ok, Err, IfOk, String, Global, Ordering, Less, Equal, Greater, string_bytes, nat_cmp, is_eq, refl, sym, ◌∙◌, ap, subst}
+use Rattle.std.proofs.Common.{◌≡◌, Bool, true, false, List, [], ◌∷◌, ◌++◌, map, Option, Some, None, Result, Ok, Err, IfOk, String, Global, Ordering, Less, Equal, Greater, string_bytes, nat_cmp, refl, sym, ◌∙◌, ap, subst}
 use Rattle.std.specs.Prelude.{not, ◌&&◌, ◌||◌, is_some, option_and_then, if◌then◌else◌}
 use Rattle.std.specs.List.{AllByRecursion, flat_map}
 use Rattle.std.specs.List.Sorted.{IsStrictlySortedBy}
@@ -14,7 +14,6 @@ use Rattle.vx_value.specs.Texts.{Word, same_text}
 use Rattle.vx_value.proofs.Order.{told_less, told_same, less_not_same'}
 use Rattle.vx_plan.specs.declared.class.Class.{Class}
 use Rattle.vx_plan.specs.declared.class.Class.TheVariants.{Source, Transform, Sink}
-use Rattle.vx_plan.specs.declared.component.Component.{Component}
 use Rattle.vx_plan.specs.declared.plan.Plan.{Plan}
 use Rattle.vx_reading.specs.declared.finding.Finding.{Finding}
 use Rattle.vx_reading.specs.declared.kind.Kind.{Kind}
@@ -23,7 +22,7 @@ use Rattle.vx_reading.specs.Components.{Part, part_in, parts_in, parts, section,
 use Rattle.vx_reading.specs.Findings.{findings, global_findings, count_findings, all_section_findings, part_finding, part_findings}
 use Rattle.vx_reading.specs.Judging.{Pair, pairs_of, pairs_in, is_table}
 use Rattle.vx_reading.specs.Names.{AreApart, names_of, part_names, pair_names, AreApartByClass}
-use Rattle.vx_reading.specs.Plans.{component, component_of, plan_of}
+use Rattle.vx_reading.specs.Plans.{component, component_of}
 use Rattle.vx_reading.specs.Reading.{IsPlanOf, IsJudged}
 use Rattle.vx_reading.proofs.Few.{none_left, none_right}
 

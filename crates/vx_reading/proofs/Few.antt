@@ -1,5 +1,5 @@
 -- An accepted configuration has few components.
-use Rattle.std.proofs.Common.{◌≡◌, ℕ, ◌+◌, ◌≤◌, inl, inr, Bool, true, false, nat_lt, List, [], ◌∷◌, ◌++◌, Option, Some, None, length, Ok, refl, sym, ◌∙◌, ap, subst, arith}
+use Rattle.std.proofs.Common.{◌≡◌, ◌+◌, ◌≤◌, inl, inr, Bool, true, false, nat_lt, List, [], ◌∷◌, ◌++◌, Option, Some, None, length, Ok, refl, sym, subst, arith}
 use Rattle.std.specs.List.{flat_map}
 use Rattle.std.specs.Prelude.{if◌then◌else◌}
 use Rattle.std.proofs.lemmas.Bool.Decides.{nat_tests}
@@ -12,7 +12,7 @@ use Rattle.vx_reading.specs.declared.finding.Finding.{Finding}
 use Rattle.vx_reading.specs.declared.kind.Kind.{Kind}
 use Rattle.vx_reading.specs.Components.{Part, parts, kind_of}
 use Rattle.vx_reading.specs.Findings.{findings, global_findings, count_findings, most_parts}
-use Rattle.vx_reading.specs.Plans.{component, component_of, plan_of}
+use Rattle.vx_reading.specs.Plans.{component, component_of}
 use Rattle.vx_reading.specs.Reading.{IsReading, IsPlanOf}
 
 -- a part is at most one component
