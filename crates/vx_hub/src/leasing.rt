@@ -252,7 +252,7 @@ impl<P: Port> Hub<P> {
         }
     }
 
-    /// Moves parcels from a sink's buffer to its sink batch, as many as it may take.
+    /// Moves parcels from a sink's buffer to its sink batch, as many as that has room for, and no more than `TAKES`.
     fn collect(&mut self, instance: u32, now: u64)
         requires stands { Stands P.told self.old [] self.old.log.history }
         requires open { IsOpenAt self.old instance }

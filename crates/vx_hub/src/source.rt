@@ -10,7 +10,7 @@ use vx_value::{Bytes, Event, EventList, Text, WantOfMemory};
 pub const ROOM: usize = 65_536;
 
 /// What one turn of a source brought. `end` is the number of the stream's bytes up to the end of the last line that
-/// gave an event.
+/// gave an event, and 0 where none did.
 #[derive(Drop)]
 pub enum Turned {
     /// Bytes of a stream, and the events of the lines that they complete.
@@ -148,7 +148,7 @@ impl SourceCore {
         self.events(&lines)
     }
 
-    /// The event of the unfinished line with which a stream ends, and the number of the stream's bytes.
+    /// The event of the unfinished line with which a stream ends, and that line's end; no event and 0 where there is none.
     fn finish(&mut self, stream: u64) -> Result<(EventList, u64), WantOfMemory>
         ensures finished { IfOk result (λ cut. HasFinished self.old stream cut.0 cut.1 self.new) }
         ensures few { IfOk result (λ cut. length cut.0 ≤ 1) }
@@ -158,7 +158,7 @@ impl SourceCore {
         self.events(&lines)
     }
 
-    /// The events of some lines, and the end of the last of them.
+    /// The events of some lines, and the end of the last of them, or 0.
     fn events(&self, lines: &LineList) -> Result<(EventList, u64), WantOfMemory>
         ensures { IfOk result (λ cut. AreOf self.now.source_type lines.now cut.0 cut.1) }
     {
