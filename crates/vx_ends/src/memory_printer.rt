@@ -59,7 +59,6 @@ impl Printer for MemoryPrinter {
         ensures prints { self.new.prints ≡ raised self.old.prints true }
         ensures fail_from { self.new.fail_from ≡ self.old.fail_from }
         ensures printed_ok { OnOk result (self.new.printed ≡ self.old.printed ++ bytes.now) }
-        ensures faults_ok { OnOk result (self.new.faults ≡ self.old.faults) }
         ensures printed_err { OnErr result (self.new.printed ≡ self.old.printed) }
         ensures faults_err { OnErr result (self.new.faults ≡ raised self.old.faults true) }
 

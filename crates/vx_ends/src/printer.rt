@@ -8,7 +8,7 @@ pub trait Printer: Drop {
     /// The bytes that were printed, where it tells them.
     ghost printed: { Self → Option (List ℕ) };
 
-    /// How many prints failed. It rises at each `Failed`, and stays otherwise.
+    /// How many prints failed. It rises at each `Failed` (at 2^64 - 1 it stays), and stays otherwise.
     ghost faults: { Self → ℕ };
 
     /// Prints the bytes, all of them where the answer is `Ok`.

@@ -25,7 +25,8 @@ pub trait World: Drop {
     /// The texts at its paths, where it tells them. No call changes them.
     ghost texts: { Self → Option (List Config) };
 
-    /// How many reads of a configuration failed. It never falls, and rises at each `Failed`.
+    /// How many reads of a configuration failed. It never falls, and rises at each `Failed` (at
+    /// 2^64 - 1 it stays).
     ghost faults: { Self → ℕ };
 
     /// The bytes of the text at a path.
