@@ -3,8 +3,6 @@
 
 mod checkpoint;
 mod document;
-#[cfg(test)]
-mod tests;
 
 pub use checkpoint::{Checkpoint, CheckpointFault};
 pub use document::{read, write};

@@ -9,8 +9,6 @@ mod grammars;
 mod laws;
 mod plan_texts;
 mod reading;
-#[cfg(test)]
-mod tests;
 mod texts;
 
 pub use cli_fault::CliFault;

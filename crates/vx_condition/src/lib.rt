@@ -27,8 +27,6 @@ mod reader;
 mod stop;
 mod strategy;
 mod term;
-#[cfg(test)]
-mod tests;
 mod tokens;
 
 pub use condition::{Condition, ConditionList};

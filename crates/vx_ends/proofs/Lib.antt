@@ -1,4 +1,3 @@
-pub mod Growing
 pub mod ScriptLemmas
 pub mod ScriptPassing
 pub mod ScriptTelling

@@ -7,8 +7,6 @@
 mod act;
 mod acts;
 mod answers;
-#[cfg(test)]
-mod callers;
 mod clock;
 mod memory_clock;
 mod memory_port;
@@ -21,8 +19,6 @@ mod printer;
 mod script;
 mod scripted;
 mod step;
-#[cfg(test)]
-mod tests;
 mod trouble;
 mod world;
 

@@ -8,6 +8,3 @@ mod unfinished;
 
 pub use framer::Framer;
 pub use line::{Line, LineList};
-
-#[cfg(test)]
-mod tests;

@@ -10,8 +10,6 @@ mod order;
 mod outputs;
 mod pattern;
 mod round;
-#[cfg(test)]
-mod tests;
 
 pub use graph::{Graph, check};
 pub use graph_fault::GraphFault;

@@ -1,3 +1,4 @@
+pub mod Growing
 pub mod Tellings
 pub mod RowLaws
 mod PlaceLaws

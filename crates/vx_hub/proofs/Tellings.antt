@@ -3,7 +3,7 @@ use Rattle.std.proofs.Common.{◌≡◌, inl, inr, ◌≤◌, ℕ, ◌+◌, ◌+
 use Rattle.std.proofs.lemmas.List.{append-nil}
 use Rattle.vx_ends.specs.Told.{Told, Rose, Grows, Shrinks, SameBytes}
 use Rattle.vx_ends.specs.declared.position.Position.{Position}
-use Rattle.vx_ends.proofs.Growing.{grows_nothing}
+use Rattle.vx_hub.proofs.Growing.{grows_nothing}
 use Rattle.vx_hub.specs.Turns.{taken_in, ended_in, NothingLeft, LeavesNothing, OnlyTakes, FailsBy, BringsSome, IsOfOpen}
 use Rattle.vx_hub.specs.declared.source.Turned.{Turned}
 use Rattle.vx_hub.specs.declared.source.Turned.TheVariants.{Lines, StreamEnded, AllEnded, Idle, Failed}

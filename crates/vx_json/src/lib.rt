@@ -27,6 +27,3 @@ pub use encode::encode_event;
 pub use json_fault::JsonFault;
 pub use reader::read;
 pub use writer::{write, write_value};
-
-#[cfg(test)]
-mod tests;

@@ -30,6 +30,3 @@ pub use settings::Settings;
 pub use sink_settings::SinkSettings;
 pub use stage::{Stage, StageList};
 pub use when_full::WhenFull;
-
-#[cfg(test)]
-mod tests;

@@ -28,6 +28,3 @@ mod trouble;
 pub use laws::{few_components, first_configuration, one_answer};
 pub use plan_fault::PlanFault;
 pub use reading::read_plan;
-
-#[cfg(test)]
-mod tests;

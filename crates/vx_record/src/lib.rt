@@ -41,6 +41,3 @@ pub use record::Record;
 pub use taken::Taken;
 pub use tally::Tally;
 pub use tally_list::{TallyList, tallies};
-
-#[cfg(test)]
-mod tests;

@@ -28,6 +28,3 @@ pub fn tallies(alloc: Global, history: &Record, count: u32) -> Result<TallyList,
     }
     Ok(list)
 }
-
-#[cfg(test)]
-mod tests;

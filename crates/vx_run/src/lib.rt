@@ -7,11 +7,10 @@ mod judging;
 mod preparing;
 mod running;
 mod telling;
-#[cfg(test)]
-mod tests;
 mod top;
 mod validating;
 
 pub use ended::Ended;
 pub use top::vector;
+pub use validating::valid_text;
 pub use vx_cli::{Fault, fault_text};

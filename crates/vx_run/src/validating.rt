@@ -34,7 +34,7 @@ pub(crate) fn validate<W: World, P: Printer>(
 }
 
 /// What is printed of a configuration that stands for a plan.
-pub(crate) fn valid_text(alloc: Global, plan: &Plan) -> Result<String, AllocError>
+pub fn valid_text(alloc: Global, plan: &Plan) -> Result<String, AllocError>
     ensures { IfOk result (λ text. string_bytes text ≡ valid_text plan.now) }
 {
     let components = plan.components.as_slice();

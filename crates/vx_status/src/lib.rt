@@ -8,6 +8,3 @@ mod outcome;
 pub use batch_status::{BatchStatus, batch_update};
 pub use event_status::{EventStatus, event_update};
 pub use outcome::Outcome;
-
-#[cfg(test)]
-mod tests;

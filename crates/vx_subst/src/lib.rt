@@ -4,8 +4,6 @@
 mod form;
 mod replacing;
 mod subst_fault;
-#[cfg(test)]
-mod tests;
 
 pub use replacing::replace;
 pub use subst_fault::SubstFault;

@@ -32,6 +32,3 @@ pub use value::Value;
 pub use value_list::ValueList;
 pub use variable::{Variable, VariableList};
 pub use want_of_memory::WantOfMemory;
-
-#[cfg(test)]
-mod tests;

@@ -1,5 +1,5 @@
 use Rattle.std.proofs.Common.{arith}
-use Rattle.vx_ends.proofs.Growing.{grows_on, take_on}
+use Rattle.vx_hub.proofs.Growing.{grows_on, take_on}
 use Rattle.vx_hub.proofs.Tellings.{gives_on}
 use Rattle.vx_hub.proofs.sending.give_all.Goals as goal
 

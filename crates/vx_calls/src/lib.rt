@@ -1,0 +1,25 @@
+//! The public calls of the crates below, each made once, and vectors that other programs told.
+#![tactic(auto)]
+
+#[cfg(test)]
+mod checkpoints;
+#[cfg(test)]
+mod conditions;
+#[cfg(test)]
+mod frames;
+#[cfg(test)]
+mod graphs;
+#[cfg(test)]
+mod json_events;
+#[cfg(test)]
+mod plans;
+#[cfg(test)]
+mod records;
+#[cfg(test)]
+mod statuses;
+#[cfg(test)]
+mod tallies;
+#[cfg(test)]
+mod values;
+#[cfg(test)]
+mod variables;

@@ -1,6 +1,0 @@
-mod ends;
-mod plans;
-mod printers;
-mod runs;
-mod tallies;
-mod validates;

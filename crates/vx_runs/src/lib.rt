@@ -1,0 +1,25 @@
+//! The ends in memory, the words of the program, configurations, and whole runs between ends in memory.
+#![tactic(auto)]
+
+#[cfg(test)]
+mod callers;
+#[cfg(test)]
+mod configurations;
+#[cfg(test)]
+mod ends;
+#[cfg(test)]
+mod faults;
+#[cfg(test)]
+mod memory_ends;
+#[cfg(test)]
+mod plans;
+#[cfg(test)]
+mod printers;
+#[cfg(test)]
+mod runs;
+#[cfg(test)]
+mod tallies;
+#[cfg(test)]
+mod validates;
+#[cfg(test)]
+mod words;
