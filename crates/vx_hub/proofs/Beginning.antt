@@ -13,9 +13,11 @@ use Rattle.vx_plan.specs.declared.component.Component.{Component}
 use Rattle.vx_record.specs.Wirings.{names_differ, begun}
 use Rattle.vx_record.proofs.FirstWiring.{component_of_first, targets_of_first}
 use Rattle.vx_hub.specs.declared.parts.Named.{Named}
-use Rattle.vx_hub.specs.Stands.{Stands, IsTold, IsKnown, IsRecorded, HasRooms, facts_at, spec_of}
+use Rattle.vx_hub.specs.Stands.{Stands, IsTold, IsKnown, IsRecorded, HasRooms, facts_at, spec_of, HasFew}
 use Rattle.vx_hub.specs.Beginning.{Begins, HasFirst}
+use Rattle.vx_hub.proofs.Moments.{least}
 use Rattle.vx_hub.specs.declared.hub.Hub.{Hub}
+use Rattle.vx_hub.specs.Collecting.{IsSince}
 use Rattle.vx_hub.specs.declared.task.Role.{Role}
 use Rattle.vx_hub.specs.declared.task.Role.TheVariants.{Source, Sink}
 use Rattle.vx_ends.specs.Told.{Told}
@@ -32,6 +34,7 @@ use Rattle.vx_ledger.specs.declared.child.Child.{Child}
 use Rattle.vx_hub.specs.Events.{IsSaid, Each, EachChild, IsSaidAt, AreSaid}
 use Rattle.vx_hub.specs.Abreast.{IsMadeFor, IsAbreast, HasCome, HasComeHome}
 use Rattle.vx_hub.proofs.StandsLaws.{some_mapped}
+use Rattle.vx_hub.specs.Notices.{pending_in}
 
 pub unused_more : (seats : List Seat) (seat : Seat) → AreUnused seats → IsUnused seat → AreUnused (seats ++ seat ∷ [])
 unused_more [] seat a u = (u, tt)
@@ -135,10 +138,10 @@ said_more h rows new all outputs waiting buffer held come = rows_more_at (IsSaid
   come = come;
 })
 
--- a source that begins is abreast of a record that begins
-pub role_begun : (plan : Plan) (once : Bool) (now k : ℕ) (role : Role) → IsSomeAnd (slice_get plan.components k) (λ (c : Component). IsBegun c.settings role) → HasCome (begun plan once now) k role
-role_begun plan once now k (Sink core) b = tt
-role_begun plan once now k (Source core) b = go (slice_get plan.components k) refl b
+-- what begins has come as far as a record that begins
+pub role_begun : (plan : Plan) (once : Bool) (now k : ℕ) (role : Role) → IsSomeAnd (slice_get plan.components k) (λ (c : Component). IsBegun c.settings role) → role_parcels role ≡ [] → HasCome (begun plan once now) k role
+role_begun plan once now k (Sink core) b none = record { sized = b; since = subst (λ (ps : List Parcel). IsSince (begun plan once now) k ps core.since) (sym none) tt }
+role_begun plan once now k (Source core) b none = go (slice_get plan.components k) refl b
   where
     go : (o : Option Component) → slice_get plan.components k ≡ o → IsSomeAnd o (λ (c : Component). IsBegun c.settings (Source core)) → IsAbreast (begun plan once now) k core
     go None is b = absurd b
@@ -215,6 +218,12 @@ new_known f plan once now i (Some component) is n fit = record {
   closed = n.closed;
   retired = n.retired;
   leased = n.leased;
+  due = record {
+    none = λ none. refl;
+    was = λ some. absurd (taken_none f.to_confirm n.to_confirm some);
+    some = λ some. absurd (taken_none f.to_confirm n.to_confirm some);
+    new = λ some. absurd (taken_none f.to_confirm n.to_confirm some);
+  };
 }
 
 -- what follows from two facts on a value
@@ -223,9 +232,9 @@ both_mapped A B C None f a b = tt
 both_mapped A B C (Some x) f a b = f x a b
 
 -- a hub whose instances were all seated stands for the record of their install
-pub begun_stands : {P : Type 0} (told_by : P → Told) (plan : Plan) (hub : Hub P) → Begins told_by plan hub → hub.plan ≡ plan → names_differ plan.components ≡ true → HasFirst plan hub.log.history → hub.ports.items ≡ [] → length hub.rows.items ≤ hub.ports.room → length hub.rows.items < 2 ^ 32 →
+pub begun_stands : {P : Type 0} (told_by : P → Told) (plan : Plan) (hub : Hub P) → Begins told_by plan hub → hub.plan ≡ plan → names_differ plan.components ≡ true → HasFirst plan hub.log.history → hub.ports.items ≡ [] → length hub.rows.items ≤ hub.ports.room → length hub.rows.items < 2 ^ 32 → HasFew plan → length hub.rows.items ≡ length plan.components →
     Stands told_by hub [] hub.log.history
-begun_stands told_by plan hub b mine named first none room few = record {
+begun_stands told_by plan hub b mine named first none room few small count = record {
   history = refl;
   balanced = λ batch place. let live : live_count batch place hub.batches.open_rows ≡ 0 = ap (live_count batch place) b.batches in omega (arith, b.copies batch place);
   recorded = λ sound. subst (λ (h : Record). IsRecorded told_by hub [] h) (sym first.alone) (record {
@@ -243,12 +252,17 @@ begun_stands told_by plan hub b mine named first none room few = record {
     cause = b.abandoned;
     installed = ap Some (sym mine);
     places = placed_none hub.rows.items (begun plan first.once first.now) (λ p. refl) b.places;
+    bore = λ going i home gone. refl;
+    unnoticed = record { open_are = ap pending_in b.batches; each = λ i l. b.unnoticed i (omega (arith, b.abreast, l)) };
+    later = λ worker. least hub.latest;
   });
   shut = λ i. some_mapped _ _ (facts_at hub.facts.items i) (λ f n closed. let no : f.closed ≡ false = n.closed in cc) (b.facts i);
   gone = λ i. some_mapped _ _ (facts_at hub.facts.items i) (λ f n retired. let no : f.retired ≡ false = n.retired in cc) (b.facts i);
   size = b.size;
   berths = record { none = none; room = room; few = few };
   rooms = subst (λ (p : Plan). HasRooms p hub.rows.items) (sym mine) b.rooms;
+  few = subst (λ (p : Plan). HasFew p) (sym mine) small;
+  count = count ∙ sym (ap (λ (p : Plan). length p.components) mine);
 }
 
 suc_plus : (k : ℕ) → suc (k + 1) ≡ suc k + 1

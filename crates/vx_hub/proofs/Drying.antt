@@ -13,6 +13,7 @@ use Rattle.vx_record.specs.Noted.{Noted}
 use Rattle.vx_record.specs.Installs.{in_force}
 use Rattle.vx_record.specs.Turns.{is_out}
 use Rattle.vx_record.specs.Confirms.{born_positions}
+use Rattle.vx_record.specs.Sourcing.{MayTurn}
 use Rattle.vx_record.specs.Reads.{bytes_of_all, is_end, all_ended}
 use Rattle.vx_record.specs.declared.entry.Entry.{Entry}
 use Rattle.vx_record.specs.declared.entry.Entry.TheVariants.{Read, SourceLost, Abandon}
@@ -123,8 +124,8 @@ pub sink_known : (h : Record) (i : ℕ) (o : Option Facts) → IsSomeAnd o (λ f
 sink_known h i None sink known = absurd sink
 sink_known h i (Some f) sink known = class_is (component_in (in_force h) i) f.class Sink known.class sink
 
-pub turn_of : (h : Record) (i : ℕ) (f : Facts) → is_out h i ≡ true → IsKnown f h i → IsReadable f → IsTurnOf h i
-turn_of h i f out known is = record { out = out; unlost = sym known.lost ∙ is.0.0; source = class_known h i f known is.0.1 }
+pub turn_of : (h : Record) (i : ℕ) (f : Facts) → is_out h i ≡ true → IsKnown f h i → IsReadable f → MayTurn h i → IsTurnOf h i
+turn_of h i f out known is row = record { out = out; unlost = sym known.lost ∙ is.0.0; source = class_known h i f known is.0.1; row = row }
 
 -- what is known, by the component of the instance
 known_class : (o : Option Component) (x y : Class) → IsSomeAnd o (λ component. x ≡ component.class) → IsSomeAnd o (λ component. component.class ≡ y) → x ≡ y
@@ -138,19 +139,7 @@ read_class (Read j stream took ∷ h) i f order read known =
     known_class (component_in (in_force h) i) f.class Source known.class (subst (λ (k : ℕ). IsOfClass h k Source) read order.0.0.source)
 read_class (e ∷ h) i f order read known = absurd read
 
--- a confirm is of a source
-pub confirm_of : (h : Record) (i : ℕ) (f : Facts) → IsKnown f h i → IfSome f.to_confirm (IsDueOf h i)
-confirm_of h i f known = go f.to_confirm known.to_confirm known.confirms
-  where
-    go : (o : Option (List Position)) → IfSome o (λ positions. positions ≡ born_positions h i) → (IsSome o → f.class ≡ Source) → IfSome o (IsDueOf h i)
-    go None all source = tt
-    go (Some positions) all source = record { all = all; source = class_known h i f known (source refl) }
-
--- and stays one behind an entry that bears and installs nothing
-pub confirm_on : (h : Record) (i : ℕ) (e : Entry) (o : Option (List Position)) → born_positions h i ≡ born_positions (e ∷ h) i → in_force (e ∷ h) ≡ in_force h → IfSome o (IsDueOf h i) → IfSome o (IsDueOf (e ∷ h) i)
-confirm_on h i e None born same is = tt
-confirm_on h i e (Some positions) born same is = record { all = is.all ∙ born; source = subst (λ (p : Option Plan). IsSomeAnd (component_in p i) (λ component. component.class ≡ Source)) (sym same) is.source }
-
+-- where nothing is taken, nothing is there
 pub taken_none : (o : Option (List Position)) → o ≡ None → IsSome o → ⊥
 taken_none None is some = cc
 taken_none (Some positions) is some = cc

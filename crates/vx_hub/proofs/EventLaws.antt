@@ -15,7 +15,7 @@ use Rattle.vx_record.specs.Noted.{Noted}
 use Rattle.vx_record.specs.Copies.{next_copy}
 use Rattle.vx_record.specs.Encoding.{encode, encode_event, is_prefix}
 use Rattle.vx_record.specs.Lists.{held}
-use Rattle.vx_record.specs.Turns.{is_out, since_lease, is_attempt_of}
+use Rattle.vx_record.specs.Turns.{is_out, lease_now, since_lease, is_attempt_of}
 use Rattle.vx_record.specs.Parcels.{no_event, event_of, parcel_event}
 use Rattle.vx_record.specs.declared.child.Child.{Child as NotedChild}
 use Rattle.vx_record.specs.declared.entry.Entry.{Entry}
@@ -29,7 +29,7 @@ use Rattle.vx_hub.specs.Abreast.{HasCome, HasComeHome}
 use Rattle.vx_hub.specs.Events.{written, IsPartOf, IsSaid, Each, EachChild, HasEach, IsSaidAt, AreSaid, ArePaired}
 use Rattle.vx_hub.specs.Numbers.{numbers_in}
 use Rattle.vx_plan.specs.declared.class.Class.TheVariants.{Sink}
-use Rattle.vx_hub.specs.Order.{IsAttemptOf, IsOfClass}
+use Rattle.vx_hub.specs.Order.{IsAttemptOf, IsOfClass, IsClosedFor}
 use Rattle.vx_hub.specs.Places.{parcel_numbers}
 use Rattle.vx_hub.specs.Rows.{task_parcels, role_parcels, role_copies}
 use Rattle.vx_hub.proofs.Homing.{held_numbers, held_some}
@@ -180,9 +180,9 @@ written_events h (p ∷ ps) all =
     ap (λ (w : List ℕ). encode_event Text (parcel_event h (numbers_in p.finalizers)) ++ w) (written_events h ps all.1)
     ∙ ap (λ (e : Event). encode_event Text e ++ written ps) (sym all.0.event)
 
-pub attempt_in_order : (h : Record) (i : ℕ) (role : Role) (bytes : List ℕ) (reply : Reply) → is_out h i ≡ true → IsOfClass h i Sink → list_any (is_attempt_of i) (since_lease h i) ≡ false → 0 < length (role_parcels role) → held h i ≡ parcel_numbers (role_parcels role) → Each (IsSaid h) (role_parcels role) → IsPartOf (written (role_parcels role)) bytes reply →
+pub attempt_in_order : (h : Record) (i : ℕ) (role : Role) (bytes : List ℕ) (reply : Reply) → is_out h i ≡ true → IsOfClass h i Sink → list_any (is_attempt_of i) (since_lease h i) ≡ false → 0 < length (role_parcels role) → held h i ≡ parcel_numbers (role_parcels role) → Each (IsSaid h) (role_parcels role) → IsPartOf (written (role_parcels role)) bytes reply → IsClosedFor h i (lease_now h i) →
     IsAttemptOf h i (numbers_in (role_copies role)) bytes reply
-attempt_in_order h i role bytes reply out sink once some is said part =
+attempt_in_order h i role bytes reply out sink once some is said part batch_closed =
     let all : encode Text (map (parcel_event h) (held h i)) ≡ written (role_parcels role) = ap (λ (ps : List (List ℕ)). encode Text (map (parcel_event h) ps)) is ∙ written_events h (role_parcels role) said in
     record {
       out = out;
@@ -192,4 +192,5 @@ attempt_in_order h i role bytes reply out sink once some is said part =
       all = held_numbers h i role is;
       given = subst (λ (w : List ℕ). is_prefix bytes w ≡ true) (sym all) part.given;
       whole = λ ok. part.whole ok ∙ sym all;
+      batch_closed = batch_closed;
     }

@@ -15,7 +15,7 @@ use Rattle.vx_record.specs.Installs.{component_of}
 use Rattle.vx_record.specs.Sourcing.{IsYieldOf}
 use Rattle.vx_record.specs.Reads.{taken, all_ended, last_stream, open_bytes, still_open, stream_of, ended_streams, ended_by, has_bytes, is_end, new_lines, last_end}
 use Rattle.vx_record.specs.declared.entry.Entry.{Entry}
-use Rattle.vx_record.specs.declared.entry.Entry.TheVariants.{Install, Read}
+use Rattle.vx_record.specs.declared.entry.Entry.TheVariants.{Install, Read, Take}
 use Rattle.vx_record.specs.declared.taken.Taken.{Taken}
 use Rattle.vx_record.specs.declared.taken.Taken.TheVariants as taken
 use Rattle.vx_hub.specs.declared.source.SourceCore.{SourceCore}
@@ -27,9 +27,10 @@ use Rattle.vx_hub.specs.declared.task.Role.{Role}
 use Rattle.vx_hub.specs.declared.task.Role.TheVariants.{Source, Sink}
 use Rattle.vx_hub.specs.declared.task.Task.{Task}
 use Rattle.vx_hub.specs.Stands.{IsMute, touched}
-use Rattle.vx_hub.specs.Abreast.{IsMadeFor, IsAbreast, HasCome, HasComeHome, Yields, HasTurned}
+use Rattle.vx_hub.specs.Abreast.{IsMadeFor, IsAbreast, HasCome, HasComeHome, Yields, Gives, HasTurned}
 use Rattle.vx_hub.proofs.Silence.{same_test, other_test}
 use Rattle.vx_hub.proofs.Bridging.{Adds, given_by}
+use Rattle.vx_hub.proofs.Collecting.{IsUntaken, collecting_on, touched_untaken}
 
 -- TESTS
 both_true : (a b : Bool) → a ≡ true → b ≡ true → (a && b) ≡ true
@@ -222,6 +223,18 @@ fed_yields h i stream bytes events end old new over unended a fed apart some =
       up_to = given.1 ∙ ap capped (all_open (length (open_bytes h i stream)) (length (taken h i stream)) (last_end (new_lines h i stream took)) (ap length (open_whole h i stream over unended)));
     }
 
+-- the events of a turn are those of its read
+fed_gives : (h : Record) (i stream : ℕ) (bytes : Word) (events : List Event) (end : ℕ) (old new : SourceCore) → IsAbreast h i old → HasFed old stream bytes events end new → Gives h i stream (taken.Bytes bytes) events
+fed_gives h i stream bytes events end old new a fed apart =
+    (given_by h i stream (taken.Bytes bytes) old (cut_lines old.framer stream false bytes) events end (a.made_for apart) (fed.behind (open_bytes h i stream) (a.taken stream)) fed.gave).0
+
+finished_gives : (h : Record) (i stream : ℕ) (took : Taken) (at : ℕ) (events : List Event) (end : ℕ) (old new : SourceCore) → stream_of h i stream took ≡ at → IsAbreast h i old → HasFinished old at events end new →
+    ((w : Word) (behind : List Frame) → frames w old.framer.limit true ≡ frames w old.framer.limit false ++ behind → Adds old.framer.limit w took behind) → Gives h i stream took events
+finished_gives h i stream took at events end old new is a finished adds apart =
+    (given_by h i stream took old (cut_lines old.framer at true []) events end (a.made_for apart)
+    (subst (λ z. Adds old.framer.limit (open_bytes h i z) took (cut_lines old.framer at true [])) (sym is) (adds (open_bytes h i at) (cut_lines old.framer at true []) (finished.behind (open_bytes h i at) (a.taken at))))
+    (subst (λ z. AreOf old.source_type (map (line_of z) (cut_lines old.framer at true [])) events end) (sym is) finished.gave)).0
+
 -- a stream of which nothing is unended gives nothing at its end
 nothing_gave : (old : SourceCore) (at : ℕ) (events : List Event) (end : ℕ) (new : SourceCore) → HasTaken old.framer at [] → HasFinished old at events end new → 0 < length events → ⊥
 nothing_gave old at events end new none finished some =
@@ -264,15 +277,17 @@ unmoved_abreast h i old new same a = record {
 
 -- a turn of a source that may be read
 pub has_turned : (h : Record) (i : ℕ) (old : SourceCore) (turned : Turned) (new : SourceCore) → all_ended h i ≡ false → IsAbreast h i old → BringsSome turned → IsOfOpen (ended_streams h i) turned → HasBrought old turned new → HasTurned h i new turned
-has_turned h i old (Lines stream bytes events end) new over a some unended b = (fed_abreast h i stream bytes events end old new some unended a b, fed_yields h i stream bytes events end old new over unended a b)
+has_turned h i old (Lines stream bytes events end) new over a some unended b = (fed_abreast h i stream bytes events end old new some unended a b, fed_yields h i stream bytes events end old new over unended a b, fed_gives h i stream bytes events end old new a b)
 has_turned h i old (StreamEnded stream events end) new over a some unended b = (
   finished_abreast h i stream taken.StreamEnded stream events end old new tt refl a b,
   finished_yields h i stream taken.StreamEnded stream events end old new over refl a b (λ w behind more. more),
+  finished_gives h i stream taken.StreamEnded stream events end old new refl a b (λ w behind more. more),
 )
 has_turned h i old (AllEnded stream events end) new over a some unended b =
     let is : unwrap_or (last_stream h i) 0 ≡ stream = ap (λ (o : Option ℕ). unwrap_or o 0) (sym a.last) ∙ sym b.0 in (
       finished_abreast h i stream taken.AllEnded stream events end old new tt is a b.1,
       finished_yields h i stream taken.AllEnded stream events end old new over is a b.1 (λ w behind more. more),
+      finished_gives h i stream taken.AllEnded stream events end old new is a b.1 (λ w behind more. more),
     )
 has_turned h i old Idle new over a some unended b = unmoved_abreast h i old new b a
 has_turned h i old (Failed at_start) new over a some unended b = unmoved_abreast h i old new b a
@@ -283,11 +298,6 @@ abbrev pub IsUnread : Entry → Type 0
 IsUnread (Install version plan once instances now) = ⊥
 IsUnread (Read i stream took) = ⊥
 IsUnread other = Unit {0}
-
-pub mute_unread : (e : Entry) → IsMute e → IsUnread e
-mute_unread (Install version plan once instances now) m = m
-mute_unread (Read i stream took) m = m
-mute_unread e m = tt
 
 with_none : (xs : List ℕ) (s : ℕ) → Contains (xs ++ []) s → Contains xs s
 with_none xs s there = subst (λ (ys : List ℕ). Contains ys s) (append-nil xs) there
@@ -335,14 +345,31 @@ abreast_other h e i j core touch other a = record {
   ended = λ s there. a.ended s (with_none (ended_streams h j) s there);
 }
 
-pub role_on : (h : Record) (e : Entry) (i : ℕ) (role : Role) → IsUnread e → HasCome h i role → HasCome (e ∷ h) i role
-role_on h e i (Source core) u come = abreast_on h e i core u come
-role_on h e i (Sink core) u come = tt
+-- an entry that is no install, no read and no take
+abbrev pub IsAside : Entry → Type 0
+IsAside (Install version plan once instances now) = ⊥
+IsAside (Read i stream took) = ⊥
+IsAside (Take i s copies) = ⊥
+IsAside other = Unit {0}
+
+aside_unread : (e : Entry) → IsAside e → IsUnread e
+aside_unread (Install version plan once instances now) a = a
+aside_unread (Read i stream took) a = a
+aside_unread e a = tt
+
+aside_untaken : (e : Entry) → IsAside e → IsUntaken e
+aside_untaken (Install version plan once instances now) a = a
+aside_untaken (Take i s copies) a = a
+aside_untaken e a = tt
+
+pub role_on : (h : Record) (e : Entry) (i : ℕ) (role : Role) → IsAside e → HasCome h i role → HasCome (e ∷ h) i role
+role_on h e i (Source core) a come = abreast_on h e i core (aside_unread e a) come
+role_on h e i (Sink core) a come = collecting_on h e i core (aside_untaken e a) come
 
 pub role_other : (h : Record) (e : Entry) (i j : ℕ) (role : Role) → touched e ≡ Some i → i ≢ j → HasCome h j role → HasCome (e ∷ h) j role
 role_other h e i j (Source core) touch other come = abreast_other h e i j core touch other come
-role_other h e i j (Sink core) touch other come = tt
+role_other h e i j (Sink core) touch other come = collecting_on h e j core (touched_untaken e i touch) come
 
-pub home_on : {P : Type 0} (h : Record) (e : Entry) (i : ℕ) (t : Option (Task P)) → IsUnread e → HasComeHome h i t → HasComeHome (e ∷ h) i t
+pub home_on : {P : Type 0} (h : Record) (e : Entry) (i : ℕ) (t : Option (Task P)) → IsAside e → HasComeHome h i t → HasComeHome (e ∷ h) i t
 home_on h e i None u come = tt
 home_on h e i (Some task) u come = role_on h e i task.role u come

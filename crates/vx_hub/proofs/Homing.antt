@@ -159,6 +159,8 @@ stands_starved told_by d hand s = record {
   size = s.size;
   berths = s.berths;
   rooms = s.rooms;
+  few = s.few;
+  count = s.count;
 }
 
 -- a child that was read at a place is there

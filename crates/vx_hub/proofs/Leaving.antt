@@ -4,12 +4,13 @@ use Rattle.std.specs.Prelude.{IsSome, IsTrue, Option, ◌==◌, ◌&&◌, if◌t
 use Rattle.std.specs.List.{list_all, list_any}
 use Rattle.vx_record.specs.Records.{Record}
 use Rattle.vx_record.specs.Noted.{Noted}
-use Rattle.vx_record.specs.Turns.{is_out, is_take_of, since_lease, is_attempt_of}
+use Rattle.vx_record.specs.Turns.{is_out, is_take_of, at_lease, since_lease, is_attempt_of}
+use Rattle.vx_record.specs.Owing.{all_noticed}
 use Rattle.vx_record.specs.declared.log.Log.{Log}
 use Rattle.vx_record.specs.declared.entry.Entry.{Entry}
 use Rattle.vx_record.specs.declared.entry.Entry.TheVariants.{Lease, Take, Idle, SourceLost}
 use Rattle.vx_hub.specs.declared.hub.Hub.{Hub}
-use Rattle.vx_hub.specs.Away.{IsAway, IsReturning, OnlyTook, HasTaken, IsUntried, IsSettled, IsArrived}
+use Rattle.vx_hub.specs.Away.{IsAway, IsReturning, OnlyTook, HasTaken, IsUntried, IsSettled, IsArrived, WasNoticed}
 use Rattle.vx_hub.specs.Rows.{SamePorts}
 use Rattle.vx_record.specs.SinkBatches.{attempts_with}
 use Rattle.vx_hub.specs.Order.{AreSettled}
@@ -17,6 +18,8 @@ use Rattle.vx_hub.specs.Failures.{IsFailureOf}
 use Rattle.vx_hub.proofs.Ordering.{sound_before}
 use Rattle.vx_hub.proofs.Silence.{same_test}
 use Rattle.vx_hub.proofs.Settling.{settled_on}
+use Rattle.vx_hub.specs.Asking.{HasTold}
+use Rattle.vx_hub.proofs.Asking.{confirmed_noted, confirmed_same}
 
 -- behind an entry that brings nobody home
 pub away_noted : {P : Type 0} (d e : Hub P) (entry : Entry) → Noted d.log entry e.log → e.starved ≡ d.starved → ((h : Record) (k : ℕ) → is_out h k ≡ true → is_out (entry ∷ h) k ≡ true) → (i : ℕ) → IsAway d i → IsAway e i
@@ -62,15 +65,25 @@ pub untried_same : {P : Type 0} (d e : Hub P) → e.log ≡ d.log → e.starved 
 untried_same d e log starved i untried sound =
     subst (λ (l : Log). list_any (is_attempt_of i) (since_lease l.history i) ≡ false) (sym log) (untried (record { whole = subst (λ (l : Log). IsTrue l.whole) log sound.whole; fed = sym starved ∙ sound.fed }))
 
+-- and was leased when it was
+pub noticed_noted : {P : Type 0} (d e : Hub P) (entry : Entry) → Noted d.log entry e.log → e.starved ≡ d.starved → ((h : Record) (k : ℕ) → at_lease (entry ∷ h) k ≡ at_lease h k) → (i : ℕ) → WasNoticed d i → WasNoticed e i
+noticed_noted d e entry noted starved same i noticed sound =
+    subst (λ (h : Record). all_noticed (at_lease h i) i ≡ true) (sym (noted.whole sound.whole).1)
+    (subst (λ (k : Record). all_noticed k i ≡ true) (sym (same d.log.history i)) (noticed (sound_before d e entry noted starved sound)))
+
+pub noticed_same : {P : Type 0} (d e : Hub P) → e.log ≡ d.log → e.starved ≡ d.starved → (i : ℕ) → WasNoticed d i → WasNoticed e i
+noticed_same d e log starved i noticed sound =
+    subst (λ (l : Log). all_noticed (at_lease l.history i) i ≡ true) (sym log) (noticed (record { whole = subst (λ (l : Log). IsTrue l.whole) log sound.whole; fed = sym starved ∙ sound.fed }))
+
 -- behind an entry that brings nobody home an instance that comes home does so still
 pub arrived_noted : {P : Type 0} (d e : Hub P) (entry : Entry) → SamePorts d.rows.items e.rows.items → Noted d.log entry e.log → e.starved ≡ d.starved → ((h : Record) (k : ℕ) → is_out h k ≡ true → is_out (entry ∷ h) k ≡ true) →
-    (i : ℕ) → IsArrived d i → IsArrived e i
-arrived_noted d e entry ports noted starved stays i back =
-    record { home = subst (λ (o : Option _). IsSome o) (sym (ports i)) back.home; away = away_noted d e entry noted starved stays i back.away }
+    ((h : Record) (k : ℕ) → HasTold h k → HasTold (entry ∷ h) k) → (i : ℕ) → IsArrived d i → IsArrived e i
+arrived_noted d e entry ports noted starved stays tells i back =
+    record { home = subst (λ (o : Option _). IsSome o) (sym (ports i)) back.home; away = away_noted d e entry noted starved stays i back.away; confirmed = confirmed_noted d e entry noted starved tells i back.confirmed }
 
 pub arrived_moved : {P : Type 0} (d e : Hub P) → SamePorts d.rows.items e.rows.items → e.log ≡ d.log → e.starved ≡ d.starved → (i : ℕ) → IsArrived d i → IsArrived e i
 arrived_moved d e ports log starved i back =
-    record { home = subst (λ (o : Option _). IsSome o) (sym (ports i)) back.home; away = away_same d e log starved i back.away }
+    record { home = subst (λ (o : Option _). IsSome o) (sym (ports i)) back.home; away = away_same d e log starved i back.away; confirmed = confirmed_same d e log starved i back.confirmed }
 
 -- and owes nothing where the entry is no attempt
 pub settled_noted : {P : Type 0} (d e : Hub P) (entry : Entry) → Noted d.log entry e.log → e.starved ≡ d.starved → ((h : Record) (k c : ℕ) → attempts_with (entry ∷ h) k c ≡ attempts_with h k c) → (i : ℕ) → IsSettled d i → IsSettled e i
@@ -86,9 +99,9 @@ settled_failed d e i at_start (inl idle) starved settled = settled_noted d e (Id
 settled_failed d e i at_start (inr lost) starved settled = settled_noted d e (SourceLost i lost.0 at_start) lost.1 starved (λ h k c. refl) i settled
 
 pub returning_noted : {P : Type 0} (d e : Hub P) (entry : Entry) → SamePorts d.rows.items e.rows.items → Noted d.log entry e.log → e.starved ≡ d.starved → ((h : Record) (k : ℕ) → is_out h k ≡ true → is_out (entry ∷ h) k ≡ true) →
-    ((h : Record) (k c : ℕ) → attempts_with (entry ∷ h) k c ≡ attempts_with h k c) → (i : ℕ) → IsReturning d i → IsReturning e i
-returning_noted d e entry ports noted starved stays same i back =
-    record { arrived = arrived_noted d e entry ports noted starved stays i back.arrived; settled = settled_noted d e entry noted starved same i back.settled }
+    ((h : Record) (k c : ℕ) → attempts_with (entry ∷ h) k c ≡ attempts_with h k c) → ((h : Record) (k : ℕ) → HasTold h k → HasTold (entry ∷ h) k) → (i : ℕ) → IsReturning d i → IsReturning e i
+returning_noted d e entry ports noted starved stays same tells i back =
+    record { arrived = arrived_noted d e entry ports noted starved stays tells i back.arrived; settled = settled_noted d e entry noted starved same i back.settled }
 
 pub returning_moved : {P : Type 0} (d e : Hub P) → SamePorts d.rows.items e.rows.items → e.log ≡ d.log → e.starved ≡ d.starved → (i : ℕ) → IsReturning d i → IsReturning e i
 returning_moved d e ports log starved i back =

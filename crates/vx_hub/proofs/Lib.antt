@@ -6,6 +6,9 @@ pub mod Placing
 pub mod Owning
 mod Finding
 mod Noticing
+mod Counting
+mod Covering
+mod Unnoticed
 pub mod Parcels
 pub mod Silence
 pub mod Saying
@@ -16,6 +19,7 @@ pub mod Beginning
 pub mod Remaining
 pub mod Returning
 pub mod Dues
+mod Asking
 mod Drying
 mod Porting
 mod Naming
@@ -27,12 +31,24 @@ mod Leaving
 mod Writing
 mod Lining
 mod Bridging
+mod Collecting
 mod Following
+mod Taking
 mod Yielding
 pub mod EventLaws
 mod Saids
 mod Ceasing
 mod Retiring
+mod Feeding
+mod Concluding
 mod Shrinking
 mod Causing
 mod Settling
+mod Classes
+mod Heirs
+mod Flowing
+mod Offspring
+mod Owed
+mod Moments
+mod Splitting
+mod Sinking

@@ -31,13 +31,13 @@ name_from from (d ∷ rest) (suc k) c at =
     rw (past, further) (name_from (from + 1) rest k c at)
 
 -- an instance has the name of the component in its place
-name_first : (components instances : List _) (k : ℕ) (c : Component) → slice_get components k ≡ Some c → instances ≡ first_instances 0 components → name_at instances k ≡ Some c.name
+pub name_first : (components instances : List _) (k : ℕ) (c : Component) → slice_get components k ≡ Some c → instances ≡ first_instances 0 components → name_at instances k ≡ Some c.name
 name_first components instances k c at are =
     let zero_on : k ≡ 0 + k = omega arith in
     ap (λ (is : List Instance). name_at is k) are ∙ ap (name_at (first_instances 0 components)) zero_on ∙ name_from 0 components k c at
 
 -- and is wired as the plan that is in force has it
-wired_so : (h : Record) (plan : Plan) (i : ℕ) (c : Component) → IsOrderly h → in_force h ≡ Some plan → slice_get plan.components i ≡ Some c →
+pub wired_so : (h : Record) (plan : Plan) (i : ℕ) (c : Component) → IsOrderly h → in_force h ≡ Some plan → slice_get plan.components i ≡ Some c →
     wiring h i ≡ Some (record { plan = plan; instances = first_instances 0 plan.components; name = c.name })
 wired_so [] plan i c order force at = cc
 wired_so (Install version made once instances now ∷ h) plan i c order force at =

@@ -1,10 +1,11 @@
 -- An instance is closed, and retired.
 use Rattle.std.proofs.Common.{◌≡◌, ℕ, zero, suc, ◌<◌, Bool, true, false, List, [], ◌∷◌, length, Option, Some, None, IfSome, refl, sym, ap, subst, ◌∙◌, arith}
-use Rattle.std.specs.Prelude.{◌==◌, ◌≢◌, ◌||◌, ◌&&◌, if◌then◌else◌, All}
+use Rattle.std.specs.Prelude.{◌==◌, ◌≢◌, ◌||◌, ◌&&◌, ◌⊎◌, if◌then◌else◌, All}
 use Rattle.std.proofs.lemmas.Bool.Decides.{nat_tests}
 use Rattle.std.proofs.lemmas.List.Elements.{All-head, All-tail}
 use Rattle.vx_value.specs.Texts.{is_empty}
 use Rattle.vx_ends.specs.Told.{Told}
+use Rattle.vx_ends.specs.declared.position.Position.{Position}
 use Rattle.vx_record.specs.Records.{Record}
 use Rattle.vx_record.specs.declared.entry.Entry.TheVariants.{Lease, Home, Closed, Retired}
 use Rattle.vx_record.specs.Turns.{is_out}
@@ -15,15 +16,18 @@ use Rattle.vx_record.specs.Lists.{stands, parcels_at, parcels_where, is_bare, is
 use Rattle.vx_hub.specs.declared.facts.Facts.{Facts}
 use Rattle.vx_hub.specs.declared.row.Row.{Row}
 use Rattle.vx_hub.specs.declared.hub.Hub.{Hub}
+use Rattle.vx_record.specs.Abandoning.{abandoned}
+use Rattle.vx_hub.specs.Closures.{IsDone}
 use Rattle.vx_hub.specs.Order.{IsEndOf, IsClosing}
 use Rattle.vx_hub.specs.Places.{IsThere, copies_if, all_numbers}
 use Rattle.vx_hub.specs.Remains.{HasEnds}
 use Rattle.vx_hub.specs.Rows.{row_at, IsBare, IsBareAt, NoneWaits}
 use Rattle.vx_hub.specs.Stands.{Stands, IsKnown, IsGone, IsSound, facts_at}
-use Rattle.vx_hub.proofs.Drying.{closing_on}
+use Rattle.vx_hub.proofs.Drying.{closing_on, taken_none}
 use Rattle.vx_hub.proofs.Naming.{there_known}
 use Rattle.vx_hub.proofs.Silence.{same_test, other_test}
-use Rattle.vx_hub.proofs.StandsLaws.{ends_on, to_confirm_on}
+use Rattle.vx_hub.proofs.StandsLaws.{ends_on, to_confirm_on, asked_on}
+use Rattle.vx_hub.proofs.Asking.{asked_leased, asked_leased_other}
 use Rattle.vx_hub.proofs.Placing.{places_all}
 use Rattle.vx_hub.proofs.Homing.{none_wait}
 use Rattle.vx_hub.proofs.Beginning.{unused_here}
@@ -50,6 +54,7 @@ known_closed f h i done k = record {
   closed = ap (λ t. t || is_closed h i) (sym (same_test i));
   retired = k.retired;
   leased = k.leased;
+  due = asked_on f.to_confirm f.asked h i (Closed i) refl refl k.due;
 }
 
 pub known_closed_other : (f : Facts) (h : Record) (i j : ℕ) → j ≢ i → IsKnown f h j → IsKnown f (Closed i ∷ h) j
@@ -68,6 +73,7 @@ known_closed_other f h i j other k = record {
   closed = or_other (i == j) (is_closed h j) f.closed (other_test i j other) k.closed;
   retired = k.retired;
   leased = k.leased;
+  due = asked_on f.to_confirm f.asked h j (Closed i) refl refl k.due;
 }
 
 -- the same where one is retired
@@ -87,6 +93,7 @@ known_retired f h i k = record {
   closed = k.closed;
   retired = ap (λ t. t || is_retired h i) (sym (same_test i));
   leased = k.leased;
+  due = asked_on f.to_confirm f.asked h i (Retired i) refl refl k.due;
 }
 
 pub known_retired_other : (f : Facts) (h : Record) (i j : ℕ) → j ≢ i → IsKnown f h j → IsKnown f (Retired i ∷ h) j
@@ -105,26 +112,32 @@ known_retired_other f h i j other k = record {
   closed = k.closed;
   retired = or_other (i == j) (is_retired h j) f.retired (other_test i j other) k.retired;
   leased = k.leased;
+  due = asked_on f.to_confirm f.asked h j (Retired i) refl refl k.due;
 }
 
 -- what is known of an instance behind a lease, or a return, of one
-pub known_leased : (f : Facts) (h : Record) (i worker now polls : ℕ) → IsKnown f h i → IsKnown (record f { leased = true }) (Lease i worker now polls ∷ h) i
-known_leased f h i worker now polls k = record {
+known_asked : (f : Facts) (h : Record) (i worker now polls : ℕ) → IsKnown f h i → IsKnown (record f { leased = true; to_confirm = None }) (Lease i worker now polls ∷ h) i
+known_asked f h i worker now polls k = record {
   taken = k.taken;
   lost = k.lost;
   failed_starts = k.failed_starts;
   ends = ends_on f h i (Lease i worker now polls) refl k.ends;
-  to_confirm = to_confirm_on f h i (Lease i worker now polls) refl k.to_confirm;
+  to_confirm = tt;
   confirm_failed = k.confirm_failed;
   outlet = k.outlet;
   over = k.over;
   class = k.class;
-  confirms = k.confirms;
+  confirms = λ some. absurd (taken_none None refl some);
   done = λ closed. closing_on h i (Lease i worker now polls) refl (k.done closed);
   closed = k.closed;
   retired = k.retired;
   leased = sym (ap (λ t. if t then true else is_out h i) (same_test i));
+  due = asked_leased f.asked h i worker now polls;
 }
+
+pub known_leased : (f : Facts) (h : Record) (i worker now polls : ℕ) (rest : Option (List Position)) → rest ≡ None → IsKnown f h i → IsKnown (record f { leased = true; to_confirm = rest }) (Lease i worker now polls ∷ h) i
+known_leased f h i worker now polls rest none k =
+    subst (λ (o : Option (List Position)). IsKnown (record f { leased = true; to_confirm = o }) (Lease i worker now polls ∷ h) i) (sym none) (known_asked f h i worker now polls k)
 
 pub known_leased_other : (f : Facts) (h : Record) (i j worker now polls : ℕ) → j ≢ i → IsKnown f h j → IsKnown f (Lease i worker now polls ∷ h) j
 known_leased_other f h i j worker now polls other k = record {
@@ -142,6 +155,7 @@ known_leased_other f h i j worker now polls other k = record {
   closed = k.closed;
   retired = k.retired;
   leased = k.leased ∙ sym (ap (λ t. if t then true else is_out h j) (other_test i j other));
+  due = asked_leased_other f.to_confirm f.asked h i j worker now polls other k.due;
 }
 
 pub known_home : (f : Facts) (h : Record) (i : ℕ) → IsKnown f h i → IsKnown (record f { leased = false }) (Home i ∷ h) i
@@ -160,6 +174,7 @@ known_home f h i k = record {
   closed = k.closed;
   retired = k.retired;
   leased = sym (ap (λ t. if t then false else is_out h i) (same_test i));
+  due = asked_on f.to_confirm f.asked h i (Home i) refl refl k.due;
 }
 
 pub known_home_other : (f : Facts) (h : Record) (i j : ℕ) → j ≢ i → IsKnown f h j → IsKnown f (Home i ∷ h) j
@@ -178,6 +193,7 @@ known_home_other f h i j other k = record {
   closed = k.closed;
   retired = k.retired;
   leased = k.leased ∙ sym (ap (λ t. if t then false else is_out h j) (other_test i j other));
+  due = asked_on f.to_confirm f.asked h j (Home i) refl refl k.due;
 }
 
 place_itself : (p : Place) → same_place p p ≡ true
@@ -255,13 +271,14 @@ pub bare_record : {P : Type 0} (rows : List (Row P)) (h : Record) (i : ℕ) → 
 bare_record rows h i placed bare = bare_puts (stands h) i (λ p own. places_all rows h placed p ∙ bare_place rows i p own bare)
 
 -- an instance that ended may be retired
-pub end_in_order : {P : Type 0} (told_by : P → Told) (d : Hub P) (i : ℕ) (f : Facts) → Stands told_by d [] d.log.history → IsSound d → IsKnown f d.log.history i → f.closed ≡ true → f.retired ≡ false → f.leased ≡ false → IsBareAt d.rows.items i → IsEndOf d.log.history i
-end_in_order told_by d i f s fine k closed unretired unleased bare = record {
+pub end_in_order : {P : Type 0} (told_by : P → Told) (d : Hub P) (i : ℕ) (f : Facts) → Stands told_by d [] d.log.history → IsSound d → IsKnown f d.log.history i → f.closed ≡ true → f.retired ≡ false → f.leased ≡ false → IsBareAt d.rows.items i → IsDone d.log.history i ⊎ (abandoned d.log.history ≡ true) → IsEndOf d.log.history i
+end_in_order told_by d i f s fine k closed unretired unleased bare over = record {
   known = there_known d.log.history i f (s.recorded fine).order k;
   home = sym k.leased ∙ unleased;
   unretired = sym k.retired ∙ unretired;
   port_closed = sym k.closed ∙ closed;
   bare = bare_record d.rows.items d.log.history i (s.recorded fine).places.standing bare;
+  over = over;
 }
 
 -- where all instances ended, the record has that of each

@@ -7,16 +7,18 @@ use Rattle.vx_ends.specs.declared.position.Position.{Position}
 use Rattle.vx_record.specs.Records.{Record, capped}
 use Rattle.vx_record.specs.Reads.{taken, all_ended}
 use Rattle.vx_record.specs.Encoding.{given}
-use Rattle.vx_record.specs.Confirms.{confirmed}
+use Rattle.vx_record.specs.Confirms.{confirmed, is_confirm_due}
 use Rattle.vx_record.specs.PortCounts.{fault_count, refusal_count, idle_count}
-use Rattle.vx_hub.specs.Order.{IsDueOf}
+use Rattle.vx_hub.specs.Order.{IsDueOf, IsClosedFor}
+use Rattle.vx_hub.specs.Confirming.{HasConfirmed}
 use Rattle.vx_hub.specs.declared.hub.Hub.{Hub}
 use Rattle.vx_hub.specs.declared.work.Work.{Work}
 use Rattle.vx_hub.specs.declared.work.Landing.{Landing}
 use Rattle.vx_hub.specs.declared.work.Done.{Done}
 use Rattle.vx_hub.specs.declared.work.Done.TheVariants.{Nothing, Read, Attempted, Closed, Starved}
 use Rattle.std.specs.List.{list_any}
-use Rattle.vx_record.specs.Turns.{since_lease, is_attempt_of}
+use Rattle.vx_hub.specs.Readings.{MayRead}
+use Rattle.vx_record.specs.Turns.{since_lease, is_attempt_of, at_lease, lease_now}
 use Rattle.vx_record.specs.Lists.{held}
 use Rattle.vx_record.specs.Places.Place.{Outputs}
 use Rattle.vx_hub.specs.Places.{parcel_numbers, numbers_at}
@@ -26,6 +28,8 @@ use Rattle.vx_hub.specs.Works.{Did, Moves, IsMovedBy, Reports, Names, NamesBy, I
 use Rattle.vx_ends.specs.declared.port_spec.PortSpec.{PortSpec}
 use Rattle.vx_hub.specs.declared.work.Job.TheVariants as job
 use Rattle.vx_hub.specs.Stands.{Stands, IsTold, IsKnown, IsReadable, facts_at, IsUnlost, MayShut, IsSinkAt, spec_at}
+use Rattle.vx_hub.specs.Away.{WasNoticed}
+use Rattle.vx_hub.specs.Finishing.{WasDone}
 use Rattle.vx_hub.specs.Leases.{IsLeased, IsBack, IsOpenAt, Adds, Brings}
 use Rattle.vx_ledger.specs.declared.parcel.Parcel.{Parcel}
 use Rattle.vx_hub.specs.Events.{IsSaid, Each, IsWrittenOf}
@@ -34,6 +38,7 @@ use Rattle.vx_hub.specs.declared.task.Role.{Role}
 use Rattle.vx_hub.specs.declared.task.Role.TheVariants.{Source, Sink}
 use Rattle.vx_hub.specs.Abreast.{HasCome, HasDone, RoleHasTurned}
 use Rattle.vx_hub.specs.Turns.{IsOfOpen}
+use Rattle.vx_hub.specs.Owed.{HasBorn}
 use Rattle.vx_hub.proofs.Following.{has_turned}
 use Rattle.vx_hub.proofs.Touching.{not_true}
 
@@ -81,6 +86,16 @@ named_by given (Some c) (Read turned) due names is = named_due given (Some c) du
 named_by given (Some c) (Attempted bytes reply) due names is = named_due given (Some c) due names is
 named_by given (Some c) Closed due names is = named_due given (Some c) due names is
 
+-- where nothing is named, nothing was given, unless no memory was found
+unnamed : (given : Option (List Position)) (confirm : Option Confirmed) (done : Done) → NamesBy given confirm done → confirm ≡ None → (done ≡ Starved → ⊥) → given ≡ None
+unnamed None confirm done names none live = refl
+unnamed (Some positions) (Some c) done names none live = cc
+unnamed (Some positions) None Starved names none live = absurd (live refl)
+unnamed (Some positions) None Nothing names none live = absurd names
+unnamed (Some positions) None (Read turned) names none live = absurd names
+unnamed (Some positions) None (Attempted bytes reply) names none live = absurd names
+unnamed (Some positions) None Closed names none live = absurd names
+
 -- the end of all wasn't told to a source that may be read
 going_on : (h : Record) (i : ℕ) (o : Option Facts) → IfSome o (λ f. IsKnown f h i) → IsSomeAnd o IsReadable → all_ended h i ≡ false
 going_on h i None known is = absurd is
@@ -123,6 +138,13 @@ back_of {P} told_by hub work landing leased instance copies parcels reports name
   untried = λ sound. subst (λ (i : ℕ). list_any (is_attempt_of i) (since_lease hub.log.history i) ≡ false) (sym instance) (leased.untried sound);
   some = λ sent. subst (λ (ps : List Parcel). 0 < length ps) (sym parcels) (leased.some (sends sent));
   events = events;
+  told = λ live none. subst (λ (i : ℕ). HasConfirmed hub i) (sym instance) (λ sound. (leased.nothing (unnamed work.positions landing.confirmed landing.done names none live) sound).told);
+  undue = λ done sound. subst (λ (i : ℕ). is_confirm_due (at_lease hub.log.history i) i ≡ false) (sym instance) (leased.nothing (leased.alone (closes done) sound) sound).undue;
+  done = λ closed. subst (λ (i : ℕ). WasDone hub i) (sym instance) (leased.done (closes closed));
   closed = λ done. let r : Reports (told_by work.task.port) landing.confirmed Closed (told_by landing.task.port) = subst (λ (d : Done). Reports (told_by work.task.port) landing.confirmed d (told_by landing.task.port)) done reports in
       not_true (told_by landing.task.port).started (r.closed refl);
+  turn = λ reading. subst (λ (i : ℕ). MayRead hub i) (sym instance) (leased.turn (reads reading));
+  bore = subst (λ (i : ℕ). HasBorn hub i) (sym instance) leased.bore;
+  noticed = λ done. subst (λ (i : ℕ). WasNoticed hub i) (sym instance) (leased.noticed (closes done));
+  closing = λ sent sound. subst (λ (i : ℕ). IsClosedFor hub.log.history i (lease_now hub.log.history i)) (sym instance) (leased.closing (sends sent) sound);
 }

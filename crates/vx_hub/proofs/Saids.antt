@@ -14,7 +14,7 @@ use Rattle.vx_hub.specs.declared.task.Task.{Task}
 use Rattle.vx_hub.specs.Abreast.{HasComeHome}
 use Rattle.vx_hub.specs.Events.{IsSaid, Each, EachChild, HasEach, IsSaidAt, AreSaid}
 use Rattle.vx_hub.specs.Stands.{touched}
-use Rattle.vx_hub.proofs.Following.{IsUnread, decided, home_on, role_other}
+use Rattle.vx_hub.proofs.Following.{IsAside, decided, home_on, role_other}
 use Rattle.vx_hub.specs.Numbers.{numbers_in}
 use Rattle.vx_hub.specs.Rows.{row_at, task_parcels, IsOutAt}
 
@@ -55,7 +55,7 @@ child_on : (h : Record) (e : Entry) (cs : List Child) → EachChild (IsSaid h) c
 child_on h e [] all = tt
 child_on h e (c ∷ cs) all = (said_on h e c.parcel all.0, child_on h e cs all.1)
 
-parcels_on : {P : Type 0} (h : Record) (e : Entry) (row : Row P) → HasEach (IsSaid h) row → HasEach (IsSaid (e ∷ h)) row
+pub parcels_on : {P : Type 0} (h : Record) (e : Entry) (row : Row P) → HasEach (IsSaid h) row → HasEach (IsSaid (e ∷ h)) row
 parcels_on h e row a = record {
   outputs = each_on h e row.outputs.items a.outputs;
   waiting = child_on h e row.waiting.items a.waiting;
@@ -63,8 +63,8 @@ parcels_on h e row a = record {
   held = each_on h e (task_parcels row.task) a.held;
 }
 
--- an entry that is no install and no read
-pub rows_on : {P : Type 0} (h : Record) (e : Entry) → IsUnread e → (rows : List (Row P)) → AreSaid h rows → AreSaid (e ∷ h) rows
+-- an entry that is no install, no read and no take
+pub rows_on : {P : Type 0} (h : Record) (e : Entry) → IsAside e → (rows : List (Row P)) → AreSaid h rows → AreSaid (e ∷ h) rows
 rows_on {P} h e u rows all i = go (row_at rows i) (all i)
   where
     go : (r : Option (Row P)) → IfSome r (IsSaidAt h i) → IfSome r (IsSaidAt (e ∷ h) i)

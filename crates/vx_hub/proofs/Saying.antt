@@ -7,8 +7,7 @@ use Rattle.vx_ends.specs.Told.{Told}
 use Rattle.vx_ends.specs.declared.position.Position.{Position}
 use Rattle.vx_ends.specs.declared.trouble.Reply.{Reply}
 use Rattle.vx_record.specs.Records.{Record, capped}
-use Rattle.vx_record.specs.Reads.{taken, all_ended, ended_streams}
-use Rattle.vx_record.specs.Reads.{ended_by as ended_in_entry}
+use Rattle.vx_record.specs.Reads.{taken, all_ended, ended_streams, ended_by as ended_in_entry}
 use Rattle.vx_record.specs.Encoding.{given, given_in}
 use Rattle.vx_record.specs.Confirms.{confirmed, confirmed_in}
 use Rattle.vx_record.specs.Growth.{taken_in}

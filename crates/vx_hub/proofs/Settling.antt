@@ -1,6 +1,6 @@
 -- What was attempted is held or spent, and spent where its instance is at home.
 use Rattle.std.proofs.Common.{◌≡◌, ℕ, zero, suc, ◌+◌, ◌<◌, ◌≤◌, Bool, true, false, List, [], ◌∷◌, ◌++◌, length, refl, sym, ap, subst, ◌∙◌, arith, inl, inr}
-use Rattle.std.specs.Prelude.{if◌then◌else◌, nat_lt, ◌==◌, ◌&&◌, ◌||◌}
+use Rattle.std.specs.Prelude.{if◌then◌else◌, nat_lt, ◌==◌, ◌&&◌, ◌||◌, IsTrue, IfSome, IsSomeAnd, Option, Some, None}
 use Rattle.std.specs.List.{list_any}
 use Rattle.std.proofs.lemmas.Bool.Decides.{nat_tests}
 use Rattle.std.proofs.lemmas.Bool.{cases_lt}
@@ -14,15 +14,14 @@ use Rattle.vx_record.specs.Places.{kind, leaves, puts}
 use Rattle.vx_record.specs.Places.Place.{Held}
 use Rattle.vx_record.specs.Lists.{shrunk, held}
 use Rattle.vx_record.specs.Abandoning.{abandoned}
-use Rattle.vx_record.specs.Turns.{is_out, since_lease, is_attempt_of}
+use Rattle.vx_record.specs.Turns.{is_out, since_lease, is_attempt_of, worker_now}
 use Rattle.vx_record.specs.SinkBatches.{attempts_with, failures_with, attempts_allowed}
 use Rattle.vx_record.specs.Parcels.{first_copy}
-use Rattle.vx_record.specs.Owing.{is_decided, unspent_of, owes_spends_in}
+use Rattle.vx_record.specs.Owing.{is_decided, unspent_of, owes_spends_in, owes_birth}
 use Rattle.vx_record.specs.Moving.{IsConserved}
 use Rattle.vx_record.proofs.Counts.{count-append}
 use Rattle.vx_record.proofs.Changes.{parcels_after, put_at}
 use Rattle.vx_record.proofs.Hands.{stands_still}
-use Rattle.std.specs.Prelude.{IsTrue, IfSome, IsSomeAnd, Option, Some, None}
 use Rattle.vx_hub.specs.declared.facts.Facts.{Facts}
 use Rattle.vx_hub.specs.declared.hub.Hub.{Hub}
 use Rattle.vx_hub.specs.Order.{IsOrderly, AreSettled, IsLeaseOf}
@@ -197,14 +196,16 @@ owes_none (Attempt j copies bytes reply ∷ h) whole i all =
 owes_none (e ∷ h) whole i all = owes_none h whole i all
 
 -- what isn't closed isn't retired
-pub unclosed_unretired : (h : Record) (f : Facts) (i : ℕ) (gone : IsTrue f.retired → IsTrue f.closed) → f.closed ≡ false → f.leased ≡ false → IsKnown f h i → IsOrderly h → abandoned h ≡ false → IsLeaseOf h i 0
-unclosed_unretired h f i gone unclosed unleased k orderly going = record {
+pub unclosed_unretired : (h : Record) (f : Facts) (i worker now : ℕ) (gone : IsTrue f.retired → IsTrue f.closed) → f.closed ≡ false → f.leased ≡ false → IsKnown f h i → IsOrderly h → abandoned h ≡ false → owes_birth h i ≡ false → worker_now h worker ≤ now → IsLeaseOf h i worker now 0
+unclosed_unretired h f i worker now gone unclosed unleased k orderly going born later = record {
   known = there_known h i f orderly k;
   home = sym k.leased ∙ unleased;
   settled = owes_none h h i (settled_home h i orderly (sym k.leased ∙ unleased) going);
   unclosed = sym k.closed ∙ unclosed;
   unretired = sym k.retired ∙ go f.retired refl;
   unpolled = refl;
+  born = born;
+  later = later;
 }
   where
     go : (b : Bool) → f.retired ≡ b → b ≡ false

@@ -20,14 +20,16 @@ use Rattle.vx_plan.specs.declared.plan.Plan.{Plan}
 use Rattle.vx_hub.specs.Making.{room_at}
 use Rattle.vx_hub.proofs.RowLaws.{same_length, each_room}
 use Rattle.vx_hub.specs.Rows.{buffer_rooms, SameRooms, port_at, IsBareAt, SamePorts, KeepsBare, KeepsOthersBare, Loses, Gains}
-use Rattle.vx_hub.specs.Stands.{Stands, IsTold, IsKnown, AreOut, IsRecorded, IsShut, IsGone, IsBalanced, IsSound, IsQuiet, touched, lost_at, IsMute, facts_at, capped, HasBerths, HasRooms, spare_of, cause_of}
+use Rattle.vx_hub.specs.Stands.{Stands, IsTold, IsKnown, AreOut, IsRecorded, IsShut, IsGone, IsBalanced, IsSound, IsQuiet, touched, lost_at, IsMute, facts_at, capped, HasBerths, HasRooms, HasFew, spare_of, cause_of}
 use Rattle.vx_hub.specs.declared.parts.Numbered.{Numbered}
 use Rattle.vx_value.specs.Filled.{Filled}
 use Rattle.std.proofs.lemmas.List.{append-nil}
 use Rattle.vx_record.specs.Installs.{in_force}
 use Rattle.vx_record.specs.Reads.{bytes_of_all}
 use Rattle.vx_ends.specs.declared.position.Position.{Position}
-use Rattle.vx_record.specs.Confirms.{Birth, births, births_in, born_positions, last_of_each, position_of, is_unconfirmed}
+use Rattle.vx_record.specs.Confirms.{Birth, births, births_in, born_positions, last_of_each, position_of, is_unconfirmed, same_positions}
+use Rattle.vx_value.specs.Texts.{is_empty}
+use Rattle.vx_hub.specs.Asking.{asked, IsAskedBy}
 use Rattle.vx_record.specs.Copies.{next_copy, makes}
 use Rattle.vx_record.specs.Moving.{IsConserved}
 use Rattle.vx_hub.specs.Places.{IsPlaced}
@@ -44,8 +46,12 @@ use Rattle.vx_hub.specs.Batching.{AreRunning}
 use Rattle.vx_hub.proofs.Placing.{conserved}
 use Rattle.vx_hub.proofs.Noticing.{in_turn, running_still}
 use Rattle.vx_hub.proofs.Owning.{placed_still}
+use Rattle.vx_hub.specs.Notices.{pending, pending_in, IsCounted}
+use Rattle.vx_hub.proofs.Counting.{counted_on}
 use Rattle.vx_hub.proofs.Ceasing.{comes_going}
 use Rattle.vx_hub.proofs.Silence.{told_silent, silent_mute, other_test}
+use Rattle.vx_hub.proofs.Offspring.{born_on, owes_quiet}
+use Rattle.vx_hub.proofs.Moments.{later_quiet, later_same}
 
 -- a quiet entry is mute
 pub mute_of_quiet : (e : Entry) → IsQuiet e → IsMute e
@@ -76,6 +82,17 @@ pub to_confirm_on : (f : Facts) (h : Record) (i : ℕ) (e : Entry) → births_in
     IfSome f.to_confirm (λ positions. positions ≡ born_positions (e ∷ h) i)
 to_confirm_on f h i e none k = subst (λ (ps : List Position). IfSome f.to_confirm (λ positions. positions ≡ ps)) (born_same h i e none) k
 
+-- behind an entry that bears nothing, and asks for and confirms nothing
+pub asked_on : (o : Option (List Position)) (last : List Position) (h : Record) (i : ℕ) (e : Entry) → births_in i e ≡ [] → asked (e ∷ h) i ≡ asked h i → IsAskedBy o last h i → IsAskedBy o last (e ∷ h) i
+asked_on o last h i e none same k =
+    let born = born_same h i e none in
+    record {
+      none = λ no. sym born ∙ k.none no ∙ sym same;
+      was = λ yes. k.was yes ∙ sym same;
+      some = λ yes. ap is_empty (sym born) ∙ k.some yes;
+      new = λ yes. ap (λ (ps : List Position). same_positions ps (asked (e ∷ h) i)) (sym born) ∙ ap (same_positions (born_positions h i)) same ∙ k.new yes;
+    }
+
 -- a quiet entry changes nothing of what is known
 pub known_quiet : (f : Facts) (h : Record) (i : ℕ) (e : Entry) → IsQuiet e → IsKnown f h i → IsKnown f (e ∷ h) i
 known_quiet f h i (Install version plan once instances now) q k = absurd q
@@ -104,6 +121,7 @@ known_quiet f h i e q k = record {
   closed = k.closed;
   retired = k.retired;
   leased = k.leased;
+  due = asked_on f.to_confirm f.asked h i e refl refl k.due;
 }
 
 pub bytes_mute : (h : Record) (e : Entry) → IsMute e → bytes_of_all (e ∷ h) ≡ bytes_of_all h
@@ -145,6 +163,8 @@ pub record Passes {P : Type 0} (d e : Hub P) (hand after : List Copy) (entry : E
   pub due : IsSound d → NoNoticeDue (entry ∷ d.log.history)
   pub statuses : IsSound d → AreRunning d.log.history d.batches.open_rows → AreRunning (entry ∷ d.log.history) e.batches.open_rows
   pub ledger : IsKept d.batches → IsKept e.batches
+  pub opened : pending_in e.batches.open_rows ≡ pending_in d.batches.open_rows
+  pub unnoticed : pending (entry ∷ d.log.history) ≡ pending d.log.history
 
 -- only an install changes the plan that is in force
 pub force_mute : (h : Record) (e : Entry) → IsMute e → in_force (e ∷ h) ≡ in_force h
@@ -174,6 +194,14 @@ berths_kept old new before after same size b = subst (λ (f : _). HasBerths f af
 -- the room of each buffer stays
 pub rooms_kept : {P : Type 0} (old new : Plan) (before after : List (Row P)) → new ≡ old → SameRooms before after → HasRooms old before → HasRooms new after
 rooms_kept {P} old new before after same rooms had = subst (λ (p : Plan). HasRooms p after) (sym same) (each_room (λ i n. n ≡ room_at old i) before after rooms had)
+
+-- the components stay
+pub few_kept : (old new : Plan) → new ≡ old → HasFew old → HasFew new
+few_kept old new same had = subst (λ (p : Plan). HasFew p) (sym same) had
+
+-- there is one instance for each component still
+pub count_kept : {P : Type 0} (old new : Plan) (before after : List (Row P)) → new ≡ old → length after ≡ length before → length before ≡ length old.components → length after ≡ length new.components
+count_kept old new before after same size had = size ∙ had ∙ sym (ap (λ (p : Plan). length p.components) same)
 
 -- parcels moved, and a quiet entry tells it
 pub stands_quiet : {P : Type 0} (told_by : P → Told) (d e : Hub P) (hand after : List Copy) (entry : Entry) →
@@ -208,6 +236,9 @@ stands_quiet {P} told_by d e hand after entry s balanced facts ports bare rooms 
             cause = ap (λ (t : _). t.1) berths ∙ r.cause ∙ sym (cause_quiet d.log.history entry quiet);
             installed = force_quiet d.log.history entry quiet ∙ r.installed ∙ ap Some (sym (ap (λ (t : _). t.2) berths));
             places = passes.places fine (conserved (entry ∷ d.log.history) ((passes.order fine, in_turn d.log.history entry r.noticeless, passes.comes fine), r.order)) r.places;
+            bore = λ going. born_on d.log.history entry r.order (passes.order fine) (owes_quiet d.log.history entry quiet) (r.bore (sym (ap (λ (t : _). t.3) berths) ∙ going));
+            unnoticed = counted_on d e d.log.history (entry ∷ d.log.history) passes.opened passes.unnoticed size berths r.unnoticed;
+            later = later_quiet d.log.history entry d.latest e.latest quiet (ap (λ (t : _). t.4) berths) r.later;
           });
       shut = λ i. subst (λ (fs : List Facts). IfSome (facts_at fs i) (IsShut told_by e.rows.items i)) (sym (ap (λ (v : _). v.items) facts))
           (some_mapped _ _ (facts_at d.facts.items i) (λ f shut closed. subst (λ (p : Option P). IsSomeAnd p (λ port. (told_by port).started ≡ false)) (sym (ports i)) (shut closed)) (s.shut i));
@@ -216,6 +247,8 @@ stands_quiet {P} told_by d e hand after entry s balanced facts ports bare rooms 
       size = ap (λ (v : _). length v.items) facts ∙ s.size ∙ sym size;
       berths = berths_kept d.ports e.ports d.rows.items e.rows.items (ap (λ (t : _). t.0) berths) size s.berths;
       rooms = rooms_kept d.plan e.plan d.rows.items e.rows.items (ap (λ (t : _). t.2) berths) rooms s.rooms;
+      few = few_kept d.plan e.plan (ap (λ (t : _). t.2) berths) s.few;
+      count = count_kept d.plan e.plan d.rows.items e.rows.items (ap (λ (t : _). t.2) berths) size s.count;
     }
 
 -- what holds in any case
@@ -273,6 +306,9 @@ stands_moved {P} told_by d e hand after s balanced facts ports bare rooms batche
         cause = ap (λ (t : _). t.1) berths ∙ r.cause;
         installed = r.installed ∙ ap Some (sym (ap (λ (t : _). t.2) berths));
         places = places fine (conserved d.log.history r.order) r.places;
+        bore = λ going. r.bore (sym (ap (λ (t : _). t.3) berths) ∙ going);
+        unnoticed = counted_on d e d.log.history d.log.history (ap (λ (l : Ledger). pending_in l.open_rows) batches) refl size berths r.unnoticed;
+        later = later_same d.log.history d.latest e.latest (ap (λ (t : _). t.4) berths) r.later;
       });
   shut = λ i. subst (λ (fs : List Facts). IfSome (facts_at fs i) (IsShut told_by e.rows.items i)) (sym (ap (λ (v : _). v.items) facts))
       (some_mapped _ _ (facts_at d.facts.items i) (λ f shut closed. subst (λ (p : Option P). IsSomeAnd p (λ port. (told_by port).started ≡ false)) (sym (ports i)) (shut closed)) (s.shut i));
@@ -281,6 +317,8 @@ stands_moved {P} told_by d e hand after s balanced facts ports bare rooms batche
   size = ap (λ (v : _). length v.items) facts ∙ s.size ∙ sym size;
   berths = berths_kept d.ports e.ports d.rows.items e.rows.items (ap (λ (t : _). t.0) berths) size s.berths;
   rooms = rooms_kept d.plan e.plan d.rows.items e.rows.items (ap (λ (t : _). t.2) berths) rooms s.rooms;
+  few = few_kept d.plan e.plan (ap (λ (t : _). t.2) berths) s.few;
+  count = count_kept d.plan e.plan d.rows.items e.rows.items (ap (λ (t : _). t.2) berths) size s.count;
 }
   where
     size : length e.rows.items ≡ length d.rows.items
@@ -354,6 +392,7 @@ known_abandoned f h i cause k = record {
   closed = k.closed;
   retired = k.retired;
   leased = k.leased;
+  due = asked_on f.to_confirm f.asked h i (Abandon cause) refl refl k.due;
 }
 
 -- a run is abandoned
@@ -381,42 +420,34 @@ stands_abandoned {P} told_by d log cause s once reason noted = record {
         cause = refl;
         installed = r.installed;
         places = placed_still d.rows.items [] d.log.history (Abandon cause) tt (conserved d.log.history r.order) r.places;
+        bore = λ going i home gone. cc;
+        unnoticed = record { open_are = r.unnoticed.open_are; each = r.unnoticed.each };
+        later = r.later;
       });
   shut = s.shut;
   gone = s.gone;
   size = s.size;
   berths = s.berths;
   rooms = s.rooms;
+  few = s.few;
+  count = s.count;
 }
 
--- what is counted beside the record says nothing of it
-pub stands_counted : {P : Type 0} (told_by : P → Told) (d e : Hub P) (hand : List Copy) → e ≡ record d { progress = e.progress } → Stands told_by d hand d.log.history → Stands told_by e hand e.log.history
-stands_counted {P} told_by d e hand same s = subst (λ (x : Hub P). Stands told_by x hand x.log.history) (sym same) (record {
-  history = refl;
-  balanced = s.balanced;
-  recorded = λ sound.
-      let r : IsRecorded told_by d hand d.log.history = s.recorded (record { whole = sound.whole; fed = sound.fed }) in
-      record { ports = r.ports; facts = r.facts; bytes = r.bytes; next = r.next; order = r.order; unknown = r.unknown; cause = r.cause; installed = r.installed; noticeless = r.noticeless; statuses = r.statuses; ledger = r.ledger; places = r.places; outs = r.outs; said = r.said };
-  shut = s.shut;
-  gone = s.gone;
-  size = s.size;
-  berths = s.berths;
-  rooms = s.rooms;
-})
-
 -- whether the hub goes on says nothing of the record
-pub stands_settled : {P : Type 0} (told_by : P → Told) (d e : Hub P) (hand : List Copy) → e ≡ record d { fatal = e.fatal } → Stands told_by d hand d.log.history → Stands told_by e hand e.log.history
-stands_settled {P} told_by d e hand same s = subst (λ (x : Hub P). Stands told_by x hand x.log.history) (sym same) (record {
+pub stands_settled : {P : Type 0} (told_by : P → Told) (d e : Hub P) (hand : List Copy) → e ≡ record d { fatal = e.fatal } → Stands told_by d hand d.log.history → (e.fatal ≡ false → d.fatal ≡ false) → Stands told_by e hand e.log.history
+stands_settled {P} told_by d e hand same s kept = subst (λ (x : Hub P). Stands told_by x hand x.log.history) (sym same) (record {
   history = refl;
   balanced = s.balanced;
   recorded = λ sound.
       let r : IsRecorded told_by d hand d.log.history = s.recorded (record { whole = sound.whole; fed = sound.fed }) in
-      record { ports = r.ports; facts = r.facts; bytes = r.bytes; next = r.next; order = r.order; unknown = r.unknown; cause = r.cause; installed = r.installed; noticeless = r.noticeless; statuses = r.statuses; ledger = r.ledger; places = r.places; outs = r.outs; said = r.said };
+      record { ports = r.ports; facts = r.facts; bytes = r.bytes; next = r.next; order = r.order; unknown = r.unknown; cause = r.cause; installed = r.installed; noticeless = r.noticeless; statuses = r.statuses; ledger = r.ledger; places = r.places; outs = r.outs; said = r.said; bore = λ going. r.bore (kept going); unnoticed = record { open_are = r.unnoticed.open_are; each = r.unnoticed.each }; later = r.later };
   shut = s.shut;
   gone = s.gone;
   size = s.size;
   berths = s.berths;
   rooms = s.rooms;
+  few = s.few;
+  count = s.count;
 })
 
 -- a copy is spent, and its batch gets its notice
@@ -424,8 +455,8 @@ pub stands_noticed : {P : Type 0} (told_by : P → Told) (d e : Hub P) (hand aft
     Stands told_by d hand d.log.history → IsBalanced e.batches e.rows.items after → e.facts ≡ d.facts → e.rows ≡ d.rows → Noted d.log (Spent i c outcome) mid → Noted mid (Notice batch status) e.log →
     e.batches.next ≡ d.batches.next → (IsSound d → IsInOrder d.log.history (Spent i c outcome)) → (IsSound d → MayStillCome d.log.history (Spent i c outcome)) → (IsSound d → IsPlaced d.rows.items after (Spent i c outcome ∷ d.log.history)) →
     (IsSound d → IsNoticedSo (Spent i c outcome ∷ d.log.history) batch status) → (IsSound d → AreRunning (Spent i c outcome ∷ d.log.history) e.batches.open_rows) → IsKept e.batches →
-    e.starved ≡ d.starved → e.bytes ≡ d.bytes → spare_of e ≡ spare_of d → Stands told_by e after e.log.history
-stands_noticed {P} told_by d e hand after i c outcome batch status mid s balanced facts rows spent noticed next order comes places so statuses ledger starved bytes berths =
+    e.starved ≡ d.starved → e.bytes ≡ d.bytes → spare_of (record e { progress = d.progress }) ≡ spare_of d → (IsSound d → IsCounted d d.log.history → IsCounted e (Notice batch status ∷ Spent i c outcome ∷ d.log.history)) → Stands told_by e after e.log.history
+stands_noticed {P} told_by d e hand after i c outcome batch status mid s balanced facts rows spent noticed next order comes places so statuses ledger starved bytes berths counted =
     let first : Entry = Spent i c outcome in
     let second : Entry = Notice batch status in
     let h = d.log.history in
@@ -455,10 +486,15 @@ stands_noticed {P} told_by d e hand after i c outcome batch status mid s balance
             cause = ap (λ (t : _). t.1) berths ∙ r.cause;
             installed = r.installed ∙ ap Some (sym (ap (λ (t : _). t.2) berths));
             places = subst (λ (v : _). IsPlaced v.items after (second ∷ first ∷ h)) (sym rows) (placed_still d.rows.items after (first ∷ h) second tt (conserved (first ∷ h) ordered) (places fine));
+            bore = λ going. born_on (first ∷ h) second ordered (so fine) tt (born_on h first r.order (order fine) tt (r.bore (sym (ap (λ (t : _). t.3) berths) ∙ going)));
+            unnoticed = counted fine r.unnoticed;
+            later = later_same h d.latest e.latest (ap (λ (t : _). t.4) berths) r.later;
           });
       shut = λ j. subst (λ (v : _). IfSome (facts_at e.facts.items j) (IsShut told_by v.items j)) (sym rows) (subst (λ (v : _). IfSome (facts_at v.items j) (IsShut told_by d.rows.items j)) (sym facts) (s.shut j));
       gone = λ j. subst (λ (v : _). IfSome (facts_at e.facts.items j) (IsGone v.items j)) (sym rows) (subst (λ (v : _). IfSome (facts_at v.items j) (IsGone d.rows.items j)) (sym facts) (s.gone j));
       size = ap (λ (v : _). length v.items) facts ∙ s.size ∙ sym (ap (λ (v : _). length v.items) rows);
       berths = berths_kept d.ports e.ports d.rows.items e.rows.items (ap (λ (t : _). t.0) berths) (ap (λ (v : _). length v.items) rows) s.berths;
       rooms = rooms_kept d.plan e.plan d.rows.items e.rows.items (ap (λ (t : _). t.2) berths) (ap (λ (v : _). buffer_rooms v.items) rows) s.rooms;
+      few = few_kept d.plan e.plan (ap (λ (t : _). t.2) berths) s.few;
+      count = count_kept d.plan e.plan d.rows.items e.rows.items (ap (λ (t : _). t.2) berths) (ap (λ (v : _). length v.items) rows) s.count;
     }

@@ -28,16 +28,17 @@ use Rattle.vx_hub.specs.Works.{IsClosedBy}
 use Rattle.vx_hub.specs.declared.task.Task.{Task}
 use Rattle.vx_hub.specs.Stands.{Stands, IsTold, IsKnown, AreOut, IsRecorded, IsSound, IsShut, IsGone, facts_at, lost_at, spec_at, capped, touched, IsBalanced, IsMute, spare_of, cause_of}
 use Rattle.vx_hub.proofs.RowLaws.{same_length}
-use Rattle.vx_hub.proofs.StandsLaws.{some_mapped, some_all, berths_kept, rooms_kept, ends_on, to_confirm_on, told_mute, bytes_mute, force_mute, same_next, unknown_on, unknown_mute}
+use Rattle.vx_hub.proofs.StandsLaws.{some_mapped, some_all, berths_kept, rooms_kept, ends_on, to_confirm_on, asked_on, told_mute, bytes_mute, force_mute, same_next, unknown_on, unknown_mute, few_kept, count_kept}
 use Rattle.vx_record.specs.Copies.{next_copy, makes}
 use Rattle.vx_record.specs.Moving.{IsStill, IsConserved}
 use Rattle.vx_hub.specs.Places.{IsPlaced, SamePlaces}
 use Rattle.vx_record.specs.Abandoning.{MayStillCome}
-use Rattle.vx_record.specs.Turns.{is_out}
+use Rattle.vx_record.specs.Turns.{is_out, worker_now}
 use Rattle.vx_hub.proofs.Ceasing.{left_out, comes_left, out_touched}
 use Rattle.vx_hub.specs.Events.{AreSaid}
 use Rattle.vx_hub.proofs.Saids.{rows_on, rows_told}
-use Rattle.vx_hub.proofs.Following.{mute_unread}
+use Rattle.vx_hub.proofs.Taking.{rows_marked}
+use Rattle.vx_hub.specs.Numbers.{numbers_in}
 use Rattle.vx_hub.specs.Order.{IsAttemptOf, IsInOrder, readers_at}
 use Rattle.vx_ledger.specs.Routing.{targets_of}
 use Rattle.vx_hub.proofs.Ordering.{first_targets}
@@ -47,7 +48,12 @@ use Rattle.vx_hub.specs.Batching.{AreRunning}
 use Rattle.vx_hub.proofs.Placing.{conserved}
 use Rattle.vx_hub.proofs.Noticing.{accounted, in_turn, still_quiet, running_still}
 use Rattle.vx_hub.proofs.Owning.{placed_still, placed_same}
+use Rattle.vx_hub.specs.Notices.{pending_in, IsCounted}
+use Rattle.vx_hub.proofs.Counting.{counted_on, pending_touched}
 use Rattle.vx_hub.proofs.Silence.{told_silent, silent_other, other_test, same_test}
+use Rattle.vx_hub.specs.Offspring.{OwesNothing}
+use Rattle.vx_hub.proofs.Offspring.{born_on, owes_touched}
+use Rattle.vx_hub.proofs.Moments.{later_touched, later_same}
 
 -- a test that fails chooses the other side
 known_chosen : {X : Type 0} (a : Bool) (x y z : X) → a ≡ false → z ≡ y → z ≡ (if a then x else y)
@@ -74,6 +80,7 @@ known_other f h i j (Read k stream took) t other s =
       closed = s.closed;
       retired = s.retired;
       leased = s.leased;
+      due = asked_on f.to_confirm f.asked h j (Read k stream took) refl refl s.due;
     }
 known_other f h i j (Idle k failed) t other s =
     let k_is : k ≡ i = cc in
@@ -93,6 +100,7 @@ known_other f h i j (Idle k failed) t other s =
       closed = s.closed;
       retired = s.retired;
       leased = s.leased;
+      due = asked_on f.to_confirm f.asked h j (Idle k failed) refl refl s.due;
     }
 known_other f h i j (SourceLost k at failed) t other s =
     let k_is : k ≡ i = cc in
@@ -112,6 +120,7 @@ known_other f h i j (SourceLost k at failed) t other s =
       closed = s.closed;
       retired = s.retired;
       leased = s.leased;
+      due = asked_on f.to_confirm f.asked h j (SourceLost k at failed) refl refl s.due;
     }
 known_other f h i j (Attempt k copies bytes reply) t other s =
     record {
@@ -129,6 +138,7 @@ known_other f h i j (Attempt k copies bytes reply) t other s =
       closed = s.closed;
       retired = s.retired;
       leased = s.leased;
+      due = asked_on f.to_confirm f.asked h j (Attempt k copies bytes reply) refl refl s.due;
     }
 known_other f h i j (Confirm k positions made) t other s =
     let k_is : k ≡ i = cc in
@@ -148,6 +158,7 @@ known_other f h i j (Confirm k positions made) t other s =
       closed = s.closed;
       retired = s.retired;
       leased = s.leased;
+      due = asked_on f.to_confirm f.asked h j (Confirm k positions made) refl refl s.due;
     }
 known_other f h i j (Born k b place copies events waits stream end) t other s =
     let k_is : k ≡ i = cc in
@@ -167,6 +178,7 @@ known_other f h i j (Born k b place copies events waits stream end) t other s =
       closed = s.closed;
       retired = s.retired;
       leased = s.leased;
+      due = asked_on f.to_confirm f.asked h j (Born k b place copies events waits stream end) (sym (known_chosen (k == j) (record { batch = b; waits = waits; stream = stream; end = end } ∷ []) [] [] test refl)) refl s.due;
     }
 known_other f h i j e t other s = cc
 
@@ -280,6 +292,9 @@ stands_touched {P} told_by d e hand entry i f g s out within at written closed r
             installed = force_touched d.log.history entry i touch ∙ r.installed ∙ ap Some (sym (ap (λ (t : _). t.2) berths));
             places = subst (λ (v : _). IsPlaced v.items hand (entry ∷ d.log.history)) (sym rows)
                 (placed_still d.rows.items hand d.log.history entry still (conserved d.log.history r.order) r.places);
+            bore = λ going. born_on d.log.history entry r.order (order fine mine (r.outs i (subst (λ n. i < n) s.size within) none)) (owes_touched d.log.history entry i touch) (r.bore (sym (ap (λ (t : _). t.3) berths) ∙ going));
+            unnoticed = counted_on d e d.log.history (entry ∷ d.log.history) (ap (λ (l : Ledger). pending_in l.open_rows) batches) (pending_touched d.log.history entry i touch still) (ap (λ (v : _). length v.items) rows) berths r.unnoticed;
+            later = later_touched d.log.history entry i d.latest e.latest touch (ap (λ (t : _). t.4) berths) r.later;
           });
       shut = λ j. subst (λ (v : _). IfSome (facts_at e.facts.items j) (IsShut told_by v.items j)) (sym rows)
           (subst (λ (fs : List Facts). IfSome (facts_at fs j) (IsShut told_by d.rows.items j)) (sym written)
@@ -292,13 +307,15 @@ stands_touched {P} told_by d e hand entry i f g s out within at written closed r
       size = ap length written ∙ length-set d.facts.items i g ∙ s.size ∙ sym (ap (λ (v : _). length v.items) rows);
       berths = berths_kept d.ports e.ports d.rows.items e.rows.items (ap (λ (t : _). t.0) berths) (ap (λ (v : _). length v.items) rows) s.berths;
       rooms = rooms_kept d.plan e.plan d.rows.items e.rows.items (ap (λ (t : _). t.2) berths) (ap (λ (v : _). buffer_rooms v.items) rows) s.rooms;
+      few = few_kept d.plan e.plan (ap (λ (t : _). t.2) berths) s.few;
+      count = count_kept d.plan e.plan d.rows.items e.rows.items (ap (λ (t : _). t.2) berths) (ap (λ (v : _). length v.items) rows) s.count;
     }
 
 -- an instance is marked, and an entry tells it that says nothing of a port
 pub stands_marked : {P : Type 0} (told_by : P → Told) (d e : Hub P) (hand after : List Copy) (entry : Entry) (i : ℕ) (f g : Facts) →
     Stands told_by d hand d.log.history → i < length d.facts.items → f ≡ get_or d.facts.items i f →
     e.facts.items ≡ slice_set d.facts.items i g →
-    e.rows ≡ d.rows → spare_of e ≡ spare_of d → IsBalanced e.batches d.rows.items after → e.starved ≡ d.starved → e.bytes ≡ d.bytes → Noted d.log entry e.log → IsMute entry →
+    e.rows ≡ d.rows → spare_of (record e { progress = d.progress }) ≡ spare_of d → IsBalanced e.batches d.rows.items after → e.starved ≡ d.starved → e.bytes ≡ d.bytes → Noted d.log entry e.log → IsMute entry →
     (d.batches.next ≡ next_copy d.log.history → e.batches.next ≡ next_copy (entry ∷ d.log.history)) → (IsSound d → IsInOrder d.log.history entry) → (IsSound d → MayStillCome d.log.history entry) → ((k : ℕ) → port_at d.rows.items k ≡ None → is_out d.log.history k ≡ true → is_out (entry ∷ d.log.history) k ≡ true) →
     cause_of (entry ∷ d.log.history) ≡ cause_of d.log.history →
     (IsSound d → IsKnown f d.log.history i → IsKnown g (entry ∷ d.log.history) i) →
@@ -306,8 +323,11 @@ pub stands_marked : {P : Type 0} (told_by : P → Told) (d e : Hub P) (hand afte
     IsShut told_by d.rows.items i g → IsGone d.rows.items i g →
     (IsSound d → IsConserved (entry ∷ d.log.history) → IsPlaced d.rows.items hand d.log.history → IsPlaced d.rows.items after (entry ∷ d.log.history)) →
     NoNoticeDue (entry ∷ d.log.history) → (IsSound d → IsAccounted d.log.history → AreRunning d.log.history d.batches.open_rows → AreRunning (entry ∷ d.log.history) e.batches.open_rows) → (IsKept d.batches → IsKept e.batches) →
+    (IsSound d → d.fatal ≡ false → OwesNothing d.log.history entry) →
+    (IsSound d → IsCounted d d.log.history → IsCounted e (entry ∷ d.log.history)) →
+    ((worker : ℕ) → worker_now d.log.history worker ≤ d.latest → worker_now (entry ∷ d.log.history) worker ≤ d.latest) →
     Stands told_by e after e.log.history
-stands_marked {P} told_by d e hand after entry i f g s within at written rows berths balanced starved bytes noted mute next order comes outs cause known others shut gone places due statuses ledger =
+stands_marked {P} told_by d e hand after entry i f g s within at written rows berths balanced starved bytes noted mute next order comes outs cause known others shut gone places due statuses ledger owes counted later =
     let was : facts_at d.facts.items i ≡ Some f = facts_read d.facts.items i f within at in
     record {
       history = refl;
@@ -327,7 +347,7 @@ stands_marked {P} told_by d e hand after entry i f g s within at written rows be
             bytes = bytes ∙ r.bytes ∙ ap capped (sym (bytes_mute d.log.history entry mute));
             next = next r.next;
             order = ((order fine, in_turn d.log.history entry r.noticeless, comes fine), r.order);
-            said = subst (λ (v : _). AreSaid (entry ∷ d.log.history) v.items) (sym rows) (rows_on d.log.history entry (mute_unread entry mute) d.rows.items r.said);
+            said = subst (λ (v : _). AreSaid (entry ∷ d.log.history) v.items) (sym rows) (rows_marked d.log.history entry mute d.rows.items (numbers_in hand) r.places.standing (conserved (entry ∷ d.log.history) ((order fine, in_turn d.log.history entry r.noticeless, comes fine), r.order)) r.said);
             outs = subst (λ (v : _). AreOut v.items (entry ∷ d.log.history)) (sym rows) (λ k l away. outs k away (r.outs k l away));
             noticeless = due;
             statuses = statuses fine (accounted d.log.history r.order) r.statuses;
@@ -337,6 +357,9 @@ stands_marked {P} told_by d e hand after entry i f g s within at written rows be
             installed = force_mute d.log.history entry mute ∙ r.installed ∙ ap Some (sym (ap (λ (t : _). t.2) berths));
             places = subst (λ (v : _). IsPlaced v.items after (entry ∷ d.log.history)) (sym rows)
                 (places fine (conserved (entry ∷ d.log.history) ((order fine, in_turn d.log.history entry r.noticeless, comes fine), r.order)) r.places);
+            bore = λ going. let before : d.fatal ≡ false = sym (ap (λ (t : _). t.3) berths) ∙ going in born_on d.log.history entry r.order (order fine) (owes fine before) (r.bore before);
+            unnoticed = counted fine r.unnoticed;
+            later = later_same (entry ∷ d.log.history) d.latest e.latest (ap (λ (t : _). t.4) berths) (λ worker. later worker (r.later worker));
           });
       shut = λ j. subst (λ (v : _). IfSome (facts_at e.facts.items j) (IsShut told_by v.items j)) (sym rows)
           (subst (λ (fs : List Facts). IfSome (facts_at fs j) (IsShut told_by d.rows.items j)) (sym written)
@@ -347,6 +370,8 @@ stands_marked {P} told_by d e hand after entry i f g s within at written rows be
       size = ap length written ∙ length-set d.facts.items i g ∙ s.size ∙ sym (ap (λ (v : _). length v.items) rows);
       berths = berths_kept d.ports e.ports d.rows.items e.rows.items (ap (λ (t : _). t.0) berths) (ap (λ (v : _). length v.items) rows) s.berths;
       rooms = rooms_kept d.plan e.plan d.rows.items e.rows.items (ap (λ (t : _). t.2) berths) (ap (λ (v : _). buffer_rooms v.items) rows) s.rooms;
+      few = few_kept d.plan e.plan (ap (λ (t : _). t.2) berths) s.few;
+      count = count_kept d.plan e.plan d.rows.items e.rows.items (ap (λ (t : _). t.2) berths) (ap (λ (v : _). length v.items) rows) s.count;
     }
 
 -- a task comes home with a port that tells what the record has
@@ -384,6 +409,9 @@ stands_brought {P} told_by d e copies port i s unclosed told balanced here ports
             cause = ap (λ (t : _). t.1) berths ∙ r.cause;
             installed = r.installed ∙ ap Some (sym (ap (λ (t : _). t.2) berths));
             places = places fine (conserved d.log.history r.order) r.places;
+            bore = λ going. r.bore (sym (ap (λ (t : _). t.3) berths) ∙ going);
+            unnoticed = counted_on d e d.log.history d.log.history (ap (λ (l : Ledger). pending_in l.open_rows) batches) refl size berths r.unnoticed;
+            later = later_same d.log.history d.latest e.latest (ap (λ (t : _). t.4) berths) r.later;
           });
       shut = λ k. subst (λ (v : _). IfSome (facts_at v.items k) (IsShut told_by e.rows.items k)) (sym facts)
           (other_number (λ m. IfSome (facts_at d.facts.items m) (IsShut told_by e.rows.items m)) i (unclosed_shut told_by e.rows.items i (facts_at d.facts.items i) unclosed)
@@ -394,6 +422,8 @@ stands_brought {P} told_by d e copies port i s unclosed told balanced here ports
       size = ap (λ (v : _). length v.items) facts ∙ s.size ∙ sym size;
       berths = berths_kept d.ports e.ports d.rows.items e.rows.items (ap (λ (t : _). t.0) berths) size s.berths;
       rooms = rooms_kept d.plan e.plan d.rows.items e.rows.items (ap (λ (t : _). t.2) berths) rooms s.rooms;
+      few = few_kept d.plan e.plan (ap (λ (t : _). t.2) berths) s.few;
+      count = count_kept d.plan e.plan d.rows.items e.rows.items (ap (λ (t : _). t.2) berths) size s.count;
     }
 
 -- a fact of the facts that were read
@@ -515,6 +545,9 @@ stands_shut {P} told_by d e i s home becomes loses ports bare rooms batches fact
             cause = ap (λ (t : _). t.1) berths ∙ r.cause;
             installed = r.installed ∙ ap Some (sym (ap (λ (t : _). t.2) berths));
             places = placed_same d.rows.items e.rows.items [] d.log.history same r.places;
+            bore = λ going. r.bore (sym (ap (λ (t : _). t.3) berths) ∙ going);
+            unnoticed = counted_on d e d.log.history d.log.history (ap (λ (l : Ledger). pending_in l.open_rows) batches) refl size berths r.unnoticed;
+            later = later_same d.log.history d.latest e.latest (ap (λ (t : _). t.4) berths) r.later;
           });
       shut = λ k. subst (λ (v : _). IfSome (facts_at v.items k) (IsShut told_by e.rows.items k)) (sym facts)
           (other_number (λ m. IfSome (facts_at d.facts.items m) (IsShut told_by e.rows.items m)) i
@@ -525,6 +558,8 @@ stands_shut {P} told_by d e i s home becomes loses ports bare rooms batches fact
       size = ap (λ (v : _). length v.items) facts ∙ s.size ∙ sym size;
       berths = berths_kept d.ports e.ports d.rows.items e.rows.items (ap (λ (t : _). t.0) berths) size s.berths;
       rooms = rooms_kept d.plan e.plan d.rows.items e.rows.items (ap (λ (t : _). t.2) berths) rooms s.rooms;
+      few = few_kept d.plan e.plan (ap (λ (t : _). t.2) berths) s.few;
+      count = count_kept d.plan e.plan d.rows.items e.rows.items (ap (λ (t : _). t.2) berths) size s.count;
     }
 
 -- no bytes are no more bytes
@@ -548,6 +583,7 @@ known_attempt f h i j copies bytes reply k = record {
   closed = k.closed;
   retired = k.retired;
   leased = k.leased;
+  due = asked_on f.to_confirm f.asked h j (Attempt i copies bytes reply) refl refl k.due;
 }
 
 -- an attempt of an instance that is out is told
@@ -580,12 +616,17 @@ stands_attempted {P} told_by d log hand i copies bytes reply s within out names 
             cause = r.cause;
             installed = r.installed;
             places = placed_still d.rows.items hand d.log.history e tt (conserved d.log.history r.order) r.places;
+            bore = λ going. born_on d.log.history e r.order (names (record { whole = w.0; fed = sound.fed }) (r.outs i within none)) tt (r.bore going);
+            unnoticed = record { open_are = r.unnoticed.open_are; each = r.unnoticed.each };
+            later = r.later;
           });
       shut = s.shut;
       gone = s.gone;
       size = s.size;
       berths = s.berths;
       rooms = s.rooms;
+      few = s.few;
+      count = s.count;
     }
 
 -- past the end there are no facts
@@ -640,6 +681,9 @@ stands_out {P} told_by d e copies i s unclosed balanced away ports bare rooms ba
             cause = ap (λ (t : _). t.1) berths ∙ r.cause;
             installed = r.installed ∙ ap Some (sym (ap (λ (t : _). t.2) berths));
             places = places (conserved d.log.history r.order) r.places;
+            bore = λ going. r.bore (sym (ap (λ (t : _). t.3) berths) ∙ going);
+            unnoticed = counted_on d e d.log.history d.log.history (ap (λ (l : Ledger). pending_in l.open_rows) batches) refl size berths r.unnoticed;
+            later = later_same d.log.history d.latest e.latest (ap (λ (t : _). t.4) berths) r.later;
           });
       shut = λ k. subst (λ (v : _). IfSome (facts_at v.items k) (IsShut told_by e.rows.items k)) (sym facts)
           (other_number (λ m. IfSome (facts_at d.facts.items m) (IsShut told_by e.rows.items m)) i (unclosed_shut told_by e.rows.items i (facts_at d.facts.items i) unclosed)
@@ -650,6 +694,8 @@ stands_out {P} told_by d e copies i s unclosed balanced away ports bare rooms ba
       size = ap (λ (v : _). length v.items) facts ∙ s.size ∙ sym size;
       berths = berths_kept d.ports e.ports d.rows.items e.rows.items (ap (λ (t : _). t.0) berths) size s.berths;
       rooms = rooms_kept d.plan e.plan d.rows.items e.rows.items (ap (λ (t : _). t.2) berths) rooms s.rooms;
+      few = few_kept d.plan e.plan (ap (λ (t : _). t.2) berths) s.few;
+      count = count_kept d.plan e.plan d.rows.items e.rows.items (ap (λ (t : _). t.2) berths) size s.count;
     }
 
 -- what the port of the task tells that is taken along

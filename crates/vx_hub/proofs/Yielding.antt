@@ -21,17 +21,17 @@ use Rattle.vx_hub.specs.declared.task.Role.{Role}
 use Rattle.vx_hub.specs.declared.task.Role.TheVariants.{Source, Sink}
 use Rattle.vx_hub.specs.declared.work.Done.{Done}
 use Rattle.vx_hub.specs.declared.work.Done.TheVariants as done
-use Rattle.vx_hub.specs.Abreast.{AreNamedApart, IsAbreast, HasCome, HasDone, HasTurned, RoleHasTurned, Yields}
+use Rattle.vx_hub.specs.Abreast.{AreNamedApart, IsAbreast, HasCome, HasDone, HasTurned, RoleHasTurned, Yields, Gives}
 use Rattle.vx_hub.specs.Births.{HasComeBy, HasDoneBy}
 use Rattle.vx_hub.specs.Failures.{IsFailureOf}
 use Rattle.vx_hub.specs.Stands.{IsSound}
 use Rattle.vx_hub.specs.Spending.{HasYielded}
 use Rattle.vx_record.specs.Sourcing.{IsYield}
-use Rattle.vx_hub.proofs.Following.{IsUnread, abreast_on, role_on}
+use Rattle.vx_hub.proofs.Following.{IsAside, abreast_on, role_on}
 use Rattle.vx_hub.proofs.Ordering.{sound_before}
 
--- an entry that is no install and no read leaves a source abreast
-pub come_on : {P : Type 0} (d e : Hub P) (entry : Entry) (i : ℕ) (role : Role) → IsUnread entry → Noted d.log entry e.log → e.starved ≡ d.starved → HasComeBy d i role → HasComeBy e i role
+-- an entry that is no install, no read and no take leaves an instance where it has come
+pub come_on : {P : Type 0} (d e : Hub P) (entry : Entry) (i : ℕ) (role : Role) → IsAside entry → Noted d.log entry e.log → e.starved ≡ d.starved → HasComeBy d i role → HasComeBy e i role
 come_on d e entry i role unread noted starved come sound =
     subst (λ (h : Record). HasCome h i role) (sym (noted.whole sound.whole).1) (role_on d.log.history entry i role unread (come (sound_before d e entry noted starved sound)))
 
@@ -49,10 +49,15 @@ yields_under h j positions made i stream (taken.Bytes bytes) events at end y apa
 yields_under h j positions made i stream taken.StreamEnded events at end y apart some = let is = y apart some in record { reader = is.reader; given = is.given; of_stream = is.of_stream; up_to = is.up_to }
 yields_under h j positions made i stream taken.AllEnded events at end y apart some = let is = y apart some in record { reader = is.reader; given = is.given; of_stream = is.of_stream; up_to = is.up_to }
 
+gives_under : (h : Record) (j : ℕ) (positions : List Position) (made : Bool) (i stream : ℕ) (took : Taken) (events : List Event) → Gives h i stream took events → Gives (Confirm j positions made ∷ h) i stream took events
+gives_under h j positions made i stream (taken.Bytes bytes) events gives apart = gives apart
+gives_under h j positions made i stream taken.StreamEnded events gives apart = gives apart
+gives_under h j positions made i stream taken.AllEnded events gives apart = gives apart
+
 turned_under : (h : Record) (j : ℕ) (positions : List Position) (made : Bool) (i : ℕ) (core : SourceCore) (turned : Turned) → HasTurned h i core turned → HasTurned (Confirm j positions made ∷ h) i core turned
-turned_under h j positions made i core (Lines stream bytes events end) t = (abreast_under h j positions made i stream (taken.Bytes bytes) core t.0, yields_under h j positions made i stream (taken.Bytes bytes) events stream end t.1)
-turned_under h j positions made i core (StreamEnded stream events end) t = (abreast_under h j positions made i stream taken.StreamEnded core t.0, yields_under h j positions made i stream taken.StreamEnded events stream end t.1)
-turned_under h j positions made i core (AllEnded stream events end) t = (abreast_under h j positions made i stream taken.AllEnded core t.0, yields_under h j positions made i stream taken.AllEnded events stream end t.1)
+turned_under h j positions made i core (Lines stream bytes events end) t = (abreast_under h j positions made i stream (taken.Bytes bytes) core t.0, yields_under h j positions made i stream (taken.Bytes bytes) events stream end t.1, gives_under h j positions made i stream (taken.Bytes bytes) events t.2)
+turned_under h j positions made i core (StreamEnded stream events end) t = (abreast_under h j positions made i stream taken.StreamEnded core t.0, yields_under h j positions made i stream taken.StreamEnded events stream end t.1, gives_under h j positions made i stream taken.StreamEnded events t.2)
+turned_under h j positions made i core (AllEnded stream events end) t = (abreast_under h j positions made i stream taken.AllEnded core t.0, yields_under h j positions made i stream taken.AllEnded events stream end t.1, gives_under h j positions made i stream taken.AllEnded events t.2)
 turned_under h j positions made i core Idle t = abreast_on h (Confirm j positions made) i core tt t
 turned_under h j positions made i core (Failed at_start) t = abreast_on h (Confirm j positions made) i core tt t
 
@@ -69,15 +74,15 @@ done_on d e j positions made i role what noted starved come sound =
     subst (λ (h : Record). HasDone h i role what) (sym (noted.whole sound.whole).1) (done_under d.log.history j positions made i role what (come (sound_before d e (Confirm j positions made) noted starved sound)))
 
 -- what a turn of an instance says of it
-pub lines_role : (h : Record) (i stream : ℕ) (bytes : Word) (events : List Event) (end : ℕ) (role : Role) → RoleHasTurned h i role (Lines stream bytes events end) → HasCome (Read i stream (taken.Bytes bytes) ∷ h) i role × Yields h i stream (taken.Bytes bytes) events stream end
+pub lines_role : (h : Record) (i stream : ℕ) (bytes : Word) (events : List Event) (end : ℕ) (role : Role) → RoleHasTurned h i role (Lines stream bytes events end) → HasCome (Read i stream (taken.Bytes bytes) ∷ h) i role × Yields h i stream (taken.Bytes bytes) events stream end × Gives h i stream (taken.Bytes bytes) events
 lines_role h i stream bytes events end (Source core) t = t
 lines_role h i stream bytes events end (Sink core) t = absurd t
 
-pub stream_role : (h : Record) (i stream : ℕ) (events : List Event) (end : ℕ) (role : Role) → RoleHasTurned h i role (StreamEnded stream events end) → HasCome (Read i stream taken.StreamEnded ∷ h) i role × Yields h i stream taken.StreamEnded events stream end
+pub stream_role : (h : Record) (i stream : ℕ) (events : List Event) (end : ℕ) (role : Role) → RoleHasTurned h i role (StreamEnded stream events end) → HasCome (Read i stream taken.StreamEnded ∷ h) i role × Yields h i stream taken.StreamEnded events stream end × Gives h i stream taken.StreamEnded events
 stream_role h i stream events end (Source core) t = t
 stream_role h i stream events end (Sink core) t = absurd t
 
-pub all_role : (h : Record) (i stream : ℕ) (events : List Event) (end : ℕ) (role : Role) → RoleHasTurned h i role (AllEnded stream events end) → HasCome (Read i stream taken.AllEnded ∷ h) i role × Yields h i stream taken.AllEnded events stream end
+pub all_role : (h : Record) (i stream : ℕ) (events : List Event) (end : ℕ) (role : Role) → RoleHasTurned h i role (AllEnded stream events end) → HasCome (Read i stream taken.AllEnded ∷ h) i role × Yields h i stream taken.AllEnded events stream end × Gives h i stream taken.AllEnded events
 all_role h i stream events end (Source core) t = t
 all_role h i stream events end (Sink core) t = absurd t
 

@@ -11,7 +11,7 @@ use Rattle.vx_plan.specs.Options.{decoding, type_name}
 use Rattle.vx_record.specs.Records.{Record}
 use Rattle.vx_record.specs.Installs.{in_force, component_of}
 use Rattle.vx_record.specs.Wirings.{names_differ}
-use Rattle.vx_record.specs.Reads.{last_stream, open_bytes, ended_streams}
+use Rattle.vx_record.specs.Reads.{last_stream, open_bytes, ended_streams, events_of}
 use Rattle.vx_record.specs.Sourcing.{IsYieldOf}
 use Rattle.vx_record.specs.declared.entry.Entry.TheVariants.{Read}
 use Rattle.vx_record.specs.declared.taken.Taken.{Taken}
@@ -25,6 +25,7 @@ use Rattle.vx_hub.specs.declared.work.Done.TheVariants as done
 use Rattle.vx_hub.specs.declared.task.Role.{Role}
 use Rattle.vx_hub.specs.declared.task.Role.TheVariants.{Source, Sink}
 use Rattle.vx_hub.specs.declared.task.Task.{Task}
+use Rattle.vx_hub.specs.Collecting.{IsCollecting}
 
 -- no two components of the plan in force have one name
 abbrev pub AreNamedApart : Record → Type 0
@@ -44,10 +45,10 @@ pub record IsAbreast (h : Record) (i : ℕ) (core : SourceCore) : Type 0 where
   pub taken : (stream : ℕ) → HasTaken core.framer stream (open_bytes h i stream)
   pub ended : (stream : ℕ) → Contains (ended_streams h i) stream → open_bytes h i stream ≡ []
 
--- the same of what an instance does, if it is a source
+-- what an instance does has come as far as the record has it: a source is abreast of it, and a sink collects
 abbrev pub HasCome : Record → ℕ → Role → Type 0
 HasCome h i (Source core) = IsAbreast h i core
-HasCome h i (Sink core) = Unit {0}
+HasCome h i (Sink core) = IsCollecting h i core
 
 -- and of its task, if that is at home
 abbrev pub HasComeHome : {P : Type 0} → Record → ℕ → Option (Task P) → Type 0
@@ -58,11 +59,15 @@ HasComeHome h i (Some task) = HasCome h i task.role
 abbrev pub Yields : Record → ℕ → ℕ → Taken → List Event → ℕ → ℕ → Type 0
 Yields h i stream took events stream' end = AreNamedApart h → 0 < length events → IsYieldOf h i stream took i events stream' end
 
+-- and the events of a turn are those of its Read, also where there are none
+abbrev pub Gives : Record → ℕ → ℕ → Taken → List Event → Type 0
+Gives h i stream took events = AreNamedApart h → events ≡ events_of h i stream took
+
 -- a source comes home abreast of the record with its turn, which gave what it gives by the record
 abbrev pub HasTurned : Record → ℕ → SourceCore → Turned → Type 0
-HasTurned h i core (Lines stream bytes events end) = IsAbreast (Read i stream (Bytes bytes) ∷ h) i core × Yields h i stream (Bytes bytes) events stream end
-HasTurned h i core (StreamEnded stream events end) = IsAbreast (Read i stream taken.StreamEnded ∷ h) i core × Yields h i stream taken.StreamEnded events stream end
-HasTurned h i core (AllEnded stream events end) = IsAbreast (Read i stream taken.AllEnded ∷ h) i core × Yields h i stream taken.AllEnded events stream end
+HasTurned h i core (Lines stream bytes events end) = IsAbreast (Read i stream (Bytes bytes) ∷ h) i core × Yields h i stream (Bytes bytes) events stream end × Gives h i stream (Bytes bytes) events
+HasTurned h i core (StreamEnded stream events end) = IsAbreast (Read i stream taken.StreamEnded ∷ h) i core × Yields h i stream taken.StreamEnded events stream end × Gives h i stream taken.StreamEnded events
+HasTurned h i core (AllEnded stream events end) = IsAbreast (Read i stream taken.AllEnded ∷ h) i core × Yields h i stream taken.AllEnded events stream end × Gives h i stream taken.AllEnded events
 HasTurned h i core Idle = IsAbreast h i core
 HasTurned h i core (Failed at_start) = IsAbreast h i core
 

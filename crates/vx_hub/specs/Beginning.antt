@@ -13,6 +13,7 @@ use Rattle.vx_hub.specs.Places.{copies_at}
 use Rattle.vx_hub.specs.Events.{AreSaid}
 use Rattle.vx_hub.specs.Rows.{copies_in, port_at}
 use Rattle.vx_hub.specs.Stands.{facts_at, spec_of, HasRooms}
+use Rattle.vx_hub.specs.Notices.{progress_at}
 
 -- the record begins with a plan
 pub record HasFirst (plan : Plan) (h : Record) : Type 0 where
@@ -57,3 +58,5 @@ pub record Begins {P : Type 0} (told_by : P → Told) (plan : Plan) (hub : Hub P
   pub abandoned : hub.abandoned ≡ None
   pub size : length hub.facts.items ≡ length hub.rows.items
   pub rooms : HasRooms plan hub.rows.items
+  pub abreast : length hub.progress.items ≡ length hub.rows.items
+  pub unnoticed : (i : ℕ) → i < length hub.progress.items → IsSomeAnd (progress_at hub.progress.items i) (λ p. p.unnoticed ≡ 0)

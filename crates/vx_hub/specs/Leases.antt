@@ -1,9 +1,10 @@
 -- What an instance that is out takes along, and what it brings home.
-use Rattle.std.specs.Prelude.{◌≡◌, ◌<◌, ◌≤◌, ◌+◌, ◌++◌, ℕ, [], true, false, length, Option, Some, IfSome, IsSomeAnd}
+use Rattle.std.specs.Prelude.{◌≡◌, ◌<◌, ◌≤◌, ◌+◌, ◌++◌, ℕ, [], true, false, length, Option, Some, None, IfSome, IsSomeAnd}
 use Rattle.vx_ends.specs.Told.{Told}
 use Rattle.vx_record.specs.Records.{Record, capped}
 use Rattle.vx_record.specs.Reads.{taken, all_ended, ended_streams}
-use Rattle.vx_record.specs.Confirms.{confirmed}
+use Rattle.vx_record.specs.Confirms.{confirmed, is_confirm_due}
+use Rattle.vx_record.specs.Turns.{at_lease}
 use Rattle.vx_record.specs.PortCounts.{fault_count, refusal_count, idle_count}
 use Rattle.vx_record.specs.Encoding.{given}
 use Rattle.vx_hub.specs.declared.hub.Hub.{Hub}
@@ -13,16 +14,22 @@ use Rattle.vx_hub.specs.declared.work.Done.{Done}
 use Rattle.vx_hub.specs.declared.work.Done.TheVariants.{Closed, Starved}
 use Rattle.vx_record.specs.Places.Place.{Outputs}
 use Rattle.vx_hub.specs.Places.{numbers_at}
-use Rattle.vx_hub.specs.Away.{IsUntried}
+use Rattle.vx_hub.specs.Away.{IsUntried, WasNoticed}
+use Rattle.vx_hub.specs.Readings.{MayRead}
+use Rattle.vx_hub.specs.Moments.{IsLeaseMoment}
+use Rattle.vx_hub.specs.Sinks.{MustWrite}
 use Rattle.vx_hub.specs.Births.{IsHeldBy, IsSaidBy, HasComeBy, HasDoneBy}
 use Rattle.vx_hub.specs.Events.{IsWrittenOf}
 use Rattle.vx_hub.specs.Rows.{role_copies, role_parcels, IsOutAt}
 use Rattle.vx_hub.specs.declared.confirming.Confirmed.{Confirmed}
 use Rattle.vx_hub.specs.Turns.{NothingLeft}
+use Rattle.vx_hub.specs.Finishing.{WasDone}
 use Rattle.vx_hub.specs.Works.{taken_by, given_by, ended_by, ends_all_by, confirmed_by, confirm_faults, faults_by, refusals_by, idles_by, event_count_of, IsReading, IsAttempted, IsSending}
 use Rattle.vx_hub.specs.declared.work.Job.TheVariants as job
 use Rattle.vx_hub.specs.Order.{IsDueOf}
+use Rattle.vx_hub.specs.Confirming.{HasConfirmed, HadNothing}
 use Rattle.vx_hub.specs.Stands.{Stands, IsTold, IsSound, IsUnlost, MayShut, IsSinkAt, facts_at, spec_at}
+use Rattle.vx_hub.specs.Owed.{HasBorn}
 
 -- an instance that is there, and whose port isn't closed for good
 pub record IsOpenAt {P : Type 0} (hub : Hub P) (i : ℕ) : Type 0 where
@@ -45,6 +52,14 @@ pub record IsLeased {P : Type 0} (told_by : P → Told) (hub : Hub P) (work : Wo
   pub sink : IsSending work.job → IsSinkAt hub work.instance
   pub untried : IsUntried hub work.instance
   pub some : work.job ≡ job.Attempt → 0 < length (role_parcels work.task.role)
+  pub turn : work.job ≡ job.Read → MayRead hub work.instance
+  pub bore : HasBorn hub work.instance
+  pub nothing : work.positions ≡ None → HadNothing hub work.instance
+  pub alone : work.job ≡ job.Close → IsSound hub → work.positions ≡ None
+  pub noticed : work.job ≡ job.Close → WasNoticed hub work.instance
+  pub moment : IsLeaseMoment hub work.instance hub.latest
+  pub done : work.job ≡ job.Close → WasDone hub work.instance
+  pub closing : work.job ≡ job.Attempt → MustWrite hub work.instance
 
 -- what the port tells now is what the record has, and behind it what was confirmed and done
 pub record Adds (told : Told) (h : Record) (i : ℕ) (confirm : Option Confirmed) (done : Done) : Type 0 where
@@ -82,3 +97,10 @@ pub record IsBack {P : Type 0} (told_by : P → Told) (hub : Hub P) (landing : L
   pub some : IsAttempted landing.done → 0 < length (role_parcels landing.task.role)
   pub events : event_count_of landing.done ≤ 65536
   pub closed : landing.done ≡ Closed → (told_by landing.task.port).started ≡ false
+  pub turn : IsReading landing.done → MayRead hub landing.instance
+  pub bore : HasBorn hub landing.instance
+  pub told : (landing.done ≡ Starved → ⊥) → landing.confirmed ≡ None → HasConfirmed hub landing.instance
+  pub undue : landing.done ≡ Closed → IsSound hub → is_confirm_due (at_lease hub.log.history landing.instance) landing.instance ≡ false
+  pub noticed : landing.done ≡ Closed → WasNoticed hub landing.instance
+  pub done : landing.done ≡ Closed → WasDone hub landing.instance
+  pub closing : IsAttempted landing.done → MustWrite hub landing.instance

@@ -19,6 +19,7 @@ use Rattle.vx_hub.specs.declared.facts.Facts.{Facts}
 use Rattle.vx_hub.specs.declared.parts.Named.{Named}
 use Rattle.vx_hub.specs.declared.seat.Seat.{Seat}
 use Rattle.vx_hub.specs.Rows.{role_parcels}
+use Rattle.vx_hub.specs.Collecting.{IsSizedFor}
 
 -- the facts of an instance that begins
 pub record AreNew (f : Facts) : Type 0 where
@@ -61,10 +62,11 @@ room_named plan name = elim (component_named plan name) [ None ↦ 0 | Some comp
 abbrev pub room_at : Plan → ℕ → ℕ
 room_at plan i = elim (slice_get plan.components i) [ None ↦ 0 | Some component ↦ room_named plan component.name ]
 
--- a source begins with the lines of its component, of each of which it makes the event that the codec makes of it
+-- a source begins with the lines of its component, of each of which it makes the event that the codec makes of it, and a
+-- sink with its component's sizes
 abbrev pub IsBegun : Settings → Role → Type 0
 IsBegun settings (Source core) = IsFresh (longest_line settings) (type_name settings) core × (decoding settings ≡ Some codec.Bytes)
-IsBegun settings (Sink core) = Unit {0}
+IsBegun settings (Sink core) = IsSizedFor settings core
 
 -- a seat is for a component
 pub record IsSeatOf (plan : Plan) (component : Component) (seat : Seat) : Type 0 where

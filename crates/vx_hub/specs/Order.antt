@@ -11,21 +11,21 @@ use Rattle.vx_record.specs.Records.{Record, capped}
 use Rattle.vx_record.specs.Copies.{count, joined, counting, children_of, next_copy, times_spent, IsLive}
 use Rattle.vx_record.specs.Places.{Place, owner}
 use Rattle.vx_record.specs.Places.Place.{Outputs, Held}
-use Rattle.vx_record.specs.Lists.{outputs, waiting, all_waiting, contents, held, stands, parcels_at, places, is_bare}
+use Rattle.vx_record.specs.Lists.{outputs, waiting, all_waiting, contents, held, stands, parcels_at, places, is_bare, buffered}
 use Rattle.vx_record.specs.Sending.{IsOldest}
 use Rattle.vx_record.specs.Stages.{first_room, first_filled}
 use Rattle.vx_record.specs.Moving.{Divides}
 use Rattle.vx_record.specs.Accounting.{IsNoticedSo, IsInTurn}
 use Rattle.vx_record.specs.Abandoning.{abandoned, MayStillCome}
-use Rattle.vx_record.specs.Turns.{is_out, is_take_of, since_lease, is_attempt_of}
+use Rattle.vx_record.specs.Turns.{is_out, at_lease, is_take_of, since_lease, is_attempt_of, is_confirm_of, worker_now, lease_now}
 use Rattle.vx_record.specs.Parcels.{parcel_event, parcel_ports, port_list}
 use Rattle.vx_record.specs.Encoding.{encode, is_prefix}
 use Rattle.vx_plan.specs.declared.codec.Codec.TheVariants.{Text}
-use Rattle.vx_value.specs.Texts.{Word}
+use Rattle.vx_value.specs.Texts.{Word, is_empty}
 use Rattle.vx_record.specs.Starting.{MayInstall}
 use Rattle.vx_record.specs.declared.instance.Instance.{Instance}
 use Rattle.vx_record.specs.Wirings.{names_differ}
-use Rattle.vx_record.specs.Installs.{wired, in_force, component_of, device_at, is_closed, is_retired}
+use Rattle.vx_record.specs.Installs.{wired, in_force, component_of, device_at, source_at, is_closed, is_retired, sink_at}
 use Rattle.vx_record.specs.Routing.{wired_targets, routes}
 use Rattle.vx_record.specs.declared.child.Child.{Child}
 use Rattle.vx_plan.specs.declared.class.Class.{Class}
@@ -33,15 +33,17 @@ use Rattle.vx_plan.specs.declared.class.Class.TheVariants.{Source, Sink}
 use Rattle.vx_plan.specs.declared.component.Component.{Component}
 use Rattle.vx_plan.specs.declared.plan.Plan.{Plan}
 use Rattle.vx_record.specs.Reads.{bytes_taken, bytes_of_all, all_ended}
-use Rattle.vx_record.specs.Confirms.{born_positions, is_unconfirmed}
-use Rattle.vx_record.specs.Sourcing.{failed_starts, IsYield}
+use Rattle.vx_record.specs.Confirms.{born_positions, is_unconfirmed, due, is_confirm_due}
+use Rattle.vx_record.specs.Sourcing.{failed_starts, IsYield, MayTurn}
 use Rattle.vx_record.specs.Spending.{WasAnswered, HadNoTarget, oldest}
-use Rattle.vx_record.specs.SinkBatches.{failures_with, attempts_allowed, attempts_with}
-use Rattle.vx_record.specs.Owing.{owes_spends_in}
+use Rattle.vx_record.specs.SinkBatches.{failures_with, attempts_allowed, attempts_with, is_batch_closed, is_full_batch, is_timed_out, retry_from}
+use Rattle.vx_record.specs.Owing.{owes_spends_in, owes_birth}
+use Rattle.vx_hub.specs.Closures.{IsDone}
 use Rattle.vx_record.specs.declared.entry.Entry.{Entry}
 use Rattle.vx_record.specs.declared.entry.Entry.TheVariants.{Install, Lease, Home, Read, Idle, SourceLost, Born, Split, Push, Take, Attempt, Spent, Notice, Confirm, Closed, Retired, Abandon}
 use Rattle.vx_record.specs.declared.abandon_cause.AbandonCause.{AbandonCause}
 use Rattle.vx_record.specs.declared.abandon_cause.AbandonCause.TheVariants.{Grace, Numbers, WantOfMemory}
+use Rattle.vx_hub.specs.Asking.{HasTold}
 
 -- after how many bytes a source was lost
 abbrev pub lost_at : Record → ℕ → Option ℕ
@@ -72,16 +74,21 @@ IsClosing h i = IfSome (component_in (in_force h) i) (λ component. component.cl
 abbrev pub IsOfClass : Record → ℕ → Class → Type 0
 IsOfClass h i class = IsSomeAnd (component_in (in_force h) i) (λ component. component.class ≡ class)
 
--- what is read is a source that is out and wasn't lost
+-- what is read is a source that is out and wasn't lost, that could be read when it was leased, and was not since
 pub record IsTurnOf (h : Record) (j : ℕ) : Type 0 where
   pub out : is_out h j ≡ true
   pub unlost : lost_at h j ≡ None
   pub source : IsOfClass h j Source
+  pub row : MayTurn h j
 
--- what is confirmed to a source is, for each stream, the end of the last batch that it bore
+-- what is confirmed to a source is, for each stream, the end of the last batch that it bore; it was due when the source
+-- was leased, and wasn't confirmed since
 pub record IsDueOf (h : Record) (j : ℕ) (positions : List Position) : Type 0 where
   pub all : positions ≡ born_positions h j
   pub source : IsOfClass h j Source
+  pub once : list_any (is_confirm_of j) (since_lease h j) ≡ false
+  pub was_due : is_confirm_due (at_lease h j) j ≡ true
+  pub all_due : positions ≡ due (at_lease h j) j
 
 -- a source that wasn't lost may find nothing at its port, and a failed start is told so only where fewer than four stand
 -- before it
@@ -141,23 +148,36 @@ pub record IsPushOf (h : Record) (j t s : ℕ) (copies : List ℕ) : Type 0 wher
   pub room : first_room h t ≡ Some s
 
 -- an instance that is out takes the oldest parcel of the first stage of its buffer that has one; behind its lease the
--- record has nothing but takes of it, fewer than 64 so far
+-- record has nothing but takes of it, fewer than 64 so far; a sink's batch has room, and isn't closed
 pub record IsTakeOf (h : Record) (j s : ℕ) (copies : List ℕ) : Type 0 where
   pub out : is_out h j ≡ true
   pub only_takes : list_all (is_take_of j) (since_lease h j) ≡ true
   pub few : length (since_lease h j) < 64
   pub first : first_filled h j ≡ Some s
   pub oldest : IsOldest copies (contents h j s)
+  pub unclosed : sink_at h j ≡ true → is_batch_closed h j (lease_now h j) ≡ false
+  pub room : sink_at h j ≡ true → is_full_batch h j ≡ false
 
 -- to the port of an instance that is out the end of its last batch of each stream is confirmed, or that fails
 pub record IsConfirmOf (h : Record) (j : ℕ) (positions : List Position) : Type 0 where
   pub out : is_out h j ≡ true
   pub device : device_at h j ≡ true
   pub due : IsDueOf h j positions
+  pub source : source_at h j ≡ true
+
+-- no parcel follows those that an instance holds: its buffer is empty
+abbrev pub IsLastOf : Record → ℕ → Type 0
+IsLastOf h i = is_empty (buffered h i) ≡ true
+
+-- what an instance holds is a sink batch that is closed: full, timed out, or the last; and it needn't wait for an attempt
+pub record IsClosedFor (h : Record) (i now : ℕ) : Type 0 where
+  pub some : 0 < length (held h i)
+  pub cause : (is_full_batch h i ≡ true) ⊎ ((is_timed_out h i now ≡ true) ⊎ IsLastOf h i)
+  pub waited : retry_from h i ≤ now
 
 -- an attempt is made by a sink that is out, once while it is out, and names what it holds, in order, which is at least
 -- one copy; it gives what the codec `text` writes of the events of that, or the beginning of it, and with the reply `Ok`
--- the whole
+-- the whole; the batch is closed at the moment of the lease
 pub record IsAttemptOf (h : Record) (j : ℕ) (copies : List ℕ) (bytes : Word) (answer : Reply) : Type 0 where
   pub out : is_out h j ≡ true
   pub sink : IsOfClass h j Sink
@@ -166,6 +186,7 @@ pub record IsAttemptOf (h : Record) (j : ℕ) (copies : List ℕ) (bytes : Word)
   pub all : copies ≡ joined (held h j)
   pub given : is_prefix bytes (encode Text (map (parcel_event h) (held h j))) ≡ true
   pub whole : answer ≡ reply.Ok → bytes ≡ encode Text (map (parcel_event h) (held h j))
+  pub batch_closed : IsClosedFor h j (lease_now h j)
 
 -- the answer of a device that an outcome stands for
 abbrev pub reply_behind : Outcome → Option Reply
@@ -223,35 +244,43 @@ pub record IsGivenUp (h : Record) (cause : AbandonCause) : Type 0 where
 abbrev pub AreSettled : Record → ℕ → Type 0
 AreSettled h i = abandoned h ≡ false → (c : ℕ) → 0 < attempts_with h i c → 0 < times_spent h c
 
--- what comes home was out, and has spent all that it attempted, or does so at home where the run was given up
+-- what comes home was out, and has spent all that it attempted, or does so at home where the run was given up; what it
+-- was asked to confirm stands in the record
 pub record IsReturnOf (h : Record) (j : ℕ) : Type 0 where
   pub out : is_out h j ≡ true
   pub settled : AreSettled h j
+  pub told : HasTold h j
 
--- an instance is leased that is there, isn't out, owes no spend and isn't retired, and whose port isn't closed for good
-pub record IsLeaseOf (h : Record) (j polls : ℕ) : Type 0 where
+-- an instance is leased that is there, isn't out, owes no spend and no birth and isn't retired, and whose port isn't closed
+-- for good; no moment of the worker falls
+pub record IsLeaseOf (h : Record) (j worker now polls : ℕ) : Type 0 where
   pub known : is_some (component_of h j) ≡ true
   pub home : is_out h j ≡ false
   pub settled : owes_spends_in h h j ≡ false
   pub unclosed : is_closed h j ≡ false
   pub unretired : is_retired h j ≡ false
   pub unpolled : polls ≡ 0
+  pub born : owes_birth h j ≡ false
+  pub later : worker_now h worker ≤ now
 
--- a port is closed for good once, by an instance that is out or after an abandonment; and a source's only where it takes
--- no more
+-- a port is closed for good once, by an instance that is out and was done when it was leased, or after an abandonment; and
+-- a source's only where it takes no more
 pub record IsClosureOf (h : Record) (j : ℕ) : Type 0 where
   pub device : device_at h j ≡ true
   pub first : is_closed h j ≡ false
   pub over : (is_out h j ≡ true) ⊎ (abandoned h ≡ true)
   pub done : IsClosing h j
+  pub finished : IsDone (at_lease h j) j ⊎ (abandoned h ≡ true)
 
--- an instance that is there is retired once, at home, when its port is closed for good and nothing stands at it
+-- an instance that is there is retired once, at home, when its port is closed for good, nothing stands at it, and it is
+-- done or the run was given up
 pub record IsEndOf (h : Record) (j : ℕ) : Type 0 where
   pub known : is_some (component_of h j) ≡ true
   pub home : is_out h j ≡ false
   pub unretired : is_retired h j ≡ false
   pub port_closed : is_closed h j ≡ true
   pub bare : is_bare h j ≡ true
+  pub over : IsDone h j ⊎ (abandoned h ≡ true)
 
 -- an install begins the record, and no two components of its plan have one name
 pub record IsInstallOf (h : Record) (version : ℕ) (plan : Plan) (instances : List Instance) : Type 0 where
@@ -261,7 +290,7 @@ pub record IsInstallOf (h : Record) (version : ℕ) (plan : Plan) (instances : L
 -- what is proved of an entry
 abbrev pub IsInOrder : Record → Entry → Type 0
 IsInOrder h (Install version plan once instances now) = IsInstallOf h version plan instances
-IsInOrder h (Lease j worker now polls) = IsLeaseOf h j polls
+IsInOrder h (Lease j worker now polls) = IsLeaseOf h j worker now polls
 IsInOrder h (Home j) = IsReturnOf h j
 IsInOrder h (Read j stream took) = IsTurnOf h j
 IsInOrder h (Idle j failed) = IsTryOf h j failed

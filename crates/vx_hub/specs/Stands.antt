@@ -8,7 +8,7 @@ use Rattle.vx_record.specs.Records.{Record}
 use Rattle.vx_record.specs.Reads.{taken, bytes_taken, bytes_of_all, all_ended, ended_streams}
 use Rattle.vx_record.specs.Confirms.{confirmed, born_positions, is_unconfirmed}
 use Rattle.vx_record.specs.Sourcing.{failed_starts}
-use Rattle.vx_record.specs.Turns.{is_out}
+use Rattle.vx_record.specs.Turns.{is_out, worker_now}
 use Rattle.vx_record.specs.PortCounts.{fault_count, refusal_count, idle_count}
 use Rattle.vx_record.specs.Encoding.{given}
 use Rattle.vx_record.specs.declared.entry.Entry.{Entry}
@@ -23,11 +23,15 @@ use Rattle.vx_hub.specs.Making.{room_at}
 use Rattle.vx_hub.specs.Rows.{copies_in, row_at, port_at, IsBareAt, HasRoom}
 use Rattle.vx_record.specs.Batches.{NoNoticeDue}
 use Rattle.vx_hub.specs.Batching.{AreRunning}
+use Rattle.vx_hub.specs.Offspring.{AreBornAtHome}
+use Rattle.vx_hub.specs.declared.facts.Progress.{Progress}
+use Rattle.vx_hub.specs.Notices.{IsCounted, CountsNone}
 use Rattle.vx_hub.specs.Places.{IsPlaced}
 use Rattle.vx_hub.specs.Events.{AreSaid}
 use Rattle.vx_hub.specs.Turns.{NothingLeft}
 pub use Rattle.vx_hub.specs.Order.{lost_at, cause_of, component_in, IsClosing}
 use Rattle.vx_hub.specs.Order.{IsOrderly, IsUnknown, readers_at}
+use Rattle.vx_hub.specs.Asking.{IsAskedBy}
 use Rattle.vx_record.specs.Copies.{next_copy}
 use Rattle.vx_record.specs.Installs.{in_force, is_closed, is_retired}
 use Rattle.vx_ends.specs.declared.port_spec.PortSpec.{PortSpec}
@@ -79,6 +83,7 @@ pub record IsKnown (f : Facts) (h : Record) (i : ℕ) : Type 0 where
   pub closed : f.closed ≡ is_closed h i
   pub retired : f.retired ≡ is_retired h i
   pub leased : f.leased ≡ is_out h i
+  pub due : IsAskedBy f.to_confirm f.asked h i
 
 -- whatever is live stands at an instance or in the hand
 abbrev pub IsBalanced : {P : Type 0} → Ledger → List (Row P) → List Copy → Type 0
@@ -105,6 +110,9 @@ pub record IsRecorded {P : Type 0} (told_by : P → Told) (hub : Hub P) (hand : 
   pub places : IsPlaced hub.rows.items hand h
   pub outs : AreOut hub.rows.items h
   pub said : AreSaid h hub.rows.items
+  pub bore : hub.fatal ≡ false → AreBornAtHome h
+  pub unnoticed : IsCounted hub h
+  pub later : (worker : ℕ) → worker_now h worker ≤ hub.latest
 
 -- whether the record has all that happened
 pub record IsSound {P : Type 0} (hub : Hub P) : Type 0 where
@@ -122,6 +130,10 @@ IsSpent f bytes = (f.over ≡ true) ⊎ (IsSome f.lost ⊎ (2 ^ 48 ≤ bytes))
 -- an instance is no source, or takes no more, by what the hub knows
 abbrev pub IsDry : {P : Type 0} → Hub P → ℕ → Type 0
 IsDry hub i = IfSome (facts_at hub.facts.items i) (λ f. f.class ≡ Source → IsSpent f hub.bytes)
+
+-- an instance is no source, or none of its batches is counted, by what the hub knows
+abbrev pub IsNoticed : {P : Type 0} → Hub P → ℕ → Type 0
+IsNoticed hub i = IfSome (facts_at hub.facts.items i) (λ f. f.class ≡ Source → CountsNone hub i)
 
 -- an instance whose port is closed for good is at home, and the port isn't started
 abbrev pub IsShut : {P : Type 0} → (P → Told) → List (Row P) → ℕ → Facts → Type 0
@@ -141,9 +153,13 @@ pub record HasBerths {P : Type 0} (ports : Filled (Numbered P)) (rows : List (Ro
 abbrev pub HasRooms : {P : Type 0} → Plan → List (Row P) → Type 0
 HasRooms plan rows = (i : ℕ) → IfSome (row_at rows i) (λ row. row.buffer.room ≡ room_at plan i)
 
--- what only the beginning, the end and an abandonment change
-abbrev pub spare_of : {P : Type 0} → Hub P → Filled (Numbered P) × Option AbandonCause × Plan
-spare_of hub = (hub.ports, hub.abandoned, hub.plan)
+-- the numbers of the components have 32 bits
+abbrev pub HasFew : Plan → Type 0
+HasFew plan = length plan.components < 2 ^ 32
+
+-- what only the beginning, the end, a lease, an abandonment, a call that answers `Fatal`, and a batch's birth and notice change
+abbrev pub spare_of : {P : Type 0} → Hub P → Filled (Numbered P) × Option AbandonCause × Plan × Bool × ℕ × List Progress
+spare_of hub = (hub.ports, hub.abandoned, hub.plan, hub.fatal, hub.latest, hub.progress.items)
 
 -- the hub stands for a record, while the copies in the hand are neither at an instance nor spent
 pub record Stands {P : Type 0} (told_by : P → Told) (hub : Hub P) (hand : List Copy) (h : Record) : Type 0 where
@@ -155,6 +171,8 @@ pub record Stands {P : Type 0} (told_by : P → Told) (hub : Hub P) (hand : List
   pub size : length hub.facts.items ≡ length hub.rows.items
   pub berths : HasBerths hub.ports hub.rows.items
   pub rooms : HasRooms hub.plan hub.rows.items
+  pub few : HasFew hub.plan
+  pub count : length hub.rows.items ≡ length hub.plan.components
 
 -- an entry that installs nothing and tells nothing of any port
 abbrev pub IsMute : Entry → Type 0

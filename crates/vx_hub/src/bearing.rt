@@ -1,4 +1,4 @@
-ghost use Rattle.std.specs.Prelude.{◌≡◌, ◌<◌, ◌≤◌, ◌+◌, ◌++◌, ℕ, [], length, List, None, IfOk, IfErr, OnErr, IsSomeAnd};
+ghost use Rattle.std.specs.Prelude.{◌≡◌, ◌<◌, ◌≤◌, ◌+◌, ◌++◌, ℕ, [], length, List, None, IfOk, IfErr, OnOk, OnErr, IsSomeAnd};
 ghost use Rattle.vx_ledger.specs.Copies.{Copy};
 ghost use Rattle.vx_hub.specs.Away.{IsReturning};
 ghost use Rattle.vx_hub.specs.Stands.{Stands, IsSound, facts_at};
@@ -10,9 +10,11 @@ ghost use Rattle.vx_hub.specs.Ending.{AreMovedTo};
 ghost use Rattle.vx_hub.specs.Failures.{HasReason};
 ghost use Rattle.vx_hub.specs.Leases.{IsOpenAt};
 ghost use Rattle.vx_hub.specs.Spending.{HasRead, HasYielded};
+ghost use Rattle.vx_hub.specs.Owed.{HasBorn, HadBorn, HasGiven, HasWanted};
 ghost use Rattle.vx_hub.specs.Rows.{HasOutputRoom};
 
 use crate::due::moved;
+use crate::facts::count_birth;
 use crate::fatal::Fatal;
 use crate::hub::Hub;
 use crate::notes::note_born;
@@ -42,13 +44,20 @@ impl<P: Port> Hub<P> {
         requires yields { HasYielded self.old instance events position }
         requires few { length events ≤ 65536 }
         requires sent { numbers_at (Outputs instance) self.old.rows.items ≡ [] }
+        requires before { HadBorn self.old instance }
+        requires given { HasGiven self.old instance events }
         ensures stands { Stands P.told self.new [] self.new.log.history }
         ensures size { length self.new.rows.items ≡ length self.old.rows.items }
         ensures plan { self.new.plan ≡ self.old.plan }
         ensures reason { IfErr result (HasReason self.new) }
         ensures returning { (i : ℕ) → IsReturning self.old i → IsReturning self.new i }
+        ensures bore { OnOk result (HasBorn self.new instance) }
+        ensures wants { IfErr result (HasWanted self.new) }
     {
-        if events.is_empty() || !self.goes_on() {
+        if events.is_empty() {
+            return Ok(());
+        }
+        if !self.goes_on() {
             return Ok(());
         }
         let n = events.len();
@@ -79,14 +88,17 @@ impl<P: Port> Hub<P> {
         requires room { HasOutputRoom self.old.rows.items instance (length events) }
         requires sent { numbers_at (Outputs instance) self.old.rows.items ≡ [] }
         requires moved { IsSomeAnd (facts_at self.old.facts.items instance) (AreMovedTo position ends) }
+        requires before { HadBorn self.old instance }
+        requires given { HasGiven self.old instance events }
         ensures stands { Stands P.told self.new [] self.new.log.history }
         ensures size { length self.new.rows.items ≡ length self.old.rows.items }
         ensures plan { self.new.plan ≡ self.old.plan }
         ensures reason { IfErr result (HasReason self.new) }
         ensures returning { (i : ℕ) → IsReturning self.old i → IsReturning self.new i }
+        ensures bore { OnOk result (HasBorn self.new instance) }
+        ensures wants { IfErr result (HasWanted self.new) }
     {
         let finalizers = self.open_batch(instance, &events, position, ends)?;
-        self.count_batch(instance);
         self.put_out(instance, events, finalizers)
     }
 
@@ -102,7 +114,8 @@ impl<P: Port> Hub<P> {
         })
     }
 
-    /// Opens a batch of some events, and notes its birth and that its end is to be confirmed.
+    /// Opens a batch of some events, and notes its birth and that its end is to be confirmed, if it is another one.
+    /// Opens a batch of some events, notes its birth and that its end is to be confirmed, and counts it.
     fn open_batch(
         &mut self,
         instance: u32,
@@ -119,6 +132,8 @@ impl<P: Port> Hub<P> {
         requires few { length events.now ≤ 65536 }
         requires sent { numbers_at (Outputs instance) self.old.rows.items ≡ [] }
         requires moved { IsSomeAnd (facts_at self.old.facts.items instance) (AreMovedTo position ends) }
+        requires before { HadBorn self.old instance }
+        requires given { HasGiven self.old instance events.now }
         ensures stands { IfOk result (λ finalizers. Stands P.told self.new finalizers self.new.log.history) }
         ensures each { IfOk result (λ finalizers. length events.now ≡ length finalizers) }
         ensures lined { IfOk result (IsLinedUp self.new instance) }
@@ -129,6 +144,8 @@ impl<P: Port> Hub<P> {
         ensures same { OnErr result (self.new ≡ self.old) }
         ensures reason { IfErr result (HasReason self.new) }
         ensures returning { (i : ℕ) → IsReturning self.old i → IsReturning self.new i }
+        ensures bore { OnOk result (HasBorn self.new instance) }
+        ensures wants { IfErr result (HasWanted self.new) }
     {
         let n = events.len();
         let (batch, finalizers) = match self.batches.born(instance, n as u32) {
@@ -145,18 +162,9 @@ impl<P: Port> Hub<P> {
             position,
         );
         let facts = &mut self.facts[instance as usize];
-        facts.ends = ends.ends;
-        facts.to_confirm = Some(ends.to_confirm);
+        facts.end_at(ends.ends, ends.to_confirm);
+        count_birth(&mut self.progress, instance as usize);
         Ok(finalizers)
-    }
-
-    /// Counts a batch that has no notice yet.
-    fn count_batch(&mut self, instance: u32)
-        ensures { self.new ≡ record self.old { progress = self.new.progress } }
-    {
-        if let Some(progress) = self.progress.get_mut(instance as usize) {
-            progress.unnoticed = progress.unnoticed.saturating_add(1);
-        }
     }
 
     /// Puts each event out with its copy, the oldest on top.
@@ -177,6 +185,8 @@ impl<P: Port> Hub<P> {
         ensures plan { self.new.plan ≡ self.old.plan }
         ensures reason { IfErr result (HasReason self.new) }
         ensures returning { (i : ℕ) → IsReturning self.old i → IsReturning self.new i }
+        ensures bore { OnOk result ((i : ℕ) → HasBorn self.old i → HasBorn self.new i) }
+        ensures wants { IfErr result (HasWanted self.new) }
     {
         let (mut events, mut finalizers) = (events, finalizers);
         while let Some(event) = events.pop() {

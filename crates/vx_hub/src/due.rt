@@ -1,5 +1,5 @@
 ghost use Rattle.std.specs.Prelude.{◌≡◌, ◌++◌, ◌∷◌, [], IfOk, OnOk};
-ghost use Rattle.vx_record.specs.Confirms.{moved_to};
+ghost use Rattle.vx_record.specs.Confirms.{moved_to, same_positions};
 ghost use Rattle.vx_hub.specs.Ending.{NoneBelow};
 
 use std::alloc::Global;
@@ -42,6 +42,23 @@ fn placed(
         _ => append(&mut moved, rest)?,
     }
     Ok(moved)
+}
+
+/// Whether two lists have the same positions.
+pub(crate) fn same(a: &[Position], b: &[Position]) -> bool
+    ensures { result ≡ same_positions a.now b.now }
+{
+    let (mut left, mut right) = (a, b);
+    while let Some((p, behind)) = left.split_first() {
+        match right.split_first() {
+            Some((q, further)) if p.stream == q.stream && p.end == q.end => {
+                left = behind;
+                right = further;
+            }
+            _ => return false,
+        }
+    }
+    right.is_empty()
 }
 
 /// Adds some positions.

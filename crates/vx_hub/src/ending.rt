@@ -1,7 +1,8 @@
-ghost use Rattle.std.specs.Prelude.{◌≡◌, ◌<◌, ◌↔◌, [], length, IfSome, IsSomeAnd, IsTrue, IsSome, All, Some, None, ℕ, IfNone, false, true};
+ghost use Rattle.std.specs.Prelude.{◌≡◌, ◌<◌, ◌↔◌, ◌⊎◌, [], length, IfSome, IsSomeAnd, IsTrue, IsSome, All, Some, None, ℕ, IfNone, false, true};
 ghost use Rattle.vx_hub.specs.Order.{IsReason};
 ghost use Rattle.vx_hub.specs.Spending.{ComeFrom};
-ghost use Rattle.vx_hub.specs.Stands.{Stands, HasEnded, IsSound, IsAtHome, facts_at};
+ghost use Rattle.vx_hub.specs.Stands.{Stands, IsSound, IsAtHome, facts_at};
+ghost use Rattle.vx_hub.specs.Finishing.{IsFinished, IsRetirable};
 ghost use Rattle.vx_hub.specs.Rows.{IsBareAt, option_copies, port_at};
 
 use crate::hub::Hub;
@@ -12,12 +13,13 @@ use vx_record::{AbandonCause, Entry};
 use vx_status::Outcome;
 
 impl<P: Port> Hub<P> {
-    /// Ends an instance at home whose port is closed for good and at which nothing stands. `None` where there is none.
+    /// Ends an instance at home whose port is closed for good and at which nothing stands, and that has nothing more to
+    /// do or is given up with the run. `None` where there is none.
     pub fn retire(&mut self) -> Option<u32>
         requires { Stands P.told self.old [] self.old.log.history }
         ensures stands { Stands P.told self.new [] self.new.log.history }
-        ensures some { IfSome result (λ i. HasEnded self.old i × IsSomeAnd (facts_at self.new.facts.items i) (λ f. f.retired ≡ true)) }
-        ensures none { IfNone result ((i : ℕ) → i < length self.old.rows.items → HasEnded self.old i → ⊥) }
+        ensures some { IfSome result (λ i. IsRetirable self.old i × IsSomeAnd (facts_at self.new.facts.items i) (λ f. f.retired ≡ true)) }
+        ensures none { IfNone result ((i : ℕ) → i < length self.old.rows.items → IsRetirable self.old i → ⊥) }
         ensures size { length self.new.rows.items ≡ length self.old.rows.items }
         ensures plan { self.new.plan ≡ self.old.plan }
     {
@@ -31,18 +33,29 @@ impl<P: Port> Hub<P> {
         None
     }
 
-    /// Whether an instance at home isn't retired, its port is closed for good, and nothing stands at it.
+    /// Whether an instance at home isn't retired, its port is closed for good, nothing stands at it, and it has nothing
+    /// more to do or the run was given up.
     fn can_retire(&self, i: usize) -> bool
         requires { i < length self.now.rows.items }
         ensures within { IsTrue result → i < length self.now.facts.items }
-        ensures ended { IsTrue result → HasEnded self.now i }
-        ensures goes_on { result ≡ false → HasEnded self.now i → ⊥ }
+        ensures ended { IsTrue result → IsRetirable self.now i }
+        ensures goes_on { result ≡ false → IsRetirable self.now i → ⊥ }
     {
         if self.is_closing(i) && !self.is_leased(i) {
-            self.is_bare(i)
+            self.is_bare(i) && self.may_end(i)
         } else {
             false
         }
+    }
+
+    /// Whether an instance has nothing more to do, or the run was given up.
+    fn may_end(&self, i: usize) -> bool
+        requires rows { i < length self.now.rows.items }
+        requires facts { i < length self.now.facts.items }
+        ensures over { IsTrue result → IsSome self.now.abandoned ⊎ IsFinished self.now i }
+        ensures goes_on { result ≡ false → (IsSome self.now.abandoned ⊎ IsFinished self.now i) → ⊥ }
+    {
+        !self.goes_on() || self.is_done(i)
     }
 
     /// Whether the port of an instance is closed for good, and it isn't retired.
@@ -76,6 +89,7 @@ impl<P: Port> Hub<P> {
         requires unretired { IsSomeAnd (facts_at self.old.facts.items instance) (λ f. f.retired ≡ false) }
         requires bare { IsBareAt self.old.rows.items instance }
         requires home { IsAtHome self.old instance }
+        requires over { IsSome self.old.abandoned ⊎ IsFinished self.old instance }
         ensures stands { Stands P.told self.new [] self.new.log.history }
         ensures rows { self.new.rows ≡ self.old.rows }
         ensures plan { self.new.plan ≡ self.old.plan }
@@ -219,6 +233,7 @@ impl<P: Port> Hub<P> {
     fn next_parcel(&mut self, i: usize) -> Option<Parcel>
         requires stands { Stands P.told self.old [] self.old.log.history }
         requires within { i < length self.old.rows.items }
+        requires given_up { IsSome self.old.abandoned }
         ensures stands { Stands P.told self.new (option_copies result) self.new.log.history }
         ensures from { IfSome result (λ parcel. ComeFrom self.new i Outcome.Abandoned parcel.finalizers) }
         ensures facts { self.new.facts ≡ self.old.facts }

@@ -35,4 +35,6 @@ pub struct Hub<P: Port> {
     pub fatal: bool,
     /// Why the run was abandoned.
     pub abandoned: Option<AbandonCause>,
+    /// The latest moment at which work was asked for, whoever asked; 0 before the first.
+    pub latest: u64,
 }

@@ -7,8 +7,12 @@ ghost use Rattle.vx_hub.specs.Order.{reply_behind, IsPlaceFor, IsDueOf};
 ghost use Rattle.vx_hub.specs.Failures.{HasReason};
 ghost use Rattle.vx_hub.specs.Spending.{MaySpend, IsReplied, HasRead, HasYielded};
 ghost use Rattle.vx_hub.specs.Away.{IsUntried, IsReturning, MayEnd, IsSettled, IsArrived};
+ghost use Rattle.vx_hub.specs.Confirming.{HasConfirmed};
 ghost use Rattle.vx_hub.specs.Stands.{Stands, IsTold, IsSound, IsUnlost, MayShut, IsSinkAt, IsAtHome, facts_at};
 ghost use Rattle.vx_hub.specs.Leases.{IsBack, IsOpenAt, Adds};
+ghost use Rattle.vx_hub.specs.Owed.{HasBorn, HasWanted};
+ghost use Rattle.vx_hub.specs.Finishing.{WasDone, MayFinish};
+ghost use Rattle.vx_hub.specs.Sinks.{MustWrite};
 ghost use Rattle.vx_hub.specs.Turns.{event_count};
 ghost use Rattle.vx_record.specs.Places.Place.{Outputs, Held};
 ghost use Rattle.vx_hub.specs.Places.{numbers_at, copies_at};
@@ -43,10 +47,12 @@ impl<P: Port> Hub<P> {
         ensures reason { IfErr result (HasReason self.new) }
         ensures size { length self.new.rows.items ≡ length self.old.rows.items }
         ensures plan { self.new.plan ≡ self.old.plan }
+        ensures wants { IfErr result (HasWanted self.new) }
     {
         let instance = landing.instance;
         let landing = self.land_confirm(landing);
         let landed = self.land_done(landing);
+        self.halt(landed);
         self.note_home(instance);
         if self.goes_on() {
             self.settled(landed)
@@ -68,6 +74,7 @@ impl<P: Port> Hub<P> {
         ensures reason { IfErr result (HasReason self.new) }
         ensures size { length self.new.rows.items ≡ length self.old.rows.items }
         ensures plan { self.new.plan ≡ self.old.plan }
+        ensures wants { IfErr result (HasWanted self.new) }
     {
         self.abandon_at(instance);
         match landed {
@@ -76,11 +83,25 @@ impl<P: Port> Hub<P> {
         }
     }
 
-    /// Notes that an instance came home.
+    /// Marks that the hub can't go on, where a landing failed.
+    fn halt(&mut self, landed: Result<(), Fatal>)
+        ensures rest { self.new ≡ record self.old { fatal = self.new.fatal } }
+        ensures rows { self.new.rows ≡ self.old.rows }
+        ensures plan { self.new.plan ≡ self.old.plan }
+        ensures fatal { OnErr landed (self.new.fatal ≡ true) }
+        ensures kept { self.new.fatal ≡ false → self.old.fatal ≡ false }
+    {
+        if landed.is_err() {
+            self.fatal = true;
+        }
+    }
+
+    /// Notes that an instance came home. It owes no birth, where the hub can go on.
     fn note_home(&mut self, instance: u32)
         requires stands { Stands P.told self.old [] self.old.log.history }
         requires returning { IsReturning self.old instance }
         requires within { instance < length self.old.rows.items }
+        requires bore { self.old.fatal ≡ false → HasBorn self.old instance }
         ensures stands { Stands P.told self.new [] self.new.log.history }
         ensures noted { Noted self.old.log (Entry.Home instance) self.new.log }
         ensures home { IsAtHome self.new instance }
@@ -101,6 +122,8 @@ impl<P: Port> Hub<P> {
         ensures size { length self.new.rows.items ≡ length self.old.rows.items }
         ensures plan { self.new.plan ≡ self.old.plan }
         ensures returning { IsReturning self.new landing.instance }
+        ensures bore { OnOk result (HasBorn self.new landing.instance) }
+        ensures wants { IfErr result (HasWanted self.new) }
     {
         let Landing {
             instance,
@@ -179,6 +202,8 @@ impl<P: Port> Hub<P> {
         ensures unlost { IsUnlost self.old instance → IsUnlost self.new instance }
         ensures shut { MayShut self.old instance → MayShut self.new instance }
         ensures sink { IsSinkAt self.old instance → IsSinkAt self.new instance }
+        ensures told { (hand : List Copy) → Stands P.told self.old hand self.old.log.history → HasConfirmed self.new instance }
+        ensures done { WasDone self.old instance → WasDone self.new instance }
     {
         let Confirmed { positions, made } = confirmed;
         let facts = &mut self.facts[instance as usize];
@@ -193,6 +218,7 @@ impl<P: Port> Hub<P> {
     /// The answer of a landing. An entry that couldn't be noted is want of memory.
     fn settled(&mut self, landed: Result<(), Fatal>) -> Result<(), Fatal>
         ensures rest { self.new ≡ record self.old { fatal = self.new.fatal } }
+        ensures kept { self.new.fatal ≡ false → self.old.fatal ≡ false }
         ensures fatal { OnErr result (self.new.fatal ≡ true) }
         ensures whole { OnOk result (IsTrue self.new.log.whole) }
         ensures passed { OnErr landed (result ≡ landed) }
@@ -217,6 +243,7 @@ impl<P: Port> Hub<P> {
         requires held { IsHeldBy self.old instance task.role }
         requires said { IsSaidBy self.old task.role }
         requires come { HasComeBy self.old instance task.role }
+        requires confirmed { HasConfirmed self.old instance }
         ensures stands { Stands P.told self.new [] self.new.log.history }
         ensures port { port_at self.new.rows.items instance ≡ Some task.port }
         ensures facts { self.new.facts ≡ self.old.facts }
@@ -230,6 +257,7 @@ impl<P: Port> Hub<P> {
         ensures plan { self.new.plan ≡ self.old.plan }
         ensures arrived { IsArrived self.new instance }
         ensures returning { IsSettled self.old instance → IsReturning self.new instance }
+        ensures done { WasDone self.old instance → WasDone self.new instance }
     {
         put_task(&mut self.rows, instance as usize, task);
     }
@@ -256,11 +284,14 @@ impl<P: Port> Hub<P> {
         requires over { MayEnd self.old instance }
         requires shut { IsSomeAnd (port_at self.old.rows.items instance) (λ port. (P.told port).started ≡ false) }
         requires may { MayShut self.old instance }
+        requires finished { MayFinish self.old instance }
         ensures stands { Stands P.told self.new [] self.new.log.history }
         ensures rows { self.new.rows ≡ self.old.rows }
         ensures plan { self.new.plan ≡ self.old.plan }
         ensures abandoned { self.new.abandoned ≡ self.old.abandoned }
         ensures returning { (i : ℕ) → IsReturning self.old i → IsReturning self.new i }
+        ensures noted { Noted self.old.log (Entry.Closed instance) self.new.log }
+        ensures starved { self.new.starved ≡ self.old.starved }
     {
         self.log.note(Ok(Entry::Closed { instance }));
         self.facts[instance as usize].closed = true;
@@ -279,6 +310,8 @@ impl<P: Port> Hub<P> {
         requires held { IsHeldBy self.old instance task.role }
         requires said { IsSaidBy self.old task.role }
         requires come { HasComeBy self.old instance task.role }
+        requires confirmed { HasConfirmed self.old instance }
+        requires closing { MustWrite self.old instance }
         ensures stands { Stands P.told self.new [] self.new.log.history }
         ensures replied { IsReplied self.new instance reply }
         ensures facts { self.new.facts ≡ self.old.facts }
@@ -305,6 +338,7 @@ impl<P: Port> Hub<P> {
         requires within { instance < length self.old.rows.items }
         requires arrived { IsArrived self.old instance }
         ensures stands { Stands P.told self.new [] self.new.log.history }
+        ensures facts { self.new.facts ≡ self.old.facts }
         ensures size { length self.new.rows.items ≡ length self.old.rows.items }
         ensures plan { self.new.plan ≡ self.old.plan }
         ensures returning { IsReturning self.new instance }

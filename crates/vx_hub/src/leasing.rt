@@ -1,14 +1,28 @@
-ghost use Rattle.std.specs.Prelude.{◌≡◌, ◌≢◌, ◌<◌, ◌+◌, ℕ, [], length, None, IfSome, IfNone, IsSome, IsSomeAnd, IsTrue, true, false};
+ghost use Rattle.std.specs.Prelude.{◌≡◌, ◌≢◌, ◌<◌, ◌+◌, ℕ, List, [], length, None, IfSome, IfNone, IsSome, IsSomeAnd, IsTrue, true, false, max, slice_get, Some};
 ghost use Rattle.vx_plan.specs.declared.class.Class.TheVariants.{Source};
 ghost use Rattle.vx_hub.specs.Order.{IsDueOf};
-ghost use Rattle.vx_hub.specs.Stands.{Stands, IsSound, IsUnlost, MayShut, IsDry, IsSinkAt, IsAtHome, facts_at};
+ghost use Rattle.vx_hub.specs.Stands.{Stands, IsSound, IsUnlost, MayShut, IsDry, IsNoticed, IsSinkAt, IsAtHome, facts_at};
+ghost use Rattle.vx_hub.specs.Finishing.{is_dry_by, is_sent_at, feeds_at, unnoticed_by, IsUnfed, IsSourceFinished, IsSinkFinished, IsFinished, WasDone};
 ghost use Rattle.vx_hub.specs.Works.{IsSending};
 ghost use Rattle.vx_hub.specs.Leases.{IsLeased, IsOpenAt};
-ghost use Rattle.vx_hub.specs.Away.{IsAway, HasTaken, IsUntried};
-ghost use Rattle.vx_hub.specs.Rows.{CanHold};
+ghost use Rattle.vx_hub.specs.Away.{IsAway, HasTaken, IsUntried, WasNoticed};
+ghost use Rattle.vx_hub.specs.Readings.{IsFlowing, IsReadyToRead, MayRead};
+ghost use Rattle.vx_hub.specs.Rows.{CanHold, NoneWaits};
+ghost use Rattle.vx_hub.specs.Owed.{HasBorn};
+ghost use Rattle.vx_hub.specs.Confirming.{HadNothing, IsConfirmed};
+ghost use Rattle.vx_hub.specs.Notices.{CountsNone, count_unnoticed};
+ghost use Rattle.vx_record.specs.Confirms.{births};
+ghost use Rattle.vx_record.specs.Owing.{all_noticed};
+ghost use Rattle.vx_ledger.specs.Copies.{Copy};
+ghost use Rattle.vx_hub.specs.Moments.{IsLeaseMoment};
+ghost use Rattle.vx_hub.specs.Collecting.{role_at};
+ghost use Rattle.vx_hub.specs.Sinks.{IsLastAt, IsClosedAt, IsUnclosedAt, MustWrite};
+ghost use Rattle.vx_hub.specs.declared.task.SinkCore.{SinkCore};
+ghost use Rattle.vx_hub.specs.declared.task.Role.TheVariants.{Sink};
 ghost use Rattle.vx_record.specs.Places.Place.{Outputs, Held};
 ghost use Rattle.vx_hub.specs.Places.{numbers_at, copies_at, parcel_lists, HoldsSome};
 
+use crate::finishing::{feeds, takes_no_more};
 use crate::hub::Hub;
 use crate::notes::note_take;
 use crate::rows::{hold, pop_buffer, take_task};
@@ -34,6 +48,8 @@ struct Ready {
 impl<P: Port> Hub<P> {
     /// Hands out the task of an instance that has work, a sink before a source. It takes no memory but for the record.
     /// `None` where no instance at home has work, and after a call that answered `Fatal` or an abandonment.
+    ///
+    /// The lease is of the moment `now`; where a call before told a later one, it is of that still.
     pub fn lease(&mut self, worker: u32, now: u64) -> Option<Work<P>>
         requires { Stands P.told self.old [] self.old.log.history }
         ensures leased { IfSome result (IsLeased P.told self.new) }
@@ -41,7 +57,9 @@ impl<P: Port> Hub<P> {
         ensures size { length self.new.rows.items ≡ length self.old.rows.items }
         ensures plan { self.new.plan ≡ self.old.plan }
         ensures fatal { self.new.fatal ≡ self.old.fatal }
+        ensures latest { self.new.latest ≡ max now self.old.latest }
     {
+        let now = self.advance(now);
         if self.fatal || !self.goes_on() || !self.log.whole {
             return None;
         }
@@ -56,12 +74,29 @@ impl<P: Port> Hub<P> {
         }
     }
 
+    /// Takes a moment as the latest, unless a later one was told before. Gives the latest.
+    fn advance(&mut self, now: u64) -> u64
+        requires stands { Stands P.told self.old [] self.old.log.history }
+        ensures stands { Stands P.told self.new [] self.new.log.history }
+        ensures latest { self.new.latest ≡ max now self.old.latest }
+        ensures moment { result ≡ self.new.latest }
+        ensures rows { self.new.rows ≡ self.old.rows }
+        ensures plan { self.new.plan ≡ self.old.plan }
+        ensures fatal { self.new.fatal ≡ self.old.fatal }
+    {
+        let latest = now.max(self.latest);
+        self.latest = latest;
+        latest
+    }
+
     /// Notes a lease, and takes the positions that are to be confirmed in it.
     fn note_lease(&mut self, instance: u32, worker: u32, now: u64) -> Option<PositionList>
         requires stands { Stands P.told self.old [] self.old.log.history }
         requires open { IsOpenAt self.old instance }
         requires unleased { IsSomeAnd (facts_at self.old.facts.items instance) (λ f. f.leased ≡ false) }
         requires going { self.old.abandoned ≡ None }
+        requires running { self.old.fatal ≡ false }
+        requires moment { now ≡ self.old.latest }
         ensures stands { Stands P.told self.new [] self.new.log.history }
         ensures open { IsOpenAt self.new instance }
         ensures unlost { IsUnlost self.old instance → IsUnlost self.new instance }
@@ -75,6 +110,15 @@ impl<P: Port> Hub<P> {
         ensures away { IsAway self.new instance }
         ensures untaken { HasTaken self.new instance 0 }
         ensures untried { IsUntried self.new instance }
+        ensures turn { IsReadyToRead self.old instance → MayRead self.new instance }
+        ensures bore { HasBorn self.new instance }
+        ensures nothing { result ≡ None → HadNothing self.new instance }
+        ensures confirmed { IsConfirmed self.old instance → IsSound self.new → result ≡ None }
+        ensures noticed { IsNoticed self.old instance → WasNoticed self.new instance }
+        ensures latest { self.new.latest ≡ self.old.latest }
+        ensures moment { IsLeaseMoment self.new instance now }
+        ensures leased { IsLeaseMoment self.new instance self.new.latest }
+        ensures done { IsFinished self.old instance → WasDone self.new instance }
     {
         self.log.note(Ok(Entry::Lease {
             instance,
@@ -104,11 +148,20 @@ impl<P: Port> Hub<P> {
         requires sink { IsSending job → IsSinkAt self.old instance }
         requires untried { IsUntried self.old instance }
         requires some { job ≡ Job.Attempt → HoldsSome self.old.rows.items instance }
+        requires turn { job ≡ Job.Read → MayRead self.old instance }
+        requires bore { HasBorn self.old instance }
+        requires nothing { positions ≡ None → HadNothing self.old instance }
+        requires alone { job ≡ Job.Close → IsSound self.old → positions ≡ None }
+        requires noticed { job ≡ Job.Close → WasNoticed self.old instance }
+        requires moment { IsLeaseMoment self.old instance self.old.latest }
+        requires done { job ≡ Job.Close → WasDone self.old instance }
+        requires closing { job ≡ Job.Attempt → MustWrite self.old instance }
         ensures leased { IfSome result (IsLeased P.told self.new) }
         ensures none { IfNone result (Stands P.told self.new [] self.new.log.history) }
         ensures size { length self.new.rows.items ≡ length self.old.rows.items }
         ensures plan { self.new.plan ≡ self.old.plan }
         ensures fatal { self.new.fatal ≡ self.old.fatal }
+        ensures latest { self.new.latest ≡ self.old.latest }
     {
         let task = take_task(&mut self.rows, instance as usize)?;
         Some(Work {
@@ -128,6 +181,10 @@ impl<P: Port> Hub<P> {
         ensures dry { IfSome result (λ ready. ready.job ≡ Job.Close → IsDry self.now ready.instance) }
         ensures sink { IfSome result (λ ready. IsSending ready.job → IsSinkAt self.now ready.instance) }
         ensures some { IfSome result (λ ready. ready.job ≡ Job.Attempt → HoldsSome self.now.rows.items ready.instance) }
+        ensures readable { IfSome result (λ ready. ready.job ≡ Job.Read → IsReadyToRead self.now ready.instance) }
+        ensures confirmed { IfSome result (λ ready. ready.job ≡ Job.Close → IsConfirmed self.now ready.instance) }
+        ensures noticed { IfSome result (λ ready. ready.job ≡ Job.Close → IsNoticed self.now ready.instance) }
+        ensures done { IfSome result (λ ready. ready.job ≡ Job.Close → IsFinished self.now ready.instance) }
     {
         for i in (0..self.rows.len()).rev() {
             if let Some(job) = self.job(i, now) {
@@ -150,6 +207,10 @@ impl<P: Port> Hub<P> {
         ensures dry { IfSome result (λ job. job ≡ Job.Close → IsDry self.now i) }
         ensures sink { IfSome result (λ job. IsSending job → IsSinkAt self.now i) }
         ensures some { IfSome result (λ job. job ≡ Job.Attempt → HoldsSome self.now.rows.items i) }
+        ensures readable { IfSome result (λ job. job ≡ Job.Read → IsReadyToRead self.now i) }
+        ensures confirmed { IfSome result (λ job. job ≡ Job.Close → IsConfirmed self.now i) }
+        ensures noticed { IfSome result (λ job. job ≡ Job.Close → IsNoticed self.now i) }
+        ensures done { IfSome result (λ job. job ≡ Job.Close → IsFinished self.now i) }
     {
         if i >= self.facts.len() || !self.can_lease(i) || self.rows[i].task.is_none() {
             return None;
@@ -187,20 +248,33 @@ impl<P: Port> Hub<P> {
         requires rows { i < length self.now.rows.items }
         requires facts { i < length self.now.facts.items }
         requires source { IsSomeAnd (facts_at self.now.facts.items i) (λ f. f.class ≡ Source) }
+        requires home { IsAtHome self.now i }
         ensures unlost { IfSome result (λ job. job ≡ Job.Read → IsUnlost self.now i) }
         ensures sent { IfSome result (λ job. job ≡ Job.Read → numbers_at (Outputs i) self.now.rows.items ≡ []) }
         ensures dry { IfSome result (λ job. job ≡ Job.Close → IsDry self.now i) }
         ensures unsent { IfSome result (λ job. IsSending job → ⊥) }
+        ensures readable { IfSome result (λ job. job ≡ Job.Read → IsReadyToRead self.now i) }
+        ensures confirmed { IfSome result (λ job. job ≡ Job.Close → IsConfirmed self.now i) }
+        ensures noticed { IfSome result (λ job. job ≡ Job.Close → CountsNone self.now i) }
+        ensures done { IfSome result (λ job. job ≡ Job.Close → IsSourceFinished self.now i) }
     {
         if self.can_read(i) {
             Some(Job::Read)
-        } else if self.facts[i].to_confirm.is_some() {
+        } else if self.must_confirm(i) {
             Some(Job::Confirm)
-        } else if self.is_dry(i) && self.has_sent(i) && self.unnoticed(i) == 0 {
+        } else if self.is_source_done(i) {
             Some(Job::Close)
         } else {
             None
         }
+    }
+
+    /// Whether something is to be confirmed at an instance.
+    fn must_confirm(&self, i: usize) -> bool
+        requires { i < length self.now.facts.items }
+        ensures { result ≡ false → IsConfirmed self.now i }
+    {
+        self.facts[i].to_confirm.is_some()
     }
 
     /// Whether a source may be read: it isn't dry, and all that it put out is on its way.
@@ -208,8 +282,10 @@ impl<P: Port> Hub<P> {
         requires rows { i < length self.now.rows.items }
         requires facts { i < length self.now.facts.items }
         requires source { IsSomeAnd (facts_at self.now.facts.items i) (λ f. f.class ≡ Source) }
+        requires home { IsAtHome self.now i }
         ensures unlost { IsTrue result → IsUnlost self.now i }
         ensures sent { IsTrue result → numbers_at (Outputs i) self.now.rows.items ≡ [] }
+        ensures readable { IsTrue result → IsReadyToRead self.now i }
     {
         if self.is_lost(i) || self.has_ended(i) {
             return false;
@@ -240,12 +316,13 @@ impl<P: Port> Hub<P> {
         requires { i < length self.now.rows.items }
         ensures unread { IfSome result (λ job. job ≢ Job.Read) }
         ensures some { IfSome result (λ job. job ≡ Job.Attempt → HoldsSome self.now.rows.items i) }
+        ensures done { IfSome result (λ job. job ≡ Job.Close → IsSinkFinished self.now i) }
     {
         if self.is_batch_closed(i, now) {
             Some(Job::Attempt)
         } else if !self.rows[i].buffer.is_empty() {
             Some(Job::Collect)
-        } else if self.is_ending(i) && self.held(i) == 0 {
+        } else if self.is_sink_done(i) {
             Some(Job::Close)
         } else {
             None
@@ -259,6 +336,7 @@ impl<P: Port> Hub<P> {
         requires away { IsAway self.old instance }
         requires untaken { HasTaken self.old instance 0 }
         requires going { self.old.abandoned ≡ None }
+        requires moment { IsLeaseMoment self.old instance now }
         ensures stands { Stands P.told self.new [] self.new.log.history }
         ensures open { IsOpenAt self.new instance }
         ensures facts { self.new.facts ≡ self.old.facts }
@@ -270,7 +348,15 @@ impl<P: Port> Hub<P> {
         ensures abandoned { self.new.abandoned ≡ self.old.abandoned }
         ensures away { (i : ℕ) → IsAway self.old i → IsAway self.new i }
         ensures untried { (i : ℕ) → IsUntried self.old i → IsUntried self.new i }
+        ensures turn { (i : ℕ) → MayRead self.old i → MayRead self.new i }
+        ensures nothing { (i : ℕ) → HadNothing self.old i → HadNothing self.new i }
         ensures holds { (i : ℕ) → HoldsSome self.old.rows.items i → HoldsSome self.new.rows.items i }
+        ensures bore { (i : ℕ) → HasBorn self.old i → HasBorn self.new i }
+        ensures noticed { (i : ℕ) → WasNoticed self.old i → WasNoticed self.new i }
+        ensures latest { self.new.latest ≡ self.old.latest }
+        ensures moment { (i moment : ℕ) → IsLeaseMoment self.old i moment → IsLeaseMoment self.new i moment }
+        ensures leased { (i : ℕ) → IsLeaseMoment self.old i self.old.latest → IsLeaseMoment self.new i self.new.latest }
+        ensures done { (i : ℕ) → WasDone self.old i → WasDone self.new i }
     {
         for _taken in 0..TAKES {
             if !self.take(instance, now) {
@@ -279,13 +365,14 @@ impl<P: Port> Hub<P> {
         }
     }
 
-    /// Moves the oldest parcel of a sink's buffer to its sink batch, if there is one and it may take more.
+    /// Moves the oldest parcel of a sink's buffer to its sink batch, if there is one and the batch isn't closed.
     fn take(&mut self, instance: u32, now: u64) -> bool
         requires stands { Stands P.told self.old [] self.old.log.history }
         requires open { IsOpenAt self.old instance }
         requires away { IsAway self.old instance }
         requires few { HasTaken self.old instance 63 }
         requires going { self.old.abandoned ≡ None }
+        requires moment { IsLeaseMoment self.old instance now }
         ensures stands { Stands P.told self.new [] self.new.log.history }
         ensures facts { self.new.facts ≡ self.old.facts }
         ensures outputs { (i : ℕ) → numbers_at (Outputs i) self.new.rows.items ≡ numbers_at (Outputs i) self.old.rows.items }
@@ -297,9 +384,20 @@ impl<P: Port> Hub<P> {
         ensures away { (i : ℕ) → IsAway self.old i → IsAway self.new i }
         ensures taken { (n : ℕ) → HasTaken self.old instance n → HasTaken self.new instance (n + 1) }
         ensures untried { (i : ℕ) → IsUntried self.old i → IsUntried self.new i }
+        ensures turn { (i : ℕ) → MayRead self.old i → MayRead self.new i }
+        ensures nothing { (i : ℕ) → HadNothing self.old i → HadNothing self.new i }
         ensures holds { (i : ℕ) → HoldsSome self.old.rows.items i → HoldsSome self.new.rows.items i }
+        ensures bore { (i : ℕ) → HasBorn self.old i → HasBorn self.new i }
+        ensures noticed { (i : ℕ) → WasNoticed self.old i → WasNoticed self.new i }
+        ensures latest { self.new.latest ≡ self.old.latest }
+        ensures moment { (i moment : ℕ) → IsLeaseMoment self.old i moment → IsLeaseMoment self.new i moment }
+        ensures leased { (i : ℕ) → IsLeaseMoment self.old i self.old.latest → IsLeaseMoment self.new i self.new.latest }
+        ensures done { (i : ℕ) → WasDone self.old i → WasDone self.new i }
     {
         if !self.can_hold(instance as usize) {
+            return false;
+        }
+        if self.is_batch_closed(instance as usize, now) {
             return false;
         }
         let Some(parcel) = pop_buffer(&mut self.rows, instance as usize) else {
@@ -317,11 +415,15 @@ impl<P: Port> Hub<P> {
         ensures close { result ≡ Job.Close → job ≡ Job.Close }
         ensures sending { IsSending result → IsSending job }
         ensures some { (job ≡ Job.Attempt → HoldsSome self.now.rows.items i) → result ≡ Job.Attempt → HoldsSome self.now.rows.items i }
+        ensures closing { result ≡ Job.Attempt → IsClosedAt self.now i now }
     {
-        if job == Job::Collect && self.is_batch_closed(i, now) {
+        if job != Job::Collect && job != Job::Attempt {
+            return job;
+        }
+        if self.is_batch_closed(i, now) {
             Job::Attempt
         } else {
-            job
+            Job::Collect
         }
     }
 
@@ -342,7 +444,10 @@ impl<P: Port> Hub<P> {
     /// The sink batch of a sink at home.
     fn sink(&self, i: usize) -> Option<&SinkCore>
         requires { i < length self.now.rows.items }
-        ensures { IfSome result (λ core. copies_at (Held i) self.now.rows.items ≡ parcel_lists core.now.held.items) }
+        ensures some { IfSome result (λ core. copies_at (Held i) self.now.rows.items ≡ parcel_lists core.now.held.items) }
+        ensures none { IfNone result (copies_at (Held i) self.now.rows.items ≡ []) }
+        ensures here { IfSome result (λ core. role_at self.now.rows.items i ≡ Some (Sink core.now)) }
+        ensures other { IfNone result ((core : SinkCore) → role_at self.now.rows.items i ≡ Some (Sink core) → ⊥) }
     {
         match &self.rows[i].task {
             Some(task) => match &task.role {
@@ -354,8 +459,9 @@ impl<P: Port> Hub<P> {
     }
 
     /// How many parcels a sink at home holds.
-    fn held(&self, i: usize) -> usize
+    pub(crate) fn held(&self, i: usize) -> usize
         requires { i < length self.now.rows.items }
+        ensures { result ≡ length (copies_at (Held i) self.now.rows.items) }
     {
         match self.sink(i) {
             Some(core) => core.held.len(),
@@ -366,30 +472,45 @@ impl<P: Port> Hub<P> {
     /// Whether a sink batch is written without waiting for more: it is full, or old enough, or nothing more comes.
     fn is_batch_closed(&self, i: usize, now: u64) -> bool
         requires { i < length self.now.rows.items }
-        ensures { IsTrue result → HoldsSome self.now.rows.items i }
+        ensures some { IsTrue result → HoldsSome self.now.rows.items i }
+        ensures closed { IsTrue result → IsClosedAt self.now i now }
+        ensures unclosed { result ≡ false → IsUnclosedAt self.now i now }
     {
         match self.sink(i) {
             Some(core) if !core.held.is_empty() => {
-                core.held.is_full()
-                    || now.saturating_sub(core.since) >= core.timeout
-                    || (self.is_ending(i) && self.rows[i].buffer.is_empty())
+                core.held.is_full() || core.is_old(now) || self.is_last(i)
             }
             _ => false,
         }
     }
 
+    /// Whether no parcel can follow those that an instance holds: its buffer is empty, and nothing more comes.
+    fn is_last(&self, i: usize) -> bool
+        requires { i < length self.now.rows.items }
+        ensures { IsTrue result → IsLastAt self.now i }
+    {
+        self.rows[i].buffer.is_empty() && self.is_ending(i)
+    }
+
     /// How many batches of a source have no notice yet.
-    fn unnoticed(&self, i: usize) -> u64 {
-        match self.progress.get(i) {
-            Some(progress) => progress.unnoticed,
-            None => 0,
+    pub(crate) fn unnoticed(&self, i: usize) -> u64
+        ensures counts { result ≡ 0 → CountsNone self.now i }
+        ensures counted { (hand : List Copy) → Stands P.told self.now hand self.now.log.history → i < length self.now.rows.items → IsSound self.now → result ≡ count_unnoticed self.now.log.history (births self.now.log.history i) }
+        ensures noticed { (hand : List Copy) → Stands P.told self.now hand self.now.log.history → i < length self.now.rows.items → IsSound self.now → result ≡ 0 → all_noticed self.now.log.history i ≡ true }
+        ensures known { result ≡ unnoticed_by (slice_get self.now.progress.items i) }
+    {
+        if i >= self.progress.len() {
+            return 0;
         }
+        self.progress[i].unnoticed
     }
 
     /// Whether an instance has no output and no waiting child.
     pub(crate) fn has_sent(&self, i: usize) -> bool
         requires { i < length self.now.rows.items }
-        ensures { IsTrue result → numbers_at (Outputs i) self.now.rows.items ≡ [] }
+        ensures none_out { IsTrue result → numbers_at (Outputs i) self.now.rows.items ≡ [] }
+        ensures none_waits { IsTrue result → NoneWaits self.now.rows.items i }
+        ensures sent { result ≡ is_sent_at self.now.rows.items i }
     {
         self.rows[i].outputs.is_empty() && self.rows[i].waiting.is_empty()
     }
@@ -397,39 +518,34 @@ impl<P: Port> Hub<P> {
     /// Whether a source takes no more bytes: it was told the end of all, or lost, or all sources took enough.
     pub(crate) fn is_dry(&self, i: usize) -> bool
         requires { i < length self.now.facts.items }
-        ensures { IsTrue result → IsDry self.now i }
+        ensures dry { IsTrue result → IsDry self.now i }
+        ensures flowing { result ≡ false → IsAtHome self.now i → IsFlowing self.now i }
+        ensures known { IsSomeAnd (facts_at self.now.facts.items i) (λ f. result ≡ is_dry_by self.now.bytes f) }
     {
-        self.has_ended(i) || self.is_lost(i) || self.bytes >= MOST_BYTES
+        takes_no_more(&self.facts[i], self.bytes)
     }
 
     /// Whether nothing more comes to an instance: every source is dry, and no parcel is on its way to it.
-    pub(crate) fn is_ending(&self, i: usize) -> bool {
+    pub(crate) fn is_ending(&self, i: usize) -> bool
+        ensures ending { IsTrue result → IsUnfed self.now i }
+        ensures goes_on { result ≡ false → IsUnfed self.now i → ⊥ }
+    {
         for j in 0..self.rows.len() {
-            if j < self.facts.len() && self.feeds(j, i) {
+            if self.may_feed(j, i) {
                 return false;
             }
         }
         true
     }
 
-    /// Whether an instance may still put something out that goes to another.
-    fn feeds(&self, j: usize, i: usize) -> bool
-        requires rows { j < length self.now.rows.items }
-        requires facts { j < length self.now.facts.items }
+    /// Whether something may still come to an instance from another one.
+    fn may_feed(&self, j: usize, i: usize) -> bool
+        requires { j < length self.now.rows.items }
+        ensures { result ≡ feeds_at self.now j i }
     {
-        if self.facts[j].class != Class::Source || self.facts[j].retired {
+        if j >= self.facts.len() {
             return false;
         }
-        !self.is_dry(j) || (self.names(j, i) && !self.has_sent(j))
-    }
-
-    /// Whether an instance is a target of another one.
-    fn names(&self, j: usize, i: usize) -> bool
-        requires { j < length self.now.facts.items }
-    {
-        match self.facts[j].outlet.port_targets(0) {
-            Some(targets) => targets.as_slice().iter().any(|target| *target == i as u64),
-            None => false,
-        }
+        feeds(&self.facts[j], self.bytes, self.has_sent(j), i)
     }
 }

@@ -7,6 +7,7 @@ mod due;
 mod ending;
 mod facts;
 mod fatal;
+mod finishing;
 mod hub;
 mod landing;
 mod leasing;

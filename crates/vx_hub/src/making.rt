@@ -44,6 +44,7 @@ impl<P: Port> Hub<P> {
         ensures size { IfOk result (λ hub. length hub.rows.items ≡ length parts.plan.components) }
         ensures installed { IfOk result (λ hub. in_force hub.log.history ≡ Some parts.plan) }
         ensures plan { IfOk result (λ hub. hub.plan ≡ parts.plan) }
+        ensures first { IfOk result (λ hub. hub.log.history ≡ begun parts.plan parts.once now) }
     {
         let Ok(seats) = seats(alloc, &parts.plan) else {
             return Err(NewRefused { parts });
@@ -67,7 +68,8 @@ impl<P: Port> Hub<P> {
 
 /// Room for the instances of a plan, and the record of their install.
 fn make_room<P>(alloc: Global, parts: &Parts<P>, now: u64) -> Result<Room<P>, WantOfMemory>
-    ensures { IfOk result (HasRoomFor parts.now.plan (length parts.now.plan.components)) }
+    ensures room { IfOk result (HasRoomFor parts.now.plan (length parts.now.plan.components)) }
+    ensures first { IfOk result (λ room. room.log.history ≡ begun parts.now.plan parts.now.once now) }
 {
     let n = parts.plan.components.len();
     let batches = Batches::new(alloc)?;
@@ -147,12 +149,15 @@ fn seated<P: Port>(
     requires fitted { AreFitted plan plan.components seats.items }
     requires ports { length ports.items ≡ length seats.items }
     requires few { length seats.items < 2 ^ 32 }
+    requires small { length plan.components < 2 ^ 32 }
     requires untouched { AreUntouched P.told plan.components ports.items }
     requires named { names_differ plan.components ≡ true }
+    requires count { length seats.items ≡ length plan.components }
     ensures stands { Stands P.told result [] result.log.history }
     ensures installed { in_force result.log.history ≡ Some plan }
     ensures plan { result.plan ≡ plan }
     ensures size { length result.rows.items ≡ length seats.items }
+    ensures history { result.log.history ≡ room.log.history }
 {
     let Room {
         batches,
@@ -175,6 +180,7 @@ fn seated<P: Port>(
         starved: false,
         fatal: false,
         abandoned: None,
+        latest: 0,
     };
     let (mut seats, mut ports) = (seats, ports);
     while !seats.is_empty() {

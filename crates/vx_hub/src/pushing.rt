@@ -5,6 +5,7 @@ ghost use Rattle.vx_record.specs.declared.entry.Entry.{Entry};
 ghost use Rattle.vx_hub.specs.Numbers.{numbers_in, noted_of};
 ghost use Rattle.vx_hub.specs.Stands.{Stands, IsOpenTarget, IsAtHome};
 ghost use Rattle.vx_hub.specs.Failures.{HasReason};
+ghost use Rattle.vx_hub.specs.Splitting.{WantsSplit};
 ghost use Rattle.vx_hub.specs.Rows.{HasChild, HasRoom, NoneWaits};
 ghost use Rattle.vx_hub.specs.Places.{IsFirstChild};
 
@@ -60,6 +61,7 @@ impl<P: Port> Hub<P> {
         ensures plan { self.new.plan ≡ self.old.plan }
         ensures fatal { OnErr result (self.new.fatal ≡ true) }
         ensures reason { IfErr result (HasReason self.new) }
+        ensures wants { IfErr result (WantsSplit self.new) }
     {
         if !self.goes_on() || self.is_leased(instance as usize) {
             return Ok(0);
@@ -157,6 +159,7 @@ impl<P: Port> Hub<P> {
         ensures plan { self.new.plan ≡ self.old.plan }
         ensures fatal { OnErr result (self.new.fatal ≡ true) }
         ensures reason { IfErr result (HasReason self.new) }
+        ensures wants { IfErr result (WantsSplit self.new) }
     {
         let i = instance as usize;
         let Some(parcel) = pop_output(&mut self.rows, i) else {

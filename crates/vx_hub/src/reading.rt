@@ -1,10 +1,13 @@
-ghost use Rattle.std.specs.Prelude.{◌≡◌, ◌<◌, ◌≤◌, ◌+◌, ◌||◌, ℕ, [], length, List, None, IfErr, IsSomeAnd, true, if◌then◌else◌};
+ghost use Rattle.std.specs.Prelude.{◌≡◌, ◌<◌, ◌≤◌, ◌+◌, ◌||◌, ℕ, [], length, List, None, IfErr, OnOk, IsSomeAnd, true, if◌then◌else◌};
 ghost use Rattle.vx_ledger.specs.Copies.{Copy};
 ghost use Rattle.vx_record.specs.Noted.{Noted};
 ghost use Rattle.vx_hub.specs.Away.{IsSettled, IsReturning};
+ghost use Rattle.vx_hub.specs.Readings.{MayRead};
+ghost use Rattle.vx_hub.specs.Confirming.{HasConfirmed};
 ghost use Rattle.vx_hub.specs.Stands.{Stands, IsTold, IsSound, IsUnlost, facts_at};
 ghost use Rattle.vx_hub.specs.Leases.{IsOpenAt, Adds};
 ghost use Rattle.vx_hub.specs.Spending.{HasRead};
+ghost use Rattle.vx_hub.specs.Owed.{HasBorn, HasWanted};
 ghost use Rattle.vx_record.specs.Places.Place.{Outputs};
 ghost use Rattle.vx_hub.specs.Places.{numbers_at};
 ghost use Rattle.vx_hub.specs.Births.{IsHeldBy, IsSaidBy, HasDoneBy};
@@ -39,16 +42,21 @@ impl<P: Port> Hub<P> {
         requires brings { IsSound self.old → Adds (P.told task.port) self.old.log.history instance None (Read turned) }
         requires events { event_count turned ≤ 65536 }
         requires unlost { IsUnlost self.old instance }
+        requires turn { MayRead self.old instance }
         requires settled { IsSettled self.old instance }
         requires held { IsHeldBy self.old instance task.role }
         requires said { IsSaidBy self.old task.role }
         requires come { HasDoneBy self.old instance task.role (Read turned) }
         requires sent { numbers_at (Outputs instance) self.old.rows.items ≡ [] }
+        requires bore { HasBorn self.old instance }
+        requires confirmed { HasConfirmed self.old instance }
         ensures stands { Stands P.told self.new [] self.new.log.history }
         ensures reason { IfErr result (HasReason self.new) }
         ensures size { length self.new.rows.items ≡ length self.old.rows.items }
         ensures plan { self.new.plan ≡ self.old.plan }
         ensures returning { IsReturning self.new instance }
+        ensures bore { OnOk result (HasBorn self.new instance) }
+        ensures wants { IfErr result (HasWanted self.new) }
     {
         match turned {
             Turned::Lines {
@@ -97,6 +105,7 @@ impl<P: Port> Hub<P> {
         requires out { IsOutAt self.old.rows.items instance }
         requires within { instance < length self.old.facts.items }
         requires unlost { IsUnlost self.old instance }
+        requires turn { MayRead self.old instance }
         ensures stands { (hand : List Copy) → Stands P.told self.old hand self.old.log.history → Stands P.told self.new hand self.new.log.history }
         ensures noted { Noted self.old.log (Entry.Read instance stream (Taken.Bytes bytes)) self.new.log }
         ensures read { HasRead self.new instance }
@@ -122,6 +131,7 @@ impl<P: Port> Hub<P> {
         requires out { IsOutAt self.old.rows.items instance }
         requires within { instance < length self.old.facts.items }
         requires unlost { IsUnlost self.old instance }
+        requires turn { MayRead self.old instance }
         requires end { bytes_of taken ≡ [] }
         ensures stands { (hand : List Copy) → Stands P.told self.old hand self.old.log.history → Stands P.told self.new hand self.new.log.history }
         ensures noted { Noted self.old.log (Entry.Read instance stream taken) self.new.log }
@@ -146,6 +156,7 @@ impl<P: Port> Hub<P> {
         requires out { IsOutAt self.old.rows.items instance }
         requires within { instance < length self.old.facts.items }
         requires unlost { IsUnlost self.old instance }
+        requires turn { MayRead self.old instance }
         ensures stands { (hand : List Copy) → Stands P.told self.old hand self.old.log.history → Stands P.told self.new hand self.new.log.history }
         ensures noted { IsFailureOf instance at_start self.old.log self.new.log }
         ensures rows { self.new.rows ≡ self.old.rows }
@@ -165,6 +176,7 @@ impl<P: Port> Hub<P> {
         requires out { IsOutAt self.old.rows.items instance }
         requires within { instance < length self.old.facts.items }
         requires unlost { IsUnlost self.old instance }
+        requires turn { MayRead self.old instance }
         requires few { start_failed ≡ true → IsSomeAnd (facts_at self.old.facts.items instance) (λ f. f.failed_starts < 4) }
         ensures stands { (hand : List Copy) → Stands P.told self.old hand self.old.log.history → Stands P.told self.new hand self.new.log.history }
         ensures noted { Noted self.old.log (Entry.Idle instance start_failed) self.new.log }
@@ -186,6 +198,7 @@ impl<P: Port> Hub<P> {
         requires out { IsOutAt self.old.rows.items instance }
         requires within { instance < length self.old.facts.items }
         requires unlost { IsUnlost self.old instance }
+        requires turn { MayRead self.old instance }
         requires many { start_failed ≡ true → IsSomeAnd (facts_at self.old.facts.items instance) (λ f. 4 ≤ f.failed_starts) }
         ensures stands { (hand : List Copy) → Stands P.told self.old hand self.old.log.history → Stands P.told self.new hand self.new.log.history }
         ensures noted { (at : ℕ) × Noted self.old.log (Entry.SourceLost instance at start_failed) self.new.log }

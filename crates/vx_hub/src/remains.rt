@@ -54,6 +54,7 @@ impl<P: Port> Hub<P> {
             starved: _,
             fatal: _,
             abandoned: _,
+            latest: _,
         } = self;
         Remains {
             ports: ports_of(rows, ports),

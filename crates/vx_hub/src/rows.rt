@@ -1,10 +1,14 @@
 // The places of the instances, one call for each way in which a parcel or a task moves.
 ghost use Rattle.std.specs.Prelude.{◌≡◌, ◌+◌, ◌<◌, ℕ, [], length, OnOk, IfSome, IfNone, IsSome, IsSomeAnd, Some};
 ghost use Rattle.vx_record.specs.Places.Place.{Outputs, Waiting, Contents, Held};
-ghost use Rattle.vx_hub.specs.Places.{parcel_lists, copies_at, SamePlaces, TakesOldest, TakesFrom, PutsLast, Fills, FillsWaiting, IsFirstChild};
+ghost use Rattle.vx_hub.specs.Places.{parcel_lists, numbers_at, copies_at, SamePlaces, TakesOldest, TakesFrom, PutsLast, Fills, FillsWaiting, IsFirstChild};
 ghost use Rattle.vx_hub.specs.Works.{IsClosedBy};
 ghost use Rattle.vx_record.specs.Records.{Record};
 ghost use Rattle.vx_hub.specs.Abreast.{HasCome};
+ghost use Rattle.vx_hub.specs.Collecting.{MayLeave};
+ghost use Rattle.vx_record.specs.Parcels.{first_copy};
+ghost use Rattle.vx_record.specs.SinkBatches.{taken_at};
+ghost use Rattle.vx_hub.specs.Numbers.{numbers_in};
 ghost use Rattle.vx_hub.specs.Events.{IsSaid, Each, EachChild, AreSaid};
 ghost use Rattle.vx_hub.specs.Rows.{child_copies, role_copies, role_parcels, option_copies, task_copies, port_at, Loses, Gains, SamePorts, SameOtherPorts, KeepsBare, KeepsOthersBare, HasOutputRoom, HasRoom, HasBuffer, SameRooms, NoneWaits, HasChild, IsOutAt, IsBareAt, CanHold};
 
@@ -199,7 +203,7 @@ pub(crate) fn pop_held<P>(rows: &mut Vec<Row<P>>, i: usize) -> Option<Parcel>
     ensures oldest { IfSome result (λ parcel. TakesOldest (Held i) parcel.finalizers rows.old.items rows.new.items) }
     ensures none { IfNone result (SamePlaces rows.old.items rows.new.items) }
     ensures empty { IfNone result (copies_at (Held i) rows.new.items ≡ []) }
-    ensures said { (h : Record) → AreSaid h rows.old.items → AreSaid h rows.new.items × IfSome result (IsSaid h) }
+    ensures said { (h : Record) → MayLeave h i (numbers_at (Held i) rows.old.items) → AreSaid h rows.old.items → AreSaid h rows.new.items × IfSome result (IsSaid h) }
 {
     match &mut rows[i].task {
         Some(task) => match &mut task.role {
@@ -220,7 +224,7 @@ pub(crate) fn hold<P>(rows: &mut Vec<Row<P>>, i: usize, parcel: Parcel, now: u64
     ensures size { length rows.new.items ≡ length rows.old.items }
     ensures same_rooms { SameRooms rows.old.items rows.new.items }
     ensures last { PutsLast (Held i) parcel.finalizers rows.old.items rows.new.items }
-    ensures said { (h : Record) → AreSaid h rows.old.items → IsSaid h parcel → AreSaid h rows.new.items }
+    ensures said { (h : Record) → now ≡ taken_at h i (first_copy (numbers_in parcel.finalizers)) → AreSaid h rows.old.items → IsSaid h parcel → AreSaid h rows.new.items }
 {
     match &mut rows[i].task {
         Some(task) => match &mut task.role {

@@ -1,4 +1,4 @@
-ghost use Rattle.std.specs.Prelude.{◌≡◌, ℕ, List, [], ◌∷◌, ◌++◌, length};
+ghost use Rattle.std.specs.Prelude.{◌≡◌, ◌-◌, ℕ, List, [], ◌∷◌, ◌++◌, length};
 ghost use Rattle.vx_ledger.specs.Copies.{Copy};
 ghost use Rattle.vx_ledger.specs.Ledger.{AreLive};
 ghost use Rattle.vx_status.specs.declared.outcome.Outcome.{Outcome};
@@ -6,7 +6,9 @@ ghost use Rattle.vx_record.specs.Noted.{Noted};
 ghost use Rattle.vx_hub.specs.Spending.{MaySpend, ComeFrom};
 ghost use Rattle.vx_hub.specs.Away.{IsArrived};
 ghost use Rattle.vx_hub.specs.Stands.{Stands};
+ghost use Rattle.vx_hub.specs.Notices.{SetsOne};
 
+use crate::facts::count_notice;
 use crate::hub::Hub;
 use vx_ends::Port;
 use vx_ledger::{Finalizer, Notice, Parcel};
@@ -67,13 +69,12 @@ impl<P: Port> Hub<P> {
     fn tell(&mut self, notice: Notice)
         ensures noted { Noted self.old.log (Entry.Notice notice.batch notice.status) self.new.log }
         ensures rest { self.new ≡ record self.old { log = self.new.log; progress = self.new.progress } }
+        ensures counted { SetsOne notice.instance (λ n. n - 1) self.old.progress.items self.new.progress.items }
     {
         self.log.note(Ok(Entry::Notice {
             batch: notice.batch,
             status: notice.status,
         }));
-        if let Some(progress) = self.progress.get_mut(notice.instance as usize) {
-            progress.unnoticed = progress.unnoticed.saturating_sub(1);
-        }
+        count_notice(&mut self.progress, notice.instance as usize);
     }
 }

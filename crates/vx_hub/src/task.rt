@@ -1,4 +1,4 @@
-ghost use Rattle.std.specs.Prelude.{◌≡◌, [], IsTrue, IsSome, false};
+ghost use Rattle.std.specs.Prelude.{◌≡◌, ◌+◌, ◌≤◌, [], IsTrue, IsSome, false};
 ghost use Rattle.vx_hub.specs.Rows.{task_parcels};
 
 use crate::source::SourceCore;
@@ -13,6 +13,16 @@ pub struct SinkCore {
     pub since: u64,
     /// How long a sink batch waits for more parcels, in milliseconds.
     pub timeout: u64,
+}
+
+impl SinkCore {
+    /// Whether the first of the parcels has waited as long as it may at that moment.
+    pub(crate) fn is_old(&self, now: u64) -> bool
+        ensures old { IsTrue result → self.now.since + self.now.timeout ≤ now }
+        ensures young { result ≡ false → self.now.since + self.now.timeout ≤ now → ⊥ }
+    {
+        now >= self.since && now - self.since >= self.timeout
+    }
 }
 
 /// What an instance does with its port.

@@ -1,6 +1,6 @@
 -- What the hub's state says of the record, when a run is judged.
 use Rattle.std.proofs.Common.{◌≡◌, true, false, ℕ, zero, suc, ◌<◌, ◌≤◌, List, [], ◌∷◌, length, Option, Some, None, IfSome, IsSome, refl, sym, subst, ◌∙◌, arith}
-use Rattle.std.specs.Prelude.{◌^◌, slice_get, IsSomeAnd}
+use Rattle.std.specs.Prelude.{◌^◌, slice_get, IsSomeAnd, nat_lt, Bool}
 use Rattle.vx_value.specs.Texts.{Word}
 use Rattle.vx_ends.specs.Told.{Told}
 use Rattle.vx_plan.specs.declared.plan.Plan.{Plan}
@@ -14,7 +14,6 @@ use Rattle.vx_hub.specs.Stands.{Stands, IsSound, IsKnown, component_in, facts_at
 use Rattle.vx_cli.specs.declared.fault.Fault.{Fault}
 use Rattle.vx_cli.specs.declared.fault.Fault.TheVariants.{Usage, ConfigRead, ConfigRefused, Numbers, TooLong, SourceFailed, ConfirmFailed, PrintFailed, WantOfMemory}
 use Rattle.vx_run.specs.Answers.{component_at, IsJudged, NoneLost, AllConfirmed, WentOn}
-use Rattle.std.specs.Prelude.{nat_lt, Bool}
 use Rattle.std.proofs.lemmas.Bool.Decides.{nat_tests}
 use Rattle.vx_record.specs.declared.abandon_cause.AbandonCause.{AbandonCause}
 use Rattle.vx_record.specs.declared.abandon_cause.AbandonCause.TheVariants as cause

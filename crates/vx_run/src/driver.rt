@@ -20,17 +20,16 @@ pub(crate) fn drive<R: Wait, P: Port, C: Clock>(rt: &R, alloc: Global, hub: &mut
     ensures size { length hub.new.rows.items ≡ length hub.old.rows.items }
     ensures plan { hub.new.plan ≡ hub.old.plan }
 {
-    let mut last = 0;
     for _ in rt.forever() {
         if hub.over() {
             return;
         }
-        turn(alloc, hub, clock, &mut last);
+        turn(alloc, hub, clock);
     }
 }
 
 /// One turn: gives up a run whose record isn't whole, ends an instance, moves parcels, or does an instance's work.
-fn turn<P: Port, C: Clock>(alloc: Global, hub: &mut Hub<P>, clock: &C, last: &mut u64)
+fn turn<P: Port, C: Clock>(alloc: Global, hub: &mut Hub<P>, clock: &C)
     requires { Stands P.told hub.old [] hub.old.log.history }
     ensures stands { Stands P.told hub.new [] hub.new.log.history }
     ensures size { length hub.new.rows.items ≡ length hub.old.rows.items }
@@ -44,7 +43,7 @@ fn turn<P: Port, C: Clock>(alloc: Global, hub: &mut Hub<P>, clock: &C, last: &mu
     }
     match hub.pending() {
         Some(instance) => push(hub, instance),
-        None => lease(alloc, hub, clock, last),
+        None => lease(alloc, hub, clock),
     }
 }
 
@@ -61,16 +60,14 @@ fn push<P: Port>(hub: &mut Hub<P>, instance: u32)
     }
 }
 
-/// Hands out a task, if one has work, does its work, and brings it home. Where the clock went back, it is the last
-/// moment still.
-fn lease<P: Port, C: Clock>(alloc: Global, hub: &mut Hub<P>, clock: &C, last: &mut u64)
+/// Hands out a task, if one has work, does its work, and brings it home.
+fn lease<P: Port, C: Clock>(alloc: Global, hub: &mut Hub<P>, clock: &C)
     requires { Stands P.told hub.old [] hub.old.log.history }
     ensures stands { Stands P.told hub.new [] hub.new.log.history }
     ensures size { length hub.new.rows.items ≡ length hub.old.rows.items }
     ensures plan { hub.new.plan ≡ hub.old.plan }
 {
-    *last = clock.now().max(*last);
-    if let Some(work) = hub.lease(WORKER, *last) {
+    if let Some(work) = hub.lease(WORKER, clock.now()) {
         land(alloc, hub, work, clock);
     }
 }

@@ -1,6 +1,6 @@
 use Rattle.vx_record.specs.Wirings.{begun}
-use Rattle.std.proofs.Common.{refl, IfSome, arith, ap, ◌≡◌, ◌∙◌, ◌+◌, ◌<◌, ℕ, List, length, subst, sym}
-use Rattle.std.specs.Prelude.{drop, slice_get, IsSomeAnd}
+use Rattle.std.proofs.Common.{refl, [], IfSome, arith, ap, ◌≡◌, ◌∙◌, ◌+◌, ◌<◌, ℕ, List, length, subst, sym}
+use Rattle.std.specs.Prelude.{drop, slice_get, IsSomeAnd, true, ◌==◌}
 use Rattle.vx_hub.specs.declared.row.Row.{Row}
 use Rattle.vx_hub.specs.declared.facts.Facts.{Facts}
 use Rattle.vx_hub.specs.Stands.{facts_at, spec_of}
@@ -10,7 +10,11 @@ use Rattle.vx_hub.specs.declared.parts.Named.{Named}
 use Rattle.vx_hub.specs.Making.{room_at, AreNew, AreUnused, IsFittedTo, AreFitted, IsUntouched, AreUntouched}
 use Rattle.vx_hub.specs.Beginning.{HasSeats, HasFirst}
 use Rattle.vx_hub.proofs.Beginning.{begun_stands, said_none, front_of, none_at, fitted_first, untouched_first}
+use Rattle.std.proofs.lemmas.Bool.Decides.{nat_tests}
 use Rattle.vx_hub.proofs.making.seated.Goals as goal
+
+none_left : (n : ℕ) → (n == 0) ≡ true → n ≡ 0
+none_left n e = grind (arith, nat_tests)
 
 pub loop-seats-init : goal.loop-seats-init
 loop-seats-init g c =
@@ -31,6 +35,8 @@ loop-seats-init g c =
         abandoned = refl;
         size = ap length c.requires.room.facts ∙ sym none;
         rooms = λ i. subst (λ (rows : List (Row _)). IfSome (row_at rows i) (λ row. row.buffer.room ≡ room_at c.args.plan i)) (sym c.requires.room.rows) tt;
+        abreast = ap length c.requires.room.progress ∙ sym none;
+        unnoticed = λ i l. absurd (omega (arith, ap length c.requires.room.progress, l));
       };
       unused = c.requires.unused;
       fitted = subst (λ (n : ℕ). AreFitted c.args.plan (drop n c.args.plan.components) c.args.seats.items) (sym none) c.requires.fitted;
@@ -46,6 +52,7 @@ loop-seats-init g c =
       first = c.requires.room.first;
       none = c.requires.room.ports;
       berths = c.requires.room.ports_room;
+      history = refl;
     }
 
 pub loop-seats-preserved : goal.loop-seats-preserved
@@ -73,9 +80,12 @@ loop-seats-preserved g c =
       plan = c.seat.ensures.plan ∙ inv.plan;
       none = ap (λ (p : _). p.items) c.seat.ensures.rest.1 ∙ inv.none;
       berths = omega (arith, inv.berths, ap (λ (p : _). p.room) c.seat.ensures.rest.1);
+      history = ap (λ (l : _). l.history) c.seat.ensures.rest.0 ∙ inv.history;
     }
 
 pub returns-clause-stands : goal.returns-clause-stands
 returns-clause-stands g c =
     let inv = c.loop-seats.invariant in
-    begun_stands g.P.Port.told c.args.plan c.loop-seats.hub inv.begins inv.plan c.requires.named inv.first inv.none (omega (arith, inv.size, inv.berths)) (omega (arith, inv.size, c.requires.few))
+    let none = none_left _ (sym c.is_empty.ensures ∙ c.loop-seats-test.false) in
+    let done : length c.loop-seats.hub.rows.items ≡ length c.args.plan.components = omega (arith, inv.size, c.requires.count, none) in
+    begun_stands g.P.Port.told c.args.plan c.loop-seats.hub inv.begins inv.plan c.requires.named inv.first inv.none (omega (arith, inv.size, inv.berths)) (omega (arith, inv.size, c.requires.few)) c.requires.small done

@@ -16,6 +16,7 @@ invariant-loop-seats g l = record {
   first : HasFirst l.fn.plan l.hub.log.history;
   none : l.hub.ports.items ≡ [];
   berths : length l.fn.seats.items ≤ l.hub.ports.room;
+  history : l.hub.log.history ≡ l.fn.room.log.history;
 }
 
 abbrev pub decreases-loop-seats : goal.decreases-loop-seats

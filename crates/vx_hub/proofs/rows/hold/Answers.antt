@@ -1,4 +1,4 @@
-use Rattle.std.proofs.Common.{arith, ap, sym, Some, ◌≡◌, ◌∙◌, ◌∷◌, ◌++◌, [], refl, false}
+use Rattle.std.proofs.Common.{arith, ap, sym, Some, ◌≡◌, ◌∙◌, ◌∷◌, ◌++◌, [], refl, false, subst, List}
 use Rattle.vx_ledger.specs.Copies.{copies_of}
 use Rattle.vx_hub.specs.Rows.{task_port, parcel_copies}
 use Rattle.vx_hub.specs.declared.task.Role.TheVariants.{Sink}
@@ -8,11 +8,13 @@ use Rattle.vx_record.specs.Places.{same_place}
 use Rattle.vx_record.specs.Places.Place.{Held}
 use Rattle.vx_hub.specs.Places.{parcel_lists}
 use Rattle.vx_hub.proofs.PlaceLaws.{read_at, written_at, places_but, but_task, numbers-more, task_holds}
-use Rattle.std.proofs.Common.{subst, List}
 use Rattle.vx_ledger.specs.declared.parcel.Parcel.{Parcel}
 use Rattle.vx_hub.specs.Events.{IsSaid, Each, HasEach}
 use Rattle.vx_hub.proofs.EventLaws.{row_each, rows_said, each-append}
+use Rattle.vx_hub.proofs.Collecting.{held_collecting}
+use Rattle.vx_hub.proofs.Taking.{home_sink}
 use Rattle.vx_hub.proofs.rows.hold.Goals as goal
+use Rattle.vx_hub.proofs.rows.hold.Goals.{then-is_empty, else-is_empty}
 
 pub returns-clause-gains : goal.returns-clause-gains
 returns-clause-gains g c =
@@ -42,11 +44,15 @@ returns-clause-last g c = record {
 }
 
 pub returns-clause-said : goal.returns-clause-said
-returns-clause-said g c h said is =
+returns-clause-said g c h moment said is =
     let rows = c.args.rows.now.items in
     let row = c.index_mut.result.now in
     let all : HasEach (IsSaid h) row = row_each h rows c.args.i row c.requires.within c.index_mut.ensures.value said in
-    rows_said h rows c.args.i row _ c.requires.within c.index_mut.ensures.value said (λ was. tt) (record {
+    rows_said h rows c.args.i row _ c.requires.within c.index_mut.ensures.value said
+    (λ was. held_collecting h c.args.i c.in-Sink.core (record { held = c.push.new.self; since = c.if-is_empty.core; timeout = c.in-Sink.core.timeout }) c.args.parcel c.args.now c.push.ensures.items c.push.ensures.room refl moment
+    (λ none. elim c.if-is_empty.branch [ then-is_empty w ↦ w.core-is | else-is_empty w ↦ let empty = c.is_empty.ensures.1 none in let full = w.if-is_empty.false in cc ])
+    (λ some. elim c.if-is_empty.branch [ then-is_empty w ↦ absurd (some (c.is_empty.ensures.0 w.if-is_empty.true)) | else-is_empty w ↦ w.core-is ])
+    (home_sink h c.args.i row.task c.in-Some.task c.in-Sink.core c.in-Some.is c.in-Sink.is was)) (record {
       outputs = all.outputs;
       waiting = all.waiting;
       buffer = all.buffer;

@@ -5,12 +5,16 @@ use Rattle.vx_hub.proofs.Parcels.{row_counts, popped_first, held_copies, none_he
 use Rattle.vx_hub.proofs.RowLaws.{rooms_written, rows_lose, ports_kept, bare_kept}
 use Rattle.vx_record.specs.Places.{same_place}
 use Rattle.vx_record.specs.Places.Place.{Held}
-use Rattle.vx_hub.specs.Places.{parcel_lists}
+use Rattle.vx_hub.specs.Places.{parcel_lists, all_numbers}
 use Rattle.vx_hub.proofs.PlaceLaws.{read_at, written_at, places_but, but_task, places_kept, same_task, popped_queue, popped_none, none_popped, task_holds}
 use Rattle.vx_ledger.specs.declared.parcel.Parcel.{Parcel}
 use Rattle.vx_hub.specs.Abreast.{HasComeHome}
 use Rattle.vx_hub.specs.Events.{IsSaid, Each, HasEach}
 use Rattle.vx_hub.proofs.EventLaws.{row_each, rows_said, queue_each}
+use Rattle.vx_ledger.specs.Copies.{Copy}
+use Rattle.vx_hub.specs.Collecting.{MayLeave}
+use Rattle.vx_hub.proofs.Collecting.{popped_collecting}
+use Rattle.vx_hub.proofs.Taking.{home_sink}
 use Rattle.vx_hub.specs.declared.task.Role.{Role}
 use Rattle.vx_hub.proofs.rows.pop_held.Goals as goal
 
@@ -51,16 +55,21 @@ returns-in-Sink-clause-none g c = popped_none c.pop.result c.in-Sink.core.held.i
     (λ same. places_kept c.args.rows.now.items c.args.i c.index_mut.result.now _ c.requires c.index_mut.ensures.value (same_task c.index_mut.result.now _ (same ∙ sym (task_holds c.index_mut.result.now.task c.in-Some.task c.in-Sink.core c.in-Some.is c.in-Sink.is))))
 
 pub returns-in-Sink-clause-said : goal.returns-in-Sink-clause-said
-returns-in-Sink-clause-said g c h said =
+returns-in-Sink-clause-said g c h may said =
     let rows = c.args.rows.now.items in
     let row = c.index_mut.result.now in
     let all : HasEach (IsSaid h) row = row_each h rows c.args.i row c.requires c.index_mut.ensures.value said in
     let out = queue_each (IsSaid h) c.pop.result c.in-Sink.core.held.items c.pop.new.self.items c.pop.ensures.some c.pop.ensures.empty
-    (subst (λ (ps : List Parcel). Each (IsSaid h) ps) (task_holds row.task c.in-Some.task c.in-Sink.core c.in-Some.is c.in-Sink.is) all.held) in
-    (rows_said h rows c.args.i row _ c.requires c.index_mut.ensures.value said (λ was. tt) (record { outputs = all.outputs; waiting = all.waiting; buffer = all.buffer; held = out.0 }), out.1)
+    (subst (λ (ps : List Parcel). Each (IsSaid h) ps) (task_holds row.task c.in-Some.task c.in-Sink.core c.in-Some.is c.in-Sink.is) all.held) in (
+      rows_said h rows c.args.i row _ c.requires c.index_mut.ensures.value said (λ was.
+          popped_collecting h c.args.i c.in-Sink.core (record { held = c.pop.new.self; since = c.in-Sink.core.since; timeout = c.in-Sink.core.timeout }) c.pop.result c.pop.ensures.some c.pop.ensures.empty c.pop.ensures.room refl refl
+          (subst (λ (ps : List (List Copy)). MayLeave h c.args.i (all_numbers ps)) (read_at (Held c.args.i) rows c.args.i row c.requires c.index_mut.ensures.value refl ∙ ap parcel_lists (task_holds row.task c.in-Some.task c.in-Sink.core c.in-Some.is c.in-Sink.is)) may)
+          (home_sink h c.args.i row.task c.in-Some.task c.in-Sink.core c.in-Some.is c.in-Sink.is was)) (record { outputs = all.outputs; waiting = all.waiting; buffer = all.buffer; held = out.0 }),
+      out.1,
+    )
 
 pub returns-in-Source-clause-said : goal.returns-in-Source-clause-said
-returns-in-Source-clause-said g c h said =
+returns-in-Source-clause-said g c h may said =
     let rows = c.args.rows.now.items in
     let row = c.index_mut.result.now in
     let all : HasEach (IsSaid h) row = row_each h rows c.args.i row c.requires c.index_mut.ensures.value said in

@@ -1,4 +1,4 @@
-use Rattle.std.proofs.Common.{arith, refl, ap, ◌+◌, ◌≤◌, ◌∷◌, [], length, ◌≡◌, ◌∙◌, sym, false}
+use Rattle.std.proofs.Common.{arith, refl, ap, ◌+◌, ◌≤◌, ◌∷◌, [], length, ◌≡◌, ◌∙◌, sym, false, subst, List}
 use Rattle.std.proofs.lemmas.List.{length-append}
 use Rattle.vx_ledger.specs.Copies.{copies_of}
 use Rattle.vx_hub.specs.Rows.{parcel_copies}
@@ -8,7 +8,6 @@ use Rattle.vx_record.specs.Places.{same_place}
 use Rattle.vx_record.specs.Places.Place.{Outputs}
 use Rattle.vx_hub.specs.Places.{stacked_lists}
 use Rattle.vx_hub.proofs.PlaceLaws.{read_at, written_at, places_but, but_outputs, stacked-more}
-use Rattle.std.proofs.Common.{subst, List}
 use Rattle.vx_ledger.specs.declared.parcel.Parcel.{Parcel}
 use Rattle.vx_hub.specs.Events.{IsSaid, Each, HasEach}
 use Rattle.vx_hub.proofs.EventLaws.{row_each, rows_said, each-append}

@@ -1,4 +1,4 @@
-use Rattle.std.proofs.Common.{arith, refl, ap, ◌≡◌, [], ◌∙◌, false}
+use Rattle.std.proofs.Common.{arith, refl, ap, ◌≡◌, [], ◌∙◌, false, subst, sym}
 use Rattle.vx_ledger.specs.Copies.{copies_of}
 use Rattle.vx_hub.specs.Rows.{child_copies}
 use Rattle.vx_hub.proofs.Parcels.{row_counts}
@@ -7,7 +7,6 @@ use Rattle.vx_record.specs.Places.Place.{Waiting}
 use Rattle.vx_record.specs.Lists.{is_child_of}
 use Rattle.vx_hub.specs.Places.{waiting_lists}
 use Rattle.vx_hub.proofs.PlaceLaws.{written_at, places_but, but_waiting}
-use Rattle.std.proofs.Common.{subst, sym}
 use Rattle.vx_hub.specs.Events.{IsSaid, EachChild, HasEach}
 use Rattle.vx_hub.proofs.EventLaws.{row_each, rows_said}
 use Rattle.vx_hub.proofs.rows.put_children.Goals as goal

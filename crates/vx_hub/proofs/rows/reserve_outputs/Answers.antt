@@ -1,11 +1,10 @@
-use Rattle.std.proofs.Common.{arith, refl, ap, ◌∙◌, ◌+◌, ◌≤◌, [], length}
+use Rattle.std.proofs.Common.{arith, refl, ap, ◌∙◌, ◌+◌, ◌≤◌, [], length, subst, sym, List}
 use Rattle.vx_hub.proofs.Touching.{on_ok}
 use Rattle.vx_ledger.specs.Copies.{copies_of}
 use Rattle.vx_hub.specs.Rows.{parcel_copies}
 use Rattle.vx_hub.proofs.Parcels.{row_counts}
 use Rattle.vx_hub.proofs.RowLaws.{rooms_written, rows_lose, row_gets, ports_kept, bare_kept}
 use Rattle.vx_hub.proofs.PlaceLaws.{places_kept, same_outputs}
-use Rattle.std.proofs.Common.{subst, sym, List}
 use Rattle.vx_ledger.specs.declared.parcel.Parcel.{Parcel}
 use Rattle.vx_hub.specs.Events.{IsSaid, Each, HasEach}
 use Rattle.vx_hub.proofs.EventLaws.{row_each, rows_said}

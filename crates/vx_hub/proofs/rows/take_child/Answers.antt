@@ -1,4 +1,4 @@
-use Rattle.std.proofs.Common.{arith, refl, ap, ◌<◌, length, ◌≡◌, ◌∙◌, ◌∷◌, sym, false}
+use Rattle.std.proofs.Common.{arith, refl, ap, ◌<◌, length, ◌≡◌, ◌∙◌, ◌∷◌, sym, false, subst}
 use Rattle.vx_ledger.specs.Copies.{copies_of}
 use Rattle.vx_hub.specs.Rows.{child_copies}
 use Rattle.vx_hub.proofs.Parcels.{row_counts, child_removed}
@@ -7,7 +7,6 @@ use Rattle.vx_record.specs.Places.{same_place}
 use Rattle.vx_record.specs.Places.Place.{Waiting}
 use Rattle.vx_hub.specs.Places.{waiting_lists, NoneBefore}
 use Rattle.vx_hub.proofs.PlaceLaws.{read_at, written_at, places_but, but_target, first_removed, other_removed}
-use Rattle.std.proofs.Common.{subst}
 use Rattle.vx_hub.specs.Events.{IsSaid, EachChild, HasEach}
 use Rattle.vx_hub.proofs.EventLaws.{row_each, rows_said, child_each}
 use Rattle.vx_hub.proofs.rows.take_child.Goals as goal

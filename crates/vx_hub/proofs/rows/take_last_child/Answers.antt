@@ -1,4 +1,4 @@
-use Rattle.std.proofs.Common.{arith, refl, ap, ◌∙◌, ◌∷◌, [], sym, length, ◌≡◌, ◌++◌, false}
+use Rattle.std.proofs.Common.{arith, refl, ap, ◌∙◌, ◌∷◌, [], sym, length, ◌≡◌, ◌++◌, false, subst}
 use Rattle.std.specs.Prelude.{if◌then◌else◌}
 use Rattle.std.proofs.lemmas.List.{length-append, append-nil}
 use Rattle.vx_ledger.specs.Copies.{copies_of}
@@ -10,7 +10,6 @@ use Rattle.vx_record.specs.Places.Place.{Waiting}
 use Rattle.vx_hub.specs.Places.{waiting_lists}
 use Rattle.vx_hub.proofs.Silence.{same_test}
 use Rattle.vx_hub.proofs.PlaceLaws.{read_at, written_at, places_but, but_target, waiting-more, places_kept, same_waiting}
-use Rattle.std.proofs.Common.{subst}
 use Rattle.vx_hub.specs.Events.{IsSaid, EachChild, HasEach}
 use Rattle.vx_hub.proofs.EventLaws.{row_each, rows_said, last_child_each}
 use Rattle.vx_hub.proofs.rows.take_last_child.Goals as goal

@@ -1,14 +1,12 @@
-use Rattle.std.proofs.Common.{arith, ap, sym, ◌∙◌, ◌≡◌, refl, false}
+use Rattle.std.proofs.Common.{arith, ap, sym, ◌∙◌, ◌≡◌, refl, false, subst}
 use Rattle.vx_ledger.specs.Copies.{copies_of}
-use Rattle.vx_hub.specs.Rows.{task_copies, port_of, task_port}
+use Rattle.vx_hub.specs.Rows.{task_copies, port_of, task_port, task_parcels}
 use Rattle.vx_hub.proofs.Parcels.{row_counts, some_port}
 use Rattle.vx_hub.proofs.RowLaws.{rooms_written, rows_lose, row_read, row_gets, other_ports, others_bare}
 use Rattle.vx_record.specs.Places.{same_place}
 use Rattle.vx_record.specs.Places.Place.{Held}
-use Rattle.vx_hub.specs.Rows.{task_parcels}
 use Rattle.vx_hub.specs.Places.{parcel_lists}
 use Rattle.vx_hub.proofs.PlaceLaws.{written_at, places_but, but_task}
-use Rattle.std.proofs.Common.{subst}
 use Rattle.vx_hub.specs.Abreast.{HasComeHome}
 use Rattle.vx_hub.specs.Events.{IsSaid, Each, HasEach}
 use Rattle.vx_hub.proofs.EventLaws.{row_said, row_each, rows_said, task_said}

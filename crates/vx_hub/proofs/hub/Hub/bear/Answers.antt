@@ -1,16 +1,10 @@
-use Rattle.std.proofs.Common.{ap}
-use Rattle.vx_hub.specs.Rows.{port_at}
-use Rattle.vx_hub.specs.declared.hub.Hub.{Hub}
-use Rattle.vx_hub.proofs.StandsLaws.{stands_counted}
-use Rattle.vx_hub.proofs.Leaving.{returning_moved}
+use Rattle.std.proofs.Common.{ℕ}
+use Rattle.vx_hub.proofs.Touching.{on_ok}
+use Rattle.vx_hub.specs.Owed.{HasBorn}
 use Rattle.vx_hub.proofs.hub.Hub.bear.Goals as goal
 
-pub put_out-requires-clause-stands : goal.put_out-requires-clause-stands
-put_out-requires-clause-stands g c =
-    stands_counted g.P.Port.told c.open_batch.new.self c.count_batch.new.self c.in_ok-finalizers.finalizers c.count_batch.ensures c.in_ok-finalizers.ensures.stands
-
-pub returns-clause-returning : goal.returns-clause-returning
-returns-clause-returning g c i back =
-    c.put_out.ensures.returning i
-    (returning_moved c.open_batch.new.self c.count_batch.new.self (λ k. ap (λ (x : Hub _). port_at x.rows.items k) c.count_batch.ensures) (ap (λ (x : Hub _). x.log) c.count_batch.ensures) (ap (λ (x : Hub _). x.starved) c.count_batch.ensures) i
-    (c.open_batch.ensures.returning i back))
+pub returns-clause-bore : goal.returns-clause-bore
+returns-clause-bore g c =
+    on_ok ((i : ℕ) → HasBorn c.open_batch.new.self i → HasBorn c.put_out.new.self i) (HasBorn c.put_out.new.self c.args.instance) c.put_out.result
+    (λ keeps. keeps c.args.instance c.in_ok-finalizers.ensures.bore)
+    c.put_out.ensures.bore

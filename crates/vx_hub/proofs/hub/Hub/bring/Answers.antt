@@ -1,17 +1,14 @@
-use Rattle.std.proofs.Common.{refl, subst, List, ap}
+use Rattle.std.proofs.Common.{refl, subst, List, ap, sym, Option}
 use Rattle.vx_ledger.specs.Copies.{Copy}
 use Rattle.vx_record.specs.Places.Place.{Outputs}
-use Rattle.vx_hub.specs.Places.{IsPlaced}
-use Rattle.vx_hub.specs.Rows.{role_copies, role_parcels}
+use Rattle.vx_hub.specs.Places.{IsPlaced, all_numbers}
+use Rattle.vx_hub.specs.Rows.{role_copies, role_parcels, row_at}
 use Rattle.vx_hub.proofs.StandsLaws.{put_balanced}
-use Rattle.vx_hub.proofs.Touching.{stands_brought}
+use Rattle.vx_hub.proofs.Touching.{stands_brought, out_port}
 use Rattle.vx_hub.proofs.Owning.{placed_home}
 use Rattle.vx_hub.proofs.Homing.{role_same}
-use Rattle.vx_hub.specs.Places.{all_numbers}
-use Rattle.std.proofs.Common.{sym, Option}
 use Rattle.std.specs.Prelude.{IsSome}
-use Rattle.vx_hub.specs.Rows.{row_at}
-use Rattle.vx_hub.proofs.Touching.{out_port}
+use Rattle.vx_hub.proofs.Concluding.{was_same}
 use Rattle.vx_hub.proofs.hub.Hub.bring.Goals as goal
 
 pub returns-clause-stands : goal.returns-clause-stands
@@ -34,6 +31,7 @@ returns-clause-arrived g c =
     record {
       home = subst (λ (o : Option _). IsSome o) (sym c.put_task.ensures.port) refl;
       away = λ sound. (c.requires.stands.recorded (record { whole = sound.whole; fed = sound.fed })).outs c.args.instance c.requires.open.within (out_port (row_at d.rows.items c.args.instance) c.requires.out);
+      confirmed = λ sound. c.requires.confirmed (record { whole = sound.whole; fed = sound.fed });
     }
 
 pub returns-clause-returning : goal.returns-clause-returning
@@ -43,6 +41,10 @@ returns-clause-returning g c settled =
       arrived = record {
         home = subst (λ (o : Option _). IsSome o) (sym c.put_task.ensures.port) refl;
         away = λ sound. (c.requires.stands.recorded (record { whole = sound.whole; fed = sound.fed })).outs c.args.instance c.requires.open.within (out_port (row_at d.rows.items c.args.instance) c.requires.out);
+        confirmed = λ sound. c.requires.confirmed (record { whole = sound.whole; fed = sound.fed });
       };
       settled = λ sound. settled (record { whole = sound.whole; fed = sound.fed });
     }
+
+pub returns-clause-done : goal.returns-clause-done
+returns-clause-done g c = was_same c.args.self.now _ refl refl c.args.instance

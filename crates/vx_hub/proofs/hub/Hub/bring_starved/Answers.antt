@@ -11,6 +11,7 @@ returns-clause-returning g c = record {
   arrived = record {
     home = subst (λ (o : Option _). IsSome o) (sym c.put_task.ensures.port) refl;
     away = λ sound. let no : true ≡ false = sound.fed in cc;
+    confirmed = λ sound. let no : true ≡ false = sound.fed in cc;
   };
   settled = λ sound. let no : true ≡ false = sound.fed in cc;
 }

@@ -40,7 +40,15 @@ returns-clause-leased g c =
       sink = c.requires.sink;
       untried = λ sound. c.requires.untried (record { whole = sound.whole; fed = sound.fed });
       some = λ attempt. let had = c.requires.some attempt in let n = ap length c.in_ok-task.ensures.held in let m = length_lists (role_parcels role) in omega (arith, had, n, m);
+      moment = λ sound. c.requires.moment (record { whole = sound.whole; fed = sound.fed });
       shut = λ close sound. c.requires.shut close (record { whole = sound.whole; fed = sound.fed });
+      turn = λ read sound. c.requires.turn read (record { whole = sound.whole; fed = sound.fed });
+      bore = λ sound. c.requires.bore (record { whole = sound.whole; fed = sound.fed });
+      nothing = λ none sound. c.requires.nothing none (record { whole = sound.whole; fed = sound.fed });
+      alone = λ close sound. c.requires.alone close (record { whole = sound.whole; fed = sound.fed });
+      noticed = λ close sound. c.requires.noticed close (record { whole = sound.whole; fed = sound.fed });
+      done = λ close sound. c.requires.done close (record { whole = sound.whole; fed = sound.fed });
+      closing = λ attempt sound. c.requires.closing attempt (record { whole = sound.whole; fed = sound.fed });
     }
 
 -- what holds in any case holds where there is none

@@ -1,16 +1,21 @@
 use Rattle.vx_hub.proofs.Yielding.{done_on}
-use Rattle.std.proofs.Common.{◌∙◌, sym, subst, Option, None}
+use Rattle.std.proofs.Common.{◌∙◌, refl, sym, subst, Option, None, ◌≡◌, [], IfSome}
 use Rattle.vx_record.specs.Records.{Record}
 use Rattle.vx_hub.specs.declared.confirming.Confirmed.{Confirmed}
 use Rattle.vx_hub.specs.Rows.{role_copies, IsOutAt}
 use Rattle.vx_hub.specs.Leases.{Brings}
 use Rattle.vx_hub.proofs.Saying.{brings_confirm}
-use Rattle.std.proofs.Common.{◌≡◌, []}
 use Rattle.vx_record.specs.Places.Place.{Outputs}
 use Rattle.vx_hub.specs.Places.{numbers_at}
 use Rattle.vx_hub.proofs.Homing.{held_on}
 use Rattle.vx_hub.proofs.EventLaws.{said_by_on}
-use Rattle.vx_hub.proofs.Leaving.{untried_noted}
+use Rattle.vx_hub.proofs.Leaving.{untried_noted, noticed_noted}
+use Rattle.vx_hub.proofs.Flowing.{may_read_noted}
+use Rattle.vx_hub.proofs.Owed.{born_noted}
+use Rattle.vx_hub.proofs.Asking.{undue_noted}
+use Rattle.vx_hub.proofs.Sinking.{sink_unconfirmed}
+use Rattle.vx_hub.specs.Order.{IsDueOf}
+use Rattle.vx_hub.specs.Stands.{IsSound}
 use Rattle.vx_hub.proofs.hub.Hub.land_confirm.Goals as goal
 
 pub returns-in-Some-clause-back : goal.returns-in-Some-clause-back
@@ -40,4 +45,15 @@ returns-in-Some-clause-back g c =
       some = c.requires.some;
       events = c.requires.events;
       closed = c.requires.closed;
+      turn = λ reading. may_read_noted c.args.self.now c.note_confirm.new.self _ c.note_confirm.ensures.noted c.note_confirm.ensures.starved (λ k j was. record { readable = was.readable; once = was.once }) i (c.requires.turn reading);
+      bore = born_noted c.args.self.now c.note_confirm.new.self _ c.note_confirm.ensures.noted c.note_confirm.ensures.starved (λ k j. refl) (λ j. refl) (λ k going. going) i c.requires.bore;
+      told = λ live none. c.note_confirm.ensures.told (role_copies c.args.landing.task.role) c.requires.stands;
+      undue = λ closed. undue_noted c.args.self.now c.note_confirm.new.self _ c.note_confirm.ensures.noted c.note_confirm.ensures.starved (λ k j. refl) i (c.requires.undue closed);
+      noticed = λ closed. noticed_noted c.args.self.now c.note_confirm.new.self _ c.note_confirm.ensures.noted c.note_confirm.ensures.starved (λ k j. refl) i (c.requires.noticed closed);
+      done = λ closed. c.note_confirm.ensures.done (c.requires.done closed);
+      closing = λ sent sound.
+          let w = c.note_confirm.ensures.noted.whole sound.whole in
+          let fine : IsSound c.args.self.now = record { whole = w.0; fed = sym c.note_confirm.ensures.starved ∙ sound.fed } in
+          absurd (sink_unconfirmed g.P.Port.told c.args.self.now (role_copies c.args.landing.task.role) i c.in-Some.confirmed.positions c.requires.stands fine (c.requires.sink sent)
+          (subst (λ (o : Option Confirmed). IfSome o (λ x. IsDueOf h i x.positions)) c.in-Some.is (c.requires.due fine)));
     }

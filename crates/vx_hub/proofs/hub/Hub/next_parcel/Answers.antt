@@ -6,6 +6,8 @@ use Rattle.vx_hub.proofs.Placing.{some_from_oldest}
 use Rattle.vx_hub.proofs.Owning.{placed_if, placed_child_if}
 use Rattle.vx_status.specs.declared.outcome.Outcome.TheVariants.{Abandoned}
 use Rattle.vx_hub.proofs.Standing.{taken_if, child_if}
+use Rattle.vx_hub.specs.Places.{numbers_at}
+use Rattle.vx_hub.proofs.Taking.{given_leaves}
 use Rattle.vx_hub.proofs.hub.Hub.next_parcel.Goals as goal
 
 pub returns-then-not-is_empty-clause-stands : goal.returns-then-not-is_empty-clause-stands
@@ -42,7 +44,7 @@ returns-else-not-is_empty-3-clause-stands g c =
     (hand_balanced d.batches d.rows.items c.pop_held.new.rows.items (option_copies c.pop_held.result) c.requires.stands.balanced c.pop_held.ensures.loses)
     refl c.pop_held.ensures.ports (bare_by d.facts.items d.rows.items c.pop_held.new.rows.items c.pop_held.ensures.bare) c.pop_held.ensures.same_rooms refl refl refl refl refl
     (λ fine kept placed. placed_if (Held c.args.i) c.pop_held.result d.rows.items c.pop_held.new.rows.items d.log.history kept placed (some_from_oldest (Held c.args.i) c.pop_held.result d.rows.items c.pop_held.new.rows.items c.pop_held.ensures.oldest) c.pop_held.ensures.none)
-    (λ fine said. (c.pop_held.ensures.said d.log.history said).0)
+    (λ fine said. (c.pop_held.ensures.said d.log.history (given_leaves g.P.Port.told d [] c.args.i (numbers_at (Held c.args.i) d.rows.items) c.requires.stands c.requires.given_up fine) said).0)
 
 pub returns-then-not-is_empty-clause-from : goal.returns-then-not-is_empty-clause-from
 returns-then-not-is_empty-clause-from g c = taken_if g.P.Port.told c.args.self.now _ c.args.i Abandoned (Outputs c.args.i) c.pop_output.result c.requires.stands refl refl refl (λ is. cc)

@@ -1,14 +1,18 @@
-use Rattle.vx_hub.specs.Stands.{IsReadable}
-use Rattle.std.proofs.Common.{refl, false, ◌≡◌, ap, sym}
+use Rattle.vx_hub.specs.Stands.{IsReadable, IsSound}
+use Rattle.std.proofs.Common.{refl, false, ◌≡◌, ap, sym, subst}
 use Rattle.std.specs.Prelude.{if◌then◌else◌, not}
 use Rattle.vx_record.specs.Confirms.{is_unconfirmed}
 use Rattle.vx_record.specs.declared.entry.Entry.TheVariants as entry
 use Rattle.vx_plan.specs.declared.class.Class.TheVariants.{Sink}
 use Rattle.vx_hub.proofs.Drying.{closing_on}
-use Rattle.vx_hub.proofs.StandsLaws.{ends_on, to_confirm_on}
+use Rattle.vx_hub.proofs.StandsLaws.{ends_on, to_confirm_on, asked_on}
 use Rattle.vx_hub.proofs.Naming.{device_known}
 use Rattle.vx_hub.proofs.Silence.{same_test}
 use Rattle.vx_hub.proofs.Touching.{stands_touched, facts_surely, facts_get}
+use Rattle.vx_record.specs.Records.{Record}
+use Rattle.vx_hub.specs.Asking.{HasTold}
+use Rattle.vx_hub.proofs.Asking.{told_confirmed, source_is}
+use Rattle.vx_hub.proofs.Concluding.{was_noted}
 use Rattle.vx_hub.proofs.hub.Hub.note_confirm.Goals as goal
 
 pub returns-clause-stands : goal.returns-clause-stands
@@ -30,9 +34,10 @@ returns-clause-stands g c hand s =
       closed = known.closed;
       retired = known.retired;
       leased = known.leased;
+      due = asked_on c.index_mut-facts.result.now.to_confirm c.index_mut-facts.result.now.asked c.args.self.now.log.history c.args.instance (entry.Confirm c.args.instance c.args.confirmed.positions c.args.confirmed.made) refl refl known.due;
     })
     (λ bytes. bytes)
-    refl (λ fine known out. record { out = out; device = device_known c.args.self.now.log.history c.args.instance c.index_mut-facts.result.now (s.recorded fine).order known; due = c.requires.due fine })
+    refl (λ fine known out. record { out = out; device = device_known c.args.self.now.log.history c.args.instance c.index_mut-facts.result.now (s.recorded fine).order known; due = c.requires.due fine; source = source_is c.args.self.now.log.history c.args.instance (s.recorded fine).order (c.requires.due fine).source })
 
 pub returns-clause-open : goal.returns-clause-open
 returns-clause-open g c open_at = record {
@@ -48,3 +53,12 @@ returns-clause-unlost g c unlost = facts_get IsReadable c.args.self.now.facts.it
 pub returns-clause-sink : goal.returns-clause-sink
 returns-clause-sink g c sink = facts_get (λ f. f.class ≡ Sink) c.args.self.now.facts.items c.args.instance _ c.requires.within
     (facts_surely (λ f. f.class ≡ Sink) c.args.self.now.facts.items c.args.instance c.index_mut-facts.result.now c.requires.within c.index_mut-facts.ensures.value sink)
+
+pub returns-clause-told : goal.returns-clause-told
+returns-clause-told g c hand s sound =
+    let w = c.note.ensures.noted.whole sound.whole in
+    let fine : IsSound c.args.self.now = record { whole = w.0; fed = sound.fed } in
+    subst (λ (h : Record). HasTold h c.args.instance) (sym w.1) (told_confirmed c.args.self.now.log.history c.args.instance c.args.confirmed.positions c.args.confirmed.made (s.recorded fine).order (c.requires.due fine))
+
+pub returns-clause-done : goal.returns-clause-done
+returns-clause-done g c = was_noted c.args.self.now _ (entry.Confirm c.args.instance c.args.confirmed.positions c.args.confirmed.made) c.note.ensures.noted refl (λ h k. refl) c.args.instance

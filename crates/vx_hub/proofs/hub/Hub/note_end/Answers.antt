@@ -6,8 +6,9 @@ use Rattle.vx_record.specs.Reads.{bytes_of, bytes_taken, bytes_of_all, is_end, a
 use Rattle.vx_record.specs.declared.entry.Entry.TheVariants as entry
 use Rattle.vx_record.specs.Records.{Record}
 use Rattle.vx_hub.specs.Order.{IsReadBy}
-use Rattle.vx_hub.proofs.Drying.{turn_of, closing_on, ended_here}
-use Rattle.vx_hub.proofs.StandsLaws.{ends_on, to_confirm_on}
+use Rattle.vx_hub.proofs.Drying.{closing_on, ended_here, turn_of}
+use Rattle.vx_hub.proofs.Flowing.{turn_in_order}
+use Rattle.vx_hub.proofs.StandsLaws.{ends_on, to_confirm_on, asked_on}
 use Rattle.vx_hub.proofs.Silence.{same_test}
 use Rattle.vx_hub.proofs.Touching.{stands_touched, facts_surely, facts_get, no_bytes}
 use Rattle.vx_hub.proofs.hub.Hub.note_end.Goals as goal
@@ -31,9 +32,10 @@ returns-clause-stands g c hand s =
       closed = known.closed;
       retired = known.retired;
       leased = known.leased;
+      due = asked_on c.index_mut-facts.result.now.to_confirm c.index_mut-facts.result.now.asked c.args.self.now.log.history c.args.instance (entry.Read c.args.instance c.args.stream c.args.taken) refl refl known.due;
     })
     (λ bytes. bytes ∙ no_bytes true (bytes_of_all c.args.self.now.log.history) (bytes_of c.args.taken) c.requires.end)
-    refl (λ fine known out. turn_of c.args.self.now.log.history c.args.instance c.index_mut-facts.result.now out known (facts_surely IsReadable c.args.self.now.facts.items c.args.instance c.index_mut-facts.result.now c.requires.within c.index_mut-facts.ensures.value c.requires.unlost))
+    refl (λ fine known out. turn_in_order c.args.self.now.log.history c.args.instance c.index_mut-facts.result.now (s.recorded fine).order out known (facts_surely IsReadable c.args.self.now.facts.items c.args.instance c.index_mut-facts.result.now c.requires.within c.index_mut-facts.ensures.value c.requires.unlost) (c.requires.turn fine))
 
 pub returns-clause-open : goal.returns-clause-open
 returns-clause-open g c open_at = record {

@@ -1,4 +1,4 @@
-use Rattle.std.proofs.Common.{◌≡◌, refl, false, arith, [], ◌<◌, length, ℕ, Option, Some, None, sym, subst}
+use Rattle.std.proofs.Common.{◌≡◌, refl, false, arith, [], ◌<◌, length, ℕ, Option, Some, None, sym, subst, ◌∷◌}
 use Rattle.std.specs.Prelude.{IsSome, ◌==◌}
 use Rattle.vx_record.specs.Turns.{is_out}
 use Rattle.vx_hub.specs.Stands.{IsShut, IsGone}
@@ -8,6 +8,7 @@ use Rattle.vx_hub.proofs.Touching.{stands_marked, facts_has, facts_get}
 use Rattle.vx_record.specs.declared.entry.Entry.TheVariants.{Home}
 use Rattle.vx_hub.proofs.Owning.{placed_still}
 use Rattle.vx_hub.proofs.Noticing.{running_still}
+use Rattle.vx_hub.proofs.Counting.{counted_on}
 use Rattle.vx_hub.proofs.Ceasing.{left_out, home_on}
 use Rattle.vx_hub.proofs.Silence.{other_test}
 use Rattle.vx_hub.proofs.Retiring.{known_home, known_home_other}
@@ -21,7 +22,7 @@ returns-clause-stands g c =
     let within : i < length d.facts.items = omega (arith, c.requires.stands.size, c.requires.within) in
     stands_marked g.P.Port.told d _ [] [] _ i f _ c.requires.stands within c.index_mut.ensures.value
     refl refl refl c.requires.stands.balanced refl refl c.note.ensures.noted tt (same_next d.batches d.batches d.log.history (Home i) refl refl)
-    (λ fine. record { out = c.requires.returning.arrived.away fine; settled = c.requires.returning.settled (record { whole = fine.whole; fed = fine.fed }) })
+    (λ fine. record { out = c.requires.returning.arrived.away fine; settled = c.requires.returning.settled (record { whole = fine.whole; fed = fine.fed }); told = c.requires.returning.arrived.confirmed (record { whole = fine.whole; fed = fine.fed }) })
     (λ fine. left_out d.log.history i (c.requires.stands.recorded fine).order (c.requires.returning.arrived.away fine))
     (λ k none out. home_on (i == k) (is_out d.log.history k) (other_test i k (λ e. let at : IsSome (port_at d.rows.items k) = subst (λ (n : ℕ). IsSome (port_at d.rows.items n)) (sym e) c.requires.returning.arrived.home in not_none (port_at d.rows.items k) none at)) out)
     refl (λ fine known. known_home f d.log.history i known) (λ x k other known. known_home_other x d.log.history i k other known)
@@ -29,6 +30,8 @@ returns-clause-stands g c =
     (facts_has (IsGone d.rows.items i) d.facts.items i f within c.index_mut.ensures.value (c.requires.stands.gone i))
     (λ fine kept placed. placed_still d.rows.items [] d.log.history (Home i) tt kept.1 placed)
     (λ b w. w) (λ fine sound. running_still d.log.history (Home i) d.batches.open_rows tt) (λ ledger. ledger)
+    (λ fine going. c.requires.bore going (record { whole = fine.whole; fed = fine.fed }))
+    (λ fine. counted_on d _ d.log.history (Home i ∷ d.log.history) refl refl refl refl) (λ worker l. l)
   where
     not_none : {P : Type 0} (o : Option P) → o ≡ None → IsSome o → ⊥
     not_none None none some = cc

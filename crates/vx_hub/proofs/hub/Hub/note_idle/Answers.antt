@@ -3,8 +3,9 @@ use Rattle.std.proofs.Common.{refl, false, ◌≡◌, ◌+◌, ◌<◌, ◌∙�
 use Rattle.std.specs.Prelude.{if◌then◌else◌}
 use Rattle.vx_record.specs.Sourcing.{failed_starts}
 use Rattle.vx_record.specs.declared.entry.Entry.TheVariants as entry
-use Rattle.vx_hub.proofs.Drying.{turn_of, closing_on}
-use Rattle.vx_hub.proofs.StandsLaws.{ends_on, to_confirm_on}
+use Rattle.vx_hub.proofs.Drying.{closing_on, turn_of}
+use Rattle.vx_hub.proofs.Flowing.{turn_in_order}
+use Rattle.vx_hub.proofs.StandsLaws.{ends_on, to_confirm_on, asked_on}
 use Rattle.vx_hub.proofs.Naming.{device_known}
 use Rattle.vx_hub.proofs.Silence.{same_test}
 use Rattle.vx_hub.proofs.Touching.{stands_touched, facts_surely, facts_get}
@@ -29,9 +30,10 @@ returns-clause-stands g c hand s =
       closed = known.closed;
       retired = known.retired;
       leased = known.leased;
+      due = asked_on c.index_mut-facts.result.now.to_confirm c.index_mut-facts.result.now.asked c.args.self.now.log.history c.args.instance (entry.Idle c.args.instance c.args.start_failed) refl refl known.due;
     })
     (λ bytes. bytes)
-    refl (λ fine known out. record { turn = turn_of c.args.self.now.log.history c.args.instance c.index_mut-facts.result.now out known (facts_surely IsReadable c.args.self.now.facts.items c.args.instance c.index_mut-facts.result.now c.requires.within c.index_mut-facts.ensures.value c.requires.unlost); device = device_known c.args.self.now.log.history c.args.instance c.index_mut-facts.result.now (s.recorded fine).order known; few = λ failed. subst (λ n. n < 4) known.failed_starts (facts_surely (λ f. f.failed_starts < 4) c.args.self.now.facts.items c.args.instance c.index_mut-facts.result.now c.requires.within c.index_mut-facts.ensures.value (c.requires.few failed)) })
+    refl (λ fine known out. record { turn = turn_in_order c.args.self.now.log.history c.args.instance c.index_mut-facts.result.now (s.recorded fine).order out known (facts_surely IsReadable c.args.self.now.facts.items c.args.instance c.index_mut-facts.result.now c.requires.within c.index_mut-facts.ensures.value c.requires.unlost) (c.requires.turn fine); device = device_known c.args.self.now.log.history c.args.instance c.index_mut-facts.result.now (s.recorded fine).order known; few = λ failed. subst (λ n. n < 4) known.failed_starts (facts_surely (λ f. f.failed_starts < 4) c.args.self.now.facts.items c.args.instance c.index_mut-facts.result.now c.requires.within c.index_mut-facts.ensures.value (c.requires.few failed)) })
 
 pub returns-clause-open : goal.returns-clause-open
 returns-clause-open g c open_at = record {

@@ -1,43 +1,64 @@
-use Rattle.std.proofs.Common.{[], refl, false, ◌≡◌, ◌<◌, sym, subst, length, Option, IfSome, arith, true, ap, ◌∷◌}
+use Rattle.std.proofs.Common.{[], refl, false, ◌≡◌, ◌<◌, sym, subst, length, Option, IfSome, arith, true, ap, ◌∷◌, None, ◌∙◌}
 use Rattle.vx_record.specs.Confirms.{born_positions}
-use Rattle.vx_hub.specs.Stands.{IsReadable, IsShut, IsGone, IsKnown}
+use Rattle.vx_hub.specs.Stands.{IsReadable, IsShut, IsGone, IsKnown, facts_at, IsSound}
 use Rattle.vx_record.specs.Records.{Record}
 use Rattle.vx_record.specs.declared.entry.Entry.TheVariants.{Lease}
-use Rattle.vx_plan.specs.declared.class.Class.TheVariants.{Sink}
+use Rattle.vx_plan.specs.declared.class.Class.TheVariants.{Source, Sink}
 use Rattle.vx_hub.specs.Order.{IsDueOf}
-use Rattle.vx_hub.proofs.Drying.{confirm_of, confirm_on, taken_none}
-use Rattle.vx_hub.proofs.StandsLaws.{born_same, same_next}
+use Rattle.vx_hub.specs.Asking.{HadNoneDue}
+use Rattle.vx_hub.proofs.Asking.{due_leased, none_leased, none_of}
+use Rattle.vx_hub.proofs.StandsLaws.{same_next}
 use Rattle.vx_hub.proofs.Touching.{stands_marked, facts_surely, facts_get, facts_has}
 use Rattle.vx_hub.proofs.Owning.{placed_still}
 use Rattle.vx_hub.proofs.Noticing.{running_still}
+use Rattle.vx_hub.proofs.Counting.{counted_on}
 use Rattle.vx_hub.proofs.Ceasing.{hub_comes, leased_on, going_on, unabandoned}
 use Rattle.vx_hub.proofs.Retiring.{known_leased, known_leased_other}
-use Rattle.vx_hub.proofs.Settling.{unclosed_unretired}
+use Rattle.vx_hub.proofs.Settling.{unclosed_unretired, known_at_home}
 use Rattle.std.specs.List.{list_any}
-use Rattle.std.specs.Prelude.{◌==◌, if◌then◌else◌}
-use Rattle.vx_record.specs.Turns.{is_out, since_lease, is_attempt_of}
+use Rattle.std.specs.Prelude.{◌==◌, if◌then◌else◌, IsSome}
+use Rattle.vx_record.specs.Turns.{is_out, at_lease, since_lease, is_attempt_of, lease_now}
+use Rattle.vx_record.specs.Owing.{all_noticed}
+use Rattle.vx_hub.proofs.Covering.{noticed_known, some_there}
 use Rattle.vx_hub.proofs.Silence.{same_test}
 use Rattle.vx_hub.specs.Away.{OnlyTook}
 use Rattle.vx_hub.proofs.Leaving.{untaken_leased}
+use Rattle.vx_hub.specs.Readings.{WasReadable}
+use Rattle.vx_hub.proofs.Flowing.{hub_reads, read_leased}
+use Rattle.vx_hub.specs.Offspring.{AreBorn}
+use Rattle.vx_hub.proofs.Offspring.{even_on, owes_no_birth}
+use Rattle.vx_hub.proofs.Moments.{later_leased, moment_leased}
+use Rattle.vx_hub.proofs.Concluding.{was_leased, done_so}
 use Rattle.vx_hub.proofs.hub.Hub.note_lease.Goals as goal
 
 pub returns-clause-stands : goal.returns-clause-stands
 returns-clause-stands g c =
-    let within : c.args.instance < length c.args.self.now.facts.items = omega (arith, c.requires.stands.size, c.requires.open.within) in
-    stands_marked g.P.Port.told c.args.self.now _ [] [] _ c.args.instance c.index_mut-facts.result.now _ c.requires.stands within c.index_mut-facts.ensures.value
-    refl refl refl c.requires.stands.balanced refl refl c.note.ensures.noted tt (same_next c.args.self.now.batches c.args.self.now.batches c.args.self.now.log.history (Lease c.args.instance c.args.worker c.args.now 0) refl refl) (λ fine. unclosed_unretired c.args.self.now.log.history c.index_mut-facts.result.now c.args.instance
-    (λ retired. (facts_has (IsGone c.args.self.now.rows.items c.args.instance) c.args.self.now.facts.items c.args.instance c.index_mut-facts.result.now within c.index_mut-facts.ensures.value (c.requires.stands.gone c.args.instance) retired).0)
-    (facts_surely (λ f. f.closed ≡ false) c.args.self.now.facts.items c.args.instance c.index_mut-facts.result.now within c.index_mut-facts.ensures.value c.requires.open.unclosed)
-    (facts_surely (λ f. f.leased ≡ false) c.args.self.now.facts.items c.args.instance c.index_mut-facts.result.now within c.index_mut-facts.ensures.value c.requires.unleased)
-    (facts_has (λ f. IsKnown f c.args.self.now.log.history c.args.instance) c.args.self.now.facts.items c.args.instance c.index_mut-facts.result.now within c.index_mut-facts.ensures.value ((c.requires.stands.recorded fine).facts c.args.instance)) (c.requires.stands.recorded fine).order
-    (unabandoned c.args.self.now.log.history (going_on g.P.Port.told c.args.self.now [] c.requires.stands c.requires.going fine)))
-    (hub_comes g.P.Port.told c.args.self.now [] (Lease c.args.instance c.args.worker c.args.now 0) c.requires.stands c.requires.going) (λ k none out. leased_on (c.args.instance == k) (is_out c.args.self.now.log.history k) out) refl
-    (λ fine known. known_leased _ c.args.self.now.log.history c.args.instance c.args.worker c.args.now 0 (record { taken = known.taken; lost = known.lost; failed_starts = known.failed_starts; ends = known.ends; to_confirm = subst (λ (o : Option _). IfSome o (λ positions. positions ≡ born_positions c.args.self.now.log.history c.args.instance)) (sym c.take.ensures.after) tt; confirm_failed = known.confirm_failed; outlet = known.outlet; over = known.over; class = known.class; confirms = λ some. absurd (taken_none _ c.take.ensures.after some); done = known.done; closed = known.closed; retired = known.retired; leased = known.leased }))
-    (λ x k other known. known_leased_other x c.args.self.now.log.history c.args.instance k c.args.worker c.args.now 0 other known)
-    (facts_has (IsShut g.P.Port.told c.args.self.now.rows.items c.args.instance) c.args.self.now.facts.items c.args.instance c.index_mut-facts.result.now within c.index_mut-facts.ensures.value (c.requires.stands.shut c.args.instance))
-    (facts_has (IsGone c.args.self.now.rows.items c.args.instance) c.args.self.now.facts.items c.args.instance c.index_mut-facts.result.now within c.index_mut-facts.ensures.value (c.requires.stands.gone c.args.instance))
-    (λ fine kept placed. placed_still c.args.self.now.rows.items [] c.args.self.now.log.history (Lease c.args.instance c.args.worker c.args.now 0) tt kept.1 placed)
-    (λ b w. w) (λ fine sound. running_still c.args.self.now.log.history (Lease c.args.instance c.args.worker c.args.now 0) c.args.self.now.batches.open_rows tt) (λ ledger. ledger)
+    let d = c.args.self.now in
+    let s = c.requires.stands in
+    let h = d.log.history in
+    let i = c.args.instance in
+    let f = c.index_mut-facts.result.now in
+    let e = Lease i c.args.worker c.args.now 0 in
+    let within : i < length d.facts.items = omega (arith, c.requires.stands.size, c.requires.open.within) in
+    stands_marked g.P.Port.told d _ [] [] _ i f _ s within c.index_mut-facts.ensures.value
+    refl refl refl s.balanced refl refl c.note.ensures.noted tt (same_next d.batches d.batches h e refl refl)
+    (λ fine. unclosed_unretired h f i c.args.worker c.args.now
+    (λ retired. (facts_has (IsGone d.rows.items i) d.facts.items i f within c.index_mut-facts.ensures.value (s.gone i) retired).0)
+    (facts_surely (λ x. x.closed ≡ false) d.facts.items i f within c.index_mut-facts.ensures.value c.requires.open.unclosed)
+    (facts_surely (λ x. x.leased ≡ false) d.facts.items i f within c.index_mut-facts.ensures.value c.requires.unleased)
+    (facts_has (λ x. IsKnown x h i) d.facts.items i f within c.index_mut-facts.ensures.value ((s.recorded fine).facts i)) (s.recorded fine).order
+    (unabandoned h (going_on g.P.Port.told d [] s c.requires.going fine))
+    (owes_no_birth h i ((s.recorded fine).bore c.requires.running i (known_at_home g.P.Port.told d [] i s c.requires.unleased fine) (unabandoned h (going_on g.P.Port.told d [] s c.requires.going fine))))
+    (let l = (s.recorded fine).later c.args.worker in omega (arith, l, c.requires.moment)))
+    (hub_comes g.P.Port.told d [] e s c.requires.going) (λ k none out. leased_on (i == k) (is_out h k) out) refl
+    (λ fine known. known_leased f h i c.args.worker c.args.now 0 _ c.take.ensures.after known)
+    (λ x k other known. known_leased_other x h i k c.args.worker c.args.now 0 other known)
+    (facts_has (IsShut g.P.Port.told d.rows.items i) d.facts.items i f within c.index_mut-facts.ensures.value (s.shut i))
+    (facts_has (IsGone d.rows.items i) d.facts.items i f within c.index_mut-facts.ensures.value (s.gone i))
+    (λ fine kept placed. placed_still d.rows.items [] h e tt kept.1 placed)
+    (λ b w. w) (λ fine sound. running_still h e d.batches.open_rows tt) (λ ledger. ledger)
+    (λ fine going. tt) (λ fine. counted_on d _ h (e ∷ h) refl refl refl refl)
+    (λ worker l. later_leased h i c.args.worker c.args.now 0 worker d.latest c.requires.moment l)
 
 pub returns-clause-open : goal.returns-clause-open
 returns-clause-open g c =
@@ -58,8 +79,32 @@ returns-clause-due g c sound =
     facts_has (λ f. IsKnown f h c.args.instance) c.args.self.now.facts.items c.args.instance c.index_mut-facts.result.now within c.index_mut-facts.ensures.value (r.facts c.args.instance) in
     subst (λ (o : Option _). IfSome o (IsDueOf c.note.new.self.history c.args.instance)) (sym c.take.ensures.value)
     (subst (λ (k : Record). IfSome c.index_mut-facts.result.now.to_confirm (IsDueOf k c.args.instance)) (sym w.1)
-    (confirm_on h c.args.instance (Lease c.args.instance c.args.worker c.args.now 0) c.index_mut-facts.result.now.to_confirm
-    (born_same h c.args.instance (Lease c.args.instance c.args.worker c.args.now 0) refl) refl (confirm_of h c.args.instance c.index_mut-facts.result.now mine)))
+    (due_leased h c.args.instance c.args.worker c.args.now 0 c.index_mut-facts.result.now r.order
+    (sym mine.leased ∙ facts_surely (λ f. f.leased ≡ false) c.args.self.now.facts.items c.args.instance c.index_mut-facts.result.now within c.index_mut-facts.ensures.value c.requires.unleased) mine))
+
+pub returns-clause-nothing : goal.returns-clause-nothing
+returns-clause-nothing g c none sound =
+    let within : c.args.instance < length c.args.self.now.facts.items = omega (arith, c.requires.stands.size, c.requires.open.within) in
+    let h = c.args.self.now.log.history in
+    let w = c.note.ensures.noted.whole sound.whole in
+    let r = c.requires.stands.recorded (record { whole = w.0; fed = sound.fed }) in
+    let mine : IsKnown c.index_mut-facts.result.now h c.args.instance =
+    facts_has (λ f. IsKnown f h c.args.instance) c.args.self.now.facts.items c.args.instance c.index_mut-facts.result.now within c.index_mut-facts.ensures.value (r.facts c.args.instance) in
+    subst (λ (k : Record). HadNoneDue k c.args.instance) (sym w.1)
+    (none_leased h c.args.instance c.args.worker c.args.now 0 c.index_mut-facts.result.now r.order
+    (sym mine.leased ∙ facts_surely (λ f. f.leased ≡ false) c.args.self.now.facts.items c.args.instance c.index_mut-facts.result.now within c.index_mut-facts.ensures.value c.requires.unleased) mine
+    (sym c.take.ensures.value ∙ none))
+
+pub returns-clause-confirmed : goal.returns-clause-confirmed
+returns-clause-confirmed g c none sound =
+    let within : c.args.instance < length c.args.self.now.facts.items = omega (arith, c.requires.stands.size, c.requires.open.within) in
+    let h = c.args.self.now.log.history in
+    let w = c.note.ensures.noted.whole sound.whole in
+    let r = c.requires.stands.recorded (record { whole = w.0; fed = sound.fed }) in
+    let mine : IsKnown c.index_mut-facts.result.now h c.args.instance =
+    facts_has (λ f. IsKnown f h c.args.instance) c.args.self.now.facts.items c.args.instance c.index_mut-facts.result.now within c.index_mut-facts.ensures.value (r.facts c.args.instance) in
+    c.take.ensures.value ∙ none_of c.index_mut-facts.result.now.to_confirm mine.confirms
+    (facts_surely (λ f. f.class ≡ Source → f.to_confirm ≡ None) c.args.self.now.facts.items c.args.instance c.index_mut-facts.result.now within c.index_mut-facts.ensures.value none)
 
 pub returns-clause-unlost : goal.returns-clause-unlost
 returns-clause-unlost g c unlost =
@@ -89,3 +134,40 @@ returns-clause-sink g c sink =
 pub returns-clause-untaken : goal.returns-clause-untaken
 returns-clause-untaken g c sound =
     subst (λ (k : Record). OnlyTook k c.args.instance 0) (sym (c.note.ensures.noted.whole sound.whole).1) (untaken_leased c.args.self.now.log.history c.args.instance c.args.worker c.args.now 0)
+
+pub returns-clause-turn : goal.returns-clause-turn
+returns-clause-turn g c ready sound =
+    let w = c.note.ensures.noted.whole sound.whole in
+    let d = c.args.self.now in
+    let i = c.args.instance in
+    subst (λ (k : Record). WasReadable k i) (sym w.1)
+    (read_leased d.log.history i c.args.worker c.args.now 0 (hub_reads g.P.Port.told d i c.args.now c.requires.stands (record { whole = w.0; fed = sound.fed }) ready))
+
+pub returns-clause-bore : goal.returns-clause-bore
+returns-clause-bore g c sound =
+    let d = c.args.self.now in
+    let i = c.args.instance in
+    let w = c.note.ensures.noted.whole sound.whole in
+    let fine : IsSound d = record { whole = w.0; fed = sound.fed } in
+    subst (λ (k : Record). AreBorn k i) (sym w.1)
+    (λ going. even_on d.log.history i (Lease i c.args.worker c.args.now 0) refl ((c.requires.stands.recorded fine).bore c.requires.running i (known_at_home g.P.Port.told d [] i c.requires.stands c.requires.unleased fine) going))
+
+pub returns-clause-noticed : goal.returns-clause-noticed
+returns-clause-noticed g c noticed sound =
+    let d = c.args.self.now in
+    let h = d.log.history in
+    let i = c.args.instance in
+    let w = c.note.ensures.noted.whole sound.whole in
+    let there : IsSome (facts_at d.facts.items i) = some_there (facts_at d.facts.items i) c.requires.open.unclosed in
+    let all : all_noticed h i ≡ true = noticed_known g.P.Port.told d [] i c.requires.stands c.requires.open.within there noticed (record { whole = w.0; fed = sound.fed }) in
+    subst (λ (k : Record). all_noticed (at_lease k i) i ≡ true) (sym w.1)
+    (subst (λ (k : Record). all_noticed k i ≡ true) (sym (ap (λ t. if t then h else at_lease h i) (same_test i))) all)
+
+pub returns-clause-moment : goal.returns-clause-moment
+returns-clause-moment g c = moment_leased c.args.self.now _ c.args.instance c.args.worker c.args.now 0 c.note.ensures.noted
+
+pub returns-clause-leased : goal.returns-clause-leased
+returns-clause-leased g c sound = moment_leased c.args.self.now _ c.args.instance c.args.worker c.args.now 0 c.note.ensures.noted sound ∙ c.requires.moment
+
+pub returns-clause-done : goal.returns-clause-done
+returns-clause-done g c finished = was_leased c.args.self.now _ c.args.instance c.args.worker c.args.now 0 c.note.ensures.noted refl (done_so g.P.Port.told c.args.self.now c.args.instance c.requires.stands finished)

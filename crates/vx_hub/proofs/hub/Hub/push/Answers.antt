@@ -45,5 +45,7 @@ returns-clause-stands g c =
       due = λ fine b w. w;
       statuses = λ fine. running_on d.log.history (Push c.args.instance target 0 (numbers_in copies) ∷ d.log.history) d.batches.open_rows (λ b. refl);
       ledger = λ ledger. ledger;
+      opened = refl;
+      unnoticed = refl;
     })
     refl refl refl

@@ -1,18 +1,17 @@
-use Rattle.std.proofs.Common.{arith, ap, sym, subst, length, ◌≡◌, ◌+◌, ◌∙◌, ◌++◌, ◌∷◌, [], List, false}
+use Rattle.std.proofs.Common.{arith, ap, sym, subst, length, ◌≡◌, ◌+◌, ◌∙◌, ◌++◌, ◌∷◌, [], List, false, ℕ, IsTrue, true}
 use Rattle.std.specs.Prelude.{IsSomeAnd}
 use Rattle.std.proofs.lemmas.List.{length-append}
 use Rattle.vx_ledger.specs.Copies.{Copy}
 use Rattle.vx_hub.specs.Rows.{HasOutputRoom}
-use Rattle.vx_hub.specs.Stands.{Stands, facts_at}
-use Rattle.std.proofs.Common.{ℕ, IsTrue, true}
+use Rattle.vx_hub.specs.Stands.{Stands, facts_at, IsSound}
 use Rattle.vx_record.specs.declared.log.Log.{Log}
 use Rattle.vx_record.specs.Lists.{outputs}
 use Rattle.vx_record.specs.Moving.{singles}
 use Rattle.vx_hub.specs.Numbers.{numbers_in}
-use Rattle.vx_hub.specs.Stands.{IsSound}
 use Rattle.vx_hub.proofs.Homing.{next_out, lined_rest, stands_starved}
 use Rattle.vx_hub.specs.Events.{ArePaired}
 use Rattle.vx_hub.proofs.EventLaws.{paired_last}
+use Rattle.vx_hub.proofs.Owed.{born_same}
 use Rattle.vx_hub.proofs.hub.Hub.put_out.Goals as goal
 
 pub loop-event-preserved : goal.loop-event-preserved
@@ -41,6 +40,7 @@ loop-event-preserved g c =
       room = c.put_one.ensures.room (length c.pop.new.self) (subst (λ n. HasOutputRoom c.loop-event.self.rows.items c.args.instance n) shorter inv.room);
       size = c.put_one.ensures.size ∙ inv.size;
       returning = λ i back. c.put_one.ensures.returning i (inv.returning i back);
+      bore = λ i had. born_same c.loop-event.self c.put_one.new.self c.put_one.ensures.log c.put_one.ensures.starved i (inv.bore i had);
       plan = c.put_one.ensures.plan ∙ inv.plan;
     }
 

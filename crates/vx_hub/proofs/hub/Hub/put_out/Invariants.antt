@@ -1,6 +1,7 @@
 use Rattle.std.proofs.Common.{◌≡◌, ℕ, length}
 use Rattle.vx_hub.specs.Stands.{Stands}
 use Rattle.vx_hub.specs.Away.{IsReturning}
+use Rattle.vx_hub.specs.Owed.{HasBorn}
 use Rattle.vx_hub.specs.Births.{IsLinedUp, ArePairedBy}
 use Rattle.vx_hub.specs.Leases.{IsOpenAt}
 use Rattle.vx_hub.specs.Rows.{HasOutputRoom}
@@ -17,6 +18,7 @@ invariant-loop-event g l = record {
   size : length l.self.rows.items ≡ length l.fn.self.rows.items;
   plan : l.self.plan ≡ l.fn.self.plan;
   returning : (i : ℕ) → IsReturning l.fn.self i → IsReturning l.self i;
+  bore : (i : ℕ) → HasBorn l.fn.self i → HasBorn l.self i;
 }
 
 abbrev pub decreases-loop-event : goal.decreases-loop-event

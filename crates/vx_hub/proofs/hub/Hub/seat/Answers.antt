@@ -10,6 +10,9 @@ use Rattle.vx_hub.specs.Rows.{parcel_copies, child_copies, copies_in, port_at}
 use Rattle.vx_hub.proofs.Parcels.{row_counts}
 use Rattle.vx_hub.proofs.Beginning.{ports_more, said_more, home_more, facts_more, fitted_more_at, rooms_more, seat_room, seat_fitted, copies_more, role_counts, role_begun, seat_role, places_more, unused_here}
 use Rattle.vx_hub.specs.Places.{copies_at}
+use Rattle.vx_hub.specs.declared.facts.Progress.{Progress}
+use Rattle.vx_hub.specs.Notices.{progress_at}
+use Rattle.vx_hub.proofs.Counting.{progress_more}
 use Rattle.vx_hub.specs.Events.{AreSaid}
 use Rattle.vx_hub.proofs.hub.Hub.seat.Goals as goal
 
@@ -35,7 +38,7 @@ returns-clause-begins g c plan begins untouched fitted =
           (unused_here row c.requires.unused.outputs c.new.ensures.items c.requires.unused.buffer c.requires.unused.held) p;
       said = λ once now. subst (λ (rows : List (Row _)). AreSaid (begun plan once now) rows) (sym c.push_reserved-3.ensures.items)
           (said_more (begun plan once now) c.args.self.now.rows.items row (begins.said once now) c.requires.unused.outputs c.new.ensures.items c.requires.unused.buffer c.requires.unused.held
-          (role_begun plan once now (length c.args.self.now.rows.items) c.args.seat.role (seat_role plan (slice_get plan.components (length c.args.self.now.rows.items)) c.args.seat fitted)));
+          (role_begun plan once now (length c.args.self.now.rows.items) c.args.seat.role (seat_role plan (slice_get plan.components (length c.args.self.now.rows.items)) c.args.seat fitted) c.requires.unused.held));
       home = λ i l. subst (λ (rows : List (Row _)). IsSome (port_at rows i)) (sym c.push_reserved-3.ensures.items)
           (home_more c.args.self.now.rows.items row begins.home refl i (subst (λ (rows : List (Row _)). i < length rows) c.push_reserved-3.ensures.items l));
       ports = λ i. subst (λ (rows : List (Row _)). IfSome (port_at rows i) (λ port. IsUntouched (spec_of (slice_get plan.components i)) (g.P.Port.told port))) (sym c.push_reserved-3.ensures.items)
@@ -50,4 +53,7 @@ returns-clause-begins g c plan begins untouched fitted =
       size = omega (arith, c.push_reserved.ensures.len, c.push_reserved-3.ensures.len, begins.size);
       rooms = subst (λ (rows : List (Row _)). HasRooms plan rows) (sym c.push_reserved-3.ensures.items)
           (rooms_more (λ k n. n ≡ room_at plan k) c.args.self.now.rows.items row begins.rooms (seat_room plan (length c.args.self.now.rows.items) c.args.seat fitted));
+      abreast = omega (arith, c.push_reserved-2.ensures.len, c.push_reserved-3.ensures.len, begins.abreast);
+      unnoticed = λ i l. subst (λ (ps : List Progress). IsSomeAnd (progress_at ps i) (λ p. p.unnoticed ≡ 0)) (sym c.push_reserved-2.ensures.items)
+          (progress_more c.args.self.now.progress.items (record { unnoticed = 0 }) begins.unnoticed refl i (subst (λ (ps : List Progress). i < length ps) c.push_reserved-2.ensures.items l));
     }

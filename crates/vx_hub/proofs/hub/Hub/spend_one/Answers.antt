@@ -1,12 +1,11 @@
-use Rattle.std.proofs.Common.{refl, sym, ap, subst, ◌∙◌, [], ◌∷◌, ◌++◌}
+use Rattle.std.proofs.Common.{refl, sym, ap, subst, ◌∙◌, [], ◌∷◌, ◌++◌, Option}
 use Rattle.std.specs.Prelude.{IsSome}
-use Rattle.vx_record.specs.declared.entry.Entry.TheVariants.{Spent}
+use Rattle.vx_record.specs.declared.entry.Entry.TheVariants.{Spent, Notice}
 use Rattle.vx_hub.proofs.Ordering.{spent_on, noticed_on}
 use Rattle.vx_hub.proofs.StandsLaws.{same_next, stands_quiet, stands_noticed, spent_balanced, bare_stays}
 use Rattle.vx_hub.proofs.Placing.{spent_live, conserved}
 use Rattle.vx_hub.proofs.Owning.{placed_spent}
 use Rattle.vx_hub.proofs.Noticing.{in_turn, spent_statuses, spent_quietly, spent_last, last_mine, none_there}
-use Rattle.std.proofs.Common.{Option}
 use Rattle.vx_record.specs.Moving.{IsConserved}
 use Rattle.vx_hub.specs.Order.{IsInOrder}
 use Rattle.vx_record.specs.Abandoning.{MayStillCome}
@@ -15,10 +14,11 @@ use Rattle.vx_hub.specs.Places.{IsPlaced}
 use Rattle.vx_hub.specs.Stands.{Stands, IsSound}
 use Rattle.vx_hub.specs.declared.hub.Hub.{Hub}
 use Rattle.vx_hub.proofs.Standing.{spending, from_spent, from_noticed}
-use Rattle.vx_record.specs.declared.entry.Entry.TheVariants.{Notice}
 use Rattle.vx_hub.specs.Rows.{port_at}
 use Rattle.vx_hub.proofs.Leaving.{arrived_noted}
 use Rattle.vx_hub.proofs.Saids.{rows_on}
+use Rattle.vx_hub.specs.Notices.{pending_in}
+use Rattle.vx_hub.proofs.Counting.{pending_spent, counted_noticed, taken_off}
 use Rattle.vx_hub.proofs.hub.Hub.spend_one.Goals as goal
 
 pub returns-in_default-clause-stands : goal.returns-in_default-clause-stands
@@ -49,6 +49,8 @@ returns-in_default-clause-stands g c rest s =
       statuses = λ fine running. let r = s.recorded fine in
           spent_statuses h c.args.instance n c.args.outcome f d.batches _ c.number-copy.ensures (last_mine h rest f r.places.owned) r.ledger running c.spend-notice.ensures.rows;
       ledger = λ ledger. c.spend-notice.ensures.kept;
+      opened = ap pending_in c.spend-notice.ensures.rows ∙ pending_spent f.batch f.place c.args.outcome d.batches.open_rows (sym c.spend-notice.ensures.notice ∙ c.in_default.is);
+      unnoticed = refl;
     }) refl refl refl
 
 pub returns-in-Some-clause-stands : goal.returns-in-Some-clause-stands
@@ -72,7 +74,10 @@ returns-in-Some-clause-stands g c rest s =
     (c.spend-notice.ensures.last.0 (subst (λ (o : Option _). IsSome o) (sym c.in-Some.is) refl)) (sym c.spend-notice.ensures.notice ∙ c.in-Some.is))
     (λ fine. let r = s.recorded fine in
     spent_statuses h c.args.instance n c.args.outcome f d.batches _ c.number-copy.ensures (last_mine h rest f r.places.owned) r.ledger r.statuses c.spend-notice.ensures.rows)
-    c.spend-notice.ensures.kept refl refl refl)
+    c.spend-notice.ensures.kept refl refl refl
+    (λ fine counted. let r = s.recorded fine in
+    counted_noticed d _ h c.args.instance n c.args.outcome f.batch c.in-Some.notice c.in-Some.notice.status
+    (taken_off h c.args.outcome f d.batches c.spend-notice.new.self.open_rows c.in-Some.notice (last_mine h rest f r.places.owned) r.ledger c.spend-notice.ensures.rows (sym c.spend-notice.ensures.notice ∙ c.in-Some.is)) refl c.tell.ensures.counted counted))
 
 pub returns-in_default-clause-cause : goal.returns-in_default-clause-cause
 returns-in_default-clause-cause g c = spent_on c.args.self.now (record c.args.self.now { batches = c.spend-notice.new.self; log = c.note.new.self }) c.args.instance c.number-copy.result c.args.outcome c.args.instance c.args.outcome c.note.ensures.noted refl c.requires.cause
@@ -95,10 +100,10 @@ returns-in-Some-clause-from g c rest s from =
 
 pub returns-in_default-clause-arrived : goal.returns-in_default-clause-arrived
 returns-in_default-clause-arrived g c =
-    arrived_noted c.args.self.now (record c.args.self.now { batches = c.spend-notice.new.self; log = c.note.new.self }) (Spent c.args.instance c.number-copy.result c.args.outcome) (λ i. refl) c.note.ensures.noted refl (λ h k out. out)
+    arrived_noted c.args.self.now (record c.args.self.now { batches = c.spend-notice.new.self; log = c.note.new.self }) (Spent c.args.instance c.number-copy.result c.args.outcome) (λ i. refl) c.note.ensures.noted refl (λ h k out. out) (λ h k told. told)
 
 pub returns-in-Some-clause-arrived : goal.returns-in-Some-clause-arrived
 returns-in-Some-clause-arrived g c i back =
     let mid : Hub _ = record c.args.self.now { batches = c.spend-notice.new.self; log = c.note.new.self } in
-    arrived_noted mid c.tell.new.self (Notice c.in-Some.notice.batch c.in-Some.notice.status) (λ k. ap (λ (x : Hub _). port_at x.rows.items k) c.tell.ensures.rest) c.tell.ensures.noted (ap (λ (x : Hub _). x.starved) c.tell.ensures.rest) (λ h k out. out) i
-    (arrived_noted c.args.self.now mid (Spent c.args.instance c.number-copy.result c.args.outcome) (λ k. refl) c.note.ensures.noted refl (λ h k out. out) i back)
+    arrived_noted mid c.tell.new.self (Notice c.in-Some.notice.batch c.in-Some.notice.status) (λ k. ap (λ (x : Hub _). port_at x.rows.items k) c.tell.ensures.rest) c.tell.ensures.noted (ap (λ (x : Hub _). x.starved) c.tell.ensures.rest) (λ h k out. out) (λ h k told. told) i
+    (arrived_noted c.args.self.now mid (Spent c.args.instance c.number-copy.result c.args.outcome) (λ k. refl) c.note.ensures.noted refl (λ h k out. out) (λ h k told. told) i back)

@@ -1,8 +1,10 @@
-use Rattle.std.proofs.Common.{arith, ◌∷◌, refl, sym, ap, subst, ◌∙◌, ◌≡◌, ◌*◌, ◌+◌, ◌-◌, ◌≤◌, [], length}
+use Rattle.std.proofs.Common.{arith, ◌∷◌, refl, sym, ap, subst, ◌∙◌, ◌≡◌, ◌*◌, ◌+◌, ◌-◌, ◌≤◌, [], length, List, true, false, ◌<◌, ℕ}
 use Rattle.std.specs.Prelude.{◌^◌}
 use Rattle.vx_ledger.specs.Ledger.{Exchanges, grown_rows}
 use Rattle.vx_ledger.specs.declared.open_batch.OpenBatch.{OpenBatch}
 use Rattle.vx_hub.specs.Batching.{AreRunning}
+use Rattle.vx_hub.specs.Notices.{pending_in}
+use Rattle.vx_hub.proofs.Counting.{pending_grown}
 use Rattle.vx_hub.proofs.Noticing.{running_on, running_grown}
 use Rattle.vx_ledger.specs.Routing.{targets_of, children_for}
 use Rattle.vx_ledger.specs.declared.parcel.Parcel.{Parcel}
@@ -11,27 +13,27 @@ use Rattle.vx_hub.specs.declared.fatal.Fatal.{Fatal}
 use Rattle.vx_hub.specs.Rows.{child_copies}
 use Rattle.vx_hub.specs.Numbers.{numbers_in, noted_of}
 use Rattle.vx_hub.specs.Failures.{abandon_cause}
+use Rattle.vx_hub.specs.Stands.{IsSound}
 use Rattle.vx_hub.specs.Order.{IsReason}
 use Rattle.vx_hub.proofs.Ordering.{children_have, parcel_has, targets_some, split_next, split_in_order, noted_split, length_numbers, length_noted, short_reason, unread_balanced, unread_may, targets_none}
-use Rattle.vx_hub.proofs.StandsLaws.{stands_quiet, stands_moved, same_balanced, split_balanced, back_balanced, bare_but, bare_by}
-use Rattle.std.proofs.Common.{List}
+use Rattle.vx_hub.proofs.StandsLaws.{stands_quiet, stands_moved, stands_settled, same_balanced, split_balanced, back_balanced, bare_but, bare_by}
+use Rattle.vx_hub.specs.declared.hub.Hub.{Hub}
 use Rattle.vx_ledger.specs.declared.child.Child.{Child}
 use Rattle.vx_record.specs.Places.Place.{Outputs, Waiting}
-use Rattle.vx_hub.specs.Places.{IsPlaced, EachMine, waiting_lists, FillsWaiting}
+use Rattle.vx_hub.specs.Places.{IsPlaced, EachMine, waiting_lists, FillsWaiting, TakesOldest}
 use Rattle.vx_hub.proofs.Placing.{oldest_is, from_oldest, places_all}
 use Rattle.vx_hub.proofs.Owning.{children_mine, placed_split, placed_same, placed_taken}
 use Rattle.vx_hub.proofs.Homing.{is_oldest, oldest_some, none_wait, put_back}
 use Rattle.vx_status.specs.declared.outcome.Outcome.TheVariants.{NoConsumer}
-use Rattle.vx_hub.specs.Places.{TakesOldest}
 use Rattle.vx_hub.proofs.Standing.{first_from}
 use Rattle.vx_hub.proofs.Touching.{routed_as}
 use Rattle.vx_hub.proofs.Retiring.{none_waiting}
 use Rattle.vx_hub.proofs.Ceasing.{going_on, hub_comes}
-use Rattle.std.proofs.Common.{◌<◌}
 use Rattle.vx_hub.specs.Events.{IsSaid, EachChild}
 use Rattle.vx_hub.proofs.Settling.{known_at_home}
 use Rattle.vx_hub.proofs.Saids.{rows_on}
 use Rattle.vx_hub.proofs.EventLaws.{children_said}
+use Rattle.vx_hub.proofs.Splitting.{split_wants, split_few, some_targets, some_wanted, short_wants, readers_within}
 use Rattle.vx_hub.proofs.hub.Hub.split.Goals as goal
 
 pub returns-in-Ok-Children-clause-stands : goal.returns-in-Ok-Children-clause-stands
@@ -90,6 +92,8 @@ returns-in-Ok-Children-clause-stands g c =
           (running_grown (Split c.args.instance 1 (numbers_in parcel.finalizers) parcel.event (noted_of cs) ∷ d.log.history) (length targets - 1) parcel.finalizers d.batches.open_rows
           (running_on d.log.history (Split c.args.instance 1 (numbers_in parcel.finalizers) parcel.event (noted_of cs) ∷ d.log.history) d.batches.open_rows (λ b. refl) running));
       ledger = λ ledger. c.in-Ok-Children.ensures.kept;
+      opened = ap pending_in rows ∙ pending_grown (length targets - 1) parcel.finalizers d.batches.open_rows;
+      unnoticed = refl;
     })
     refl refl refl
 
@@ -97,7 +101,9 @@ pub returns-in-Err-clause-stands : goal.returns-in-Err-clause-stands
 returns-in-Err-clause-stands g c =
     let s = c.requires.stands in
     let d = c.args.self.now in
-    stands_moved g.P.Port.told d _ [] [] s
+    let back : Hub _ = record d { batches = c.route.new.batches; rows = c.push_output.new.rows } in
+    stands_settled g.P.Port.told back _ [] refl
+    (stands_moved g.P.Port.told d back [] [] s
     (back_balanced d.batches c.route.new.batches d.rows.items c.pop_output.new.rows.items c.push_output.new.rows.items c.in-Some.parcel.finalizers c.in-Err.field-0.parcel.finalizers
     s.balanced c.in-Some.ensures.loses c.in-Err.ensures.unchanged (ap (λ (p : Parcel). p.finalizers) c.in-Err.ensures.back) c.push_output.ensures.gains)
     refl (λ i. c.push_output.ensures.ports i ∙ c.pop_output.ensures.ports i)
@@ -106,7 +112,8 @@ returns-in-Err-clause-stands g c =
     (λ fine kept placed. placed_same d.rows.items c.push_output.new.rows.items [] d.log.history
     (put_back (Outputs c.args.instance) c.in-Some.parcel.finalizers c.in-Err.field-0.parcel.finalizers d.rows.items c.pop_output.new.rows.items c.push_output.new.rows.items c.in-Some.ensures.oldest c.push_output.ensures.oldest
     (ap (λ (p : Parcel). p.finalizers) c.in-Err.ensures.back)) placed)
-    (λ fine said. let out = c.in-Some.ensures.said d.log.history said in c.push_output.ensures.said d.log.history out.0 (subst (λ (p : Parcel). IsSaid d.log.history p) (sym c.in-Err.ensures.back) out.1))
+    (λ fine said. let out = c.in-Some.ensures.said d.log.history said in c.push_output.ensures.said d.log.history out.0 (subst (λ (p : Parcel). IsSaid d.log.history p) (sym c.in-Err.ensures.back) out.1)))
+    (λ going. let no : true ≡ false = going in cc)
 
 pub returns-in-Err-clause-reason : goal.returns-in-Err-clause-reason
 returns-in-Err-clause-reason g c sound =
@@ -150,3 +157,26 @@ returns-in_default-clause-stands g c =
     c.pop_output.ensures.same_rooms refl refl refl refl refl
     (λ fine kept placed. placed_same d.rows.items c.pop_output.new.rows.items [] d.log.history c.in_default.ensures.none placed)
     (λ fine said. (c.in_default.ensures.said d.log.history said).0)
+
+pub returns-in-Err-clause-wants : goal.returns-in-Err-clause-wants
+returns-in-Err-clause-wants g c =
+    let d = c.args.self.now in
+    let s = c.requires.stands in
+    let parcel = c.in-Some.parcel in
+    let targets = targets_of 1 c.index.result.now.outlet in
+    short_wants _ d.batches.next (length targets * length parcel.finalizers) c.in-Err.field-0.cause c.from.result
+    (λ sound more.
+    let fine : IsSound d = record { whole = sound.whole; fed = sound.fed } in
+    let r = s.recorded fine in
+    let routed = routed_as g.P.Port.told d c.args.instance c.index.result.now s c.requires.within c.index.ensures fine in
+    let oldest = is_oldest (numbers_in parcel.finalizers) _ _ (oldest_is (Outputs c.args.instance) parcel.finalizers d.rows.items c.pop_output.new.rows.items d.log.history r.places.standing c.in-Some.ensures.oldest) in
+    let few = readers_within g.P.Port.told d [] c.args.instance c.index.result.now s fine c.requires.within c.index.ensures in
+    let most : length targets ≤ 2 ^ 32 = subst (λ (ts : List ℕ). length ts ≤ 2 ^ 32) (sym routed) few in (
+      split_wants d.log.history c.args.instance targets parcel r.order
+          (known_at_home g.P.Port.told d [] c.args.instance s c.requires.home fine)
+          (none_waiting d.rows.items d.log.history c.args.instance r.places.standing c.requires.none)
+          routed oldest (c.in-Some.ensures.said d.log.history r.said).1
+          (some_targets targets (length parcel.finalizers) (some_wanted d.batches.next (length targets * length parcel.finalizers) more r.ledger.numbers)),
+      split_few d.log.history c.args.instance (2 ^ 32) targets parcel most oldest,
+    ))
+    c.in-Err.ensures.cause c.from.ensures

@@ -4,15 +4,25 @@ use Rattle.vx_hub.specs.Numbers.{numbers_in}
 use Rattle.vx_ledger.specs.Copies.{Copy}
 use Rattle.vx_record.specs.declared.entry.Entry.TheVariants.{Take}
 use Rattle.vx_record.specs.Places.Place.{Contents, Outputs, Held}
-use Rattle.vx_hub.proofs.Placing.{oldest_is}
+use Rattle.vx_hub.proofs.Placing.{oldest_is, conserved, there_taken, from_oldest}
+use Rattle.vx_hub.proofs.Collecting.{taken_now}
+use Rattle.vx_hub.proofs.Taking.{rows_taken, oldest_full}
+use Rattle.vx_hub.proofs.Sinking.{may_take}
+use Rattle.vx_hub.specs.Order.{IsTakeOf}
+use Rattle.vx_hub.specs.Stands.{IsSound}
 use Rattle.vx_hub.proofs.Rooming.{take_first}
 use Rattle.vx_hub.proofs.Owning.{placed_held, placed_same}
 use Rattle.vx_hub.proofs.Homing.{is_oldest, holds_put}
 use Rattle.vx_hub.specs.Places.{all_numbers}
 use Rattle.vx_hub.proofs.Noticing.{running_on}
 use Rattle.vx_hub.proofs.Ceasing.{hub_comes}
-use Rattle.vx_hub.proofs.Leaving.{away_noted, away_same, taken_more, taken_same, untried_noted, untried_same}
+use Rattle.vx_hub.proofs.Asking.{nothing_noted, nothing_same}
+use Rattle.vx_hub.proofs.Leaving.{away_noted, away_same, taken_more, taken_same, untried_noted, untried_same, noticed_noted, noticed_same}
 use Rattle.vx_hub.proofs.Saids.{rows_on, said_on}
+use Rattle.vx_hub.proofs.Flowing.{may_read_noted, may_read_same}
+use Rattle.vx_hub.proofs.Owed.{born_noted, born_same}
+use Rattle.vx_hub.proofs.Moments.{moment_noted, moment_same}
+use Rattle.vx_hub.proofs.Concluding.{was_noted, was_same}
 use Rattle.vx_hub.proofs.hub.Hub.take.Goals as goal
 
 pub returns-in_default-clause-stands : goal.returns-in_default-clause-stands
@@ -26,6 +36,23 @@ returns-in_default-clause-stands g c =
 
 pub returns-clause-stands : goal.returns-clause-stands
 returns-clause-stands g c =
+    let d = c.args.self.now in
+    let h = d.log.history in
+    let i = c.args.instance in
+    let copies = c.in-Some.parcel.finalizers in
+    let e = Take i 0 (numbers_in copies) in
+    let order : IsSound d → IsTakeOf h i 0 (numbers_in copies) = λ fine.
+    let is = oldest_is (Contents i 0) copies d.rows.items c.pop_buffer.new.rows.items h (c.requires.stands.recorded fine).places.standing c.in-Some.ensures.oldest in
+    let may = may_take g.P.Port.told d i c.args.now 63 (numbers_in copies) _ c.requires.stands c.requires.going c.requires.open.within fine (c.requires.away fine) (c.requires.few fine) (c.can_hold.ensures c.if-not-can_hold.false) (c.is_batch_closed.ensures.unclosed c.if-is_batch_closed.false) (c.requires.moment fine) is in
+    record {
+      out = c.requires.away fine;
+      only_takes = (c.requires.few fine).only_takes;
+      few = omega (arith, (c.requires.few fine).few);
+      first = take_first g.P.Port.told d i _ _ c.requires.stands fine c.requires.open.within (c.in-Some.ensures.made refl) is;
+      oldest = is_oldest (numbers_in copies) _ _ is;
+      unclosed = λ sink. may.unclosed;
+      room = λ sink. may.room;
+    } in
     stands_quiet g.P.Port.told c.args.self.now _ [] [] _ c.requires.stands
     (moved_balanced c.args.self.now.batches c.args.self.now.rows.items c.pop_buffer.new.rows.items c.hold.new.rows.items c.in-Some.parcel.finalizers c.requires.stands.balanced c.in-Some.ensures.loses c.hold.ensures.gains)
     refl (λ i. c.hold.ensures.ports i ∙ c.pop_buffer.ensures.ports i)
@@ -34,18 +61,23 @@ returns-clause-stands g c =
     (record {
       quiet = tt;
       next = same_next c.args.self.now.batches c.args.self.now.batches c.args.self.now.log.history (Take c.args.instance 0 (numbers_in c.in-Some.parcel.finalizers)) refl refl;
-      order = λ fine. record { out = c.requires.away fine; only_takes = (c.requires.few fine).only_takes; few = omega (arith, (c.requires.few fine).few); first = take_first g.P.Port.told c.args.self.now c.args.instance _ _ c.requires.stands fine c.requires.open.within (c.in-Some.ensures.made refl) (oldest_is (Contents c.args.instance 0) c.in-Some.parcel.finalizers c.args.self.now.rows.items c.pop_buffer.new.rows.items c.args.self.now.log.history (c.requires.stands.recorded fine).places.standing c.in-Some.ensures.oldest); oldest = is_oldest (numbers_in c.in-Some.parcel.finalizers) _ _ (oldest_is (Contents c.args.instance 0) c.in-Some.parcel.finalizers c.args.self.now.rows.items c.pop_buffer.new.rows.items c.args.self.now.log.history (c.requires.stands.recorded fine).places.standing c.in-Some.ensures.oldest) };
+      order = order;
       said = λ fine said.
-          let e = Take c.args.instance 0 (numbers_in c.in-Some.parcel.finalizers) in
-          let h = c.args.self.now.log.history in
           let out = c.in-Some.ensures.said h said in
-          c.hold.ensures.said (e ∷ h) (rows_on h e tt c.pop_buffer.new.rows.items out.0) (said_on h e c.in-Some.parcel out.1);
+          let r = c.requires.stands.recorded fine in
+          let kept = conserved h r.order in
+          let is = oldest_is (Contents i 0) copies d.rows.items c.pop_buffer.new.rows.items h r.places.standing c.in-Some.ensures.oldest in
+          let mid = there_taken (Contents i 0) copies d.rows.items c.pop_buffer.new.rows.items h kept r.places.standing (from_oldest (Contents i 0) copies d.rows.items c.pop_buffer.new.rows.items c.in-Some.ensures.oldest) in
+          c.hold.ensures.said (e ∷ h) (sym (taken_now h i 0 (numbers_in copies) (oldest_full h i (numbers_in copies) _ is) ∙ c.requires.moment fine))
+          (rows_taken h i 0 (numbers_in copies) c.pop_buffer.new.rows.items (numbers_in copies) mid ((order fine).oldest, kept) out.0) (said_on h e c.in-Some.parcel out.1);
       outs = λ fine i none out. out;
       comes = hub_comes g.P.Port.told c.args.self.now [] (Take c.args.instance 0 (numbers_in c.in-Some.parcel.finalizers)) c.requires.stands c.requires.going;
       places = λ fine kept placed. placed_held c.args.self.now.rows.items c.pop_buffer.new.rows.items c.hold.new.rows.items c.args.self.now.log.history c.args.instance c.in-Some.parcel.finalizers kept placed c.in-Some.ensures.oldest c.hold.ensures.last;
       due = λ fine b w. w;
       statuses = λ fine. running_on c.args.self.now.log.history (Take c.args.instance 0 (numbers_in c.in-Some.parcel.finalizers) ∷ c.args.self.now.log.history) c.args.self.now.batches.open_rows (λ b. refl);
       ledger = λ ledger. ledger;
+      opened = refl;
+      unnoticed = refl;
     }) refl refl refl
 
 pub returns-in_default-clause-outputs : goal.returns-in_default-clause-outputs
@@ -72,6 +104,12 @@ returns-in_default-clause-untried g c = untried_same c.args.self.now _ refl refl
 pub returns-clause-untried : goal.returns-clause-untried
 returns-clause-untried g c = untried_noted c.args.self.now _ (Take c.args.instance 0 (numbers_in c.in-Some.parcel.finalizers)) c.note_take.ensures refl (λ h k none. none)
 
+pub returns-in_default-clause-nothing : goal.returns-in_default-clause-nothing
+returns-in_default-clause-nothing g c = nothing_same c.args.self.now _ refl refl
+
+pub returns-clause-nothing : goal.returns-clause-nothing
+returns-clause-nothing g c = nothing_noted c.args.self.now _ (Take c.args.instance 0 (numbers_in c.in-Some.parcel.finalizers)) c.note_take.ensures refl (λ h k had. record { undue = had.undue; told = had.told })
+
 pub returns-in_default-clause-holds : goal.returns-in_default-clause-holds
 returns-in_default-clause-holds g c i some = subst (λ (ps : List (List Copy)). 0 < length ps) (sym (c.in_default.ensures.none (Held i))) some
 
@@ -79,3 +117,41 @@ pub returns-clause-holds : goal.returns-clause-holds
 returns-clause-holds g c i some =
     holds_put (Held c.args.instance) i c.in-Some.parcel.finalizers c.pop_buffer.new.rows.items c.hold.new.rows.items c.hold.ensures.last
     (subst (λ (ps : List (List Copy)). 0 < length ps) (sym (c.in-Some.ensures.oldest.others (Held i) refl)) some)
+
+pub returns-in_default-clause-turn : goal.returns-in_default-clause-turn
+returns-in_default-clause-turn g c = may_read_same c.args.self.now _ refl refl
+
+pub returns-clause-turn : goal.returns-clause-turn
+returns-clause-turn g c =
+    may_read_noted c.args.self.now _ (Take c.args.instance 0 (numbers_in c.in-Some.parcel.finalizers)) c.note_take.ensures refl
+    (λ h k was. record { readable = was.readable; once = was.once })
+
+pub returns-in_default-clause-bore : goal.returns-in_default-clause-bore
+returns-in_default-clause-bore g c = born_same c.args.self.now _ refl refl
+
+pub returns-clause-bore : goal.returns-clause-bore
+returns-clause-bore g c = born_noted c.args.self.now _ (Take c.args.instance 0 (numbers_in c.in-Some.parcel.finalizers)) c.note_take.ensures refl (λ h k. refl) (λ k. refl) (λ h going. going)
+
+pub returns-in_default-clause-noticed : goal.returns-in_default-clause-noticed
+returns-in_default-clause-noticed g c = noticed_same c.args.self.now _ refl refl
+
+pub returns-clause-noticed : goal.returns-clause-noticed
+returns-clause-noticed g c = noticed_noted c.args.self.now _ (Take c.args.instance 0 (numbers_in c.in-Some.parcel.finalizers)) c.note_take.ensures refl (λ h k. refl)
+
+pub returns-in_default-clause-moment : goal.returns-in_default-clause-moment
+returns-in_default-clause-moment g c = moment_same c.args.self.now _ refl refl
+
+pub returns-clause-moment : goal.returns-clause-moment
+returns-clause-moment g c = moment_noted c.args.self.now _ (Take c.args.instance 0 (numbers_in c.in-Some.parcel.finalizers)) c.note_take.ensures refl (λ h k. refl)
+
+pub returns-in_default-clause-leased : goal.returns-in_default-clause-leased
+returns-in_default-clause-leased g c i = moment_same c.args.self.now _ refl refl i c.args.self.now.latest
+
+pub returns-clause-leased : goal.returns-clause-leased
+returns-clause-leased g c i = moment_noted c.args.self.now _ (Take c.args.instance 0 (numbers_in c.in-Some.parcel.finalizers)) c.note_take.ensures refl (λ h k. refl) i c.args.self.now.latest
+
+pub returns-in_default-clause-done : goal.returns-in_default-clause-done
+returns-in_default-clause-done g c = was_same c.args.self.now _ refl refl
+
+pub returns-clause-done : goal.returns-clause-done
+returns-clause-done g c = was_noted c.args.self.now _ (Take c.args.instance 0 (numbers_in c.in-Some.parcel.finalizers)) c.note_take.ensures refl (λ h k. refl)

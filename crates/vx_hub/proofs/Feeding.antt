@@ -1,0 +1,219 @@
+-- Which instances name which, in an orderly record: children wait for readers alone.
+use Rattle.std.proofs.Common.{◌≡◌, ℕ, zero, suc, ◌+◌, ◌<◌, ◌≤◌, Bool, true, false, ◌&&◌, ◌||◌, List, [], ◌∷◌, ◌++◌, length, Option, Some, None, refl, sym, ap, subst, ◌∙◌, arith}
+use Rattle.std.specs.Prelude.{◌==◌, if◌then◌else◌, not, nat_lt, map, filter, slice_get, IsSomeAnd}
+use Rattle.std.specs.List.{list_any, list_all}
+use Rattle.std.proofs.lemmas.Bool.Decides.{nat_tests}
+use Rattle.std.proofs.lemmas.List.{append-nil}
+use Rattle.vx_value.specs.Texts.{is_empty}
+use Rattle.vx_plan.specs.declared.class.Class.{Class}
+use Rattle.vx_plan.specs.declared.class.Class.TheVariants.{Source, Transform, Sink}
+use Rattle.vx_plan.specs.declared.component.Component.{Component}
+use Rattle.vx_plan.specs.declared.plan.Plan.{Plan}
+use Rattle.vx_plan.specs.Components.{class_ports, port_names}
+use Rattle.vx_record.specs.Records.{Record}
+use Rattle.vx_record.specs.declared.entry.Entry.{Entry}
+use Rattle.vx_record.specs.declared.entry.Entry.TheVariants.{Install, Born, Split, Push, Take}
+use Rattle.vx_record.specs.declared.instance.Instance.{Instance}
+use Rattle.vx_record.specs.declared.child.Child.{Child}
+use Rattle.vx_record.specs.Copies.{count, contains, joined, counting, children_of, next_copy}
+use Rattle.vx_record.specs.Places.{Place, Put, Kind, kind, same_place, one_each, puts, all_puts, left}
+use Rattle.vx_record.specs.Places.Place.{Outputs, Waiting, Contents, Held}
+use Rattle.vx_record.specs.Lists.{without, unless_empty, standing, stands, parcels_at, outputs, waiting}
+use Rattle.vx_record.specs.Starting.{first_instances}
+use Rattle.vx_record.specs.Wirings.{names_differ, begun}
+use Rattle.vx_record.specs.Installs.{wired, in_force, component_of, is_new, started}
+use Rattle.vx_record.specs.Routing.{is_dry, is_sent, outlets, routes, all_ports, names, wired_targets}
+use Rattle.vx_record.proofs.Changes.{same_place_is}
+use Rattle.vx_record.proofs.FirstWiring.{component_of_first}
+use Rattle.vx_hub.specs.declared.facts.Facts.{Facts}
+use Rattle.vx_hub.specs.Order.{IsInOrder, IsOrderly, component_in, readers_at}
+use Rattle.vx_hub.specs.Stands.{IsKnown}
+use Rattle.vx_hub.proofs.Naming.{component_is}
+use Rattle.vx_hub.proofs.Silence.{same_test}
+
+-- the names of the components in force differ
+names_so : (h : Record) (plan : Plan) → IsOrderly h → in_force h ≡ Some plan → names_differ plan.components ≡ true
+names_so [] plan order force = cc
+names_so (Install version made once instances now ∷ h) plan order force =
+    let same : made ≡ plan = cc in
+    subst (λ (p : Plan). names_differ p.components ≡ true) same order.0.0.named
+names_so (e ∷ h) plan order force = names_so h plan order.1 force
+
+begun_orderly : (plan : Plan) → names_differ plan.components ≡ true → IsOrderly (begun plan false 0)
+begun_orderly plan named = ((record { begins = record { first = refl; zeroth = refl; all_new = refl }; named = named }, λ b w. w, λ gone. cc), tt)
+
+-- so an instance runs the component in its place
+pub component_so : (h : Record) (plan : Plan) (i : ℕ) (c : Component) → IsOrderly h → in_force h ≡ Some plan → slice_get plan.components i ≡ Some c → component_of h i ≡ Some c
+component_so h plan i c order force at =
+    let named = names_so h plan order force in
+    component_is h plan i c order force at ∙ sym (component_is (begun plan false 0) plan i c (begun_orderly plan named) refl at) ∙ component_of_first plan false 0 i c named at
+
+-- and that is of the class that is known
+pub record Runs (h : Record) (i : ℕ) (class : Class) : Type 0 where
+  pub component : Component
+  pub there : component_of h i ≡ Some component
+  pub class_is : class ≡ component.class
+
+pub runs_known : (h : Record) (plan : Plan) (i : ℕ) (f : Facts) → IsOrderly h → in_force h ≡ Some plan → IsKnown f h i → Runs h i f.class
+runs_known h plan i f order force known = go (slice_get plan.components i) refl (subst (λ (p : Option Plan). IsSomeAnd (component_in p i) (λ component. f.class ≡ component.class)) force known.class)
+  where
+    go : (o : Option Component) → slice_get plan.components i ≡ o → IsSomeAnd o (λ component. f.class ≡ component.class) → Runs h i f.class
+    go None at class = absurd class
+    go (Some c) at class = record { component = c; there = component_so h plan i c order force at; class_is = class }
+
+-- the instances are numbered as the components
+numbers_first : (from : ℕ) (components : List Component) → map (λ (instance : Instance). instance.number) (filter is_new (first_instances from components)) ≡ counting from (length components)
+numbers_first from [] = refl
+numbers_first from (c ∷ rest) = ap (λ ns. from ∷ ns) (numbers_first (from + 1) rest)
+
+pub started_so : (h : Record) (plan : Plan) → IsOrderly h → in_force h ≡ Some plan → started h ≡ counting 0 (length plan.components)
+started_so [] plan order force = cc
+started_so (Install version made once instances now ∷ h) plan order force =
+    let same : made ≡ plan = cc in
+    let row = order.0.0.begins in
+    ap (λ (k : Record). started k ++ map (λ (instance : Instance). instance.number) (filter is_new instances)) row.first
+    ∙ ap (λ (is : List Instance). map (λ (instance : Instance). instance.number) (filter is_new is)) row.all_new
+    ∙ numbers_first 0 made.components ∙ ap (λ (p : Plan). counting 0 (length p.components)) same
+started_so (e ∷ h) plan order force = append-nil (started h) ∙ started_so h plan order.1 force
+
+-- what holds of each number from one on
+neither : (a b : Bool) → a ≡ false → b ≡ false → (a || b) ≡ false
+neither true b e k = cc
+neither false b e k = k
+
+both_true : (a b : Bool) → a ≡ true → b ≡ true → (a && b) ≡ true
+both_true true b e k = k
+both_true false b e k = cc
+
+pub any_counting : (test : ℕ → Bool) (from n : ℕ) → ((j : ℕ) → from ≤ j → j < from + n → test j ≡ false) → list_any test (counting from n) ≡ false
+any_counting test from zero none = refl
+any_counting test from (suc n) none =
+    neither (test from) (list_any test (counting (from + 1) n)) (none from (omega arith) (omega arith)) (any_counting test (from + 1) n (λ j l u. none j (omega arith) (omega arith)))
+
+pub all_counting : (test : ℕ → Bool) (from n : ℕ) → ((j : ℕ) → from ≤ j → j < from + n → test j ≡ true) → list_all test (counting from n) ≡ true
+all_counting test from zero all = refl
+all_counting test from (suc n) all =
+    both_true (test from) (list_all test (counting (from + 1) n)) (all from (omega arith) (omega arith)) (all_counting test (from + 1) n (λ j l u. all j (omega arith) (omega arith)))
+
+-- a child waits for a reader of its instance
+abbrev IsForReader : Record → Place → Type 0
+IsForReader h (Waiting j t) = 0 < count t (readers_at h j)
+IsForReader h other = Unit {0}
+
+abbrev AreForReaders : Record → List Put → Type 0
+AreForReaders h [] = Unit {0}
+AreForReaders h (put ∷ rest) = IsForReader h put.place × AreForReaders h rest
+
+place_on : (h : Record) (e : Entry) (p : Place) → ((j : ℕ) → readers_at (e ∷ h) j ≡ readers_at h j) → IsForReader h p → IsForReader (e ∷ h) p
+place_on h e (Waiting j t) same is = subst (λ (ns : List ℕ). 0 < count t ns) (sym (same j)) is
+place_on h e (Outputs j) same is = tt
+place_on h e (Contents j s) same is = tt
+place_on h e (Held j) same is = tt
+
+readers_on : (h : Record) (e : Entry) (ps : List Put) → ((j : ℕ) → readers_at (e ∷ h) j ≡ readers_at h j) → AreForReaders h ps → AreForReaders (e ∷ h) ps
+readers_on h e [] same are = tt
+readers_on h e (put ∷ rest) same are = (place_on h e put.place same are.0, readers_on h e rest same are.1)
+
+readers-append : (h : Record) (ps qs : List Put) → AreForReaders h ps → AreForReaders h qs → AreForReaders h (ps ++ qs)
+readers-append h [] qs a b = b
+readers-append h (p ∷ ps) qs a b = (a.0, readers-append h ps qs a.1 b)
+
+-- outputs are no children
+outputs_for : (h : Record) (i : ℕ) (cs : List ℕ) → AreForReaders h (one_each (Outputs i) cs)
+outputs_for h i [] = tt
+outputs_for h i (c ∷ cs) = (tt, outputs_for h i cs)
+
+count_head : (t : ℕ) (ts : List ℕ) → 0 < count t (t ∷ ts)
+count_head t ts = let e = ap (λ b. (if b then 1 else 0) + count t ts) (same_test t) in omega (arith, e)
+
+-- the children of a split wait for those whom it was made for
+children_for : (h : Record) (i next m : ℕ) (ts : List ℕ) → ((t : ℕ) → 0 < count t ts → 0 < count t (readers_at h i)) →
+    AreForReaders h (map (λ (child : Child). record { place = Waiting i child.target; copies = child.copies }) (children_of next m ts))
+children_for h i next m [] all = tt
+children_for h i next m (t ∷ ts) all = (all t (count_head t ts), children_for h i (next + m) m ts (λ u l. all u (omega (arith, l))))
+
+entry_for : (h : Record) (e : Entry) → IsInOrder h e → AreForReaders (e ∷ h) (puts e)
+entry_for h (Born i b place copies events waits stream end) order = outputs_for (Born i b place copies events waits stream end ∷ h) i copies
+entry_for h (Split i ports copies event children) order =
+    subst (λ (cs : List Child). AreForReaders (Split i ports copies event children ∷ h) (map (λ (child : Child). record { place = Waiting i child.target; copies = child.copies }) cs)) (sym order.routed)
+    (children_for (Split i ports copies event children ∷ h) i (next_copy h) (length copies) (readers_at h i) (λ t l. l))
+entry_for h (Push i t s copies) order = (tt, tt)
+entry_for h (Take i s copies) order = (tt, tt)
+entry_for h e order = tt
+
+for_readers : (h : Record) → IsOrderly h → AreForReaders h (all_puts h)
+for_readers [] order = tt
+for_readers (Install version plan once instances now ∷ h) order = subst (λ (k : Record). AreForReaders (Install version plan once instances now ∷ h) (all_puts k ++ [])) (sym order.0.0.begins.first) tt
+for_readers (e ∷ h) order = readers-append (e ∷ h) (all_puts h) (puts e) (readers_on h e (all_puts h) (λ j. refl) (for_readers h order.1)) (entry_for h e order.0.0)
+
+-- so none waits for any other
+not_among : (n : ℕ) → nat_lt 0 n ≡ false → 0 < n → ⊥
+not_among n off l = let on : nat_lt 0 n ≡ true = grind (arith, nat_tests) in let e = sym on ∙ off in cc
+
+none_for : (h : Record) (gone : Kind → List ℕ) (ps : List Put) (j t : ℕ) → AreForReaders h ps → contains (readers_at h j) t ≡ false → parcels_at (Waiting j t) (standing gone ps) ≡ []
+none_for h gone [] j t are off = refl
+none_for h gone (put ∷ ps) j t are off = go (without (gone (kind put.place)) put.copies) (none_for h gone ps j t are.1 off)
+  where
+    here : (cs : List ℕ) (b : Bool) → same_place put.place (Waiting j t) ≡ b → parcels_at (Waiting j t) (standing gone ps) ≡ [] →
+        (if b then cs ∷ parcels_at (Waiting j t) (standing gone ps) else parcels_at (Waiting j t) (standing gone ps)) ≡ []
+    here cs true place later = absurd (not_among (count t (readers_at h j)) off (subst (λ (p : Place). IsForReader h p) (same_place_is put.place (Waiting j t) place) are.0))
+    here cs false place later = later
+
+    go : (cs : List ℕ) → parcels_at (Waiting j t) (standing gone ps) ≡ [] → parcels_at (Waiting j t) (unless_empty put.place cs (standing gone ps)) ≡ []
+    go [] later = later
+    go (c ∷ cs) later = here (c ∷ cs) (same_place put.place (Waiting j t)) refl later
+
+pub waits_none : (h : Record) (j t : ℕ) → IsOrderly h → contains (readers_at h j) t ≡ false → waiting h j t ≡ []
+waits_none h j t order off = none_for h (left h) (all_puts h) j t (for_readers h order) off
+
+-- whom an instance doesn't name: none waits for it, and it isn't in the outlet
+by_ports : (h : Record) (j i : ℕ) (ports : List ℕ) → all_ports h j ≡ ports → contains (routes h j ports) i ≡ false → waiting h j i ≡ [] → names h j i ≡ false
+by_ports h j i ports are none wait =
+    ap (λ (ps : List ℕ). contains (routes h j ps) i || not (is_empty (waiting h j i))) are
+    ∙ ap (λ b. b || not (is_empty (waiting h j i))) none ∙ ap (λ (ws : List (List ℕ)). not (is_empty ws)) wait
+
+ports_so : (h : Record) (j : ℕ) (class : Class) → Runs h j class → all_ports h j ≡ counting 0 (length (class_ports class))
+ports_so h j class runs =
+    ap (λ (o : Option Component). elim o [ None ↦ [] | Some c ↦ counting 0 (length (port_names c)) ]) runs.there
+    ∙ ap (λ (x : Class). counting 0 (length (class_ports x))) (sym runs.class_is)
+
+-- a sink has no port
+pub unnamed_by_sink : (h : Record) (j i : ℕ) → Runs h j Sink → waiting h j i ≡ [] → names h j i ≡ false
+unnamed_by_sink h j i runs wait = by_ports h j i [] (ports_so h j Sink runs) refl wait
+
+unnamed_on_one : (h : Record) (j i : ℕ) → all_ports h j ≡ 0 ∷ [] → contains (outlets h j 0) i ≡ false → waiting h j i ≡ [] → names h j i ≡ false
+unnamed_on_one h j i ports none wait =
+    by_ports h j i (0 ∷ []) ports (ap (λ (ts : List ℕ). contains ts i) (append-nil (outlets h j 0)) ∙ none) wait
+
+unnamed_by : (h : Record) (j i : ℕ) (class : Class) → Runs h j class → contains (outlets h j 0) i ≡ false → waiting h j i ≡ [] → names h j i ≡ false
+unnamed_by h j i Source runs none wait = unnamed_on_one h j i (ports_so h j Source runs) none wait
+unnamed_by h j i Transform runs none wait = unnamed_on_one h j i (ports_so h j Transform runs) none wait
+unnamed_by h j i Sink runs none wait = unnamed_by_sink h j i runs wait
+
+-- an instance that isn't among the readers isn't named
+pub unnamed_unread : (h : Record) (j i : ℕ) (class : Class) → IsOrderly h → Runs h j class → contains (readers_at h j) i ≡ false → names h j i ≡ false
+unnamed_unread h j i class order runs off = unnamed_by h j i class runs (go (is_dry h j && is_sent h j)) (waits_none h j i order off)
+  where
+    go : (b : Bool) → contains (if b then [] else wired [] (wired_targets 0) h j) i ≡ false
+    go true = refl
+    go false = off
+
+-- a source that is dry and sent everything names nobody
+pub unnamed_dry : (h : Record) (j i : ℕ) → Runs h j Source → is_dry h j ≡ true → is_sent h j ≡ true → waiting h j i ≡ [] → names h j i ≡ false
+unnamed_dry h j i runs dry sent wait = unnamed_by h j i Source runs (go (is_dry h j && is_sent h j) (both_true (is_dry h j) (is_sent h j) dry sent)) wait
+  where
+    go : (b : Bool) → b ≡ true → contains (if b then [] else wired [] (wired_targets 0) h j) i ≡ false
+    go true e = refl
+    go false e = cc
+
+-- what no test finds isn't among some numbers
+count_none : (xs : List ℕ) (i : ℕ) → list_any (λ x. x == i) xs ≡ false → count i xs ≡ 0
+count_none [] i none = refl
+count_none (x ∷ xs) i none = go (x == i) none (λ e. count_none xs i e)
+  where
+    go : (b : Bool) → (b || list_any (λ y. y == i) xs) ≡ false → (list_any (λ y. y == i) xs ≡ false → count i xs ≡ 0) → (if b then 1 else 0) + count i xs ≡ 0
+    go true e later = cc
+    go false e later = omega (arith, later e)
+
+pub none_contained : (xs : List ℕ) (i : ℕ) → list_any (λ x. x == i) xs ≡ false → contains xs i ≡ false
+none_contained xs i none = ap (λ n. nat_lt 0 n) (count_none xs i none)

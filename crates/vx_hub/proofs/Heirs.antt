@@ -1,0 +1,110 @@
+-- No two instances have one name, so each is the heir of none.
+use Rattle.std.proofs.Common.{◌≡◌, ℕ, zero, suc, ◌<◌, Bool, true, false, List, [], ◌∷◌, Option, Some, None, IsSome, refl, sym, ap, ◌∙◌, arith}
+use Rattle.std.specs.Prelude.{◌&&◌, ◌||◌, not, nat_lt, slice_get}
+use Rattle.std.specs.List.{list_any, list_all}
+use Rattle.std.proofs.lemmas.Bool.Decides.{nat_tests}
+use Rattle.vx_value.specs.Texts.{Word, same_text}
+use Rattle.vx_value.proofs.Order.{same_text-true, same_text-refl}
+use Rattle.vx_plan.specs.declared.component.Component.{Component}
+use Rattle.vx_plan.specs.declared.plan.Plan.{Plan}
+use Rattle.vx_record.specs.Records.{Record}
+use Rattle.vx_record.specs.Wirings.{names_differ}
+use Rattle.vx_record.specs.Installs.{Wiring, in_force, name_of, started, device_at, is_closed}
+use Rattle.vx_record.specs.Ready.{is_heir}
+use Rattle.vx_hub.specs.Order.{IsOrderly, component_in}
+use Rattle.vx_hub.proofs.Naming.{wired_so}
+use Rattle.vx_hub.proofs.Classes.{names_apart}
+
+-- what holds of each holds of all
+pub each_passes : {X : Type 0} (test : X → Bool) (xs : List X) → ((x : X) → test x ≡ true) → list_all test xs ≡ true
+each_passes test [] all = refl
+each_passes test (x ∷ xs) all = both (test x) (list_all test xs) (all x) (each_passes test xs all)
+  where
+    both : (a b : Bool) → a ≡ true → b ≡ true → (a && b) ≡ true
+    both true b e f = f
+    both false b e f = cc
+
+-- an instance has the name of the component in its place
+pub named_as : (h : Record) (plan : Plan) (i : ℕ) (c : Component) → IsOrderly h → in_force h ≡ Some plan → slice_get plan.components i ≡ Some c → name_of h i ≡ c.name
+named_as h plan i c order force at = ap (λ (o : Option Wiring). elim o [ None ↦ [] | Some w ↦ w.name ]) (wired_so h plan i c order force at)
+
+both_hold : (a b : Bool) → (a && b) ≡ true → (a ≡ true) × (b ≡ true)
+both_hold true b e = (refl, e)
+both_hold false b e = cc
+
+neither : (a b : Bool) → (a || b) ≡ false → (a ≡ false) × (b ≡ false)
+neither true b e = cc
+neither false b e = (refl, e)
+
+is_not : (a : Bool) → not a ≡ true → a ≡ false
+is_not true e = cc
+is_not false e = refl
+
+-- where no component has a name, that in any place hasn't
+no_other : (components : List Component) (k : ℕ) (d : Component) (w : Word) → list_any (λ (x : Component). same_text x.name w) components ≡ false → slice_get components k ≡ Some d → same_text d.name w ≡ false
+no_other [] k d w none at = cc
+no_other (x ∷ rest) zero d w none at =
+    let same : x ≡ d = cc in
+    ap (λ (y : Component). same_text y.name w) (sym same) ∙ (neither (same_text x.name w) (list_any (λ (y : Component). same_text y.name w) rest) none).0
+no_other (x ∷ rest) (suc k) d w none at = no_other rest k d w (neither (same_text x.name w) (list_any (λ (y : Component). same_text y.name w) rest) none).1 at
+
+-- texts that differ differ either way
+other_way : (v w : Word) → same_text w v ≡ false → same_text v w ≡ false
+other_way v w other = go (same_text v w) refl
+  where
+    go : (b : Bool) → same_text v w ≡ b → b ≡ false
+    go false e = refl
+    go true e =
+        let same : v ≡ w = same_text-true v w e in
+        let is : same_text w v ≡ true = ap (same_text w) same ∙ same_text-refl w in
+        let no : true ≡ false = sym is ∙ other in
+        cc
+
+-- two components have two names
+apart : (components : List Component) (j k : ℕ) (c d : Component) → names_differ components ≡ true → j < k → slice_get components j ≡ Some c → slice_get components k ≡ Some d → same_text c.name d.name ≡ false
+apart [] j k c d differ l first second = cc
+apart (x ∷ rest) j zero c d differ l first second = absurd (omega (arith, l))
+apart (x ∷ rest) zero (suc k) c d differ l first second =
+    let same : x ≡ c = cc in
+    let none = is_not (list_any (λ (y : Component). same_text y.name x.name) rest) (both_hold (not (list_any (λ (y : Component). same_text y.name x.name) rest)) (names_differ rest) differ).0 in
+    other_way c.name d.name (ap (λ (y : Component). same_text d.name y.name) (sym same) ∙ no_other rest k d x.name none second)
+apart (x ∷ rest) (suc j) (suc k) c d differ l first second =
+    apart rest j k c d (both_hold (not (list_any (λ (y : Component). same_text y.name x.name) rest)) (names_differ rest) differ).1 (omega (arith, l)) first second
+
+-- a component stands in each place before one
+there_before : (components : List Component) (j k : ℕ) (d : Component) → j < k → slice_get components k ≡ Some d → (c : Component) × (slice_get components j ≡ Some c)
+there_before [] j k d l at = cc
+there_before (x ∷ rest) j zero d l at = absurd (omega (arith, l))
+there_before (x ∷ rest) zero (suc k) d l at = (x, refl)
+there_before (x ∷ rest) (suc j) (suc k) d l at = there_before rest j k d (omega (arith, l)) at
+
+-- no older instance has the name of one
+pub unshared : (h : Record) (plan : Plan) (i j : ℕ) (d : Component) → IsOrderly h → in_force h ≡ Some plan → slice_get plan.components i ≡ Some d → j < i → same_text (name_of h j) (name_of h i) ≡ false
+unshared h plan i j d order force at l =
+    let (c, first) = there_before plan.components j i d l at in
+    ap (λ (w : Word). same_text w (name_of h i)) (named_as h plan j c order force first) ∙ ap (same_text c.name) (named_as h plan i d order force at)
+    ∙ apart plan.components j i c d (names_apart h plan order force) l first at
+
+-- so each instance that is there is an heir
+pub heir : (h : Record) (i : ℕ) → IsOrderly h → IsSome (component_in (in_force h) i) → is_heir h i ≡ true
+heir h i order there = go (in_force h) refl there
+  where
+    passed : (a b : Bool) → a ≡ false → (not a || b) ≡ true
+    passed true b e = cc
+    passed false b e = refl
+
+    tested : (a b c : Bool) → (a ≡ true → b ≡ false) → (a && b && c) ≡ false
+    tested true true c e = let no : true ≡ false = e refl in cc
+    tested true false c e = refl
+    tested false b c e = refl
+
+    found : (plan : Plan) → in_force h ≡ Some plan → (o : Option Component) → slice_get plan.components i ≡ o → IsSome o → is_heir h i ≡ true
+    found plan force None at some = cc
+    found plan force (Some d) at some =
+        each_passes (λ (j : ℕ). not (nat_lt j i && same_text (name_of h j) (name_of h i) && device_at h j) || is_closed h j) (started h)
+        (λ j. passed (nat_lt j i && same_text (name_of h j) (name_of h i) && device_at h j) (is_closed h j)
+        (tested (nat_lt j i) (same_text (name_of h j) (name_of h i)) (device_at h j) (λ less. unshared h plan i j d order force at (grind (arith, nat_tests, less)))))
+
+    go : (p : Option Plan) → in_force h ≡ p → IsSome (component_in p i) → is_heir h i ≡ true
+    go None force some = cc
+    go (Some plan) force some = found plan force (slice_get plan.components i) refl some

@@ -1,0 +1,45 @@
+use Rattle.std.proofs.Common.{[], refl, false, ◌≡◌, ◌∙◌, Option, Some, None}
+use Rattle.std.specs.Prelude.{IsSome, IsSomeAnd}
+use Rattle.vx_hub.proofs.Drying.{shut_of_dry}
+use Rattle.vx_hub.specs.Stands.{facts_at}
+use Rattle.vx_hub.proofs.Sinking.{must_write}
+use Rattle.vx_hub.proofs.hub.Hub.lease.Goals as goal
+
+there : {X : Type 0} (F : X → Type 0) (o : Option X) → IsSomeAnd o F → IsSome o
+there F None is = absurd is
+there F (Some x) is = refl
+
+pub hand_out-requires-in-None-clause-shut : goal.hand_out-requires-in-None-clause-shut
+hand_out-requires-in-None-clause-shut g c close =
+    let d = c.advance-now.new.self in
+    let i = c.in_ok-instance.field-0.instance in
+    c.collect.ensures.shut (c.note_lease.ensures.shut
+    (shut_of_dry g.P.Port.told d [] i c.advance-now.ensures.stands (there (λ f. f.leased ≡ false) (facts_at d.facts.items i) c.in_ok-instance.ensures.unleased)
+    (c.in_ok-instance.ensures.dry (c.decided-job.ensures.close close))))
+
+pub hand_out-requires-in-None-clause-away : goal.hand_out-requires-in-None-clause-away
+hand_out-requires-in-None-clause-away g c = c.collect.ensures.away c.in_ok-instance.field-0.instance c.note_lease.ensures.away
+
+pub hand_out-requires-in-None-clause-untried : goal.hand_out-requires-in-None-clause-untried
+hand_out-requires-in-None-clause-untried g c = c.collect.ensures.untried c.in_ok-instance.field-0.instance c.note_lease.ensures.untried
+
+pub hand_out-requires-in-None-clause-turn : goal.hand_out-requires-in-None-clause-turn
+hand_out-requires-in-None-clause-turn g c read = c.collect.ensures.turn c.in_ok-instance.field-0.instance (c.note_lease.ensures.turn (c.in_ok-instance.ensures.readable (c.decided-job.ensures.read read)))
+
+pub hand_out-requires-in-None-clause-bore : goal.hand_out-requires-in-None-clause-bore
+hand_out-requires-in-None-clause-bore g c = c.collect.ensures.bore c.in_ok-instance.field-0.instance c.note_lease.ensures.bore
+
+pub hand_out-requires-in-None-clause-nothing : goal.hand_out-requires-in-None-clause-nothing
+hand_out-requires-in-None-clause-nothing g c none = c.collect.ensures.nothing c.in_ok-instance.field-0.instance (c.note_lease.ensures.nothing c.in-None.is)
+
+pub hand_out-requires-in-None-clause-noticed : goal.hand_out-requires-in-None-clause-noticed
+hand_out-requires-in-None-clause-noticed g c close = c.collect.ensures.noticed c.in_ok-instance.field-0.instance (c.note_lease.ensures.noticed (c.in_ok-instance.ensures.noticed (c.decided-job.ensures.close close)))
+
+pub hand_out-requires-in-None-clause-moment : goal.hand_out-requires-in-None-clause-moment
+hand_out-requires-in-None-clause-moment g c = c.collect.ensures.leased c.in_ok-instance.field-0.instance c.note_lease.ensures.leased
+
+pub hand_out-requires-in-None-clause-closing : goal.hand_out-requires-in-None-clause-closing
+hand_out-requires-in-None-clause-closing g c attempt =
+    let i = c.in_ok-instance.field-0.instance in
+    must_write g.P.Port.told c.collect.new.self i c.advance-now.result c.collect.ensures.stands (c.collect.ensures.abandoned ∙ c.note_lease.ensures.abandoned ∙ c.if-not-goes_on.ensures.going refl)
+    (c.collect.ensures.away i c.note_lease.ensures.away) (c.collect.ensures.untried i c.note_lease.ensures.untried) (c.collect.ensures.moment i c.advance-now.result c.note_lease.ensures.moment) (c.decided-job.ensures.closing attempt)
