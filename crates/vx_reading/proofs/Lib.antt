@@ -6,3 +6,4 @@ pub mod Examples
 pub mod FirstRead
 pub mod Few
 pub mod Apart
+pub mod Acknowledging

@@ -6,3 +6,4 @@ pub mod Findings
 pub mod Plans
 pub mod Reading
 pub mod Views
+pub mod Acknowledging
