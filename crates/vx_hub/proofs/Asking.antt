@@ -1,5 +1,5 @@
 -- What an instance is asked to confirm was due when it was leased.
-use Rattle.std.proofs.Common.{◌≡◌, ℕ, ◌+◌, ◌<◌, Bool, true, false, IsTrue, List, [], ◌∷◌, ◌++◌, Option, Some, None, IfSome, refl, sym, ap, subst, ◌∙◌, arith, inl, inr}
+use Rattle.std.proofs.Common.{◌≡◌, ℕ, Bool, true, false, IsTrue, List, [], ◌∷◌, ◌++◌, Option, Some, None, IfSome, refl, sym, ap, subst, ◌∙◌, arith, inl, inr}
 use Rattle.std.specs.Prelude.{◌==◌, ◌&&◌, ◌||◌, ◌≢◌, not, nat_lt, IsSome, IsSomeAnd, if◌then◌else◌, map, take_while, slice_get}
 use Rattle.std.specs.List.{list_any}
 use Rattle.std.proofs.lemmas.Bool.Decides.{nat_tests}
@@ -12,19 +12,19 @@ use Rattle.vx_plan.specs.declared.component.Component.{Component}
 use Rattle.vx_plan.specs.declared.plan.Plan.{Plan}
 use Rattle.vx_record.specs.Records.{Record}
 use Rattle.vx_record.specs.Noted.{Noted}
-use Rattle.vx_record.specs.Copies.{all_of}
 use Rattle.vx_record.specs.Installs.{in_force, device_at, component_of, source_at}
 use Rattle.vx_record.specs.Wirings.{names_differ, begun}
 use Rattle.vx_record.proofs.FirstWiring.{component_of_first}
 use Rattle.vx_plan.specs.Components.{is_source}
 use Rattle.vx_record.specs.Turns.{is_out, at_lease, since_lease, is_confirm_of}
-use Rattle.vx_record.specs.Confirms.{Birth, births, births_in, born_positions, confirm_prefix, due, is_confirm_due, last_confirm, last_of_each, moved_to, position_of, same_positions, was_delivered}
+use Rattle.vx_record.specs.Confirms.{Birth, births, births_in, born_positions, due, is_confirm_due, last_confirm, last_of_each, moved_to, position_of, same_positions, was_delivered}
 use Rattle.vx_record.specs.declared.log.Log.{Log}
 use Rattle.vx_record.specs.declared.entry.Entry.{Entry}
 use Rattle.vx_record.specs.declared.entry.Entry.TheVariants.{Lease, Home, Idle, SourceLost, Born, Confirm}
 use Rattle.vx_value.specs.declared.event.Event.{Event}
 use Rattle.vx_hub.specs.declared.facts.Facts.{Facts}
 use Rattle.vx_hub.specs.declared.hub.Hub.{Hub}
+use Rattle.vx_hub.specs.Acknowledging.{AcknowledgesNothing}
 use Rattle.vx_hub.specs.Asking.{asked, HasTold, HadNoneDue, IsAskedBy, asked_of, to_ask}
 use Rattle.vx_hub.specs.Confirming.{HasConfirmed, HadNothing}
 use Rattle.vx_hub.specs.Failures.{IsFailureOf}
@@ -36,6 +36,7 @@ use Rattle.vx_hub.proofs.Naming.{device_known, component_is}
 use Rattle.vx_hub.proofs.Drying.{class_known, taken_none}
 use Rattle.vx_hub.proofs.Dues.{born_more}
 use Rattle.vx_hub.proofs.Ordering.{sound_before, named_apart}
+use Rattle.vx_hub.proofs.Acknowledging.{force_unacknowledged}
 
 -- POSITIONS
 -- positions are equal where the test says so
@@ -263,14 +264,14 @@ none_of None is none = refl
 none_of (Some positions) is none = none (is refl)
 
 -- A SOURCE
-orderly_first : (plan : Plan) → names_differ plan.components ≡ true → IsOrderly (begun plan false 0)
-orderly_first plan differ = ((record { begins = record { first = refl; zeroth = refl; all_new = refl }; named = differ }, λ b w. w, λ gone. cc), tt)
+orderly_first : (plan : Plan) → names_differ plan.components ≡ true → AcknowledgesNothing plan → IsOrderly (begun plan false 0)
+orderly_first plan differ unasked = ((record { begins = record { first = refl; zeroth = refl; all_new = refl }; named = differ; none_acknowledges = unasked }, λ b w. w, λ gone. cc), tt)
 
 -- an instance runs the component in its place
 runs : (h : Record) (plan : Plan) (i : ℕ) (c : Component) → IsOrderly h → names_differ plan.components ≡ true → in_force h ≡ Some plan → slice_get plan.components i ≡ Some c → component_of h i ≡ Some c
 runs h plan i c order differ force at =
     component_is h plan i c order force at
-    ∙ sym (component_is (begun plan false 0) plan i c (orderly_first plan differ) refl at)
+    ∙ sym (component_is (begun plan false 0) plan i c (orderly_first plan differ (force_unacknowledged h plan order force)) refl at)
     ∙ component_of_first plan false 0 i c differ at
 
 -- so one of that class is a source

@@ -114,7 +114,7 @@ since_popped h i (Some x) old (p ∷ ps) since some empty may = λ going none.
 -- its sizes stay
 sized_on : (o : Option Component) (old new : SinkCore) → new.held.room ≡ old.held.room → new.timeout ≡ old.timeout → IsSomeAnd o (λ (c : Component). IsSizedFor c.settings old) → IsSomeAnd o (λ (c : Component). IsSizedFor c.settings new)
 sized_on None old new room timeout is = absurd is
-sized_on (Some c) old new room timeout is = record { room = room ∙ is.room; timeout = timeout ∙ is.timeout }
+sized_on (Some c) old new room timeout is = record { room = room ∙ is.room; timeout = timeout ∙ is.timeout; options = is.options }
 
 -- the oldest leaves, where all may leave
 pub popped_collecting : (h : Record) (i : ℕ) (old new : SinkCore) (r : Option Parcel) → IfSome r (λ x. old.held.items ≡ x ∷ new.held.items) → IfNone r (new.held.items ≡ []) → new.held.room ≡ old.held.room → new.since ≡ old.since → new.timeout ≡ old.timeout →

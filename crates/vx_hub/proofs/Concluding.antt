@@ -1,5 +1,5 @@
 -- An instance that has nothing more to do by what the hub knows is done in the record.
-use Rattle.std.proofs.Common.{◌≡◌, ℕ, zero, suc, ◌+◌, ◌<◌, ◌≤◌, Bool, true, false, ◌&&◌, ◌||◌, List, [], ◌∷◌, ◌++◌, length, Option, Some, None, IfSome, IsSome, IsSomeAnd, refl, sym, ap, subst, ◌∙◌, arith, inl, inr}
+use Rattle.std.proofs.Common.{◌≡◌, ℕ, zero, suc, ◌<◌, ◌≤◌, Bool, true, false, ◌&&◌, ◌||◌, List, [], ◌∷◌, length, Option, Some, None, IfSome, IsSomeAnd, refl, sym, ap, subst, ◌∙◌, arith, inl, inr}
 use Rattle.std.specs.Prelude.{◌==◌, ◌^◌, ◌⊎◌, IsTrue, if◌then◌else◌, not, nat_le, is_some}
 use Rattle.std.specs.List.{list_any, list_all}
 use Rattle.std.proofs.lemmas.Bool.Decides.{nat_tests}
@@ -14,27 +14,24 @@ use Rattle.vx_record.specs.Noted.{Noted}
 use Rattle.vx_record.specs.declared.log.Log.{Log}
 use Rattle.vx_record.specs.declared.entry.Entry.{Entry}
 use Rattle.vx_record.specs.declared.entry.Entry.TheVariants.{Lease, SourceLost}
-use Rattle.vx_record.specs.Copies.{contains, counting}
 use Rattle.vx_record.specs.Turns.{is_out, at_lease}
 use Rattle.vx_record.specs.Reads.{all_ended, is_lost, bytes_of_all}
 use Rattle.vx_record.specs.Places.{Place, Put, same_place}
 use Rattle.vx_record.specs.Places.Place.{Outputs, Waiting, Contents, Held}
 use Rattle.vx_record.specs.Lists.{stands, parcels_at, parcels_where, is_stage_of, outputs, waiting, all_waiting, buffered, held}
-use Rattle.vx_record.specs.Installs.{told, source_at, started, is_retired, component_of}
+use Rattle.vx_record.specs.Installs.{told, source_at, is_retired}
 use Rattle.vx_record.specs.Routing.{drains, is_out_from_before, is_dry, all_dry, is_sent, names, is_named, is_ending}
-use Rattle.vx_record.specs.Owing.{is_done, is_source_done, is_worker_done}
-use Rattle.vx_record.specs.Abandoning.{abandoned}
+use Rattle.vx_record.specs.Owing.{is_source_done, is_worker_done}
 use Rattle.vx_hub.specs.declared.facts.Facts.{Facts}
 use Rattle.vx_hub.specs.declared.row.Row.{Row}
 use Rattle.vx_hub.specs.declared.hub.Hub.{Hub}
-use Rattle.vx_hub.specs.Closures.{IsSourceDone, IsDone}
+use Rattle.vx_hub.specs.Closures.{IsDone}
 use Rattle.vx_hub.specs.Order.{lost_at, IsOrderly, readers_at}
-use Rattle.vx_hub.specs.Places.{IsThere, stacked_lists, parcel_lists, copies_at, copies_if, all_numbers, numbers_at}
+use Rattle.vx_hub.specs.Places.{IsThere, stacked_lists, parcel_lists, copies_if, all_numbers, numbers_at}
 use Rattle.vx_hub.specs.Rows.{row_at, NoneWaits}
 use Rattle.vx_hub.specs.Stands.{Stands, IsKnown, IsSound, IsSinkAt, facts_at}
-use Rattle.vx_hub.specs.Finishing.{is_dry_by, first_of, names_by, reaches_by, feeds_as, feeds_by, feeds_if, feeds_at, is_sent_by, is_sent_at, IsUnfed, IsSourceFinished, IsSinkFinished, IsFinishedAs, IsFinished, IsDoneNow, WasDone}
-use Rattle.vx_hub.proofs.Feeding.{Runs, runs_known, started_so, any_counting, all_counting, waits_none, unnamed_by_sink, unnamed_unread, unnamed_dry, none_contained}
-use Rattle.vx_hub.proofs.Ceasing.{gave_up}
+use Rattle.vx_hub.specs.Finishing.{is_dry_by, first_of, names_by, reaches_by, feeds_as, feeds_by, feeds_if, is_sent_by, is_sent_at, IsUnfed, IsSinkFinished, IsDoneNow, WasDone}
+use Rattle.vx_hub.proofs.Feeding.{Runs, runs_known, started_so, any_counting, all_counting, unnamed_by_sink, unnamed_unread, unnamed_dry, none_contained}
 use Rattle.vx_hub.proofs.Homing.{none_wait}
 use Rattle.vx_hub.proofs.Ordering.{sound_before}
 use Rattle.vx_hub.proofs.Placing.{places_all}
@@ -48,7 +45,7 @@ facts_none (f ∷ fs) zero l = absurd (omega (arith, l))
 facts_none (f ∷ fs) (suc i) l = facts_none fs i (omega (arith, l))
 
 -- tests
-both : (a b : Bool) → a ≡ true → b ≡ true → (a && b) ≡ true
+pub both : (a b : Bool) → a ≡ true → b ≡ true → (a && b) ≡ true
 both true b e k = k
 both false b e k = cc
 
@@ -76,7 +73,7 @@ and_no : (a b : Bool) → b ≡ false → (a && b) ≡ false
 and_no true b e = e
 and_no false b e = refl
 
-not_of : (a : Bool) → a ≡ false → not a ≡ true
+pub not_of : (a : Bool) → a ≡ false → not a ≡ true
 not_of true e = cc
 not_of false e = refl
 
@@ -260,7 +257,7 @@ past hub h j i f seen none = go f.class refl seen.runs none
     go Sink is runs e = past_sink hub h j i f seen runs e
 
 -- all is known of an instance that is there
-seen_at : {P : Type 0} (told_by : P → Told) (hub : Hub P) (j : ℕ) (f : Facts) → Stands told_by hub [] hub.log.history → IsSound hub → facts_at hub.facts.items j ≡ Some f → IsSeen hub hub.log.history j f
+pub seen_at : {P : Type 0} (told_by : P → Told) (hub : Hub P) (j : ℕ) (f : Facts) → Stands told_by hub [] hub.log.history → IsSound hub → facts_at hub.facts.items j ≡ Some f → IsSeen hub hub.log.history j f
 seen_at told_by hub j f s fine at =
     let r = s.recorded fine in
     let known : IsKnown f hub.log.history j = subst (λ (o : Option Facts). IfSome o (λ x. IsKnown x hub.log.history j)) at (r.facts j) in
@@ -296,48 +293,18 @@ ending_so told_by hub i s fine source runs unfed =
         ap (λ (o : Option Component). elim o [ None ↦ false | Some c ↦ not (is_source c) ]) runs.there
         ∙ ap (λ (x : Class). not (elim x [ Source ↦ true | Transform ↦ false | Sink ↦ false ])) (sym runs.class_is)
 
--- a source that has nothing more to do
-done_source : {P : Type 0} (told_by : P → Told) (hub : Hub P) (i : ℕ) (f : Facts) → Stands told_by hub [] hub.log.history → IsSound hub → facts_at hub.facts.items i ≡ Some f → Runs hub.log.history i Source → IsSourceFinished hub i → IsDone hub.log.history i
-done_source told_by hub i f s fine at runs finished =
-    let h = hub.log.history in
-    let seen = seen_at told_by hub i f s fine at in
-    let source = source_so h i Source runs in
-    record {
-      source = λ is. record {
-        dry = dry_so h i hub.bytes f seen.known source seen.bytes (subst (λ (o : Option Facts). IsSomeAnd o (λ x. is_dry_by hub.bytes x ≡ true)) at finished.dry);
-        sent = sent_so hub.rows.items h i seen.placed finished.sent;
-      };
-      worker = λ is. let no : true ≡ false = sym source ∙ is in cc;
-    }
-
--- and a sink
-done_sink : {P : Type 0} (told_by : P → Told) (hub : Hub P) (i : ℕ) → Stands told_by hub [] hub.log.history → IsSound hub → Runs hub.log.history i Sink → IsSinkFinished hub i → IsDone hub.log.history i
+-- a sink that has nothing more to do is done
+pub done_sink : {P : Type 0} (told_by : P → Told) (hub : Hub P) (i : ℕ) → Stands told_by hub [] hub.log.history → IsSound hub → Runs hub.log.history i Sink → IsSinkFinished hub i → IsDone hub.log.history i
 done_sink told_by hub i s fine runs finished =
     let h = hub.log.history in
     let source = source_so h i Sink runs in
     let placed = (s.recorded fine).places.standing in
-    record {
-      source = λ is. let no : false ≡ true = sym source ∙ is in cc;
-      worker = λ is. ap (λ b. if b then is_source_done h i else is_worker_done h i) source
-          ∙ both ((is_ending h i && is_empty (buffered h i)) && is_sent h i) (is_empty (held h i))
-          (both (is_ending h i && is_empty (buffered h i)) (is_sent h i)
-          (both (is_ending h i) (is_empty (buffered h i)) (ending_so told_by hub i s fine source runs finished.unfed) (ap is_empty (buffered_none hub.rows.items h i placed finished.taken)))
-          (sent_so hub.rows.items h i placed finished.sent))
-          (ap is_empty (places_all hub.rows.items h placed (Held i) ∙ ap all_numbers finished.spent));
-    }
-
--- an instance that has nothing more to do by what the hub knows is done
-pub done_so : {P : Type 0} (told_by : P → Told) (hub : Hub P) (i : ℕ) → Stands told_by hub [] hub.log.history → IsFinished hub i → IsDoneNow hub i
-done_so {P} told_by hub i s finished fine = go (facts_at hub.facts.items i) refl finished
-  where
-    as_class : (f : Facts) (class : Class) → facts_at hub.facts.items i ≡ Some f → Runs hub.log.history i class → IsFinishedAs class hub i → IsDone hub.log.history i
-    as_class f Source at runs done = done_source told_by hub i f s fine at runs done
-    as_class f Transform at runs done = absurd done
-    as_class f Sink at runs done = done_sink told_by hub i s fine runs done
-
-    go : (o : Option Facts) → facts_at hub.facts.items i ≡ o → IsSomeAnd o (λ f. IsFinishedAs f.class hub i) → IsDone hub.log.history i
-    go None at done = absurd done
-    go (Some f) at done = as_class f f.class at (seen_at told_by hub i f s fine at).runs done
+    ap (λ b. if b then is_source_done h i else is_worker_done h i) source
+    ∙ both ((is_ending h i && is_empty (buffered h i)) && is_sent h i) (is_empty (held h i))
+    (both (is_ending h i && is_empty (buffered h i)) (is_sent h i)
+    (both (is_ending h i) (is_empty (buffered h i)) (ending_so told_by hub i s fine source runs finished.unfed) (ap is_empty (buffered_none hub.rows.items h i placed finished.taken)))
+    (sent_so hub.rows.items h i placed finished.sent))
+    (ap is_empty (places_all hub.rows.items h placed (Held i) ∙ ap all_numbers finished.spent))
 
 -- an entry that leases nobody leaves what was when an instance was leased
 pub was_noted : {P : Type 0} (d e : Hub P) (entry : Entry) → Noted d.log entry e.log → e.starved ≡ d.starved → ((h : Record) (k : ℕ) → at_lease (entry ∷ h) k ≡ at_lease h k) → (i : ℕ) → WasDone d i → WasDone e i
@@ -354,11 +321,6 @@ pub was_leased : {P : Type 0} (d e : Hub P) (i worker now polls : ℕ) → Noted
 was_leased d e i worker now polls noted starved done sound =
     subst (λ (h : Record). IsDone (at_lease h i) i) (sym (noted.whole sound.whole).1)
     (subst (λ (h : Record). IsDone h i) (sym (ap (λ b. if b then d.log.history else at_lease d.log.history i) (same_test i))) (done (sound_before d e (Lease i worker now polls) noted starved sound)))
-
--- what the end of an instance needs, by what the hub knows
-pub over_so : {P : Type 0} (told_by : P → Told) (hub : Hub P) (i : ℕ) → Stands told_by hub [] hub.log.history → IsSome hub.abandoned ⊎ IsFinished hub i → IsSound hub → IsDone hub.log.history i ⊎ (abandoned hub.log.history ≡ true)
-over_so told_by hub i s (inl given) fine = inr (gave_up told_by hub [] s given fine)
-over_so told_by hub i s (inr finished) fine = inl (done_so told_by hub i s finished fine)
 
 -- by what the hub knows, nothing more can reach a sink
 pub ending_known : {P : Type 0} (told_by : P → Told) (hub : Hub P) (i : ℕ) → Stands told_by hub [] hub.log.history → IsSound hub → IsSinkAt hub i → IsUnfed hub i → is_ending hub.log.history i ≡ true

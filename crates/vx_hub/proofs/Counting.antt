@@ -7,7 +7,7 @@ use Rattle.vx_status.specs.declared.outcome.Outcome.{Outcome}
 use Rattle.vx_status.specs.declared.batch_status.BatchStatus.{BatchStatus}
 use Rattle.vx_status.specs.Tables.{status_of, batch_update}
 use Rattle.vx_value.specs.declared.event.Event.{Event}
-use Rattle.vx_ledger.specs.Copies.{Copy, copies_of}
+use Rattle.vx_ledger.specs.Copies.{Copy}
 use Rattle.vx_ledger.specs.Ledger.{Ledger, IsKept, AreKept, grown_rows, spent_rows, notice_of}
 use Rattle.vx_ledger.specs.declared.open_batch.OpenBatch.{OpenBatch}
 use Rattle.vx_ledger.specs.declared.notice.Notice.{Notice as Told}

@@ -12,14 +12,13 @@ use Rattle.vx_record.specs.Records.{Record, capped}
 use Rattle.vx_record.specs.Noted.{Noted}
 use Rattle.vx_record.specs.Installs.{in_force}
 use Rattle.vx_record.specs.Turns.{is_out}
-use Rattle.vx_record.specs.Confirms.{born_positions}
 use Rattle.vx_record.specs.Sourcing.{MayTurn}
 use Rattle.vx_record.specs.Reads.{bytes_of_all, is_end, all_ended}
 use Rattle.vx_record.specs.declared.entry.Entry.{Entry}
 use Rattle.vx_record.specs.declared.entry.Entry.TheVariants.{Read, SourceLost, Abandon}
 use Rattle.vx_hub.specs.declared.hub.Hub.{Hub}
 use Rattle.vx_hub.specs.declared.facts.Facts.{Facts}
-use Rattle.vx_hub.specs.Order.{lost_at, cause_of, TakesNoMore, IsOfClass, IsTurnOf, IsDueOf, IsReadBy, IsOrderly}
+use Rattle.vx_hub.specs.Order.{lost_at, cause_of, TakesNoMore, IsOfClass, IsTurnOf, IsReadBy, IsOrderly}
 use Rattle.vx_hub.specs.Stands.{Stands, IsKnown, IsClosing, MayShut, IsSpent, IsDry, component_in, facts_at, IsReadable}
 
 -- another read tells no end

@@ -13,8 +13,10 @@ use Rattle.vx_ledger.specs.declared.child.Child.{Child}
 use Rattle.vx_record.specs.Records.{Record}
 use Rattle.vx_record.specs.Noted.{Noted}
 use Rattle.vx_record.specs.Copies.{next_copy}
-use Rattle.vx_record.specs.Encoding.{encode, encode_event, is_prefix}
+use Rattle.vx_record.specs.Encoding.{encode, encode_event, encoded, is_prefix}
+use Rattle.vx_record.specs.Installs.{sink_at}
 use Rattle.vx_record.specs.Lists.{held}
+use Rattle.vx_record.specs.SinkBatches.{is_batch_closed}
 use Rattle.vx_record.specs.Turns.{is_out, lease_now, since_lease, is_attempt_of}
 use Rattle.vx_record.specs.Parcels.{no_event, event_of, parcel_event}
 use Rattle.vx_record.specs.declared.child.Child.{Child as NotedChild}
@@ -180,9 +182,9 @@ written_events h (p ∷ ps) all =
     ap (λ (w : List ℕ). encode_event Text (parcel_event h (numbers_in p.finalizers)) ++ w) (written_events h ps all.1)
     ∙ ap (λ (e : Event). encode_event Text e ++ written ps) (sym all.0.event)
 
-pub attempt_in_order : (h : Record) (i : ℕ) (role : Role) (bytes : List ℕ) (reply : Reply) → is_out h i ≡ true → IsOfClass h i Sink → list_any (is_attempt_of i) (since_lease h i) ≡ false → 0 < length (role_parcels role) → held h i ≡ parcel_numbers (role_parcels role) → Each (IsSaid h) (role_parcels role) → IsPartOf (written (role_parcels role)) bytes reply → IsClosedFor h i (lease_now h i) →
+pub attempt_in_order : (h : Record) (i : ℕ) (role : Role) (bytes : List ℕ) (reply : Reply) → is_out h i ≡ true → IsOfClass h i Sink → list_any (is_attempt_of i) (since_lease h i) ≡ false → 0 < length (role_parcels role) → held h i ≡ parcel_numbers (role_parcels role) → Each (IsSaid h) (role_parcels role) → IsPartOf (written (role_parcels role)) bytes reply → IsClosedFor h i (lease_now h i) → sink_at h i ≡ true → is_batch_closed h i (lease_now h i) ≡ true → encoded h i (held h i) ≡ encode Text (map (parcel_event h) (held h i)) →
     IsAttemptOf h i (numbers_in (role_copies role)) bytes reply
-attempt_in_order h i role bytes reply out sink once some is said part batch_closed =
+attempt_in_order h i role bytes reply out sink once some is said part batch_closed is_sink closed codec =
     let all : encode Text (map (parcel_event h) (held h i)) ≡ written (role_parcels role) = ap (λ (ps : List (List ℕ)). encode Text (map (parcel_event h) ps)) is ∙ written_events h (role_parcels role) said in
     record {
       out = out;
@@ -193,4 +195,9 @@ attempt_in_order h i role bytes reply out sink once some is said part batch_clos
       given = subst (λ (w : List ℕ). is_prefix bytes w ≡ true) (sym all) part.given;
       whole = λ ok. part.whole ok ∙ sym all;
       batch_closed = batch_closed;
+      is_sink = is_sink;
+      closed = closed;
+      waited = batch_closed.waited;
+      given_by = subst (λ (w : List ℕ). is_prefix bytes w ≡ true) (sym (codec ∙ all)) part.given;
+      whole_by = λ ok. part.whole ok ∙ sym (codec ∙ all);
     }

@@ -26,7 +26,7 @@ use Rattle.vx_hub.specs.Turns.{BringsSome, IsOfOpen}
 use Rattle.vx_hub.specs.declared.task.Role.{Role}
 use Rattle.vx_hub.specs.declared.task.Role.TheVariants.{Source, Sink}
 use Rattle.vx_hub.specs.declared.task.Task.{Task}
-use Rattle.vx_hub.specs.Stands.{IsMute, touched}
+use Rattle.vx_hub.specs.Stands.{touched}
 use Rattle.vx_hub.specs.Abreast.{IsMadeFor, IsAbreast, HasCome, HasComeHome, Yields, Gives, HasTurned}
 use Rattle.vx_hub.proofs.Silence.{same_test, other_test}
 use Rattle.vx_hub.proofs.Bridging.{Adds, given_by}

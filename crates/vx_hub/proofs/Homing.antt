@@ -148,21 +148,6 @@ lined_rest h i all rest copy is one lined =
     let n = one_number copy one in
     (n.0 ∷ lined.0, lined.1 ∙ ap singles (shift rest copy all n.0 lined.0 is n.1))
 
--- where memory was wanting, nothing is said of the record
-pub stands_starved : {P : Type 0} (told_by : P → Told) (d : Hub P) (hand : List Copy) → Stands told_by d hand d.log.history → Stands told_by (record d { starved = true }) hand d.log.history
-stands_starved told_by d hand s = record {
-  history = s.history;
-  balanced = s.balanced;
-  recorded = λ sound. let no : true ≡ false = sound.fed in cc;
-  shut = s.shut;
-  gone = s.gone;
-  size = s.size;
-  berths = s.berths;
-  rooms = s.rooms;
-  few = s.few;
-  count = s.count;
-}
-
 -- a child that was read at a place is there
 pub child_got : (cs : List Child) (k : ℕ) (c : Child) → k < length cs → c ≡ get_or cs k c → slice_get cs k ≡ Some c
 child_got [] k c l at = absurd (omega arith)

@@ -13,6 +13,7 @@ pub mod Parcels
 pub mod Silence
 pub mod Saying
 pub mod Standing
+mod Always
 pub mod StandsLaws
 pub mod Touching
 pub mod Beginning
@@ -28,6 +29,7 @@ mod Ordering
 mod Numbering
 mod Homing
 mod Leaving
+pub mod Legal
 mod Writing
 mod Lining
 mod Bridging
@@ -52,3 +54,8 @@ mod Owed
 mod Moments
 mod Splitting
 mod Sinking
+mod Dones
+mod Closing
+mod Acknowledging
+mod Readiness
+mod Reasons

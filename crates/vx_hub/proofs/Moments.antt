@@ -1,5 +1,5 @@
 -- No moment of a worker falls, and each lease has its own.
-use Rattle.std.proofs.Common.{◌≡◌, ℕ, ◌≤◌, Bool, true, false, List, ◌∷◌, Option, Some, refl, sym, ap, subst, ◌∙◌, arith}
+use Rattle.std.proofs.Common.{◌≡◌, ℕ, ◌≤◌, Bool, true, false, List, ◌∷◌, Some, refl, sym, ap, subst, ◌∙◌, arith}
 use Rattle.std.specs.Prelude.{◌==◌, if◌then◌else◌, IsTrue}
 use Rattle.vx_ends.specs.Told.{Told}
 use Rattle.vx_ledger.specs.Copies.{Copy}
@@ -11,7 +11,7 @@ use Rattle.vx_record.specs.declared.entry.Entry.{Entry}
 use Rattle.vx_record.specs.declared.entry.Entry.TheVariants.{Lease}
 use Rattle.vx_hub.specs.declared.hub.Hub.{Hub}
 use Rattle.vx_hub.specs.Moments.{IsLeaseMoment}
-use Rattle.vx_hub.specs.Stands.{Stands, IsRecorded, IsSound, IsQuiet, touched}
+use Rattle.vx_hub.specs.Stands.{Stands, IsRecorded, IsQuiet, touched}
 use Rattle.vx_hub.proofs.Silence.{same_test}
 
 -- WORKERS
@@ -74,6 +74,8 @@ stands_later {P} told_by d hand now l s = record {
   rooms = s.rooms;
   few = s.few;
   count = s.count;
+  order = s.order;
+  fed = s.fed;
 }
 
 -- LEASES

@@ -1,6 +1,6 @@
 -- What is proved of an entry, from what the hub knows.
 use Rattle.std.proofs.Common.{◌≡◌, ℕ, zero, suc, ◌+◌, ◌*◌, ◌<◌, ◌≤◌, List, [], ◌∷◌, length, Option, Some, None, refl, sym, ap, subst, ◌∙◌, arith, false}
-use Rattle.std.specs.Prelude.{◌^◌, Result, Ok, Err, IfOk, IfErr, OnOk, OnErr, IsSome}
+use Rattle.std.specs.Prelude.{◌^◌, Result, Ok, Err, IfOk, IfErr, OnErr, IsSome}
 use Rattle.std.specs.Bool.{IsFalse}
 use Rattle.std.proofs.lemmas.List.{append-nil}
 use Rattle.vx_ends.specs.Told.{Told}
@@ -10,7 +10,7 @@ use Rattle.vx_status.specs.declared.outcome.Outcome.TheVariants.{NoConsumer, Aba
 use Rattle.vx_value.specs.declared.event.Event.{Event}
 use Rattle.vx_value.specs.declared.want_of_memory.WantOfMemory.{WantOfMemory}
 use Rattle.vx_ledger.specs.Copies.{Copy, numbered, renumbered, copies_of}
-use Rattle.vx_ledger.specs.Ledger.{Ledger, IsShort, live_count}
+use Rattle.vx_ledger.specs.Ledger.{Ledger, live_count}
 use Rattle.vx_ledger.specs.Routing.{children_for, targets_of, IfChildren, IfNoConsumer, IsNoConsumer}
 use Rattle.vx_ledger.specs.declared.routed.Routed.{Routed}
 use Rattle.vx_ledger.specs.declared.routed.Routed.TheVariants as routed
@@ -19,8 +19,6 @@ use Rattle.vx_hub.specs.declared.row.Row.{Row}
 use Rattle.vx_hub.specs.Rows.{Loses}
 use Rattle.vx_ledger.specs.declared.parcel.Parcel.{Parcel}
 use Rattle.vx_ledger.specs.declared.child.Child.{Child}
-use Rattle.vx_ledger.specs.declared.short.Short.{Short}
-use Rattle.vx_ledger.specs.declared.short.Short.TheVariants as short
 use Rattle.vx_record.specs.Records.{Record}
 use Rattle.vx_record.specs.Copies.{counting, children_of, next_copy}
 use Rattle.vx_record.specs.Lists.{all_waiting, waiting, outputs}
@@ -32,16 +30,15 @@ use Rattle.vx_record.specs.Noted.{Noted}
 use Rattle.vx_record.specs.declared.log.Log.{Log}
 use Rattle.vx_record.specs.declared.child.Child.{Child as NotedChild}
 use Rattle.vx_record.specs.declared.entry.Entry.{Entry}
-use Rattle.vx_record.specs.declared.entry.Entry.TheVariants.{Install, Split, Spent, Notice, Home}
+use Rattle.vx_record.specs.declared.entry.Entry.TheVariants.{Install, Split, Spent, Notice}
 use Rattle.vx_record.specs.declared.abandon_cause.AbandonCause.{AbandonCause}
-use Rattle.vx_record.specs.declared.abandon_cause.AbandonCause.TheVariants as cause
 use Rattle.vx_hub.specs.declared.hub.Hub.{Hub}
 use Rattle.vx_hub.specs.declared.fatal.Fatal.{Fatal}
 use Rattle.vx_hub.specs.declared.fatal.Fatal.TheVariants as fatal
-use Rattle.vx_hub.specs.Failures.{fatal_of, abandon_cause, HasReason}
+use Rattle.vx_hub.specs.Failures.{HasReason}
 use Rattle.vx_hub.specs.Numbers.{numbers_in, noted_of}
 use Rattle.vx_hub.specs.Events.{IsSaid}
-use Rattle.vx_hub.specs.Order.{IsBirthOf, IsReadBy, IsSplitOf, IsReason, IsOrderly, readers_at, reply_behind, cause_of}
+use Rattle.vx_hub.specs.Order.{IsBirthOf, IsReadBy, IsSplitOf, IsOrderly, readers_at, reply_behind, cause_of}
 use Rattle.vx_hub.specs.Spending.{IsGiven, AreAnswered, IsSpentFor, MaySpend, IsReplied}
 use Rattle.vx_record.specs.Sourcing.{IsYield}
 use Rattle.vx_hub.specs.Abreast.{AreNamedApart}
@@ -49,6 +46,7 @@ use Rattle.vx_hub.specs.Stands.{Stands, IsSound, IsBalanced}
 use Rattle.vx_hub.proofs.Porting.{output_on_first, first_routes}
 use Rattle.vx_hub.proofs.StandsLaws.{unmade}
 use Rattle.vx_hub.proofs.Shrinking.{answered_on, waits_none}
+use Rattle.vx_hub.proofs.Acknowledging.{must_not_wait}
 
 pub length_numbers : (cs : List Copy) → length (numbers_in cs) ≡ length cs
 length_numbers [] = refl
@@ -87,6 +85,7 @@ birth_in_order h i next n batch copies events stream end order read yield now fi
       next = counted ∙ ap (λ k. counting k n) now ∙ ap (λ m. counting (next_copy h) m) (sym many);
       number = first ∙ now;
       fits = omega (arith, many, now, fits);
+      waiting = sym (must_not_wait h i order);
     }
 
 -- the children that a route made, as an entry has them
@@ -131,11 +130,6 @@ pub noted_split : (old new : Log) (i : ℕ) (apart : Result (List ℕ × Event) 
 noted_split old new i (Ok a) numbers event children are is noted none =
     subst (λ (e : Event). Noted old (Split i 1 numbers e children) new) is (subst (λ (ns : List ℕ). Noted old (Split i 1 ns a.1 children) new) are noted)
 noted_split old new i (Err e) numbers event children are is noted none = unmade old (Split i 1 numbers event children) new none.0 none.1
-
--- numbers that the ledger refused are a reason to give up
-pub short_reason : (h : Record) (next wanted : ℕ) (cause : Short) → next ≡ next_copy h → IsShort next wanted cause → IsReason h (abandon_cause (fatal_of cause))
-short_reason h next wanted (short.Numbers n w) now is = (is.0 ∙ now, omega (arith, is.0, is.1, is.2))
-short_reason h next wanted short.WantOfMemory now is = tt
 
 -- what was sound before an entry was noted
 pub sound_before : {P : Type 0} (d e : Hub P) (entry : Entry) → Noted d.log entry e.log → e.starved ≡ d.starved → IsSound e → IsSound d
@@ -223,20 +217,6 @@ replied_may hub i reply outcome goes behind last sound = record {
 -- where the run goes on
 pub answered_may : {P : Type 0} (told_by : P → Told) (hub : Hub P) (hand : List Copy) (i : ℕ) (reply : Reply) (outcome : Outcome) → Stands told_by hub hand hub.log.history → hub.abandoned ≡ None → reply_behind outcome ≡ Some reply → IsReplied hub i reply → MaySpend hub i outcome
 answered_may told_by hub hand i reply outcome s going behind last = replied_may hub i reply outcome (λ sound. sym (s.recorded sound).cause ∙ going) behind last
-
--- the reason of a landing stays, behind its end
-pub reason_home : (h : Record) (i : ℕ) (cause : AbandonCause) → IsReason h cause → IsReason (Home i ∷ h) cause
-reason_home h i (cause.Grace stopped now limit) is = is
-reason_home h i (cause.Numbers next wanted) is = (omega (arith, is.0), is.1)
-reason_home h i cause.WantOfMemory is = tt
-
--- the reason of a landing that can't go on
-pub landed_reason : {P X : Type 0} (d e : Hub P) (i : ℕ) (landed result : Result X Fatal) → Noted d.log (Home i) e.log → e.starved ≡ d.starved → IfErr landed (HasReason d) → OnErr landed (result ≡ landed) →
-    OnOk landed (IfErr result (λ cause. cause ≡ fatal.WantOfMemory)) → IfErr result (HasReason e)
-landed_reason {P} {X} d e i (Ok x) (Ok y) noted starved had passed none = tt
-landed_reason {P} {X} d e i (Ok x) (Err f) noted starved had passed none = subst (λ (g : Fatal). HasReason e g) (sym none) (λ sound. tt)
-landed_reason {P} {X} d e i (Err f) result noted starved had passed none = subst (λ (r : Result X Fatal). IfErr r (HasReason e)) (sym passed)
-    (λ sound. subst (λ (h : Record). IsReason h (abandon_cause f)) (sym (noted.whole sound.whole).1) (reason_home d.log.history i (abandon_cause f) (had (sound_before d e (Home i) noted starved sound))))
 
 -- what holds of the children of a route that made some
 pub children_have : (r : Routed) (children : List Child) (F : List Child → Type 0) → r ≡ Children children → IfChildren (Ok r) F → F children

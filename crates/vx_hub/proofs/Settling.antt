@@ -18,6 +18,7 @@ use Rattle.vx_record.specs.Turns.{is_out, since_lease, is_attempt_of, worker_now
 use Rattle.vx_record.specs.SinkBatches.{attempts_with, failures_with, attempts_allowed}
 use Rattle.vx_record.specs.Parcels.{first_copy}
 use Rattle.vx_record.specs.Owing.{is_decided, unspent_of, owes_spends_in, owes_birth}
+use Rattle.vx_record.specs.Ready.{is_ready}
 use Rattle.vx_record.specs.Moving.{IsConserved}
 use Rattle.vx_record.proofs.Counts.{count-append}
 use Rattle.vx_record.proofs.Changes.{parcels_after, put_at}
@@ -196,8 +197,8 @@ owes_none (Attempt j copies bytes reply ∷ h) whole i all =
 owes_none (e ∷ h) whole i all = owes_none h whole i all
 
 -- what isn't closed isn't retired
-pub unclosed_unretired : (h : Record) (f : Facts) (i worker now : ℕ) (gone : IsTrue f.retired → IsTrue f.closed) → f.closed ≡ false → f.leased ≡ false → IsKnown f h i → IsOrderly h → abandoned h ≡ false → owes_birth h i ≡ false → worker_now h worker ≤ now → IsLeaseOf h i worker now 0
-unclosed_unretired h f i worker now gone unclosed unleased k orderly going born later = record {
+pub unclosed_unretired : (h : Record) (f : Facts) (i worker now : ℕ) (gone : IsTrue f.retired → IsTrue f.closed) → f.closed ≡ false → f.leased ≡ false → IsKnown f h i → IsOrderly h → abandoned h ≡ false → owes_birth h i ≡ false → worker_now h worker ≤ now → is_ready h i now ≡ true → IsLeaseOf h i worker now 0
+unclosed_unretired h f i worker now gone unclosed unleased k orderly going born later ready = record {
   known = there_known h i f orderly k;
   home = sym k.leased ∙ unleased;
   settled = owes_none h h i (settled_home h i orderly (sym k.leased ∙ unleased) going);
@@ -206,6 +207,7 @@ unclosed_unretired h f i worker now gone unclosed unleased k orderly going born 
   unpolled = refl;
   born = born;
   later = later;
+  ready = ready;
 }
   where
     go : (b : Bool) → f.retired ≡ b → b ≡ false

@@ -1,5 +1,5 @@
 -- A sink of the hub takes, and writes what it collected.
-use Rattle.std.proofs.Common.{◌≡◌, ℕ, zero, suc, ◌<◌, true, false, List, [], ◌∷◌, length, Option, Some, None, refl, sym, ap, subst, ◌∙◌, arith, inl, inr}
+use Rattle.std.proofs.Common.{◌≡◌, ℕ, zero, suc, ◌<◌, Bool, true, false, ◌&&◌, List, [], ◌∷◌, length, Option, Some, None, refl, sym, ap, subst, ◌∙◌, inl, inr}
 use Rattle.std.specs.Prelude.{◌⊎◌, IsSomeAnd}
 use Rattle.std.specs.List.{list_any}
 use Rattle.vx_value.specs.Texts.{is_empty}
@@ -11,8 +11,9 @@ use Rattle.vx_plan.specs.declared.component.Component.{Component}
 use Rattle.vx_record.specs.Records.{Record}
 use Rattle.vx_record.specs.Noted.{Noted}
 use Rattle.vx_record.specs.Installs.{in_force}
-use Rattle.vx_record.specs.Lists.{stands, contents}
+use Rattle.vx_record.specs.Lists.{stands, contents, buffered}
 use Rattle.vx_record.specs.Places.Place.{Contents, Held}
+use Rattle.vx_record.specs.Routing.{is_ending}
 use Rattle.vx_record.specs.Turns.{is_out, lease_now, since_lease, is_attempt_of}
 use Rattle.vx_record.specs.declared.entry.Entry.{Entry}
 use Rattle.vx_hub.specs.declared.hub.Hub.{Hub}
@@ -28,6 +29,7 @@ use Rattle.vx_hub.specs.Rows.{row_at, CanHold}
 use Rattle.vx_hub.specs.Sinks.{IsLastAt, IsClosedAt, IsUnclosedAt, MustWrite}
 use Rattle.vx_hub.specs.Stands.{Stands, IsSound, IsSinkAt, facts_at}
 use Rattle.vx_hub.proofs.Ceasing.{going_on}
+use Rattle.vx_hub.proofs.Concluding.{ending_known}
 use Rattle.vx_hub.proofs.Drying.{sink_known}
 use Rattle.vx_hub.proofs.Ordering.{sound_before}
 use Rattle.vx_hub.proofs.Placing.{places_all}
@@ -47,10 +49,15 @@ fresh_at told_by d i core s going fine out untried here =
       going = going_on told_by d [] s going fine;
     }
 
--- where its buffer is empty, the record's is
-last_of : {P : Type 0} (told_by : P → Told) (d : Hub P) (i : ℕ) → Stands told_by d [] d.log.history → IsSound d → IsLastAt d i → IsLastOf d.log.history i
-last_of {P} told_by d i s fine last =
-    ap is_empty (buffer_none i (stands d.log.history) (λ stage. places_all d.rows.items d.log.history (s.recorded fine).places.standing (Contents i stage) ∙ empty stage))
+both : (a b : Bool) → a ≡ true → b ≡ true → (a && b) ≡ true
+both true b e f = f
+both false b e f = cc
+
+-- where no parcel follows by what the hub knows, none does in the record
+pub last_of : {P : Type 0} (told_by : P → Told) (d : Hub P) (i : ℕ) → Stands told_by d [] d.log.history → IsSound d → IsSinkAt d i → IsLastAt d i → IsLastOf d.log.history i
+last_of {P} told_by d i s fine sink last =
+    both (is_ending d.log.history i) (is_empty (buffered d.log.history i)) (ending_known told_by d i s fine sink last.unfed)
+    (ap is_empty (buffer_none i (stands d.log.history) (λ stage. places_all d.rows.items d.log.history (s.recorded fine).places.standing (Contents i stage) ∙ empty stage)))
   where
     further : (stage : ℕ) (r : Option (Row P)) → all_numbers (copies_if (Contents i (suc stage)) r) ≡ []
     further stage None = refl
@@ -61,14 +68,14 @@ last_of {P} told_by d i s fine last =
     empty (suc stage) = further stage (row_at d.rows.items i)
 
 -- what is closed by what the hub knows must be written
-pub must_write : {P : Type 0} (told_by : P → Told) (d : Hub P) (i now : ℕ) → Stands told_by d [] d.log.history → d.abandoned ≡ None → IsAway d i → IsUntried d i → IsLeaseMoment d i now → IsClosedAt d i now → MustWrite d i
-must_write {P} told_by d i now s going away untried moment closed sound =
+pub must_write : {P : Type 0} (told_by : P → Told) (d : Hub P) (i now : ℕ) → Stands told_by d [] d.log.history → d.abandoned ≡ None → IsAway d i → IsUntried d i → IsLeaseMoment d i now → IsSinkAt d i → IsClosedAt d i now → MustWrite d i
+must_write {P} told_by d i now s going away untried moment sink closed sound =
     subst (λ (n : ℕ). IsClosedFor d.log.history i n) (sym (moment sound))
     (closed_for d.log.history i now closed.core (fresh_at told_by d i closed.core s going sound (away sound) (untried sound) closed.here) closed.some (cause closed.cause))
   where
     cause : IsFullOrOld closed.core now ⊎ IsLastAt d i → IsFullOrOld closed.core now ⊎ IsLastOf d.log.history i
     cause (inl due) = inl due
-    cause (inr last) = inr (last_of told_by d i s sound last)
+    cause (inr last) = inr (last_of told_by d i s sound sink last)
 
 -- what isn't closed may take the oldest parcel of its buffer
 pub may_take : {P : Type 0} (told_by : P → Told) (d : Hub P) (i now most : ℕ) (copies : List ℕ) (rest : List (List ℕ)) → Stands told_by d [] d.log.history → d.abandoned ≡ None → i < length d.rows.items → IsSound d → is_out d.log.history i ≡ true →

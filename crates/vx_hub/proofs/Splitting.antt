@@ -1,6 +1,6 @@
 -- A split that lacks numbers lacks nothing else, and wants as many as its children have.
-use Rattle.std.proofs.Common.{◌≡◌, ℕ, zero, suc, ◌+◌, ◌*◌, ◌-◌, ◌<◌, ◌≤◌, Bool, true, false, List, [], ◌∷◌, ◌++◌, length, Option, Some, None, refl, sym, ap, subst, ◌∙◌, arith}
-use Rattle.std.specs.Prelude.{◌==◌, ◌&&◌, ◌||◌, ◌^◌, not, if◌then◌else◌, map, filter, min, slice_get, slice_index_or, get_or, IsSomeAnd, IfSome}
+use Rattle.std.proofs.Common.{◌≡◌, ℕ, zero, suc, ◌+◌, ◌*◌, ◌<◌, ◌≤◌, Bool, true, false, List, [], ◌∷◌, ◌++◌, length, Option, Some, None, refl, sym, ap, subst, ◌∙◌, arith}
+use Rattle.std.specs.Prelude.{◌==◌, ◌&&◌, ◌||◌, ◌^◌, not, if◌then◌else◌, map, filter, slice_get, slice_index_or, get_or, IsSomeAnd}
 use Rattle.std.specs.List.{list_any}
 use Rattle.std.proofs.lemmas.List.{length-append}
 use Rattle.vx_value.specs.Texts.{Word, same_text, text_le}
@@ -14,7 +14,7 @@ use Rattle.vx_ledger.specs.Ledger.{IsShort}
 use Rattle.vx_plan.specs.declared.plan.Plan.{Plan}
 use Rattle.vx_plan.specs.declared.component.Component.{Component}
 use Rattle.vx_plan.specs.Components.{component_named, port_names}
-use Rattle.vx_plan.specs.Targets.{enter, in_order, names_reading, reads, readers, all_targets, targets}
+use Rattle.vx_plan.specs.Targets.{enter, in_order, names_reading, reads, readers, targets}
 use Rattle.vx_record.specs.Records.{Record}
 use Rattle.vx_record.specs.declared.child.Child.{Child as NotedChild}
 use Rattle.vx_record.specs.declared.entry.Entry.{Entry}
@@ -28,7 +28,7 @@ use Rattle.vx_record.specs.Lists.{without, unless_empty, standing, parcels_at, o
 use Rattle.vx_record.specs.Parcels.{port_list}
 use Rattle.vx_record.specs.Sending.{IsOldest}
 use Rattle.vx_record.specs.Starting.{first_instances}
-use Rattle.vx_record.specs.Installs.{Wiring, wiring, works, numbers_of, in_force}
+use Rattle.vx_record.specs.Installs.{Wiring, works, numbers_of, in_force}
 use Rattle.vx_record.specs.Routing.{routes, wired_targets}
 use Rattle.vx_record.specs.Turns.{is_out}
 use Rattle.vx_record.specs.Wirings.{names_differ}

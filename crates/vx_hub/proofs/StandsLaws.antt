@@ -44,6 +44,7 @@ use Rattle.vx_record.specs.Accounting.{IsNoticedSo}
 use Rattle.vx_record.specs.Batches.{NoNoticeDue}
 use Rattle.vx_hub.specs.Batching.{AreRunning}
 use Rattle.vx_hub.proofs.Placing.{conserved}
+use Rattle.vx_hub.proofs.Always.{MayFollow, order_next, order_noted, order_same, fed_noted, fed_same, sound_whole}
 use Rattle.vx_hub.proofs.Noticing.{in_turn, running_still}
 use Rattle.vx_hub.proofs.Owning.{placed_still}
 use Rattle.vx_hub.specs.Notices.{pending, pending_in, IsCounted}
@@ -249,6 +250,8 @@ stands_quiet {P} told_by d e hand after entry s balanced facts ports bare rooms 
       rooms = rooms_kept d.plan e.plan d.rows.items e.rows.items (ap (λ (t : _). t.2) berths) rooms s.rooms;
       few = few_kept d.plan e.plan (ap (λ (t : _). t.2) berths) s.few;
       count = count_kept d.plan e.plan d.rows.items e.rows.items (ap (λ (t : _). t.2) berths) size s.count;
+      order = order_noted told_by d hand e.log entry s noted (λ fine. (passes.order fine, in_turn d.log.history entry (s.recorded fine).noticeless, passes.comes fine));
+      fed = fed_noted d.log e.log entry d.starved e.starved noted starved s.fed;
     }
 
 -- what holds in any case
@@ -319,6 +322,8 @@ stands_moved {P} told_by d e hand after s balanced facts ports bare rooms batche
   rooms = rooms_kept d.plan e.plan d.rows.items e.rows.items (ap (λ (t : _). t.2) berths) rooms s.rooms;
   few = few_kept d.plan e.plan (ap (λ (t : _). t.2) berths) s.few;
   count = count_kept d.plan e.plan d.rows.items e.rows.items (ap (λ (t : _). t.2) berths) size s.count;
+  order = order_same d.log e.log log s.order;
+  fed = fed_same d.log e.log d.starved e.starved log starved s.fed;
 }
   where
     size : length e.rows.items ≡ length d.rows.items
@@ -431,6 +436,9 @@ stands_abandoned {P} told_by d log cause s once reason noted = record {
   rooms = s.rooms;
   few = s.few;
   count = s.count;
+  order = order_noted told_by d [] log (Abandon cause) s noted (λ fine.
+      let r = s.recorded fine in (record { first = sym r.cause ∙ once; reason = reason fine }, r.noticeless, comes_going d.log.history (Abandon cause) (sym r.cause ∙ once)));
+  fed = fed_noted d.log log (Abandon cause) d.starved d.starved noted refl s.fed;
 }
 
 -- whether the hub goes on says nothing of the record
@@ -448,6 +456,8 @@ stands_settled {P} told_by d e hand same s kept = subst (λ (x : Hub P). Stands 
   rooms = s.rooms;
   few = s.few;
   count = s.count;
+  order = s.order;
+  fed = s.fed;
 })
 
 -- a copy is spent, and its batch gets its notice
@@ -497,4 +507,7 @@ stands_noticed {P} told_by d e hand after i c outcome batch status mid s balance
       rooms = rooms_kept d.plan e.plan d.rows.items e.rows.items (ap (λ (t : _). t.2) berths) (ap (λ (v : _). buffer_rooms v.items) rows) s.rooms;
       few = few_kept d.plan e.plan (ap (λ (t : _). t.2) berths) s.few;
       count = count_kept d.plan e.plan d.rows.items e.rows.items (ap (λ (t : _). t.2) berths) (ap (λ (v : _). length v.items) rows) s.count;
+      order = order_next mid e.log second noticed (order_noted told_by d hand mid first s spent (λ fine. (order fine, in_turn h first (s.recorded fine).noticeless, comes fine)))
+          (λ whole. let w = spent.whole whole in subst (λ (k : Record). MayFollow k second) (sym w.1) (so (sound_whole told_by d hand h s w.0), tt, λ gone. refl));
+      fed = λ whole. starved ∙ s.fed (spent.whole (noticed.whole whole).0).0;
     }

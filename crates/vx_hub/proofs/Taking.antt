@@ -202,7 +202,7 @@ pub record IsFound (h : Record) (i : ℕ) (F : Component → Type 0) : Type 0 wh
   pub found : component_of h i ≡ Some component
   pub has : F component
 
-component_found : (h : Record) (i : ℕ) (F : Component → Type 0) → IsOrderly h → IsSomeAnd (component_in (in_force h) i) F → IsFound h i F
+pub component_found : (h : Record) (i : ℕ) (F : Component → Type 0) → IsOrderly h → IsSomeAnd (component_in (in_force h) i) F → IsFound h i F
 component_found h i F order is = go (in_force h) refl is (named_apart h order)
   where
     at : (plan : Plan) → in_force h ≡ Some plan → names_differ plan.components ≡ true → (o : Option Component) → slice_get plan.components i ≡ o → IsSomeAnd o F → IsFound h i F
@@ -271,7 +271,7 @@ failures_fewer (Attempt j copies bytes answer ∷ h) i c = let rest = failures_f
 failures_fewer (e ∷ h) i c = failures_fewer h i c
 
 -- so it needn't wait
-waits_for_none : (h : Record) (i : ℕ) → attempts_with h i (oldest_held h i) ≡ 0 → retry_from h i ≡ 0
+pub waits_for_none : (h : Record) (i : ℕ) → attempts_with h i (oldest_held h i) ≡ 0 → retry_from h i ≡ 0
 waits_for_none h i none =
     let few = failures_fewer h i (oldest_held h i) in
     let zero_failed : failures_with h i (oldest_held h i) ≡ 0 = omega (arith, none, few) in
@@ -360,7 +360,7 @@ pub record IsFresh (h : Record) (i : ℕ) (core : SinkCore) : Type 0 where
   pub settled : AreSettled h i
   pub going : cause_of h ≡ None
 
-fresh_untried : (h : Record) (i : ℕ) (core : SinkCore) → IsFresh h i core → 0 < length core.held.items → attempts_with h i (oldest_held h i) ≡ 0
+pub fresh_untried : (h : Record) (i : ℕ) (core : SinkCore) → IsFresh h i core → 0 < length core.held.items → attempts_with h i (oldest_held h i) ≡ 0
 fresh_untried h i core f some =
     unattempted h i (conserved h f.order) f.settled (unabandoned h f.going) (let n = ap length f.holds in let m = length_parcels core.held.items in omega (arith, some, n, m))
 

@@ -46,6 +46,7 @@ use Rattle.vx_record.specs.Batches.{NoNoticeDue}
 use Rattle.vx_record.specs.Accounting.{IsAccounted}
 use Rattle.vx_hub.specs.Batching.{AreRunning}
 use Rattle.vx_hub.proofs.Placing.{conserved}
+use Rattle.vx_hub.proofs.Always.{order_noted, order_same, fed_noted, fed_same}
 use Rattle.vx_hub.proofs.Noticing.{accounted, in_turn, still_quiet, running_still}
 use Rattle.vx_hub.proofs.Owning.{placed_still, placed_same}
 use Rattle.vx_hub.specs.Notices.{pending_in, IsCounted}
@@ -309,6 +310,12 @@ stands_touched {P} told_by d e hand entry i f g s out within at written closed r
       rooms = rooms_kept d.plan e.plan d.rows.items e.rows.items (ap (λ (t : _). t.2) berths) (ap (λ (v : _). buffer_rooms v.items) rows) s.rooms;
       few = few_kept d.plan e.plan (ap (λ (t : _). t.2) berths) s.few;
       count = count_kept d.plan e.plan d.rows.items e.rows.items (ap (λ (t : _). t.2) berths) (ap (λ (v : _). length v.items) rows) s.count;
+      order = order_noted told_by d hand e.log entry s noted (λ fine.
+          let r : IsRecorded told_by d hand d.log.history = s.recorded fine in
+          let mine : IsKnown f d.log.history i = subst (λ (o : Option Facts). IfSome o (λ x. IsKnown x d.log.history i)) was (r.facts i) in
+          let away = r.outs i (subst (λ n. i < n) s.size within) none in
+          (order fine mine away, in_turn d.log.history entry r.noticeless, comes_left d.log.history entry i touch still (left_out d.log.history i r.order away)));
+      fed = fed_noted d.log e.log entry d.starved e.starved noted starved s.fed;
     }
 
 -- an instance is marked, and an entry tells it that says nothing of a port
@@ -372,6 +379,8 @@ stands_marked {P} told_by d e hand after entry i f g s within at written rows be
       rooms = rooms_kept d.plan e.plan d.rows.items e.rows.items (ap (λ (t : _). t.2) berths) (ap (λ (v : _). buffer_rooms v.items) rows) s.rooms;
       few = few_kept d.plan e.plan (ap (λ (t : _). t.2) berths) s.few;
       count = count_kept d.plan e.plan d.rows.items e.rows.items (ap (λ (t : _). t.2) berths) (ap (λ (v : _). length v.items) rows) s.count;
+      order = order_noted told_by d hand e.log entry s noted (λ fine. (order fine, in_turn d.log.history entry (s.recorded fine).noticeless, comes fine));
+      fed = fed_noted d.log e.log entry d.starved e.starved noted starved s.fed;
     }
 
 -- a task comes home with a port that tells what the record has
@@ -424,6 +433,8 @@ stands_brought {P} told_by d e copies port i s unclosed told balanced here ports
       rooms = rooms_kept d.plan e.plan d.rows.items e.rows.items (ap (λ (t : _). t.2) berths) rooms s.rooms;
       few = few_kept d.plan e.plan (ap (λ (t : _). t.2) berths) s.few;
       count = count_kept d.plan e.plan d.rows.items e.rows.items (ap (λ (t : _). t.2) berths) size s.count;
+      order = order_same d.log e.log log s.order;
+      fed = fed_same d.log e.log d.starved e.starved log starved s.fed;
     }
 
 -- a fact of the facts that were read
@@ -560,6 +571,8 @@ stands_shut {P} told_by d e i s home becomes loses ports bare rooms batches fact
       rooms = rooms_kept d.plan e.plan d.rows.items e.rows.items (ap (λ (t : _). t.2) berths) rooms s.rooms;
       few = few_kept d.plan e.plan (ap (λ (t : _). t.2) berths) s.few;
       count = count_kept d.plan e.plan d.rows.items e.rows.items (ap (λ (t : _). t.2) berths) size s.count;
+      order = order_same d.log e.log log s.order;
+      fed = fed_same d.log e.log d.starved e.starved log starved s.fed;
     }
 
 -- no bytes are no more bytes
@@ -627,6 +640,11 @@ stands_attempted {P} told_by d log hand i copies bytes reply s within out names 
       rooms = s.rooms;
       few = s.few;
       count = s.count;
+      order = order_noted told_by d hand log e s noted (λ fine.
+          let r = s.recorded fine in
+          let away = r.outs i within none in
+          (names fine away, r.noticeless, left_out d.log.history i r.order away));
+      fed = fed_noted d.log log e d.starved d.starved noted refl s.fed;
     }
 
 -- past the end there are no facts
@@ -696,6 +714,8 @@ stands_out {P} told_by d e copies i s unclosed balanced away ports bare rooms ba
       rooms = rooms_kept d.plan e.plan d.rows.items e.rows.items (ap (λ (t : _). t.2) berths) rooms s.rooms;
       few = few_kept d.plan e.plan (ap (λ (t : _). t.2) berths) s.few;
       count = count_kept d.plan e.plan d.rows.items e.rows.items (ap (λ (t : _). t.2) berths) size s.count;
+      order = order_same d.log e.log log s.order;
+      fed = fed_same d.log e.log d.starved e.starved log starved s.fed;
     }
 
 -- what the port of the task tells that is taken along

@@ -13,7 +13,6 @@ use Rattle.vx_record.proofs.Notices.{noticed}
 use Rattle.vx_hub.specs.Order.{IsOrderly}
 use Rattle.vx_hub.specs.Notices.{Pending, pending, without_first, count_of, count_unnoticed, unnoticed}
 use Rattle.vx_hub.proofs.Noticing.{accounted}
-use Rattle.vx_hub.proofs.Silence.{same_test}
 
 -- all batches, in the order of their births
 abbrev bred : Record → List Pending

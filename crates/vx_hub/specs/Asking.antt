@@ -1,5 +1,5 @@
 -- What an instance was last asked to confirm to its port: the ends of its batches when it was leased.
-use Rattle.std.specs.Prelude.{◌≡◌, ℕ, true, false, List, Option, Some, None, IsSome, if◌then◌else◌}
+use Rattle.std.specs.Prelude.{◌≡◌, ℕ, false, List, Option, Some, None, IsSome, if◌then◌else◌}
 use Rattle.vx_ends.specs.declared.position.Position.{Position}
 use Rattle.vx_value.specs.Texts.{is_empty}
 use Rattle.vx_record.specs.Records.{Record}

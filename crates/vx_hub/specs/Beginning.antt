@@ -1,5 +1,5 @@
 -- A hub whose instances are still being seated.
-use Rattle.std.specs.Prelude.{◌≡◌, ℕ, ◌+◌, ◌<◌, ◌≤◌, [], length, vec_capacity, slice_get, Bool, None, IfSome, IsSome, IsSomeAnd}
+use Rattle.std.specs.Prelude.{◌≡◌, ℕ, ◌+◌, ◌<◌, ◌≤◌, [], length, vec_capacity, slice_get, Bool, false, None, IfSome, IsSome, IsSomeAnd}
 use Rattle.vx_ends.specs.Told.{Told}
 use Rattle.vx_ledger.specs.Ledger.{IsKept}
 use Rattle.vx_plan.specs.declared.plan.Plan.{Plan}
@@ -60,3 +60,4 @@ pub record Begins {P : Type 0} (told_by : P → Told) (plan : Plan) (hub : Hub P
   pub rooms : HasRooms plan hub.rows.items
   pub abreast : length hub.progress.items ≡ length hub.rows.items
   pub unnoticed : (i : ℕ) → i < length hub.progress.items → IsSomeAnd (progress_at hub.progress.items i) (λ p. p.unnoticed ≡ 0)
+  pub fed : hub.starved ≡ false

@@ -1,9 +1,10 @@
 -- What a sink collects, and when it writes that.
-use Rattle.std.specs.Prelude.{◌≡◌, ◌+◌, ◌<◌, ◌≤◌, ◌⊎◌, ℕ, Option, Some, None, IsSomeAnd, List, [], ◌∷◌, length}
+use Rattle.std.specs.Prelude.{◌≡◌, ◌+◌, ◌<◌, ◌≤◌, ◌⊎◌, ℕ, Option, Some, None, IsSome, IsSomeAnd, List, [], ◌∷◌, length}
 use Rattle.vx_ledger.specs.declared.parcel.Parcel.{Parcel}
 use Rattle.vx_plan.specs.declared.component.Component.{Component}
 use Rattle.vx_plan.specs.declared.settings.Settings.{Settings}
 use Rattle.vx_plan.specs.Components.{batch_max_events, batch_timeout}
+use Rattle.vx_plan.specs.Options.{sink_options}
 use Rattle.vx_record.specs.Records.{Record}
 use Rattle.vx_record.specs.Installs.{in_force}
 use Rattle.vx_record.specs.Parcels.{first_copy}
@@ -16,10 +17,11 @@ use Rattle.vx_hub.specs.Numbers.{numbers_in}
 use Rattle.vx_hub.specs.Order.{component_in, cause_of}
 use Rattle.vx_hub.specs.Rows.{row_at}
 
--- a sink collects as many parcels, and waits as long, as its component's options say
+-- a sink collects as many parcels, and waits as long, as its component's options say, which are those of a sink
 pub record IsSizedFor (settings : Settings) (core : SinkCore) : Type 0 where
   pub room : core.held.room ≡ batch_max_events settings
   pub timeout : core.timeout ≡ batch_timeout settings
+  pub options : IsSome (sink_options settings)
 
 -- the moment that a sink keeps is that of the take of the oldest of some parcels, until that one is attempted or the run
 -- is given up

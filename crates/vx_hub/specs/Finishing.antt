@@ -93,10 +93,15 @@ IsFinishedAs Sink hub i = IsSinkFinished hub i
 abbrev pub IsFinished : {P : Type 0} → Hub P → ℕ → Type 0
 IsFinished hub i = IsSomeAnd (facts_at hub.facts.items i) (λ f. IsFinishedAs f.class hub i)
 
+-- no call answered `Fatal`, behind which an instance may still owe a batch, and the instance has nothing more to do
+pub record IsFinishedWell {P : Type 0} (hub : Hub P) (i : ℕ) : Type 0 where
+  pub running : hub.fatal ≡ false
+  pub finished : IsFinished hub i
+
 -- an instance has ended, and has nothing more to do, or the run was given up
 pub record IsRetirable {P : Type 0} (hub : Hub P) (i : ℕ) : Type 0 where
   pub ended : HasEnded hub i
-  pub over : IsSome hub.abandoned ⊎ IsFinished hub i
+  pub over : IsSome hub.abandoned ⊎ IsFinishedWell hub i
 
 -- where the record has all that happened, the instance is done there
 abbrev pub IsDoneNow : {P : Type 0} → Hub P → ℕ → Type 0

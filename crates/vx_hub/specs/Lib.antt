@@ -1,5 +1,6 @@
 pub mod Turns
 pub mod Sources
+pub mod Acknowledging
 pub mod Collecting
 pub mod Abreast
 pub mod Attempts
@@ -31,3 +32,4 @@ pub mod Owed
 pub mod Moments
 pub mod Splitting
 pub mod Sinks
+pub mod Readiness

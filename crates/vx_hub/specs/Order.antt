@@ -11,7 +11,7 @@ use Rattle.vx_record.specs.Records.{Record, capped}
 use Rattle.vx_record.specs.Copies.{count, joined, counting, children_of, next_copy, times_spent, IsLive}
 use Rattle.vx_record.specs.Places.{Place, owner}
 use Rattle.vx_record.specs.Places.Place.{Outputs, Held}
-use Rattle.vx_record.specs.Lists.{outputs, waiting, all_waiting, contents, held, stands, parcels_at, places, is_bare, buffered}
+use Rattle.vx_record.specs.Lists.{outputs, waiting, all_waiting, contents, held, stands, parcels_at, places, is_bare}
 use Rattle.vx_record.specs.Sending.{IsOldest}
 use Rattle.vx_record.specs.Stages.{first_room, first_filled}
 use Rattle.vx_record.specs.Moving.{Divides}
@@ -19,9 +19,9 @@ use Rattle.vx_record.specs.Accounting.{IsNoticedSo, IsInTurn}
 use Rattle.vx_record.specs.Abandoning.{abandoned, MayStillCome}
 use Rattle.vx_record.specs.Turns.{is_out, at_lease, is_take_of, since_lease, is_attempt_of, is_confirm_of, worker_now, lease_now}
 use Rattle.vx_record.specs.Parcels.{parcel_event, parcel_ports, port_list}
-use Rattle.vx_record.specs.Encoding.{encode, is_prefix}
+use Rattle.vx_record.specs.Encoding.{encode, encoded, is_prefix}
 use Rattle.vx_plan.specs.declared.codec.Codec.TheVariants.{Text}
-use Rattle.vx_value.specs.Texts.{Word, is_empty}
+use Rattle.vx_value.specs.Texts.{Word}
 use Rattle.vx_record.specs.Starting.{MayInstall}
 use Rattle.vx_record.specs.declared.instance.Instance.{Instance}
 use Rattle.vx_record.specs.Wirings.{names_differ}
@@ -34,10 +34,13 @@ use Rattle.vx_plan.specs.declared.component.Component.{Component}
 use Rattle.vx_plan.specs.declared.plan.Plan.{Plan}
 use Rattle.vx_record.specs.Reads.{bytes_taken, bytes_of_all, all_ended}
 use Rattle.vx_record.specs.Confirms.{born_positions, is_unconfirmed, due, is_confirm_due}
-use Rattle.vx_record.specs.Sourcing.{failed_starts, IsYield, MayTurn}
+use Rattle.vx_record.specs.Sourcing.{failed_starts, IsYield, MayTurn, must_wait}
 use Rattle.vx_record.specs.Spending.{WasAnswered, HadNoTarget, oldest}
-use Rattle.vx_record.specs.SinkBatches.{failures_with, attempts_allowed, attempts_with, is_batch_closed, is_full_batch, is_timed_out, retry_from}
+use Rattle.vx_record.specs.SinkBatches.{failures_with, attempts_allowed, attempts_with, is_batch_closed, is_full_batch, is_timed_out, is_last_batch, retry_from}
 use Rattle.vx_record.specs.Owing.{owes_spends_in, owes_birth}
+use Rattle.vx_hub.specs.Acknowledging.{AcknowledgesNothing}
+use Rattle.vx_record.specs.Ready.{is_ready}
+use Rattle.vx_record.specs.Ending.{BirthWants, SplitWants}
 use Rattle.vx_hub.specs.Closures.{IsDone}
 use Rattle.vx_record.specs.declared.entry.Entry.{Entry}
 use Rattle.vx_record.specs.declared.entry.Entry.TheVariants.{Install, Lease, Home, Read, Idle, SourceLost, Born, Split, Push, Take, Attempt, Spent, Notice, Confirm, Closed, Retired, Abandon}
@@ -109,9 +112,9 @@ abbrev pub IsReadBy : Record → ℕ → Type 0
 IsReadBy (Read j stream took ∷ h) i = j ≡ i
 IsReadBy h i = ⊥
 
--- a batch stands directly behind a read of its source, and doesn't wait yet; its events are those of the lines that the
--- read completes, and it ends where the last of them ends; it has one copy for each of its events, with the next numbers,
--- and the number of the first of them
+-- a batch stands directly behind a read of its source, and waits where it must by its plan, which is nowhere yet; its
+-- events are those of the lines that the read completes, and it ends where the last of them ends; it has one copy for each
+-- of its events, with the next numbers, and the number of the first of them
 pub record IsBirthOf (h : Record) (i batch : ℕ) (copies : List ℕ) (events : List Event) (waits : Bool) (stream end : ℕ) : Type 0 where
   pub read : IsReadBy h i
   pub yield : IsYield h i events stream end
@@ -121,6 +124,7 @@ pub record IsBirthOf (h : Record) (i batch : ℕ) (copies : List ℕ) (events : 
   pub next : copies ≡ counting (next_copy h) (length copies)
   pub number : batch ≡ next_copy h
   pub fits : next_copy h + length copies ≤ 2 ^ 63
+  pub waiting : waits ≡ must_wait h i
 
 -- the instances that read the first port of an instance, by the Install that gave it work, in byte order of their names
 abbrev pub readers_at : Record → ℕ → List ℕ
@@ -165,9 +169,9 @@ pub record IsConfirmOf (h : Record) (j : ℕ) (positions : List Position) : Type
   pub due : IsDueOf h j positions
   pub source : source_at h j ≡ true
 
--- no parcel follows those that an instance holds: its buffer is empty
+-- no parcel follows those that an instance holds: nothing more can reach its buffer, and that is empty
 abbrev pub IsLastOf : Record → ℕ → Type 0
-IsLastOf h i = is_empty (buffered h i) ≡ true
+IsLastOf h i = is_last_batch h i ≡ true
 
 -- what an instance holds is a sink batch that is closed: full, timed out, or the last; and it needn't wait for an attempt
 pub record IsClosedFor (h : Record) (i now : ℕ) : Type 0 where
@@ -176,8 +180,8 @@ pub record IsClosedFor (h : Record) (i now : ℕ) : Type 0 where
   pub waited : retry_from h i ≤ now
 
 -- an attempt is made by a sink that is out, once while it is out, and names what it holds, in order, which is at least
--- one copy; it gives what the codec `text` writes of the events of that, or the beginning of it, and with the reply `Ok`
--- the whole; the batch is closed at the moment of the lease
+-- one copy; it gives what the codec of the sink, which is `text`, writes of the events of that, or the beginning of it,
+-- and with the reply `Ok` the whole; the batch is closed at the moment of the lease
 pub record IsAttemptOf (h : Record) (j : ℕ) (copies : List ℕ) (bytes : Word) (answer : Reply) : Type 0 where
   pub out : is_out h j ≡ true
   pub sink : IsOfClass h j Sink
@@ -187,6 +191,11 @@ pub record IsAttemptOf (h : Record) (j : ℕ) (copies : List ℕ) (bytes : Word)
   pub given : is_prefix bytes (encode Text (map (parcel_event h) (held h j))) ≡ true
   pub whole : answer ≡ reply.Ok → bytes ≡ encode Text (map (parcel_event h) (held h j))
   pub batch_closed : IsClosedFor h j (lease_now h j)
+  pub is_sink : sink_at h j ≡ true
+  pub closed : is_batch_closed h j (lease_now h j) ≡ true
+  pub waited : retry_from h j ≤ lease_now h j
+  pub given_by : is_prefix bytes (encoded h j (held h j)) ≡ true
+  pub whole_by : answer ≡ reply.Ok → bytes ≡ encoded h j (held h j)
 
 -- the answer of a device that an outcome stands for
 abbrev pub reply_behind : Outcome → Option Reply
@@ -229,10 +238,11 @@ pub record IsSpending (h : Record) (i c : ℕ) (outcome : Outcome) : Type 0 wher
   pub left : IsSome (cause_of h) → outcome ≡ Abandoned
   pub from : AreSpentFrom h i outcome (c ∷ [])
 
--- a run is given up where some wanted numbers would pass 2^63, or for want of memory; nobody asks it to stop yet
+-- a run is given up where the numbers that a birth or a split wants would pass 2^63, or for want of memory; nobody asks
+-- it to stop yet
 abbrev pub IsReason : Record → AbandonCause → Type 0
 IsReason h (Grace stopped now limit) = ⊥
-IsReason h (Numbers next wanted) = (next ≡ next_copy h) × (2 ^ 63 < next + wanted)
+IsReason h (Numbers next wanted) = (next ≡ next_copy h) × (2 ^ 63 < next + wanted) × (BirthWants h wanted ⊎ SplitWants h wanted)
 IsReason h WantOfMemory = Unit {0}
 
 -- a run is given up once, and has a reason
@@ -252,7 +262,7 @@ pub record IsReturnOf (h : Record) (j : ℕ) : Type 0 where
   pub told : HasTold h j
 
 -- an instance is leased that is there, isn't out, owes no spend and no birth and isn't retired, and whose port isn't closed
--- for good; no moment of the worker falls
+-- for good; no moment of the worker falls; and it has work at that moment
 pub record IsLeaseOf (h : Record) (j worker now polls : ℕ) : Type 0 where
   pub known : is_some (component_of h j) ≡ true
   pub home : is_out h j ≡ false
@@ -262,6 +272,7 @@ pub record IsLeaseOf (h : Record) (j worker now polls : ℕ) : Type 0 where
   pub unpolled : polls ≡ 0
   pub born : owes_birth h j ≡ false
   pub later : worker_now h worker ≤ now
+  pub ready : is_ready h j now ≡ true
 
 -- a port is closed for good once, by an instance that is out and was done when it was leased, or after an abandonment; and
 -- a source's only where it takes no more
@@ -282,10 +293,11 @@ pub record IsEndOf (h : Record) (j : ℕ) : Type 0 where
   pub bare : is_bare h j ≡ true
   pub over : IsDone h j ⊎ (abandoned h ≡ true)
 
--- an install begins the record, and no two components of its plan have one name
+-- an install begins the record, no two components of its plan have one name, and none of them makes batches wait yet
 pub record IsInstallOf (h : Record) (version : ℕ) (plan : Plan) (instances : List Instance) : Type 0 where
   pub begins : MayInstall h version plan instances
   pub named : names_differ plan.components ≡ true
+  pub none_acknowledges : AcknowledgesNothing plan
 
 -- what is proved of an entry
 abbrev pub IsInOrder : Record → Entry → Type 0

@@ -6,13 +6,15 @@ use Rattle.vx_hub.specs.declared.hub.Hub.{Hub}
 use Rattle.vx_hub.specs.declared.task.SinkCore.{SinkCore}
 use Rattle.vx_hub.specs.declared.task.Role.TheVariants.{Sink}
 use Rattle.vx_hub.specs.Collecting.{role_at, IsFullOrOld}
+use Rattle.vx_hub.specs.Finishing.{IsUnfed}
 use Rattle.vx_hub.specs.Order.{IsClosedFor}
 use Rattle.vx_hub.specs.Places.{numbers_at}
 use Rattle.vx_hub.specs.Stands.{IsSound}
 
--- no parcel follows those that an instance holds: its buffer is empty
+-- no parcel follows those that an instance holds: its buffer is empty, and nothing more comes to it
 pub record IsLastAt {P : Type 0} (hub : Hub P) (i : ℕ) : Type 0 where
   pub none : numbers_at (Contents i 0) hub.rows.items ≡ []
+  pub unfed : IsUnfed hub i
 
 -- a sink at home holds a batch that is closed at that moment: full, old enough, or the last
 pub record IsClosedAt {P : Type 0} (hub : Hub P) (i now : ℕ) : Type 0 where

@@ -1,5 +1,4 @@
 -- What a split lacks where it lacks numbers.
-use Rattle.std.specs.Prelude.{ℕ}
 use Rattle.vx_record.specs.Ending.{SplitWants}
 use Rattle.vx_hub.specs.declared.hub.Hub.{Hub}
 use Rattle.vx_hub.specs.declared.fatal.Fatal.{Fatal}

@@ -161,7 +161,8 @@ HasFew plan = length plan.components < 2 ^ 32
 abbrev pub spare_of : {P : Type 0} → Hub P → Filled (Numbered P) × Option AbandonCause × Plan × Bool × ℕ × List Progress
 spare_of hub = (hub.ports, hub.abandoned, hub.plan, hub.fatal, hub.latest, hub.progress.items)
 
--- the hub stands for a record, while the copies in the hand are neither at an instance nor spent
+-- the hub stands for a record, while the copies in the hand are neither at an instance nor spent; each entry is in order,
+-- also where memory was wanting, since the record ends there
 pub record Stands {P : Type 0} (told_by : P → Told) (hub : Hub P) (hand : List Copy) (h : Record) : Type 0 where
   pub history : hub.log.history ≡ h
   pub balanced : IsBalanced hub.batches hub.rows.items hand
@@ -173,6 +174,8 @@ pub record Stands {P : Type 0} (told_by : P → Told) (hub : Hub P) (hand : List
   pub rooms : HasRooms hub.plan hub.rows.items
   pub few : HasFew hub.plan
   pub count : length hub.rows.items ≡ length hub.plan.components
+  pub order : IsOrderly h
+  pub fed : IsTrue hub.log.whole → hub.starved ≡ false
 
 -- an entry that installs nothing and tells nothing of any port
 abbrev pub IsMute : Entry → Type 0

@@ -194,7 +194,7 @@ impl<P: Port> Hub<P> {
                 Ok(Some(copy)) => self.put_one(instance, event, copy),
                 Ok(None) => unreachable!(),
                 Err(WantOfMemory) => {
-                    self.starved = true;
+                    self.starve();
                     self.put_one(instance, event, finalizers);
                     return Err(Fatal::WantOfMemory);
                 }

@@ -2,7 +2,7 @@ ghost use Rattle.std.specs.Prelude.{◌≡◌, ◌<◌, ◌↔◌, ◌⊎◌, []
 ghost use Rattle.vx_hub.specs.Order.{IsReason};
 ghost use Rattle.vx_hub.specs.Spending.{ComeFrom};
 ghost use Rattle.vx_hub.specs.Stands.{Stands, IsSound, IsAtHome, facts_at};
-ghost use Rattle.vx_hub.specs.Finishing.{IsFinished, IsRetirable};
+ghost use Rattle.vx_hub.specs.Finishing.{IsFinishedWell, IsRetirable};
 ghost use Rattle.vx_hub.specs.Rows.{IsBareAt, option_copies, port_at};
 
 use crate::hub::Hub;
@@ -14,7 +14,8 @@ use vx_status::Outcome;
 
 impl<P: Port> Hub<P> {
     /// Ends an instance at home whose port is closed for good and at which nothing stands, and that has nothing more to
-    /// do or is given up with the run. `None` where there is none.
+    /// do or is given up with the run. `None` where there is none, and after a call that answered `Fatal` until the run
+    /// is given up.
     pub fn retire(&mut self) -> Option<u32>
         requires { Stands P.told self.old [] self.old.log.history }
         ensures stands { Stands P.told self.new [] self.new.log.history }
@@ -48,14 +49,24 @@ impl<P: Port> Hub<P> {
         }
     }
 
-    /// Whether an instance has nothing more to do, or the run was given up.
+    /// Whether an instance has nothing more to do and no call answered `Fatal`, or the run was given up.
     fn may_end(&self, i: usize) -> bool
         requires rows { i < length self.now.rows.items }
         requires facts { i < length self.now.facts.items }
-        ensures over { IsTrue result → IsSome self.now.abandoned ⊎ IsFinished self.now i }
-        ensures goes_on { result ≡ false → (IsSome self.now.abandoned ⊎ IsFinished self.now i) → ⊥ }
+        ensures over { IsTrue result → IsSome self.now.abandoned ⊎ IsFinishedWell self.now i }
+        ensures goes_on { result ≡ false → (IsSome self.now.abandoned ⊎ IsFinishedWell self.now i) → ⊥ }
     {
-        !self.goes_on() || self.is_done(i)
+        !self.goes_on() || self.is_surely_done(i)
+    }
+
+    /// Whether an instance has nothing more to do, and no call answered `Fatal`.
+    fn is_surely_done(&self, i: usize) -> bool
+        requires rows { i < length self.now.rows.items }
+        requires facts { i < length self.now.facts.items }
+        ensures done { IsTrue result → IsFinishedWell self.now i }
+        ensures goes_on { result ≡ false → IsFinishedWell self.now i → ⊥ }
+    {
+        !self.fatal && self.is_done(i)
     }
 
     /// Whether the port of an instance is closed for good, and it isn't retired.
@@ -89,7 +100,7 @@ impl<P: Port> Hub<P> {
         requires unretired { IsSomeAnd (facts_at self.old.facts.items instance) (λ f. f.retired ≡ false) }
         requires bare { IsBareAt self.old.rows.items instance }
         requires home { IsAtHome self.old instance }
-        requires over { IsSome self.old.abandoned ⊎ IsFinished self.old instance }
+        requires over { IsSome self.old.abandoned ⊎ IsFinishedWell self.old instance }
         ensures stands { Stands P.told self.new [] self.new.log.history }
         ensures rows { self.new.rows ≡ self.old.rows }
         ensures plan { self.new.plan ≡ self.old.plan }

@@ -1,4 +1,5 @@
 ghost use Rattle.std.specs.Prelude.{◌≡◌, ℕ, ◌<◌, ◌≤◌, ◌++◌, List, [], length, IfSome, IsSome, IsSomeAnd, Some, None, false, true, IsTrue, OnOk, OnErr, IfErr};
+ghost use Rattle.std.specs.Bool.{IsFalse};
 ghost use Rattle.vx_value.specs.declared.event.Event.{Event};
 ghost use Rattle.vx_ends.specs.declared.position.Position.{Position};
 ghost use Rattle.vx_ledger.specs.Copies.{Copy};
@@ -262,7 +263,7 @@ impl<P: Port> Hub<P> {
         put_task(&mut self.rows, instance as usize, task);
     }
 
-    /// Puts a task back of which it isn't known what its port did.
+    /// Puts a task back of which it isn't known what its port did, and ends the record.
     fn bring_starved(&mut self, instance: u32, task: Task<P>)
         requires stands { Stands P.told self.old (role_copies task.role) self.old.log.history }
         requires open { IsOpenAt self.old instance }
@@ -271,8 +272,9 @@ impl<P: Port> Hub<P> {
         ensures size { length self.new.rows.items ≡ length self.old.rows.items }
         ensures plan { self.new.plan ≡ self.old.plan }
         ensures returning { IsReturning self.new instance }
+        ensures ended { IsFalse self.new.log.whole }
     {
-        self.starved = true;
+        self.starve();
         put_task(&mut self.rows, instance as usize, task);
     }
 

@@ -7,6 +7,7 @@ ghost use Rattle.vx_hub.specs.Works.{IsSending};
 ghost use Rattle.vx_hub.specs.Leases.{IsLeased, IsOpenAt};
 ghost use Rattle.vx_hub.specs.Away.{IsAway, HasTaken, IsUntried, WasNoticed};
 ghost use Rattle.vx_hub.specs.Readings.{IsFlowing, IsReadyToRead, MayRead};
+ghost use Rattle.vx_hub.specs.Readiness.{IsToConfirm, IsReadyFor, HasWork};
 ghost use Rattle.vx_hub.specs.Rows.{CanHold, NoneWaits};
 ghost use Rattle.vx_hub.specs.Owed.{HasBorn};
 ghost use Rattle.vx_hub.specs.Confirming.{HadNothing, IsConfirmed};
@@ -97,6 +98,7 @@ impl<P: Port> Hub<P> {
         requires going { self.old.abandoned ≡ None }
         requires running { self.old.fatal ≡ false }
         requires moment { now ≡ self.old.latest }
+        requires ready { HasWork self.old instance now }
         ensures stands { Stands P.told self.new [] self.new.log.history }
         ensures open { IsOpenAt self.new instance }
         ensures unlost { IsUnlost self.old instance → IsUnlost self.new instance }
@@ -185,6 +187,7 @@ impl<P: Port> Hub<P> {
         ensures confirmed { IfSome result (λ ready. ready.job ≡ Job.Close → IsConfirmed self.now ready.instance) }
         ensures noticed { IfSome result (λ ready. ready.job ≡ Job.Close → IsNoticed self.now ready.instance) }
         ensures done { IfSome result (λ ready. ready.job ≡ Job.Close → IsFinished self.now ready.instance) }
+        ensures ready { IfSome result (λ ready. IsReadyFor self.now ready.instance now ready.job) }
     {
         for i in (0..self.rows.len()).rev() {
             if let Some(job) = self.job(i, now) {
@@ -211,6 +214,7 @@ impl<P: Port> Hub<P> {
         ensures confirmed { IfSome result (λ job. job ≡ Job.Close → IsConfirmed self.now i) }
         ensures noticed { IfSome result (λ job. job ≡ Job.Close → IsNoticed self.now i) }
         ensures done { IfSome result (λ job. job ≡ Job.Close → IsFinished self.now i) }
+        ensures ready { IfSome result (λ job. IsReadyFor self.now i now job) }
     {
         if i >= self.facts.len() || !self.can_lease(i) || self.rows[i].task.is_none() {
             return None;
@@ -257,6 +261,7 @@ impl<P: Port> Hub<P> {
         ensures confirmed { IfSome result (λ job. job ≡ Job.Close → IsConfirmed self.now i) }
         ensures noticed { IfSome result (λ job. job ≡ Job.Close → CountsNone self.now i) }
         ensures done { IfSome result (λ job. job ≡ Job.Close → IsSourceFinished self.now i) }
+        ensures ready { (now : ℕ) → IfSome result (λ job. IsReadyFor self.now i now job) }
     {
         if self.can_read(i) {
             Some(Job::Read)
@@ -272,7 +277,8 @@ impl<P: Port> Hub<P> {
     /// Whether something is to be confirmed at an instance.
     fn must_confirm(&self, i: usize) -> bool
         requires { i < length self.now.facts.items }
-        ensures { result ≡ false → IsConfirmed self.now i }
+        ensures confirmed { result ≡ false → IsConfirmed self.now i }
+        ensures due { IsTrue result → IsToConfirm self.now i }
     {
         self.facts[i].to_confirm.is_some()
     }
@@ -313,10 +319,12 @@ impl<P: Port> Hub<P> {
 
     /// A sink takes what is in its buffer, writes its sink batch once that is closed, and is closed in the end.
     fn sink_job(&self, i: usize, now: u64) -> Option<Job>
-        requires { i < length self.now.rows.items }
+        requires rows { i < length self.now.rows.items }
+        requires sink { IsSinkAt self.now i }
         ensures unread { IfSome result (λ job. job ≢ Job.Read) }
         ensures some { IfSome result (λ job. job ≡ Job.Attempt → HoldsSome self.now.rows.items i) }
         ensures done { IfSome result (λ job. job ≡ Job.Close → IsSinkFinished self.now i) }
+        ensures ready { IfSome result (λ job. IsReadyFor self.now i now job) }
     {
         if self.is_batch_closed(i, now) {
             Some(Job::Attempt)

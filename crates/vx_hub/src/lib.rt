@@ -26,6 +26,7 @@ mod sending;
 mod source;
 mod spending;
 mod stack;
+mod starving;
 mod task;
 mod telling;
 mod work;

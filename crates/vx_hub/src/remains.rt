@@ -4,6 +4,7 @@ ghost use Rattle.vx_hub.specs.Stands.{Stands, IsSound, HasBerths};
 ghost use Rattle.vx_hub.specs.Remains.{AreBare, ports_in, AreNumbered, AreClosed, AreTold, HasOnePlace, AllSpent, HasNotices, HasEnds};
 ghost use Rattle.vx_hub.specs.Order.{IsOrderly, IsClosing};
 ghost use Rattle.vx_record.specs.Installs.{in_force};
+ghost use Rattle.vx_record.specs.Legal.{IsLegal, IsClosed};
 
 use crate::hub::Hub;
 use crate::parts::{Numbered, NumberedList};
@@ -34,12 +35,14 @@ impl<P: Port> Hub<P> {
         ensures closed { AreClosed P.told result.ports }
         ensures told { IsSound self → AreTold P.told result.history result.ports }
         ensures installed { IsSound self → in_force result.history ≡ Some self.plan }
-        ensures order { IsSound self → IsOrderly result.history }
+        ensures order { IsOrderly result.history }
         ensures done { IsSound self → (i : ℕ) → i < length self.rows.items → IsClosing result.history i }
         ensures one_place { IsSound self → HasOnePlace result.history }
         ensures spent { IsSound self → AllSpent result.history }
         ensures notices { IsSound self → HasNotices result.history }
         ensures ends { IsSound self → HasEnds (length self.rows.items) result.history }
+        ensures legal { IsLegal result.history }
+        ensures finished { IsSound self → IsClosed result.history }
     {
         let Hub {
             alloc: _,

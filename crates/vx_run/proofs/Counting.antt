@@ -18,7 +18,7 @@ use Rattle.vx_record.specs.declared.tally.Tally.{Tally}
 use Rattle.vx_hub.specs.declared.parts.Numbered.{Numbered}
 use Rattle.vx_hub.specs.declared.hub.Hub.{Hub}
 use Rattle.vx_record.specs.Reads.{bytes_of_all, all_ended}
-use Rattle.vx_hub.specs.Order.{IsOrderly, IsClosing, TakesNoMore, component_in, lost_at, cause_of}
+use Rattle.vx_hub.specs.Order.{IsClosing, TakesNoMore, component_in, lost_at, cause_of}
 use Rattle.vx_hub.specs.Remains.{AreTold, HasOnePlace, AllSpent, HasNotices, HasEnds}
 use Rattle.vx_hub.specs.Stands.{IsSound}
 use Rattle.vx_run.specs.Judging.{IsSure}
@@ -77,17 +77,17 @@ true_short told_by h ports fault counted (inl same) told = subst (λ (f : Option
 true_short told_by h ports fault counted (inr short) told = subst (λ (f : Option Fault). IsTrueTo told_by h ports f) (sym short) tt
 
 -- but for want of memory a run that was judged told what happened
-pub true_of : {P : Type 0} (told_by : P → Told) (hub : Hub P) (h : Record) (ports : List (Numbered P)) (fault : Option Fault) → IsSure hub fault → (IsSound hub → AreTold told_by h ports) → (IsSound hub → IsOrderly h) → IsTrueTo told_by h ports fault
-true_of told_by hub h ports None sure told order = (told sure, order sure)
-true_of told_by hub h ports (Some WantOfMemory) sure told order = tt
-true_of told_by hub h ports (Some Usage) sure told order = (told sure, order sure)
-true_of told_by hub h ports (Some (ConfigRead path)) sure told order = (told sure, order sure)
-true_of told_by hub h ports (Some (ConfigRefused f)) sure told order = (told sure, order sure)
-true_of told_by hub h ports (Some (Numbers next wanted)) sure told order = (told sure, order sure)
-true_of told_by hub h ports (Some TooLong) sure told order = (told sure, order sure)
-true_of told_by hub h ports (Some PrintFailed) sure told order = (told sure, order sure)
-true_of told_by hub h ports (Some (SourceFailed name at)) sure told order = (told sure, order sure)
-true_of told_by hub h ports (Some (ConfirmFailed name)) sure told order = (told sure, order sure)
+pub true_of : {P : Type 0} (told_by : P → Told) (hub : Hub P) (h : Record) (ports : List (Numbered P)) (fault : Option Fault) → IsSure hub fault → (IsSound hub → AreTold told_by h ports) → IsTrueTo told_by h ports fault
+true_of told_by hub h ports None sure told = told sure
+true_of told_by hub h ports (Some WantOfMemory) sure told = tt
+true_of told_by hub h ports (Some Usage) sure told = told sure
+true_of told_by hub h ports (Some (ConfigRead path)) sure told = told sure
+true_of told_by hub h ports (Some (ConfigRefused f)) sure told = told sure
+true_of told_by hub h ports (Some (Numbers next wanted)) sure told = told sure
+true_of told_by hub h ports (Some TooLong) sure told = told sure
+true_of told_by hub h ports (Some PrintFailed) sure told = told sure
+true_of told_by hub h ports (Some (SourceFailed name at)) sure told = told sure
+true_of told_by hub h ports (Some (ConfirmFailed name)) sure told = told sure
 
 -- but for want of memory each copy was kept
 pub kept_of : {P : Type 0} (hub : Hub P) (h : Record) (fault : Option Fault) → IsSure hub fault → (IsSound hub → HasOnePlace h) → (IsSound hub → AllSpent h) → AreKept h fault

@@ -1,4 +1,5 @@
 pub mod Judged
 pub mod Prepared
+pub mod Closing
 pub mod Counting
 pub mod Apart

@@ -10,18 +10,19 @@ use Rattle.vx_record.specs.Records.{Record}
 use Rattle.vx_record.specs.Installs.{in_force}
 use Rattle.vx_record.specs.Reads.{all_ended}
 use Rattle.vx_record.specs.TallyLists.{tallies_of}
+use Rattle.vx_record.specs.Legal.{IsClosed}
 use Rattle.vx_record.specs.declared.tally.Tally.{Tally}
 use Rattle.vx_hub.specs.declared.parts.Numbered.{Numbered}
-use Rattle.vx_hub.specs.Order.{IsOrderly, lost_at}
+use Rattle.vx_hub.specs.Order.{lost_at}
 use Rattle.vx_hub.specs.Remains.{AreTold, HasOnePlace, AllSpent, HasNotices, HasEnds}
 use Rattle.vx_run.specs.Answers.{IsReady, IsValid, component_at}
 use Rattle.vx_cli.specs.declared.fault.Fault.{Fault}
 use Rattle.vx_cli.specs.declared.fault.Fault.TheVariants.{Usage, ConfigRead, ConfigRefused, SourceFailed, ConfirmFailed, PrintFailed, WantOfMemory}
 
--- but for want of memory, the ports tell what the record has, and each entry of the record is in order
+-- but for want of memory, the ports tell what the record has
 abbrev pub IsTrueTo : {P : Type 0} → (P → Told) → Record → List (Numbered P) → Option Fault → Type 0
 IsTrueTo told_by h ports (Some WantOfMemory) = Unit {0}
-IsTrueTo told_by h ports fault = AreTold told_by h ports × IsOrderly h
+IsTrueTo told_by h ports fault = AreTold told_by h ports
 
 -- but for want of memory, each copy is at any time in one place, or was split, or was spent; in the end it was one of the
 -- last two
@@ -115,3 +116,12 @@ NoneMissing words environment texts h ports other = IsSomeAnd (in_force h) (HasA
 abbrev pub IsCounted : Record → ℕ → List Tally → Option Fault → Type 0
 IsCounted h instances tallies (Some WantOfMemory) = (tallies ≡ tallies_of h instances) ⊎ (tallies ≡ [])
 IsCounted h instances tallies fault = tallies ≡ tallies_of h instances
+
+-- a fact that is told but for want of memory
+abbrev pub ButForMemory : Type 0 → Option Fault → Type 0
+ButForMemory fact (Some WantOfMemory) = Unit {0}
+ButForMemory fact fault = fact
+
+-- but for want of memory, nothing is left to do at its end
+abbrev pub IsComplete : Record → Option Fault → Type 0
+IsComplete h fault = ButForMemory (IsClosed h) fault

@@ -1,6 +1,9 @@
 ghost use Rattle.std.specs.Prelude.{◌≡◌, ◌≢◌, ◌⊎◌, List, ◌<◌, ◌^◌, [], length, true, Some};
+ghost use Rattle.vx_record.specs.Legal.{IsLegal};
 ghost use Rattle.vx_record.specs.Wirings.{names_differ};
+ghost use Rattle.vx_hub.specs.Acknowledging.{AcknowledgesNothing};
 ghost use Rattle.vx_hub.specs.Making.{AreUntouched};
+ghost use Rattle.vx_hub.specs.Order.{IsOrderly};
 ghost use Rattle.vx_hub.specs.Stands.{Stands};
 ghost use Rattle.vx_hub.specs.Remains.{AreNumbered, AreClosed};
 ghost use Rattle.vx_value.specs.Texts.{Word};
@@ -8,7 +11,7 @@ ghost use Rattle.vx_cli.specs.Commands.{IsCommand};
 ghost use Rattle.vx_cli.specs.declared.command.Command.TheVariants.{Run};
 ghost use Rattle.vx_run.specs.Answers.{IsAnswer, IsJudged};
 ghost use Rattle.vx_run.specs.Showing.{IsShown};
-ghost use Rattle.vx_run.specs.Running.{IsTrueTo, HasInstalled, IsInForce, AreKept, AreNoticed, IsReadOut, AreEnded, IsCounted, HasEach, NoneMissing};
+ghost use Rattle.vx_run.specs.Running.{IsTrueTo, HasInstalled, IsInForce, AreKept, AreNoticed, IsReadOut, AreEnded, IsCounted, HasEach, NoneMissing, IsComplete};
 
 use crate::driver::drive;
 use crate::judging::judge;
@@ -45,11 +48,14 @@ pub(crate) fn perform<R: Wait, W: World, C: Clock, P: Printer>(
     ensures answer { IsAnswer words.now environment.now (W.texts world.old) (W.faults world.old) (W.faults world.new) result.history result.fault }
     ensures shown { IsShown words.now environment.now (W.texts world.old) (out.new ≡ out.old) (P.printed out.old) (P.printed out.new) (P.faults out.old) (P.faults out.new) result.fault }
     ensures told { IsTrueTo W.Port.told result.history result.ports result.fault }
+    ensures order { IsOrderly result.history }
     ensures installed { HasInstalled words.now environment.now (W.texts world.old) result.history result.fault }
     ensures copies { AreKept result.history result.fault }
     ensures notices { AreNoticed result.history result.fault }
     ensures read { IsReadOut result.history result.fault }
     ensures ended { AreEnded result.history (length result.ports) result.fault }
+    ensures legal { IsLegal result.history }
+    ensures complete { IsComplete result.history result.fault }
     ensures counted { IsCounted result.history (length result.ports) result.tallies result.fault }
     ensures closed { AreClosed W.Port.told result.ports }
     ensures numbers { AreNumbered 0 result.ports }
@@ -77,11 +83,14 @@ fn run<R: Wait, W: World, C: Clock>(
 ) -> Outcome<W::Port>
     ensures answer { (words : List Word) → IsCommand words (Run file.now) → IsAnswer words environment.now (W.texts world.old) (W.faults world.old) (W.faults world.new) result.history result.fault }
     ensures told { IsTrueTo W.Port.told result.history result.ports result.fault }
+    ensures order { IsOrderly result.history }
     ensures installed { (words : List Word) → IsCommand words (Run file.now) → HasInstalled words environment.now (W.texts world.old) result.history result.fault }
     ensures copies { AreKept result.history result.fault }
     ensures notices { AreNoticed result.history result.fault }
     ensures read { IsReadOut result.history result.fault }
     ensures ended { AreEnded result.history (length result.ports) result.fault }
+    ensures legal { IsLegal result.history }
+    ensures complete { IsComplete result.history result.fault }
     ensures counted { IsCounted result.history (length result.ports) result.tallies result.fault }
     ensures closed { AreClosed W.Port.told result.ports }
     ensures numbers { AreNumbered 0 result.ports }
@@ -101,10 +110,13 @@ fn unbegun<P>(alloc: Global, fault: Option<Fault>) -> Outcome<P>
     ensures history { result.history ≡ [] }
     ensures tallies { result.tallies ≡ [] }
     ensures ports { result.ports ≡ [] }
+    ensures order { IsOrderly result.history }
     ensures copies { AreKept result.history result.fault }
     ensures notices { AreNoticed result.history result.fault }
     ensures read { IsReadOut result.history result.fault }
     ensures ended { AreEnded result.history (length result.ports) result.fault }
+    ensures legal { IsLegal result.history }
+    ensures complete { IsComplete result.history result.fault }
     ensures counted { IsCounted result.history (length result.ports) result.tallies result.fault }
 {
     Outcome {
@@ -126,13 +138,17 @@ fn begin<R: Wait, P: Port, C: Clock>(
     requires ports { length parts.ports ≡ length parts.plan.components }
     requires untouched { AreUntouched P.told parts.plan.components parts.ports }
     requires named { names_differ parts.plan.components ≡ true }
+    requires none_acknowledges { AcknowledgesNothing parts.plan }
     ensures judged { IsJudged result.history result.fault }
     ensures told { IsTrueTo P.told result.history result.ports result.fault }
+    ensures order { IsOrderly result.history }
     ensures installed { IsInForce parts.plan result.history result.fault }
     ensures copies { AreKept result.history result.fault }
     ensures notices { AreNoticed result.history result.fault }
     ensures read { IsReadOut result.history result.fault }
     ensures ended { AreEnded result.history (length result.ports) result.fault }
+    ensures legal { IsLegal result.history }
+    ensures complete { IsComplete result.history result.fault }
     ensures counted { IsCounted result.history (length result.ports) result.tallies result.fault }
     ensures closed { AreClosed P.told result.ports }
     ensures numbers { AreNumbered 0 result.ports }
@@ -160,11 +176,14 @@ fn finish<R: Wait, P: Port, C: Clock>(
     requires plan { hub.plan ≡ plan.now }
     ensures judged { IsJudged result.history result.fault }
     ensures told { IsTrueTo P.told result.history result.ports result.fault }
+    ensures order { IsOrderly result.history }
     ensures installed { IsInForce plan.now result.history result.fault }
     ensures copies { AreKept result.history result.fault }
     ensures notices { AreNoticed result.history result.fault }
     ensures read { IsReadOut result.history result.fault }
     ensures ended { AreEnded result.history (length result.ports) result.fault }
+    ensures legal { IsLegal result.history }
+    ensures complete { IsComplete result.history result.fault }
     ensures counted { IsCounted result.history (length result.ports) result.tallies result.fault }
     ensures closed { AreClosed P.told result.ports }
     ensures numbers { AreNumbered 0 result.ports }

@@ -1,8 +1,10 @@
 ghost use Rattle.std.specs.Prelude.{◌≡◌, length};
+ghost use Rattle.vx_hub.specs.Order.{IsOrderly};
 ghost use Rattle.vx_hub.specs.Remains.{AreNumbered, AreClosed};
+ghost use Rattle.vx_record.specs.Legal.{IsLegal};
 ghost use Rattle.vx_run.specs.Answers.{IsAnswer};
 ghost use Rattle.vx_cli.specs.Statuses.{ended_status};
-ghost use Rattle.vx_run.specs.Running.{IsTrueTo, HasInstalled, AreKept, AreNoticed, IsReadOut, AreEnded, IsCounted, NoneMissing};
+ghost use Rattle.vx_run.specs.Running.{IsTrueTo, HasInstalled, AreKept, AreNoticed, IsReadOut, AreEnded, IsCounted, NoneMissing, IsComplete};
 ghost use Rattle.vx_run.specs.Showing.{IsShown};
 ghost use Rattle.vx_run.specs.Telling.{IsSaid};
 
@@ -29,11 +31,14 @@ pub fn vector<R: Wait, W: World, C: Clock, P: Printer, L: Printer>(
     err: &mut L,
 ) -> Ended<W>
     ensures told { IsTrueTo W.Port.told result.history result.ports result.fault }
+    ensures order { IsOrderly result.history }
     ensures installed { HasInstalled words.now environment.now (W.texts world) result.history result.fault }
     ensures copies { AreKept result.history result.fault }
     ensures notices { AreNoticed result.history result.fault }
     ensures read { IsReadOut result.history result.fault }
     ensures ended { AreEnded result.history (length result.ports) result.fault }
+    ensures legal { IsLegal result.history }
+    ensures complete { IsComplete result.history result.fault }
     ensures counted { IsCounted result.history (length result.ports) result.tallies result.fault }
     ensures closed { AreClosed W.Port.told result.ports }
     ensures numbers { AreNumbered 0 result.ports }

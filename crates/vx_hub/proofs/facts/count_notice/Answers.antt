@@ -1,5 +1,4 @@
-use Rattle.std.proofs.Common.{arith, ◌+◌, ◌-◌}
-use Rattle.vx_record.specs.Records.{capped}
+use Rattle.std.proofs.Common.{arith, ◌-◌}
 use Rattle.vx_hub.proofs.Counting.{sets_one, sets_none}
 use Rattle.vx_hub.proofs.facts.count_notice.Goals as goal
 

@@ -1,5 +1,5 @@
 use Rattle.vx_record.specs.Wirings.{begun}
-use Rattle.std.proofs.Common.{refl, [], IfSome, arith, ap, ◌≡◌, ◌∙◌, ◌+◌, ◌<◌, ℕ, List, length, subst, sym}
+use Rattle.std.proofs.Common.{refl, IfSome, arith, ap, ◌≡◌, ◌∙◌, ◌+◌, ◌<◌, ℕ, List, length, subst, sym}
 use Rattle.std.specs.Prelude.{drop, slice_get, IsSomeAnd, true, ◌==◌}
 use Rattle.vx_hub.specs.declared.row.Row.{Row}
 use Rattle.vx_hub.specs.declared.facts.Facts.{Facts}
@@ -37,6 +37,7 @@ loop-seats-init g c =
         rooms = λ i. subst (λ (rows : List (Row _)). IfSome (row_at rows i) (λ row. row.buffer.room ≡ room_at c.args.plan i)) (sym c.requires.room.rows) tt;
         abreast = ap length c.requires.room.progress ∙ sym none;
         unnoticed = λ i l. absurd (omega (arith, ap length c.requires.room.progress, l));
+        fed = refl;
       };
       unused = c.requires.unused;
       fitted = subst (λ (n : ℕ). AreFitted c.args.plan (drop n c.args.plan.components) c.args.seats.items) (sym none) c.requires.fitted;
@@ -88,4 +89,4 @@ returns-clause-stands g c =
     let inv = c.loop-seats.invariant in
     let none = none_left _ (sym c.is_empty.ensures ∙ c.loop-seats-test.false) in
     let done : length c.loop-seats.hub.rows.items ≡ length c.args.plan.components = omega (arith, inv.size, c.requires.count, none) in
-    begun_stands g.P.Port.told c.args.plan c.loop-seats.hub inv.begins inv.plan c.requires.named inv.first inv.none (omega (arith, inv.size, inv.berths)) (omega (arith, inv.size, c.requires.few)) c.requires.small done
+    begun_stands g.P.Port.told c.args.plan c.loop-seats.hub inv.begins inv.plan c.requires.named c.requires.none_acknowledges inv.first inv.none (omega (arith, inv.size, inv.berths)) (omega (arith, inv.size, c.requires.few)) c.requires.small done

@@ -1,10 +1,11 @@
 use Rattle.std.proofs.Common.{◌≡◌, ◌∙◌, Some, length, ap, sym, subst, arith}
 use Rattle.vx_record.specs.Records.{Record}
-use Rattle.vx_hub.specs.Order.{IsOrderly}
 use Rattle.vx_run.specs.Answers.{IsJudged}
 use Rattle.vx_run.specs.Running.{IsCounted}
 use Rattle.vx_run.proofs.Counting.{judged_short, true_short, true_of, kept_short, kept_of, force_short, force_of, noticed_short, noticed_of, read_short, read_of, ended_short, ended_of}
 use Rattle.vx_hub.specs.Remains.{HasEnds}
+use Rattle.vx_record.specs.Legal.{IsClosed}
+use Rattle.vx_run.proofs.Closing.{but_sound, but_short}
 use Rattle.vx_run.proofs.running.finish.Goals as goal
 
 pub returns-clause-judged : goal.returns-clause-judged
@@ -13,8 +14,7 @@ returns-clause-judged g c = judged_short c.end-ports.result.history c.judge-faul
 
 pub returns-clause-told : goal.returns-clause-told
 returns-clause-told g c = true_short g.P.Port.told c.end-ports.result.history c.end-ports.result.ports c.judge-fault.result c.count-tallies.result.fault c.count-tallies.ensures.kept
-    (true_of g.P.Port.told c.drive.new.hub c.end-ports.result.history c.end-ports.result.ports c.judge-fault.result c.judge-fault.ensures.sure c.end-ports.ensures.told
-    (λ sound. subst (λ (h : Record). IsOrderly h) (sym c.end-ports.ensures.history) (c.drive.ensures.stands.recorded sound).order))
+    (true_of g.P.Port.told c.drive.new.hub c.end-ports.result.history c.end-ports.result.ports c.judge-fault.result c.judge-fault.ensures.sure c.end-ports.ensures.told)
 
 pub returns-clause-counted : goal.returns-clause-counted
 returns-clause-counted g c =
@@ -44,3 +44,10 @@ pub returns-clause-ended : goal.returns-clause-ended
 returns-clause-ended g c = ended_short c.end-ports.result.history (length c.end-ports.result.ports) c.judge-fault.result c.count-tallies.result.fault c.count-tallies.ensures.kept
     (ended_of c.drive.new.hub c.end-ports.result.history (length c.end-ports.result.ports) c.judge-fault.result c.judge-fault.ensures.sure
     (λ sound. subst (λ n. HasEnds n c.end-ports.result.history) (sym c.end-ports.ensures.count) (c.end-ports.ensures.ends sound)))
+
+pub returns-clause-legal : goal.returns-clause-legal
+returns-clause-legal g c = c.end-ports.ensures.legal
+
+pub returns-clause-complete : goal.returns-clause-complete
+returns-clause-complete g c = but_short (IsClosed c.end-ports.result.history) c.judge-fault.result c.count-tallies.result.fault c.count-tallies.ensures.kept
+    (but_sound (IsClosed c.end-ports.result.history) c.drive.new.hub c.judge-fault.result c.judge-fault.ensures.sure c.end-ports.ensures.finished)

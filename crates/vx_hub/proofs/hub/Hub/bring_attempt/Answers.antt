@@ -12,6 +12,10 @@ use Rattle.vx_hub.proofs.Placing.{conserved}
 use Rattle.vx_hub.specs.Numbers.{numbers_in}
 use Rattle.vx_hub.specs.Rows.{role_copies}
 use Rattle.vx_hub.specs.Stands.{IsSound, facts_at}
+use Rattle.vx_record.specs.Lists.{held}
+use Rattle.vx_record.specs.Turns.{lease_now}
+use Rattle.vx_hub.proofs.Classes.{sink_there}
+use Rattle.vx_hub.proofs.Closing.{closed_so, codec_so}
 use Rattle.vx_hub.proofs.Drying.{sink_known}
 use Rattle.vx_hub.proofs.EventLaws.{attempt_in_order, said_by_on}
 use Rattle.vx_record.specs.declared.entry.Entry.TheVariants.{Attempt}
@@ -23,7 +27,11 @@ pub bring-requires-clause-stands : goal.bring-requires-clause-stands
 bring-requires-clause-stands g c =
     stands_attempted g.P.Port.told c.args.self.now c.note_attempt.new.log (role_copies c.args.task.role) c.args.instance (numbers_in (role_copies c.args.task.role)) c.args.bytes c.args.reply c.requires.stands c.requires.open.within c.requires.out
     (λ fine out. attempt_in_order c.args.self.now.log.history c.args.instance c.args.task.role c.args.bytes c.args.reply out
-    (sink_known c.args.self.now.log.history c.args.instance (facts_at c.args.self.now.facts.items c.args.instance) c.requires.sink ((c.requires.stands.recorded fine).facts c.args.instance)) (c.requires.untried fine) c.requires.some (c.requires.held fine) (c.requires.said fine) c.requires.writes (c.requires.closing fine)) c.note_attempt.ensures
+    (sink_known c.args.self.now.log.history c.args.instance (facts_at c.args.self.now.facts.items c.args.instance) c.requires.sink ((c.requires.stands.recorded fine).facts c.args.instance)) (c.requires.untried fine) c.requires.some (c.requires.held fine) (c.requires.said fine) c.requires.writes (c.requires.closing fine)
+    (sink_there c.args.self.now.log.history c.args.instance (c.requires.stands.recorded fine).order
+    (sink_known c.args.self.now.log.history c.args.instance (facts_at c.args.self.now.facts.items c.args.instance) c.requires.sink ((c.requires.stands.recorded fine).facts c.args.instance)))
+    (closed_so c.args.self.now.log.history c.args.instance (lease_now c.args.self.now.log.history c.args.instance) (c.requires.closing fine))
+    (codec_so c.args.self.now.log.history c.args.instance c.args.task.role (held c.args.self.now.log.history c.args.instance) (c.requires.stands.recorded fine).order (c.requires.come fine) c.requires.some)) c.note_attempt.ensures
 
 pub returns-clause-replied : goal.returns-clause-replied
 returns-clause-replied g c sound =

@@ -3,6 +3,7 @@ use Rattle.vx_hub.specs.declared.parts.Numbered.{Numbered}
 use Rattle.vx_hub.specs.Remains.{AreNumbered, AreClosed, AreTold, HasEnds}
 use Rattle.vx_hub.proofs.Remaining.{all_bare, all_shut, ports_told, all_numbered, all_counted, one_place, all_spent, all_noticed, all_done}
 use Rattle.vx_hub.proofs.Retiring.{all_ends}
+use Rattle.vx_hub.proofs.Legal.{orderly_legal, ended_closed}
 use Rattle.vx_hub.proofs.hub.Hub.end.Goals as goal
 
 pub ports_of-requires-clause-bare : goal.ports_of-requires-clause-bare
@@ -24,7 +25,7 @@ returns-clause-told g c sound = subst (λ (ns : List (Numbered _)). AreTold g.P.
     (ports_told g.P.Port.told c.args.self.log.history c.args.self.rows.items (c.requires.stands.recorded sound).ports)
 
 pub returns-clause-order : goal.returns-clause-order
-returns-clause-order g c sound = (c.requires.stands.recorded sound).order
+returns-clause-order g c = c.requires.stands.order
 
 pub returns-clause-one_place : goal.returns-clause-one_place
 returns-clause-one_place g c sound = one_place c.args.self.log.history (c.requires.stands.recorded sound).order
@@ -51,3 +52,14 @@ returns-clause-notices g c sound =
 pub returns-clause-ends : goal.returns-clause-ends
 returns-clause-ends g c sound = subst (λ (n : ℕ). HasEnds n c.args.self.log.history) c.requires.stands.size
     (all_ends c.args.self.log.history c.args.self.facts.items c.args.self.rows.items c.requires.over c.requires.stands.gone (c.requires.stands.recorded sound).facts)
+
+pub returns-clause-legal : goal.returns-clause-legal
+returns-clause-legal g c = orderly_legal c.args.self.log.history c.requires.stands.order
+
+pub returns-clause-finished : goal.returns-clause-finished
+returns-clause-finished g c sound =
+    let r = c.requires.stands.recorded sound in
+    let spent = all_spent c.args.self.rows.items c.args.self.log.history r.order r.places (all_bare c.args.self.facts.items c.args.self.rows.items c.requires.stands.size c.requires.over c.requires.stands.gone) in
+    ended_closed c.args.self.log.history c.args.self.plan r.order r.installed spent (all_noticed c.args.self.log.history r.order r.noticeless spent)
+    (subst (λ (n : ℕ). HasEnds n c.args.self.log.history) (c.requires.stands.size ∙ c.requires.stands.count)
+    (all_ends c.args.self.log.history c.args.self.facts.items c.args.self.rows.items c.requires.over c.requires.stands.gone r.facts))

@@ -6,7 +6,7 @@ use Rattle.vx_hub.specs.Owed.{HasBorn}
 use Rattle.vx_hub.specs.Rows.{port_at}
 use Rattle.vx_hub.proofs.Leaving.{returning_moved}
 use Rattle.vx_hub.proofs.StandsLaws.{stands_settled}
-use Rattle.vx_hub.proofs.Ordering.{landed_reason}
+use Rattle.vx_hub.proofs.Reasons.{landed_reason}
 use Rattle.vx_hub.proofs.Owed.{born_halted, wanted_landed}
 use Rattle.vx_hub.proofs.hub.Hub.land.Goals as goal
 
@@ -32,16 +32,17 @@ note_home-requires-clause-bore g c going =
 pub returns-then-goes_on-clause-stands : goal.returns-then-goes_on-clause-stands
 returns-then-goes_on-clause-stands g c = stands_settled g.P.Port.told c.note_home.new.self c.settled.new.self [] c.settled.ensures.rest c.note_home.ensures.stands c.settled.ensures.kept
 
-pub returns-then-goes_on-clause-reason : goal.returns-then-goes_on-clause-reason
-returns-then-goes_on-clause-reason g c =
-    landed_reason c.land_done-landed.new.self c.settled.new.self c.args.landing.instance c.land_done-landed.result c.settled.result
-    (subst (λ (l : _). Noted l (Home c.args.landing.instance) c.settled.new.self.log) (ap (λ (x : _). x.log) c.halt.ensures.rest)
-    (subst (λ (l : _). Noted c.halt.new.self.log (Home c.args.landing.instance) l) (sym (ap (λ (x : _). x.log) c.settled.ensures.rest)) c.note_home.ensures.noted))
-    (ap (λ (x : _). x.starved) c.settled.ensures.rest ∙ c.note_home.ensures.starved ∙ ap (λ (x : _). x.starved) c.halt.ensures.rest) c.land_done-landed.ensures.reason c.settled.ensures.passed c.settled.ensures.starved
-
 pub returns-then-goes_on-clause-wants : goal.returns-then-goes_on-clause-wants
 returns-then-goes_on-clause-wants g c =
     wanted_landed c.land_done-landed.new.self c.settled.new.self c.args.landing.instance c.land_done-landed.result c.settled.result
     (subst (λ (l : _). Noted l (Home c.args.landing.instance) c.settled.new.self.log) (ap (λ (x : _). x.log) c.halt.ensures.rest)
     (subst (λ (l : _). Noted c.halt.new.self.log (Home c.args.landing.instance) l) (sym (ap (λ (x : _). x.log) c.settled.ensures.rest)) c.note_home.ensures.noted))
     (ap (λ (x : _). x.starved) c.settled.ensures.rest ∙ c.note_home.ensures.starved ∙ ap (λ (x : _). x.starved) c.halt.ensures.rest) c.land_done-landed.ensures.wants c.settled.ensures.passed c.settled.ensures.starved
+
+pub returns-then-goes_on-clause-reason : goal.returns-then-goes_on-clause-reason
+returns-then-goes_on-clause-reason g c =
+    landed_reason c.land_done-landed.new.self c.settled.new.self c.args.landing.instance c.land_done-landed.result c.settled.result
+    (subst (λ (l : _). Noted l (Home c.args.landing.instance) c.settled.new.self.log) (ap (λ (x : _). x.log) c.halt.ensures.rest)
+    (subst (λ (l : _). Noted c.halt.new.self.log (Home c.args.landing.instance) l) (sym (ap (λ (x : _). x.log) c.settled.ensures.rest)) c.note_home.ensures.noted))
+    (ap (λ (x : _). x.starved) c.settled.ensures.rest ∙ c.note_home.ensures.starved ∙ ap (λ (x : _). x.starved) c.halt.ensures.rest) c.land_done-landed.ensures.reason c.settled.ensures.passed c.settled.ensures.starved
+    (returns-then-goes_on-clause-wants g c)

@@ -1,7 +1,9 @@
-use Rattle.std.proofs.Common.{[], refl, false, ◌≡◌, ◌∙◌, Option, Some, None}
+use Rattle.std.proofs.Common.{[], refl, sym, subst, false, ◌≡◌, ◌∙◌, Option, Some, None}
 use Rattle.std.specs.Prelude.{IsSome, IsSomeAnd}
+use Rattle.vx_plan.specs.declared.class.Class.TheVariants.{Sink}
 use Rattle.vx_hub.proofs.Drying.{shut_of_dry}
-use Rattle.vx_hub.specs.Stands.{facts_at}
+use Rattle.vx_hub.specs.Stands.{IsSinkAt, facts_at}
+use Rattle.vx_hub.specs.Works.{IsSending}
 use Rattle.vx_hub.proofs.Sinking.{must_write}
 use Rattle.vx_hub.proofs.hub.Hub.lease.Goals as goal
 
@@ -41,5 +43,14 @@ hand_out-requires-in-None-clause-moment g c = c.collect.ensures.leased c.in_ok-i
 pub hand_out-requires-in-None-clause-closing : goal.hand_out-requires-in-None-clause-closing
 hand_out-requires-in-None-clause-closing g c attempt =
     let i = c.in_ok-instance.field-0.instance in
+    let sending : IsSending c.decided-job.result = subst IsSending (sym attempt) tt in
+    let sink : IsSinkAt c.collect.new.self i = subst (λ (fs : _). IsSomeAnd (facts_at fs.items i) (λ f. f.class ≡ Sink)) (sym c.collect.ensures.facts)
+    (c.note_lease.ensures.sink (c.in_ok-instance.ensures.sink (c.decided-job.ensures.sending sending))) in
     must_write g.P.Port.told c.collect.new.self i c.advance-now.result c.collect.ensures.stands (c.collect.ensures.abandoned ∙ c.note_lease.ensures.abandoned ∙ c.if-not-goes_on.ensures.going refl)
-    (c.collect.ensures.away i c.note_lease.ensures.away) (c.collect.ensures.untried i c.note_lease.ensures.untried) (c.collect.ensures.moment i c.advance-now.result c.note_lease.ensures.moment) (c.decided-job.ensures.closing attempt)
+    (c.collect.ensures.away i c.note_lease.ensures.away) (c.collect.ensures.untried i c.note_lease.ensures.untried) (c.collect.ensures.moment i c.advance-now.result c.note_lease.ensures.moment) sink (c.decided-job.ensures.closing attempt)
+
+pub note_lease-requires-clause-ready : goal.note_lease-requires-clause-ready
+note_lease-requires-clause-ready g c = (c.in_ok-instance.field-0.job, c.in_ok-instance.ensures.ready)
+
+pub hand_out-requires-in-None-clause-done : goal.hand_out-requires-in-None-clause-done
+hand_out-requires-in-None-clause-done g c close = c.collect.ensures.done c.in_ok-instance.field-0.instance (c.note_lease.ensures.done (c.in_ok-instance.ensures.done (c.decided-job.ensures.close close)))

@@ -1,5 +1,4 @@
-use Rattle.std.proofs.Common.{arith, ap, sym, ◌≡◌, ◌∙◌, Some, None, Option}
-use Rattle.vx_hub.specs.declared.facts.Facts.{Facts}
+use Rattle.std.proofs.Common.{arith, ap, sym, ◌∙◌}
 use Rattle.vx_hub.specs.Finishing.{feeds_by, feeds_if, is_sent_at}
 use Rattle.vx_hub.proofs.Touching.{facts_read}
 use Rattle.vx_hub.proofs.Concluding.{facts_none}

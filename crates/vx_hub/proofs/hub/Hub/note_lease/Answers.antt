@@ -1,5 +1,4 @@
 use Rattle.std.proofs.Common.{[], refl, false, ◌≡◌, ◌<◌, sym, subst, length, Option, IfSome, arith, true, ap, ◌∷◌, None, ◌∙◌}
-use Rattle.vx_record.specs.Confirms.{born_positions}
 use Rattle.vx_hub.specs.Stands.{IsReadable, IsShut, IsGone, IsKnown, facts_at, IsSound}
 use Rattle.vx_record.specs.Records.{Record}
 use Rattle.vx_record.specs.declared.entry.Entry.TheVariants.{Lease}
@@ -17,7 +16,7 @@ use Rattle.vx_hub.proofs.Retiring.{known_leased, known_leased_other}
 use Rattle.vx_hub.proofs.Settling.{unclosed_unretired, known_at_home}
 use Rattle.std.specs.List.{list_any}
 use Rattle.std.specs.Prelude.{◌==◌, if◌then◌else◌, IsSome}
-use Rattle.vx_record.specs.Turns.{is_out, at_lease, since_lease, is_attempt_of, lease_now}
+use Rattle.vx_record.specs.Turns.{is_out, at_lease, since_lease, is_attempt_of}
 use Rattle.vx_record.specs.Owing.{all_noticed}
 use Rattle.vx_hub.proofs.Covering.{noticed_known, some_there}
 use Rattle.vx_hub.proofs.Silence.{same_test}
@@ -28,7 +27,10 @@ use Rattle.vx_hub.proofs.Flowing.{hub_reads, read_leased}
 use Rattle.vx_hub.specs.Offspring.{AreBorn}
 use Rattle.vx_hub.proofs.Offspring.{even_on, owes_no_birth}
 use Rattle.vx_hub.proofs.Moments.{later_leased, moment_leased}
-use Rattle.vx_hub.proofs.Concluding.{was_leased, done_so}
+use Rattle.vx_hub.proofs.Concluding.{was_leased}
+use Rattle.vx_hub.proofs.Closing.{closed_known}
+use Rattle.vx_hub.proofs.Dones.{done_known}
+use Rattle.vx_hub.proofs.Readiness.{ready_known}
 use Rattle.vx_hub.proofs.hub.Hub.note_lease.Goals as goal
 
 pub returns-clause-stands : goal.returns-clause-stands
@@ -49,7 +51,8 @@ returns-clause-stands g c =
     (facts_has (λ x. IsKnown x h i) d.facts.items i f within c.index_mut-facts.ensures.value ((s.recorded fine).facts i)) (s.recorded fine).order
     (unabandoned h (going_on g.P.Port.told d [] s c.requires.going fine))
     (owes_no_birth h i ((s.recorded fine).bore c.requires.running i (known_at_home g.P.Port.told d [] i s c.requires.unleased fine) (unabandoned h (going_on g.P.Port.told d [] s c.requires.going fine))))
-    (let l = (s.recorded fine).later c.args.worker in omega (arith, l, c.requires.moment)))
+    (let l = (s.recorded fine).later c.args.worker in omega (arith, l, c.requires.moment))
+    (ready_known g.P.Port.told d i c.args.now s c.requires.going fine c.requires.open c.requires.unleased (λ finished. done_known g.P.Port.told d i s c.requires.running c.requires.going c.requires.unleased finished fine) (λ sink closed. closed_known g.P.Port.told d i c.args.now s fine c.requires.going sink c.requires.unleased closed) c.requires.ready))
     (hub_comes g.P.Port.told d [] e s c.requires.going) (λ k none out. leased_on (i == k) (is_out h k) out) refl
     (λ fine known. known_leased f h i c.args.worker c.args.now 0 _ c.take.ensures.after known)
     (λ x k other known. known_leased_other x h i k c.args.worker c.args.now 0 other known)
@@ -170,4 +173,4 @@ pub returns-clause-leased : goal.returns-clause-leased
 returns-clause-leased g c sound = moment_leased c.args.self.now _ c.args.instance c.args.worker c.args.now 0 c.note.ensures.noted sound ∙ c.requires.moment
 
 pub returns-clause-done : goal.returns-clause-done
-returns-clause-done g c finished = was_leased c.args.self.now _ c.args.instance c.args.worker c.args.now 0 c.note.ensures.noted refl (done_so g.P.Port.told c.args.self.now c.args.instance c.requires.stands finished)
+returns-clause-done g c finished = was_leased c.args.self.now _ c.args.instance c.args.worker c.args.now 0 c.note.ensures.noted refl (done_known g.P.Port.told c.args.self.now c.args.instance c.requires.stands c.requires.running c.requires.going c.requires.unleased finished)

@@ -2,7 +2,7 @@ use Rattle.std.proofs.Common.{refl, false, ◌≡◌, ◌≤◌, ap, sym, subst,
 use Rattle.std.specs.Prelude.{if◌then◌else◌}
 use Rattle.vx_hub.specs.Stands.{IsReadable, lost_at}
 use Rattle.vx_record.specs.declared.entry.Entry.TheVariants as entry
-use Rattle.vx_hub.proofs.Drying.{closing_on, turn_of}
+use Rattle.vx_hub.proofs.Drying.{closing_on}
 use Rattle.vx_hub.proofs.Flowing.{turn_in_order}
 use Rattle.vx_hub.proofs.StandsLaws.{ends_on, to_confirm_on, asked_on}
 use Rattle.vx_hub.proofs.Naming.{device_known}

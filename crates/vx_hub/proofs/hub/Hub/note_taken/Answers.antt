@@ -7,7 +7,7 @@ use Rattle.vx_record.specs.declared.entry.Entry.TheVariants as entry
 use Rattle.vx_record.specs.declared.taken.Taken.TheVariants as taken
 use Rattle.vx_record.specs.Records.{Record}
 use Rattle.vx_hub.specs.Order.{IsReadBy}
-use Rattle.vx_hub.proofs.Drying.{closing_on, not_ended, turn_of}
+use Rattle.vx_hub.proofs.Drying.{closing_on, not_ended}
 use Rattle.vx_hub.proofs.Flowing.{turn_in_order}
 use Rattle.vx_hub.proofs.StandsLaws.{ends_on, to_confirm_on, asked_on}
 use Rattle.vx_hub.proofs.Silence.{same_test}

@@ -25,9 +25,12 @@ use Rattle.vx_hub.proofs.Leaving.{returning_noted}
 use Rattle.vx_hub.proofs.EventLaws.{paired_born}
 use Rattle.vx_hub.specs.Events.{ArePaired}
 use Rattle.vx_hub.specs.declared.fatal.Fatal.{Fatal}
+use Rattle.vx_hub.specs.Failures.{abandon_cause}
 use Rattle.vx_hub.specs.Offspring.{WantsBirth}
+use Rattle.vx_hub.specs.Order.{IsReason}
 use Rattle.vx_hub.proofs.Owed.{born_batch, birth_short}
 use Rattle.vx_hub.proofs.Counting.{counted_born}
+use Rattle.vx_hub.proofs.Reasons.{birth_reason}
 use Rattle.vx_hub.proofs.hub.Hub.open_batch.Goals as goal
 
 pub returns-clause-stands : goal.returns-clause-stands
@@ -138,3 +141,10 @@ returns-in-Err-clause-wants g c sound =
     subst (λ (f : Fatal). WantsBirth d.log.history f) (sym c.from.ensures)
     (birth_short g.P.Port.told d c.args.instance d.batches.next c.len-n.result c.args.events.now c.in-Err.short c.requires.stands c.requires.read c.requires.before c.requires.given c.requires.some c.len-n.ensures (omega (arith, c.requires.few, c.len-n.ensures))
     (λ fine. unabandoned d.log.history (going_on g.P.Port.told d [] c.requires.stands c.requires.going fine)) c.in-Err.ensures.cause (record { whole = sound.whole; fed = sound.fed }))
+
+pub returns-in-Err-clause-reason : goal.returns-in-Err-clause-reason
+returns-in-Err-clause-reason g c sound =
+    let d = c.args.self.now in
+    subst (λ (f : Fatal). IsReason d.log.history (abandon_cause f)) (sym c.from.ensures)
+    (birth_reason d.log.history d.batches.next c.len-n.result c.in-Err.short (c.requires.stands.recorded (record { whole = sound.whole; fed = sound.fed })).next c.in-Err.ensures.cause
+    (subst (λ (f : Fatal). WantsBirth d.log.history f) c.from.ensures (returns-in-Err-clause-wants g c sound)))

@@ -1,4 +1,4 @@
-use Rattle.std.proofs.Common.{arith, ap, sym, subst, length, ◌≡◌, ◌+◌, ◌∙◌, ◌++◌, ◌∷◌, [], List, false, ℕ, IsTrue, true}
+use Rattle.std.proofs.Common.{arith, ap, sym, subst, length, ◌≡◌, ◌+◌, ◌∙◌, ◌++◌, ◌∷◌, [], List, false, ℕ, IsTrue}
 use Rattle.std.specs.Prelude.{IsSomeAnd}
 use Rattle.std.proofs.lemmas.List.{length-append}
 use Rattle.vx_ledger.specs.Copies.{Copy}
@@ -8,7 +8,7 @@ use Rattle.vx_record.specs.declared.log.Log.{Log}
 use Rattle.vx_record.specs.Lists.{outputs}
 use Rattle.vx_record.specs.Moving.{singles}
 use Rattle.vx_hub.specs.Numbers.{numbers_in}
-use Rattle.vx_hub.proofs.Homing.{next_out, lined_rest, stands_starved}
+use Rattle.vx_hub.proofs.Homing.{next_out, lined_rest}
 use Rattle.vx_hub.specs.Events.{ArePaired}
 use Rattle.vx_hub.proofs.EventLaws.{paired_last}
 use Rattle.vx_hub.proofs.Owed.{born_same}
@@ -46,4 +46,5 @@ loop-event-preserved g c =
 
 pub returns-in-Err-clause-stands : goal.returns-in-Err-clause-stands
 returns-in-Err-clause-stands g c =
-    c.put_one-in-Err.ensures.stands [] (stands_starved g.P.Port.told c.loop-event.self c.take_last.new.self (subst (λ (fs : List Copy). Stands g.P.Port.told c.loop-event.self fs c.loop-event.self.log.history) (sym c.in-Err.ensures.err) c.loop-event.invariant.stands)) (λ sound. let no : true ≡ false = sound.fed in cc) (λ sound. let no : true ≡ false = sound.fed in cc)
+    c.put_one-in-Err.ensures.stands [] (c.starve.ensures.stands c.take_last.new.self (subst (λ (fs : List Copy). Stands g.P.Port.told c.loop-event.self fs c.loop-event.self.log.history) (sym c.in-Err.ensures.err) c.loop-event.invariant.stands))
+    (λ sound. absurd (c.starve.ensures.unsound sound)) (λ sound. absurd (c.starve.ensures.unsound sound))

@@ -56,4 +56,5 @@ returns-clause-begins g c plan begins untouched fitted =
       abreast = omega (arith, c.push_reserved-2.ensures.len, c.push_reserved-3.ensures.len, begins.abreast);
       unnoticed = λ i l. subst (λ (ps : List Progress). IsSomeAnd (progress_at ps i) (λ p. p.unnoticed ≡ 0)) (sym c.push_reserved-2.ensures.items)
           (progress_more c.args.self.now.progress.items (record { unnoticed = 0 }) begins.unnoticed refl i (subst (λ (ps : List Progress). i < length ps) c.push_reserved-2.ensures.items l));
+      fed = begins.fed;
     }

@@ -9,13 +9,10 @@ use Rattle.vx_hub.proofs.Noticing.{running_on, running_grown}
 use Rattle.vx_ledger.specs.Routing.{targets_of, children_for}
 use Rattle.vx_ledger.specs.declared.parcel.Parcel.{Parcel}
 use Rattle.vx_record.specs.declared.entry.Entry.TheVariants.{Split}
-use Rattle.vx_hub.specs.declared.fatal.Fatal.{Fatal}
 use Rattle.vx_hub.specs.Rows.{child_copies}
 use Rattle.vx_hub.specs.Numbers.{numbers_in, noted_of}
-use Rattle.vx_hub.specs.Failures.{abandon_cause}
 use Rattle.vx_hub.specs.Stands.{IsSound}
-use Rattle.vx_hub.specs.Order.{IsReason}
-use Rattle.vx_hub.proofs.Ordering.{children_have, parcel_has, targets_some, split_next, split_in_order, noted_split, length_numbers, length_noted, short_reason, unread_balanced, unread_may, targets_none}
+use Rattle.vx_hub.proofs.Ordering.{children_have, parcel_has, targets_some, split_next, split_in_order, noted_split, length_numbers, length_noted, unread_balanced, unread_may, targets_none}
 use Rattle.vx_hub.proofs.StandsLaws.{stands_quiet, stands_moved, stands_settled, same_balanced, split_balanced, back_balanced, bare_but, bare_by}
 use Rattle.vx_hub.specs.declared.hub.Hub.{Hub}
 use Rattle.vx_ledger.specs.declared.child.Child.{Child}
@@ -34,6 +31,7 @@ use Rattle.vx_hub.proofs.Settling.{known_at_home}
 use Rattle.vx_hub.proofs.Saids.{rows_on}
 use Rattle.vx_hub.proofs.EventLaws.{children_said}
 use Rattle.vx_hub.proofs.Splitting.{split_wants, split_few, some_targets, some_wanted, short_wants, readers_within}
+use Rattle.vx_hub.proofs.Reasons.{split_reason}
 use Rattle.vx_hub.proofs.hub.Hub.split.Goals as goal
 
 pub returns-in-Ok-Children-clause-stands : goal.returns-in-Ok-Children-clause-stands
@@ -115,11 +113,6 @@ returns-in-Err-clause-stands g c =
     (λ fine said. let out = c.in-Some.ensures.said d.log.history said in c.push_output.ensures.said d.log.history out.0 (subst (λ (p : Parcel). IsSaid d.log.history p) (sym c.in-Err.ensures.back) out.1)))
     (λ going. let no : true ≡ false = going in cc)
 
-pub returns-in-Err-clause-reason : goal.returns-in-Err-clause-reason
-returns-in-Err-clause-reason g c sound =
-    subst (λ (f : Fatal). IsReason c.args.self.now.log.history (abandon_cause f)) (sym c.from.ensures)
-    (short_reason c.args.self.now.log.history c.args.self.now.batches.next _ c.in-Err.field-0.cause (c.requires.stands.recorded (record { whole = sound.whole; fed = sound.fed })).next c.in-Err.ensures.cause)
-
 pub spend-requires-clause-stands : goal.spend-requires-clause-stands
 spend-requires-clause-stands g c =
     let s = c.requires.stands in
@@ -180,3 +173,9 @@ returns-in-Err-clause-wants g c =
       split_few d.log.history c.args.instance (2 ^ 32) targets parcel most oldest,
     ))
     c.in-Err.ensures.cause c.from.ensures
+
+pub returns-in-Err-clause-reason : goal.returns-in-Err-clause-reason
+returns-in-Err-clause-reason g c sound =
+    let d = c.args.self.now in
+    split_reason _ d.batches.next _ c.in-Err.field-0.cause c.from.result sound
+    (c.requires.stands.recorded (record { whole = sound.whole; fed = sound.fed })).next c.in-Err.ensures.cause c.from.ensures (returns-in-Err-clause-wants g c)

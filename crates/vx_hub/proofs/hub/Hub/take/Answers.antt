@@ -18,7 +18,7 @@ use Rattle.vx_hub.proofs.Noticing.{running_on}
 use Rattle.vx_hub.proofs.Ceasing.{hub_comes}
 use Rattle.vx_hub.proofs.Asking.{nothing_noted, nothing_same}
 use Rattle.vx_hub.proofs.Leaving.{away_noted, away_same, taken_more, taken_same, untried_noted, untried_same, noticed_noted, noticed_same}
-use Rattle.vx_hub.proofs.Saids.{rows_on, said_on}
+use Rattle.vx_hub.proofs.Saids.{said_on}
 use Rattle.vx_hub.proofs.Flowing.{may_read_noted, may_read_same}
 use Rattle.vx_hub.proofs.Owed.{born_noted, born_same}
 use Rattle.vx_hub.proofs.Moments.{moment_noted, moment_same}
