@@ -36,7 +36,10 @@ fn over(alloc: Global, text: &str, keeps: bool) -> Result<Reader, ConditionFault
     for (i, byte) in text.as_bytes().iter().enumerate() {
         match reader.take(alloc, *byte) {
             Ok(()) => {}
-            Err(stop) => return Err(fault_of(stop, i)),
+            Err(stop) => {
+                drop(reader);
+                return Err(fault_of(stop, i));
+            }
         }
     }
     Ok(reader)

@@ -59,6 +59,13 @@ impl Reader {
         }
     }
 
+    // Goes to a place. The place before it is dropped here and nowhere else.
+    pub(crate) fn stand(&mut self, mode: Mode)
+        ensures { self.new ≡ at self.old mode }
+    {
+        drop(mem::replace(&mut self.mode, mode));
+    }
+
     // Goes to a place, if there is one.
     pub(crate) fn go(&mut self, mode: Option<Mode>) -> Result<(), Stop>
         ensures ok { OnOk result (at_some self.old mode ≡ Ok self.new) }
@@ -66,7 +73,7 @@ impl Reader {
     {
         match mode {
             Some(mode) => {
-                self.mode = mode;
+                self.stand(mode);
                 Ok(())
             }
             None => Err(Stop::Refused),
@@ -79,9 +86,10 @@ impl Reader {
         ensures stop { IfErr result (Stops (cond wanted (Ok (at self.old (Mode.Expects next))) (Err Stop.Refused))) }
     {
         if wanted {
-            self.mode = Mode::Expects(next);
+            self.stand(Mode::Expects(next));
             Ok(())
         } else {
+            drop(next);
             Err(Stop::Refused)
         }
     }
@@ -95,7 +103,7 @@ impl Reader {
             Ok(()) => {}
             Err(_) => return Err(Stop::WantOfMemory),
         }
-        self.mode = Mode::Complete;
+        self.stand(Mode::Complete);
         Ok(())
     }
 
@@ -115,7 +123,7 @@ impl Reader {
             return Err(Stop::Deep);
         }
         self.frame.negations += 1;
-        self.mode = Mode::Expects(Expected::Operand);
+        self.stand(Mode::Expects(Expected::Operand));
         Ok(())
     }
 
@@ -133,7 +141,7 @@ impl Reader {
             Ok(()) => {}
             Err(_) => return Err(Stop::WantOfMemory),
         }
-        self.mode = Mode::Expects(Expected::Operand);
+        self.stand(Mode::Expects(Expected::Operand));
         Ok(())
     }
 
@@ -167,7 +175,7 @@ impl Reader {
                     Ok(()) => {}
                     Err(_) => return Err(Stop::WantOfMemory),
                 }
-                self.mode = Mode::Complete;
+                self.stand(Mode::Complete);
                 Ok(())
             }
             None => Err(Stop::Refused),
@@ -183,7 +191,7 @@ impl Reader {
             Ok(()) => {}
             Err(_) => return Err(Stop::WantOfMemory),
         }
-        self.mode = Mode::Word(FixedWord::Or, 1, Behind::Wants(Expected::Operand));
+        self.stand(Mode::Word(FixedWord::Or, 1, Behind::Wants(Expected::Operand)));
         Ok(())
     }
 
@@ -193,7 +201,7 @@ impl Reader {
         ensures stop { IfErr result (Stops (joint self.old byte)) }
     {
         if byte == b'&' {
-            self.mode = Mode::Word(FixedWord::And, 1, Behind::Wants(Expected::Operand));
+            self.stand(Mode::Word(FixedWord::And, 1, Behind::Wants(Expected::Operand)));
             Ok(())
         } else if byte == b'|' {
             self.end_branch(alloc)
@@ -210,7 +218,7 @@ impl Reader {
         ensures stop { IfErr result (Stops (behind_operand self.old byte)) }
     {
         if is_blank(byte) {
-            self.mode = Mode::Expects(Expected::Joint);
+            self.stand(Mode::Expects(Expected::Joint));
             Ok(())
         } else {
             self.joint(alloc, byte)
@@ -223,7 +231,7 @@ impl Reader {
         ensures stop { IfErr result (Stops (expected 32 self.old (Expected.Open call) byte)) }
     {
         if byte == b'(' {
-            self.mode = Mode::Expects(Expected::Path(call));
+            self.stand(Mode::Expects(Expected::Path(call)));
             Ok(())
         } else {
             let marked = byte == b'!' && matches!(call, Call::Has(_));
@@ -239,7 +247,7 @@ impl Reader {
         if byte == b'.' {
             let name = ItemList::new(alloc);
             let names = ItemList::new(alloc);
-            self.mode = Mode::Path(PathUse::Called(call), PathPlace::Name, name, names);
+            self.stand(Mode::Path(PathUse::Called(call), PathPlace::Name, name, names));
             Ok(())
         } else {
             Err(Stop::Refused)
@@ -254,6 +262,7 @@ impl Reader {
         if byte == b')' {
             self.state(predicate)
         } else {
+            drop(predicate);
             Err(Stop::Refused)
         }
     }
@@ -294,7 +303,7 @@ impl Reader {
         ensures stop { IfErr result (Stops (behind_blanks 32 self.old next byte)) }
     {
         if is_blank(byte) {
-            self.mode = Mode::Expects(next);
+            self.stand(Mode::Expects(next));
             Ok(())
         } else {
             self.expected(alloc, next, byte)

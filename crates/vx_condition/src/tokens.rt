@@ -86,7 +86,7 @@ impl Reader {
     {
         match behind {
             Behind::Wants(expected) => {
-                self.mode = Mode::Expects(expected);
+                self.stand(Mode::Expects(expected));
                 Ok(())
             }
             Behind::Done(predicate) => self.state(predicate),
@@ -106,12 +106,13 @@ impl Reader {
     {
         let letters = word.letters().as_bytes();
         if read >= letters.len() || byte != letters[read] {
+            drop(behind);
             return Err(Stop::Refused);
         }
         if read + 1 == letters.len() {
             self.arrive(behind)
         } else {
-            self.mode = Mode::Word(word, read + 1, behind);
+            self.stand(Mode::Word(word, read + 1, behind));
             Ok(())
         }
     }
@@ -133,7 +134,7 @@ impl Reader {
         }
         let names = names_with(alloc, names, name)?;
         let next = ItemList::new(alloc);
-        self.mode = Mode::Path(use_of, PathPlace::Name, next, names);
+        self.stand(Mode::Path(use_of, PathPlace::Name, next, names));
         Ok(())
     }
 
@@ -189,7 +190,7 @@ impl Reader {
         ensures stop { IfErr result (λ stop. stop ≡ Stop.WantOfMemory) }
     {
         let name = held_with(name, byte)?;
-        self.mode = Mode::Path(use_of, next, name, names);
+        self.stand(Mode::Path(use_of, next, name, names));
         Ok(())
     }
 
@@ -227,7 +228,7 @@ impl Reader {
                 self.state(equal_to(path, equality, Literal::Words(text)))
             }
             TextUse::Part(path) => {
-                self.mode = Mode::Expects(Expected::Close(Predicate::Contains(path, text)));
+                self.stand(Mode::Expects(Expected::Close(Predicate::Contains(path, text))));
                 Ok(())
             }
         }
@@ -246,7 +247,7 @@ impl Reader {
         match byte {
             Some(byte) => {
                 let held = held_with(held, byte)?;
-                self.mode = Mode::Text(use_of, false, held);
+                self.stand(Mode::Text(use_of, false, held));
                 Ok(())
             }
             None => Err(Stop::Refused),
@@ -271,7 +272,7 @@ impl Reader {
         } else if byte == b'"' {
             self.end_text(alloc, use_of, held)
         } else if byte == b'\\' {
-            self.mode = Mode::Text(use_of, true, held);
+            self.stand(Mode::Text(use_of, true, held));
             Ok(())
         } else {
             self.add_to_text(use_of, held, Some(byte))
@@ -295,7 +296,7 @@ impl Reader {
         } else {
             Predicate::Contains(path, text)
         };
-        self.mode = Mode::Expects(Expected::Close(sought));
+        self.stand(Mode::Expects(Expected::Close(sought)));
         Ok(())
     }
 
@@ -321,7 +322,7 @@ impl Reader {
         }
         match larger(negative, size, byte) {
             Some(size) => {
-                self.mode = Mode::Whole(path, operator, negative, size);
+                self.stand(Mode::Whole(path, operator, negative, size));
                 Ok(())
             }
             None => Err(Stop::Refused),
@@ -364,7 +365,7 @@ impl Reader {
         if byte != b'\'' {
             return Err(Stop::Refused);
         }
-        self.mode = Mode::Pattern(path, ItemList::new(alloc));
+        self.stand(Mode::Pattern(path, ItemList::new(alloc)));
         Ok(())
     }
 
@@ -384,7 +385,7 @@ impl Reader {
             return self.end_pattern(alloc, path, held);
         }
         let held = held_with(held, byte)?;
-        self.mode = Mode::Pattern(path, held);
+        self.stand(Mode::Pattern(path, held));
         Ok(())
     }
 
@@ -396,7 +397,7 @@ impl Reader {
         if byte < b'1' || b'9' < byte {
             return Err(Stop::Refused);
         }
-        self.mode = Mode::Whole(path, operator, true, u64::from(byte - b'0'));
+        self.stand(Mode::Whole(path, operator, true, u64::from(byte - b'0')));
         Ok(())
     }
 
@@ -413,7 +414,7 @@ impl Reader {
     {
         if byte == b'=' {
             let operator = Operator::Compared(or_equal(comparison));
-            self.mode = Mode::Expects(Expected::Literal(path, operator));
+            self.stand(Mode::Expects(Expected::Literal(path, operator)));
             return Ok(());
         }
         let literal = Expected::Literal(path, Operator::Compared(comparison));
@@ -481,7 +482,10 @@ impl Reader {
                     Err(_) => Err(Stop::WantOfMemory),
                 }
             }
-            _ => Ok(None),
+            other => {
+                drop(other);
+                Ok(None)
+            }
         }
     }
 }
