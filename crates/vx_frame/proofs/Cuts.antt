@@ -1,9 +1,8 @@
 -- Bytes cut at their first line feed, and the loop that does so again and again.
-use Rattle.std.proofs.Common.{◌≡◌, ℕ, zero, suc, min, ◌+◌, ◌-◌, ◌<◌, ◌≤◌, Bool, true, false, cond, List, [], ◌∷◌, ◌++◌, length, take, drop, get_or, map, leb, eqb, arith, refl, sym, ◌∙◌, ap, append_assoc, length-append, add-one, add-zero, append-nil}
-use Rattle.std.proofs.lemmas.Grind.{common_steps}
+use Rattle.std.proofs.Common.{◌≡◌, ℕ, zero, suc, ◌+◌, ◌<◌, ◌≤◌, Bool, true, false, cond, List, [], ◌∷◌, ◌++◌, length, take, drop, get_or, map, leb, eqb, arith, refl, sym, ◌∙◌, ap, append_assoc, add-one, add-zero, append-nil}
 use Rattle.std.proofs.lemmas.Bool.Decides.{nat_tests}
 use Rattle.std.proofs.lemmas.List.{length-take, length-drop, take_all, map-append}
-use Rattle.vx_frame.specs.Frames.{Frame, Parts, cut, before, capped, kept, counted, some_byte, lines_of, overlong_of, last_of}
+use Rattle.vx_frame.specs.Frames.{Frame, cut, capped, kept, counted, overlong_of, last_of}
 use Rattle.vx_frame.specs.Framings.{lines_behind, overlong_behind, left_behind, line_of}
 use Rattle.vx_frame.specs.declared.unfinished.Unfinished.{Unfinished}
 use Rattle.vx_frame.specs.declared.line.Line.{Line}
@@ -57,7 +56,7 @@ left_at limit now rest i l e h =
     let held : last_of now.held (cut rest).first (cut rest).more ≡ last_of [] (cut (drop (i + 1) rest)).first (cut (drop (i + 1) rest)).more = rw (cut-at rest i l e h) refl in
     λ j. record { seen = seen j; held = take (limit + 1) (held j) }
 
-counted-capped : (limit : ℕ) (line : List ℕ) (count n : ℕ) → capped (count + counted limit line n) ≡ capped (capped (counted limit line count) + n)
+pub counted-capped : (limit : ℕ) (line : List ℕ) (count n : ℕ) → capped (count + counted limit line n) ≡ capped (capped (counted limit line count) + n)
 counted-capped limit line count n = by_length (leb (length line) limit)
   where
     by_length : (b : Bool) → capped (count + cond b n (n + 1)) ≡ capped (capped (cond b count (count + 1)) + n)
@@ -96,3 +95,32 @@ end_at limit stream overlong left bytes lines count now rest none w = (
   w.count_fits ∙ sym (w.overlong_is ∙ (rw (cut-none rest none, add-zero) refl)),
   w.left_is ∙ (rw (cut-none rest none) refl),
 )
+
+-- ---- a piece behind what was left unfinished
+-- with no line feed it only goes on with the line
+pub record GoesOn (limit : ℕ) (left : Unfinished) (bytes : List ℕ) : Type 0 where
+  pub no_lines : lines_behind limit false left bytes ≡ []
+  pub none_overlong : overlong_behind limit false left bytes ≡ 0
+  pub left_is : left_behind limit left bytes ≡ record { seen = capped (left.seen + length bytes); held = take (limit + 1) (left.held ++ bytes) }
+
+pub goes_on : (limit : ℕ) (left : Unfinished) (bytes : List ℕ) → NoFeed bytes → GoesOn limit left bytes
+goes_on limit left bytes none = record {
+  no_lines = rw (cut-none bytes none) refl;
+  none_overlong = rw (cut-none bytes none) refl;
+  left_is = rw (cut-none bytes none) refl;
+}
+
+-- with one it ends the line, `held` up to `end`, and the rest stands behind that
+pub record EndsLine (limit : ℕ) (left : Unfinished) (bytes : List ℕ) (held : List ℕ) (end : ℕ) (rest : List ℕ) : Type 0 where
+  pub lines_are : lines_behind limit false left bytes ≡ kept limit (record { bytes = held; end = end }) [] ++ lines_behind limit false (record { seen = end; held = [] }) rest
+  pub overlong_is : overlong_behind limit false left bytes ≡ counted limit held (overlong_behind limit false (record { seen = end; held = [] }) rest)
+  pub left_is : left_behind limit left bytes ≡ left_behind limit (record { seen = end; held = [] }) rest
+
+pub ends_line : (limit : ℕ) (left : Unfinished) (bytes : List ℕ) (i : ℕ) (held : List ℕ) (end : ℕ) (rest : List ℕ) → i < length bytes → get_or bytes i 0 ≡ 10 → ((k : ℕ) → k < i → get_or bytes k 0 ≡ 10 → ⊥) → held ≡ take (limit + 1) (left.held ++ take i bytes) → end ≡ capped (left.seen + length (take i bytes) + 1) → rest ≡ drop (i + 1) bytes → EndsLine limit left bytes held end rest
+ends_line limit left bytes i held end rest l e h eh ee er = record {
+  lines_are = lines_at limit left bytes i l e h ∙ (rw (eh, ee, er) refl);
+  overlong_is =
+      overlong_at limit left bytes i l e h
+      ∙ (rw (eh, er, counted-take) refl);
+  left_is = left_at limit left bytes i l e h ∙ (rw (ee, er) refl);
+}

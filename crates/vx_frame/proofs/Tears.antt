@@ -1,10 +1,10 @@
 -- However bytes are torn, their lines are the same.
-use Rattle.std.proofs.Common.{◌≡◌, ℕ, zero, suc, min, ◌+◌, ◌-◌, ◌<◌, ◌≤◌, Bool, true, false, cond, List, [], ◌∷◌, ◌++◌, ◌&&◌, length, take, map, leb, eqb, arith, refl, sym, ◌∙◌, ap, subst, append_assoc, append-nil, length-append, add-one, add-zero, zero-add}
+use Rattle.std.proofs.Common.{◌≡◌, ℕ, zero, suc, ◌+◌, ◌≤◌, Bool, true, false, cond, List, [], ◌∷◌, ◌++◌, ◌&&◌, length, take, leb, eqb, arith, refl, sym, ◌∙◌, ap, append_assoc, append-nil, length-append, add-one, zero-add}
 use Rattle.std.proofs.lemmas.Bool.Decides.{nat_tests}
 use Rattle.std.proofs.lemmas.List.{length-take, take_all}
 use Rattle.std.proofs.Math.Seq.{take-nil}
-use Rattle.vx_frame.specs.Frames.{Frame, Parts, cut, before, capped, kept, counted, some_byte, lines_of, overlong_of, last_of, frames, discarded}
-use Rattle.vx_frame.specs.Framings.{Framing, HasTaken, unfinished, untouched, lines_behind, overlong_behind, left_behind}
+use Rattle.vx_frame.specs.Frames.{Frame, cut, before, capped, kept, counted, some_byte, lines_of, overlong_of, last_of, frames, discarded}
+use Rattle.vx_frame.specs.Framings.{untouched, lines_behind, overlong_behind, left_behind}
 use Rattle.vx_frame.specs.declared.unfinished.Unfinished.{Unfinished}
 
 capped-twice : (n : ℕ) → capped (capped n) ≡ capped n

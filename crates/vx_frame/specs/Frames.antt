@@ -1,5 +1,5 @@
 -- The lines of bytes.
-use Rattle.std.specs.Prelude.{ℕ, ◌+◌, ◌==◌, ◌&&◌, ◌++◌, Bool, false, true, not, min, length, nat_le, List, [], ◌∷◌, if◌then◌else◌}
+use Rattle.std.specs.Prelude.{ℕ, ◌+◌, ◌==◌, ◌&&◌, ◌++◌, Bool, false, true, min, length, nat_le, List, [], ◌∷◌, if◌then◌else◌}
 
 -- a line, and the number of bytes up to its end
 pub record Frame : Type 0 where

@@ -1,5 +1,5 @@
 -- What a framer keeps of its streams.
-use Rattle.std.specs.Prelude.{◌≡◌, ℕ, ◌+◌, ◌≤◌, Bool, List, [], take, length, unwrap_or}
+use Rattle.std.specs.Prelude.{◌≡◌, ℕ, ◌+◌, ◌≤◌, Bool, List, [], take, length, unwrap_or, is_some}
 use Rattle.std.specs.Ordering.{nat_cmp}
 use Rattle.std.specs.BTreeMap.{is_at}
 use Rattle.std.specs.Map.{lookup}
@@ -20,6 +20,10 @@ untouched = record { seen = 0; held = [] }
 -- what a stream left unfinished
 abbrev pub unfinished : Framing → ℕ → Unfinished
 unfinished framing stream = unwrap_or (lookup (is_at (nat_cmp stream)) framing.streams) untouched
+
+-- whether a stream has a place in the table
+abbrev pub has_place : Framing → ℕ → Bool
+has_place framing stream = is_some (lookup (is_at (nat_cmp stream)) framing.streams)
 
 -- the lines that bytes add to what a stream left unfinished
 abbrev pub lines_behind : ℕ → Bool → Unfinished → List ℕ → List Frame

@@ -20,10 +20,11 @@ pub struct Advance {
     pub left: Unfinished,
 }
 
-// Adds bytes to a line, of which at most `room` are kept.
-fn extend(held: &mut Bytes, bytes: &[u8], room: usize) -> Result<(), WantOfMemory>
+/// Adds bytes to a line, of which at most `room` are kept. For want of memory the line is as before.
+pub fn extend(held: &mut Bytes, bytes: &[u8], room: usize) -> Result<(), WantOfMemory>
     requires { length held.old ≤ room }
-    ensures { OnOk result (held.new ≡ take room (held.old ++ bytes.now)) }
+    ensures ok { OnOk result (held.new ≡ take room (held.old ++ bytes.now)) }
+    ensures err { OnErr result (held.new ≡ held.old) }
 {
     let free = room - held.len();
     if bytes.len() <= free {
@@ -33,8 +34,8 @@ fn extend(held: &mut Bytes, bytes: &[u8], room: usize) -> Result<(), WantOfMemor
     }
 }
 
-// The bytes behind an index.
-fn behind(bytes: &[u8], i: usize) -> &[u8]
+/// The bytes behind an index.
+pub fn behind(bytes: &[u8], i: usize) -> &[u8]
     requires { i < length bytes.now }
     ensures { result.now ≡ drop (i + 1) bytes.now }
 {

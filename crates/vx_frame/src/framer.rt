@@ -1,12 +1,12 @@
-ghost use Rattle.std.specs.Prelude.{◌≡◌, ◌≢◌, ℕ, ◌+◌, ◌≤◌, List, [], ◌++◌, map, length, take, true, false, IfOk, OnOk, OnErr};
+ghost use Rattle.std.specs.Prelude.{◌≡◌, ◌≢◌, ℕ, ◌+◌, ◌≤◌, List, [], ◌++◌, map, length, take, true, false, IfOk, OnOk, OnErr, IsTrue};
 
-use crate::advance::Advance;
 use crate::line::{Line, LineList};
+use crate::piece::take_piece;
 use crate::unfinished::Unfinished;
 use std::alloc::Global;
 use std::collections::BTreeMap;
 use std::marker::Model;
-use vx_value::{Bytes, WantOfMemory};
+use vx_value::WantOfMemory;
 
 /// Cuts the bytes of any number of streams into lines, however the bytes come.
 ///
@@ -31,7 +31,7 @@ impl Model for Framer {
 
 impl Framer {
     ghost use Rattle.vx_frame.specs.Frames.{frames, discarded, capped};
-    ghost use Rattle.vx_frame.specs.Framings.{Framing, IsSameFraming, HasTaken, HeldFits, unfinished, untouched, lines_behind, overlong_behind, left_behind, line_of};
+    ghost use Rattle.vx_frame.specs.Framings.{Framing, IsSameFraming, HasTaken, HeldFits, has_place, unfinished, untouched, lines_behind, overlong_behind, left_behind, line_of};
 
     /// A framer of lines of at most `limit` bytes, for streams that are all at their beginning.
     pub fn new(alloc: Global, limit: u32) -> Self
@@ -54,17 +54,36 @@ impl Framer {
         self.overlong
     }
 
-    // What a stream left unfinished.
-    fn left(&self, stream: u64) -> Result<Unfinished, WantOfMemory>
-        ensures left { IfOk result (λ left. left ≡ unfinished self.now stream) }
-        ensures fits { HeldFits self.now }
+    // Takes out what a stream left unfinished. The stream has a place from then on, and is at its beginning.
+    fn take_out(&mut self, stream: u64) -> Result<Unfinished, WantOfMemory>
+        ensures taken { IfOk result (λ left. left ≡ unfinished self.old stream) }
+        ensures fits { IfOk result (λ left. length left.held ≤ self.old.limit + 1) }
+        ensures place { OnOk result (IsTrue (has_place self.new stream)) }
+        ensures limit { self.new.limit ≡ self.old.limit }
+        ensures overlong { self.new.overlong ≡ self.old.overlong }
+        ensures others { (other : ℕ) → other ≢ stream → unfinished self.new other ≡ unfinished self.old other }
+        ensures err { OnErr result (IsSameFraming self.old self.new) }
     {
-        match self.streams.get(&stream) {
-            Some(left) => left.copy(self.alloc),
-            None => Ok(Unfinished {
-                seen: 0,
-                held: Bytes::new(self.alloc),
-            }),
+        let beginning = Unfinished::nothing(self.alloc, 0);
+        match self.streams.insert(stream, beginning) {
+            Ok(Some(left)) => Ok(left),
+            Ok(None) => Ok(Unfinished::nothing(self.alloc, 0)),
+            Err(_) => Err(WantOfMemory),
+        }
+    }
+
+    // Puts what a stream leaves unfinished at its place, which takes no memory.
+    fn put_back(&mut self, stream: u64, left: Unfinished)
+        requires place { IsTrue (has_place self.old stream) }
+        requires fits { length left.held ≤ self.old.limit + 1 }
+        ensures back { unfinished self.new stream ≡ left }
+        ensures limit { self.new.limit ≡ self.old.limit }
+        ensures overlong { self.new.overlong ≡ self.old.overlong }
+        ensures others { (other : ℕ) → other ≢ stream → unfinished self.new other ≡ unfinished self.old other }
+    {
+        match self.streams.insert(stream, left) {
+            Ok(_) => {}
+            Err(_) => unreachable!(),
         }
     }
 
@@ -97,27 +116,23 @@ impl Framer {
             discarded (taken ++ bytes.now) self.old.limit false ≡ discarded taken self.old.limit false
             + overlong_behind self.old.limit false (unfinished self.old stream) bytes.now) }
     {
-        let left = self.left(stream)?;
-        let advance = Advance::of(self.alloc, self.limit, self.overlong, stream, left, bytes)?;
-        let Advance {
-            lines,
-            overlong,
-            left,
-        } = advance;
-        let len = out.len();
-        match out.append(lines) {
-            Ok(()) => {}
-            Err(_) => return Err(WantOfMemory),
-        }
-        match self.streams.insert(stream, left) {
-            Ok(_) => {
+        let mut left = self.take_out(stream)?;
+        let taken = take_piece(
+            self.alloc,
+            self.limit,
+            self.overlong,
+            stream,
+            &mut left,
+            bytes,
+            out,
+        );
+        self.put_back(stream, left);
+        match taken {
+            Ok(overlong) => {
                 self.overlong = overlong;
                 Ok(())
             }
-            Err(_) => {
-                out.truncate(len);
-                Err(WantOfMemory)
-            }
+            Err(WantOfMemory) => Err(WantOfMemory),
         }
     }
 
@@ -143,7 +158,10 @@ impl Framer {
             discarded taken self.old.limit true ≡ discarded taken self.old.limit false
             + overlong_behind self.old.limit true (unfinished self.old stream) []) }
     {
-        let Unfinished { seen, held } = self.left(stream)?;
+        if !self.streams.contains_key(&stream) {
+            return Ok(());
+        }
+        let Unfinished { seen, held } = self.take_out(stream)?;
         if held.len() > self.limit as usize {
             self.overlong = self.overlong.saturating_add(1);
         } else if !held.is_empty() {
@@ -154,7 +172,11 @@ impl Framer {
             };
             match out.push(line) {
                 Ok(()) => {}
-                Err(_) => return Err(WantOfMemory),
+                Err(line) => {
+                    let held = line.bytes;
+                    self.put_back(stream, Unfinished { seen, held });
+                    return Err(WantOfMemory);
+                }
             }
         }
         let _ = self.streams.remove(&stream);

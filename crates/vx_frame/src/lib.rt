@@ -4,6 +4,7 @@
 mod advance;
 mod framer;
 mod line;
+mod piece;
 mod unfinished;
 
 pub use framer::Framer;

@@ -1,7 +1,7 @@
-ghost use Rattle.std.specs.Prelude.{◌≡◌, IfOk};
+ghost use Rattle.std.specs.Prelude.{◌≡◌, []};
 
 use std::alloc::Global;
-use vx_value::{Bytes, WantOfMemory};
+use vx_value::Bytes;
 
 /// What a stream left unfinished.
 #[derive(Drop)]
@@ -13,14 +13,14 @@ pub struct Unfinished {
 }
 
 impl Unfinished {
-    /// The same once more.
-    pub fn copy(&self, alloc: Global) -> Result<Self, WantOfMemory>
-        ensures { IfOk result (λ copy. copy ≡ self.now) }
+    /// Nothing, where a line begins. It takes no memory.
+    pub fn nothing(alloc: Global, seen: u64) -> Self
+        ensures seen { result.seen ≡ seen }
+        ensures held { result.held ≡ [] }
     {
-        let held = Bytes::copy_of(alloc, self.held.as_slice())?;
-        Ok(Unfinished {
-            seen: self.seen,
-            held,
-        })
+        Unfinished {
+            seen,
+            held: Bytes::new(alloc),
+        }
     }
 }

@@ -1,7 +1,6 @@
-use Rattle.std.proofs.Common.{◌≡◌, ℕ, ◌<◌, ◌+◌, length, get_or, sym, ◌∙◌, arith}
+use Rattle.std.proofs.Common.{◌≡◌, get_or, sym, ◌∙◌, arith}
 use Rattle.std.proofs.lemmas.Bool.Decides.{nat_tests}
-use Rattle.vx_frame.specs.Frames.{capped}
-use Rattle.vx_frame.proofs.Cuts.{NoFeed, step_at, end_at}
+use Rattle.vx_frame.proofs.Cuts.{step_at, end_at}
 use Rattle.vx_frame.proofs.advance.Advance.of.Goals as goal
 
 pub loop-i-preserved : goal.loop-i-preserved
@@ -23,5 +22,5 @@ returns-clause-overlong c =
 
 pub returns-clause-left : goal.returns-clause-left
 returns-clause-left c =
-    (λ j. record { seen = c.saturating_add-advance.ensures j; held = c.in_ok-extend.ensures j }) ∙ sym ((end_at c.args.limit c.args.stream c.args.overlong c.args.left c.args.bytes.now c.loop-i.advance.lines c.loop-i.advance.overlong c.loop-i.advance.left c.loop-i.rest.now
+    (λ j. record { seen = c.saturating_add-advance.ensures j; held = c.in_ok-extend.ensures.ok j }) ∙ sym ((end_at c.args.limit c.args.stream c.args.overlong c.args.left c.args.bytes.now c.loop-i.advance.lines c.loop-i.advance.overlong c.loop-i.advance.left c.loop-i.rest.now
     (λ k l e. c.in_default.ensures k (omega arith) l (grind (arith, nat_tests, e))) c.loop-i.invariant).2)
