@@ -59,3 +59,4 @@ mod Closing
 mod Acknowledging
 mod Readiness
 mod Reasons
+mod Handing

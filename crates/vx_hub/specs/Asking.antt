@@ -7,10 +7,11 @@ use Rattle.vx_record.specs.Turns.{at_lease}
 use Rattle.vx_record.specs.Confirms.{born_positions, last_confirm, same_positions, is_confirm_due}
 use Rattle.vx_hub.specs.declared.facts.Facts.{Facts}
 
+-- the ends of an instance's batches when it was last leased
 abbrev pub asked : Record → ℕ → List Position
 asked h i = born_positions (at_lease h i) i
 
--- it stands in the record as confirmed, made or failed
+-- these ends are what the record's last Confirm of it names, made or failed
 abbrev pub HasTold : Record → ℕ → Type 0
 HasTold h i = last_confirm h i ≡ asked h i
 

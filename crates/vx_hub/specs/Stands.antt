@@ -157,7 +157,8 @@ HasRooms plan rows = (i : ℕ) → IfSome (row_at rows i) (λ row. row.buffer.ro
 abbrev pub HasFew : Plan → Type 0
 HasFew plan = length plan.components < 2 ^ 32
 
--- what only the beginning, the end, a lease, an abandonment, a call that answers `Fatal`, and a batch's birth and notice change
+-- the fields of a hub that most calls leave as they are: only the beginning, the end, a lease, an abandonment, a call that
+-- answers `Fatal`, and a batch's birth and notice change one
 abbrev pub spare_of : {P : Type 0} → Hub P → Filled (Numbered P) × Option AbandonCause × Plan × Bool × ℕ × List Progress
 spare_of hub = (hub.ports, hub.abandoned, hub.plan, hub.fatal, hub.latest, hub.progress.items)
 

@@ -114,7 +114,6 @@ impl<P: Port> Hub<P> {
         })
     }
 
-    /// Opens a batch of some events, and notes its birth and that its end is to be confirmed, if it is another one.
     /// Opens a batch of some events, notes its birth and that its end is to be confirmed, and counts it.
     fn open_batch(
         &mut self,

@@ -1,4 +1,5 @@
 ghost use Rattle.std.specs.Prelude.{◌≡◌, ◌<◌, ◌↔◌, ◌⊎◌, [], length, IfSome, IsSomeAnd, IsTrue, IsSome, All, Some, None, ℕ, IfNone, false, true};
+ghost use Rattle.vx_record.specs.Noted.{Noted};
 ghost use Rattle.vx_hub.specs.Order.{IsReason};
 ghost use Rattle.vx_hub.specs.Spending.{ComeFrom};
 ghost use Rattle.vx_hub.specs.Stands.{Stands, IsSound, IsAtHome, facts_at};
@@ -21,6 +22,8 @@ impl<P: Port> Hub<P> {
         ensures stands { Stands P.told self.new [] self.new.log.history }
         ensures some { IfSome result (λ i. IsRetirable self.old i × IsSomeAnd (facts_at self.new.facts.items i) (λ f. f.retired ≡ true)) }
         ensures none { IfNone result ((i : ℕ) → i < length self.old.rows.items → IsRetirable self.old i → ⊥) }
+        ensures noted { IfSome result (λ i. Noted self.old.log (Entry.Retired i) self.new.log) }
+        ensures unchanged { IfNone result (self.new ≡ self.old) }
         ensures size { length self.new.rows.items ≡ length self.old.rows.items }
         ensures plan { self.new.plan ≡ self.old.plan }
     {
@@ -105,6 +108,7 @@ impl<P: Port> Hub<P> {
         ensures rows { self.new.rows ≡ self.old.rows }
         ensures plan { self.new.plan ≡ self.old.plan }
         ensures retired { IsSomeAnd (facts_at self.new.facts.items instance) (λ f. f.retired ≡ true) }
+        ensures noted { Noted self.old.log (Entry.Retired instance) self.new.log }
     {
         self.log.note(Ok(Entry::Retired { instance }));
         self.facts[instance as usize].retired = true;
@@ -197,7 +201,7 @@ impl<P: Port> Hub<P> {
     }
 
     /// Whether an instance is at home.
-    fn is_home(&self, i: usize) -> bool
+    pub(crate) fn is_home(&self, i: usize) -> bool
         requires { i < length self.now.rows.items }
         ensures { IsTrue result → IsSome (port_at self.now.rows.items i) }
     {

@@ -217,7 +217,7 @@ impl<P: Port> Hub<P> {
     }
 
     /// The answer of a landing. An entry that couldn't be noted is want of memory.
-    fn settled(&mut self, landed: Result<(), Fatal>) -> Result<(), Fatal>
+    pub(crate) fn settled(&mut self, landed: Result<(), Fatal>) -> Result<(), Fatal>
         ensures rest { self.new ≡ record self.old { fatal = self.new.fatal } }
         ensures kept { self.new.fatal ≡ false → self.old.fatal ≡ false }
         ensures fatal { OnErr result (self.new.fatal ≡ true) }

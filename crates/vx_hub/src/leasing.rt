@@ -8,7 +8,7 @@ ghost use Rattle.vx_hub.specs.Leases.{IsLeased, IsOpenAt};
 ghost use Rattle.vx_hub.specs.Away.{IsAway, HasTaken, IsUntried, WasNoticed};
 ghost use Rattle.vx_hub.specs.Readings.{IsFlowing, IsReadyToRead, MayRead};
 ghost use Rattle.vx_hub.specs.Readiness.{IsToConfirm, IsReadyFor, HasWork};
-ghost use Rattle.vx_hub.specs.Rows.{CanHold, NoneWaits};
+ghost use Rattle.vx_hub.specs.Rows.{CanHold, NoneWaits, port_at, SamePorts};
 ghost use Rattle.vx_hub.specs.Owed.{HasBorn};
 ghost use Rattle.vx_hub.specs.Confirming.{HadNothing, IsConfirmed};
 ghost use Rattle.vx_hub.specs.Notices.{CountsNone, count_unnoticed};
@@ -48,13 +48,15 @@ struct Ready {
 
 impl<P: Port> Hub<P> {
     /// Hands out the task of an instance that has work, a sink before a source. It takes no memory but for the record.
-    /// `None` where no instance at home has work, and after a call that answered `Fatal` or an abandonment.
+    /// `None` where no instance at home has work, where the record lacks an entry, and after a call that answered `Fatal`
+    /// or an abandonment; nothing was done then.
     ///
     /// The lease is of the moment `now`; where a call before told a later one, it is of that still.
     pub fn lease(&mut self, worker: u32, now: u64) -> Option<Work<P>>
         requires { Stands P.told self.old [] self.old.log.history }
         ensures leased { IfSome result (IsLeased P.told self.new) }
         ensures none { IfNone result (Stands P.told self.new [] self.new.log.history) }
+        ensures unchanged { IfNone result (self.new ≡ record self.old { latest = self.new.latest }) }
         ensures size { length self.new.rows.items ≡ length self.old.rows.items }
         ensures plan { self.new.plan ≡ self.old.plan }
         ensures fatal { self.new.fatal ≡ self.old.fatal }
@@ -66,11 +68,11 @@ impl<P: Port> Hub<P> {
         }
         let Ready { instance, job } = self.ready(now)?;
         match self.note_lease(instance, worker, now) {
-            Some(positions) => self.hand_out(instance, job, Some(positions)),
+            Some(positions) => Some(self.hand_out(instance, job, Some(positions))),
             None => {
                 self.collect(instance, now);
                 let job = self.decided(instance as usize, job, now);
-                self.hand_out(instance, job, None)
+                Some(self.hand_out(instance, job, None))
             }
         }
     }
@@ -81,6 +83,7 @@ impl<P: Port> Hub<P> {
         ensures stands { Stands P.told self.new [] self.new.log.history }
         ensures latest { self.new.latest ≡ max now self.old.latest }
         ensures moment { result ≡ self.new.latest }
+        ensures rest { self.new ≡ record self.old { latest = self.new.latest } }
         ensures rows { self.new.rows ≡ self.old.rows }
         ensures plan { self.new.plan ≡ self.old.plan }
         ensures fatal { self.new.fatal ≡ self.old.fatal }
@@ -134,12 +137,7 @@ impl<P: Port> Hub<P> {
     }
 
     /// Hands out the task of an instance at home.
-    fn hand_out(
-        &mut self,
-        instance: u32,
-        job: Job,
-        positions: Option<PositionList>,
-    ) -> Option<Work<P>>
+    fn hand_out(&mut self, instance: u32, job: Job, positions: Option<PositionList>) -> Work<P>
         requires stands { Stands P.told self.old [] self.old.log.history }
         requires open { IsOpenAt self.old instance }
         requires away { IsAway self.old instance }
@@ -158,20 +156,22 @@ impl<P: Port> Hub<P> {
         requires moment { IsLeaseMoment self.old instance self.old.latest }
         requires done { job ≡ Job.Close → WasDone self.old instance }
         requires closing { job ≡ Job.Attempt → MustWrite self.old instance }
-        ensures leased { IfSome result (IsLeased P.told self.new) }
-        ensures none { IfNone result (Stands P.told self.new [] self.new.log.history) }
+        requires home { IsSome (port_at self.old.rows.items instance) }
+        ensures leased { IsLeased P.told self.new result }
         ensures size { length self.new.rows.items ≡ length self.old.rows.items }
         ensures plan { self.new.plan ≡ self.old.plan }
         ensures fatal { self.new.fatal ≡ self.old.fatal }
         ensures latest { self.new.latest ≡ self.old.latest }
     {
-        let task = take_task(&mut self.rows, instance as usize)?;
-        Some(Work {
-            instance,
-            job,
-            positions,
-            task,
-        })
+        match take_task(&mut self.rows, instance as usize) {
+            Some(task) => Work {
+                instance,
+                job,
+                positions,
+                task,
+            },
+            None => unreachable!(),
+        }
     }
 
     /// The instance that is leased next: the last one that has work.
@@ -188,6 +188,7 @@ impl<P: Port> Hub<P> {
         ensures noticed { IfSome result (λ ready. ready.job ≡ Job.Close → IsNoticed self.now ready.instance) }
         ensures done { IfSome result (λ ready. ready.job ≡ Job.Close → IsFinished self.now ready.instance) }
         ensures ready { IfSome result (λ ready. IsReadyFor self.now ready.instance now ready.job) }
+        ensures home { IfSome result (λ ready. IsSome (port_at self.now.rows.items ready.instance)) }
     {
         for i in (0..self.rows.len()).rev() {
             if let Some(job) = self.job(i, now) {
@@ -215,8 +216,9 @@ impl<P: Port> Hub<P> {
         ensures noticed { IfSome result (λ job. job ≡ Job.Close → IsNoticed self.now i) }
         ensures done { IfSome result (λ job. job ≡ Job.Close → IsFinished self.now i) }
         ensures ready { IfSome result (λ job. IsReadyFor self.now i now job) }
+        ensures home { IfSome result (λ job. IsSome (port_at self.now.rows.items i)) }
     {
-        if i >= self.facts.len() || !self.can_lease(i) || self.rows[i].task.is_none() {
+        if i >= self.facts.len() || !self.can_lease(i) || !self.is_home(i) {
             return None;
         }
         match self.facts[i].class {
@@ -349,6 +351,7 @@ impl<P: Port> Hub<P> {
         ensures open { IsOpenAt self.new instance }
         ensures facts { self.new.facts ≡ self.old.facts }
         ensures outputs { (i : ℕ) → numbers_at (Outputs i) self.new.rows.items ≡ numbers_at (Outputs i) self.old.rows.items }
+        ensures ports { SamePorts self.old.rows.items self.new.rows.items }
         ensures shut { MayShut self.old instance → MayShut self.new instance }
         ensures size { length self.new.rows.items ≡ length self.old.rows.items }
         ensures plan { self.new.plan ≡ self.old.plan }
@@ -384,6 +387,7 @@ impl<P: Port> Hub<P> {
         ensures stands { Stands P.told self.new [] self.new.log.history }
         ensures facts { self.new.facts ≡ self.old.facts }
         ensures outputs { (i : ℕ) → numbers_at (Outputs i) self.new.rows.items ≡ numbers_at (Outputs i) self.old.rows.items }
+        ensures ports { SamePorts self.old.rows.items self.new.rows.items }
         ensures shut { MayShut self.old instance → MayShut self.new instance }
         ensures size { length self.new.rows.items ≡ length self.old.rows.items }
         ensures plan { self.new.plan ≡ self.old.plan }

@@ -1,4 +1,4 @@
-ghost use Rattle.std.specs.Prelude.{◌≡◌, ◌<◌, [], length, None, IfSome, IsTrue, IfOk, IfErr, IfNone, OnErr, true, false};
+ghost use Rattle.std.specs.Prelude.{◌≡◌, ◌<◌, [], length, None, IfSome, IsTrue, IfOk, IfErr, IfNone, OnOk, OnErr, true, false};
 ghost use Rattle.vx_record.specs.Noted.{Noted};
 ghost use Rattle.std.specs.Bool.{IsFalse};
 ghost use Rattle.vx_record.specs.declared.entry.Entry.{Entry};
@@ -35,8 +35,8 @@ struct Pushable {
 }
 
 impl<P: Port> Hub<P> {
-    /// The least instance at home that can split an output, or push a waiting child. `None` where there is none, and
-    /// after a call that answered `Fatal` or an abandonment.
+    /// The least instance at home that can split an output, or push a waiting child. `None` where there is none, where
+    /// the record lacks an entry, and after a call that answered `Fatal` or an abandonment.
     pub fn pending(&self) -> Option<u32>
         ensures { IfSome result (λ i. i < length self.now.rows.items) }
     {
@@ -53,6 +53,9 @@ impl<P: Port> Hub<P> {
 
     /// Splits and pushes the parcels of an instance at home, as `pending` named it. Gives how many children entered a
     /// buffer: none where the instance is out, and none after an abandonment.
+    ///
+    /// `Fatal` comes where a split found no numbers or no memory, and unless the run was given up where the record lacks
+    /// an entry.
     pub fn push_pending(&mut self, instance: u32) -> Result<u32, Fatal>
         requires stands { Stands P.told self.old [] self.old.log.history }
         requires within { instance < length self.old.rows.items }
@@ -62,8 +65,29 @@ impl<P: Port> Hub<P> {
         ensures fatal { OnErr result (self.new.fatal ≡ true) }
         ensures reason { IfErr result (HasReason self.new) }
         ensures wants { IfErr result (WantsSplit self.new) }
+        ensures whole { OnOk result (self.old.abandoned ≡ None → IsTrue self.new.log.whole) }
     {
-        if !self.goes_on() || self.is_leased(instance as usize) {
+        if !self.goes_on() {
+            return Ok(0);
+        }
+        let pushed = self.push_steps(instance)?;
+        self.settled(Ok(()))?;
+        Ok(pushed)
+    }
+
+    /// Splits and pushes the parcels of an instance, unless it is out. Gives how many children entered a buffer.
+    fn push_steps(&mut self, instance: u32) -> Result<u32, Fatal>
+        requires stands { Stands P.told self.old [] self.old.log.history }
+        requires within { instance < length self.old.rows.items }
+        requires going { self.old.abandoned ≡ None }
+        ensures stands { Stands P.told self.new [] self.new.log.history }
+        ensures size { length self.new.rows.items ≡ length self.old.rows.items }
+        ensures plan { self.new.plan ≡ self.old.plan }
+        ensures fatal { OnErr result (self.new.fatal ≡ true) }
+        ensures reason { IfErr result (HasReason self.new) }
+        ensures wants { IfErr result (WantsSplit self.new) }
+    {
+        if self.is_leased(instance as usize) {
             return Ok(0);
         }
         let mut pushed: u32 = 0;

@@ -30,6 +30,7 @@ impl<P: Port> Hub<P> {
         requires stands { Stands P.told self [] self.log.history }
         requires over { All (λ f. f.retired ≡ true) self.facts.items }
         ensures history { result.history ≡ self.log.history }
+        ensures ports { result.ports ≡ ports_in 0 self.rows.items }
         ensures numbers { AreNumbered 0 result.ports }
         ensures count { length result.ports ≡ length self.rows.items }
         ensures closed { AreClosed P.told result.ports }

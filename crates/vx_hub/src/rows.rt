@@ -160,6 +160,7 @@ pub(crate) fn take_task<P>(rows: &mut Vec<Row<P>>, i: usize) -> Option<Task<P>>
     requires { i < length rows.old.items }
     ensures loses { Loses rows.old.items (task_copies result) rows.new.items }
     ensures port { IfSome result (λ task. port_at rows.old.items i ≡ Some task.port) }
+    ensures home { IsSome (port_at rows.old.items i) → IsSome result }
     ensures out { IsOutAt rows.new.items i }
     ensures ports { SameOtherPorts i rows.old.items rows.new.items }
     ensures bare { KeepsOthersBare i rows.old.items rows.new.items }

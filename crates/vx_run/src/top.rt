@@ -18,8 +18,8 @@ use vx_value::{TextList, VariableList};
 
 /// Runs the pipeline of a configuration, or judges one, as the words ask for, and prints why that didn't end well.
 ///
-/// `words` are the program's words without its own name. A run ends once its input has ended and all that was taken
-/// is delivered, dropped or given up; it may wait for as long as a port has nothing.
+/// `words` are the program's words without its own name. A run that ends has read its input to its end, but for sources
+/// that failed, and for runs that took too many bytes or were given up; it may wait for as long as a port has nothing.
 pub fn vector<R: Wait, W: World, C: Clock, P: Printer, L: Printer>(
     rt: &R,
     alloc: Global,

@@ -1,4 +1,6 @@
-use Rattle.std.proofs.Common.{arith, ap, sym, ◌∙◌, ◌≡◌, refl, false, subst}
+use Rattle.std.proofs.Common.{arith, ap, sym, ◌∙◌, ◌≡◌, refl, false, subst, Option}
+use Rattle.std.specs.Prelude.{IsSome}
+use Rattle.vx_hub.proofs.Handing.{task_there}
 use Rattle.vx_ledger.specs.Copies.{copies_of}
 use Rattle.vx_hub.specs.Rows.{task_copies, port_of, task_port, task_parcels}
 use Rattle.vx_hub.proofs.Parcels.{row_counts, some_port}
@@ -26,6 +28,10 @@ returns-clause-loses g c =
 pub returns-clause-port : goal.returns-clause-port
 returns-clause-port g c =
     some_port c.take.result _ (ap port_of (row_read c.args.rows.now.items c.args.i c.index_mut.result.now c.requires c.index_mut.ensures.value) ∙ ap task_port (sym c.take.ensures.value))
+
+pub returns-clause-home : goal.returns-clause-home
+returns-clause-home g c there =
+    task_there c.take.result (subst (λ (p : Option _). IsSome p) (ap port_of (row_read c.args.rows.now.items c.args.i c.index_mut.result.now c.requires c.index_mut.ensures.value) ∙ ap task_port (sym c.take.ensures.value)) there)
 
 pub returns-clause-out : goal.returns-clause-out
 returns-clause-out g c = row_gets _ c.args.rows.now.items c.args.i _ c.requires c.take.ensures.after

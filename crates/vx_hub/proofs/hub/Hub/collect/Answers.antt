@@ -18,6 +18,7 @@ loop-taken-preserved g c =
       stands = next.stands;
       facts = next.facts ∙ had.facts;
       outputs = λ i. next.outputs i ∙ had.outputs i;
+      ports = λ i. next.ports i ∙ had.ports i;
       shut = λ may. next.shut (had.shut may);
       fatal = next.fatal ∙ had.fatal;
       untried = λ i before. next.untried i (had.untried i before);

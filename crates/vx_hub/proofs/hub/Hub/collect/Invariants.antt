@@ -1,6 +1,7 @@
 use Rattle.std.proofs.Common.{◌≡◌, ℕ, length, []}
 use Rattle.vx_record.specs.Places.Place.{Outputs}
 use Rattle.vx_hub.specs.Places.{numbers_at, HoldsSome}
+use Rattle.vx_hub.specs.Rows.{SamePorts}
 use Rattle.vx_hub.specs.Stands.{Stands, MayShut}
 use Rattle.vx_hub.specs.Away.{IsAway, HasTaken, IsUntried, WasNoticed}
 use Rattle.vx_hub.specs.Readings.{MayRead}
@@ -15,6 +16,7 @@ invariant-loop-taken g l = record {
   stands : Stands g.P.Port.told l.self [] l.self.log.history;
   facts : l.self.facts ≡ l.fn.self.facts;
   outputs : (i : ℕ) → numbers_at (Outputs i) l.self.rows.items ≡ numbers_at (Outputs i) l.fn.self.rows.items;
+  ports : SamePorts l.fn.self.rows.items l.self.rows.items;
   shut : MayShut l.fn.self l.fn.instance → MayShut l.self l.fn.instance;
   fatal : l.self.fatal ≡ l.fn.self.fatal;
   untried : (i : ℕ) → IsUntried l.fn.self i → IsUntried l.self i;

@@ -1,6 +1,6 @@
 use Rattle.std.proofs.Common.{◌≡◌, length, [], None}
 use Rattle.vx_hub.specs.Stands.{Stands, IsAtHome}
-use Rattle.vx_hub.proofs.hub.Hub.push_pending.Given as goal
+use Rattle.vx_hub.proofs.hub.Hub.push_steps.Given as goal
 
 abbrev pub invariant-loop : goal.invariant-loop
 invariant-loop g l = record {
