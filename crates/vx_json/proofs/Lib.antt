@@ -23,3 +23,6 @@ pub mod Shallow
 pub mod WrittenAgain
 pub mod Fitting
 pub mod Runs
+pub mod Objects
+pub mod Lines
+pub mod Probed

@@ -64,7 +64,7 @@ read-refused bytes i b m st l e h n =
       shallow = h.shallow;
     }
 
-leads-on : (bytes : Word) (i b : ℕ) (m n : Mode) (st su : List Frame) → i < length bytes → get_or bytes i 0 ≡ b → HasRead bytes i m st → state n su ≡ step m st b → reached AtValue [] (take (i + 1) bytes) ≡ state n su
+pub leads-on : (bytes : Word) (i b : ℕ) (m n : Mode) (st su : List Frame) → i < length bytes → get_or bytes i 0 ≡ b → HasRead bytes i m st → state n su ≡ step m st b → reached AtValue [] (take (i + 1) bytes) ≡ state n su
 leads-on bytes i b m n st su l e h s = one-more bytes i b m st l e h.leads ∙ ap (λ o. carry o (λ k sv. state k sv)) (sym s)
 
 -- a byte that goes on

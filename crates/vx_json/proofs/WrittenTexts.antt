@@ -196,7 +196,7 @@ pub record MembersOf (ns : NamedData) : Type 0 where
   pub text : members_spelling members ≡ fields_behind ns
   pub values : (fs : List NamedDatum) → names_rise (fs ++ named_list ns) ≡ true → with_members fs members ≡ fs ++ named_list ns
 
-named-back : (ns : NamedData) → named_of (named_list ns) ≡ ns
+pub named-back : (ns : NamedData) → named_of (named_list ns) ≡ ns
 named-back no_named = refl
 named-back (named n d ns) = ap (named n d) (named-back ns)
 

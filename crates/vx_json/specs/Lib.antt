@@ -12,7 +12,11 @@ pub mod ModeViews
 pub mod Faults
 pub mod Puts
 pub mod Writable
+pub mod Objects
 pub mod LineEvents
+pub mod LineLaws
 pub mod DemoLines
 pub mod Runs
 pub mod Openings
+pub mod Spots
+pub mod Probing

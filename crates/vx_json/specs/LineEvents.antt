@@ -1,10 +1,12 @@
 -- The event of a line.
-use Rattle.std.specs.Prelude.{◌≡◌, Option, Some, None, is_some, List, [], ◌∷◌, codes, if◌then◌else◌}
+use Rattle.std.specs.Prelude.{◌≡◌, Bool, false, not, ◌&&◌, Option, Some, None, is_some, option_map, List, [], ◌∷◌, codes, if◌then◌else◌}
 use Rattle.std.specs.Str.Lossy.{utf8_lossy}
-use Rattle.vx_value.specs.Texts.{Word}
+use Rattle.vx_value.specs.Texts.{Word, is_empty}
 use Rattle.vx_value.specs.Datum.{Words, NamedDatum}
 use Rattle.vx_value.specs.Events.{value_under, with_field}
+use Rattle.vx_value.specs.declared.event.Event.{Event}
 use Rattle.vx_json.specs.Faults.{IsEvent}
+use Rattle.vx_json.specs.Objects.{object_of}
 use Rattle.vx_json.specs.declared.decoding.Decoding.{Decoding}
 use Rattle.vx_json.specs.declared.decoding.Decoding.TheVariants as decoding
 
@@ -29,3 +31,22 @@ from_source type (Some path) fields = with_text (with_text fields (codes "source
 -- the fields of a line's event, by the codec, the source's type and the path of its file
 abbrev pub IsLineEvent : Decoding → Word → Option Word → Word → List NamedDatum → Type 0
 IsLineEvent d type path line fields = (own : List NamedDatum) × IsContent d line own × (fields ≡ from_source type path own)
+
+-- the fields that a line gives by itself, as a function: under `Json` none where it is empty or no object
+abbrev pub content_of : Decoding → Word → Option (List NamedDatum)
+content_of decoding.Bytes line = Some (message_of line)
+content_of decoding.Json line = object_of line
+
+-- the fields of a line's event, as a function, or none
+abbrev pub line_fields : Decoding → Word → Option Word → Word → Option (List NamedDatum)
+line_fields d type path line = option_map (from_source type path) (content_of d line)
+
+-- whether a line has bytes and gives nothing
+abbrev pub is_undecodable : Decoding → Word → Bool
+is_undecodable decoding.Bytes line = false
+is_undecodable decoding.Json line = not (is_empty line) && not (is_some (object_of line))
+
+-- the fields of an event, if there is one
+abbrev pub event_fields : Option Event → Option (List NamedDatum)
+event_fields None = None
+event_fields (Some event) = Some event.fields

@@ -1,10 +1,11 @@
-ghost use Rattle.std.specs.Prelude.{◌≡◌, ◌≤◌, List, IfOk, IfErr};
+ghost use Rattle.std.specs.Prelude.{◌≡◌, ◌≢◌, ◌≤◌, List, IfOk, IfErr};
 ghost use Rattle.vx_value.specs.Values.{datum_of};
 ghost use Rattle.vx_value.specs.Datum.{NamedDatum, Fields, named_of};
 ghost use Rattle.vx_value.specs.Events.{fields_depth};
 ghost use Rattle.vx_json.specs.Machine.{height};
 ghost use Rattle.vx_json.specs.ModeViews.{mode_view, stack_view};
 ghost use Rattle.vx_json.specs.Faults.{IsEvent, IsFault, IsValue, IsTextFault, IsNoObject, GivesFields};
+ghost use Rattle.vx_json.specs.Objects.{object_of};
 ghost use Rattle.vx_json.specs.Writable.{IsWritable};
 ghost use Rattle.vx_json.specs.Written.{written};
 
@@ -99,6 +100,9 @@ pub fn read(alloc: Global, bytes: &[u8]) -> Result<Event, JsonFault>
     // What was written is read again, but for want of memory.
     ensures written { (fields : List NamedDatum) → IsWritable (Fields (named_of fields)) → fields_depth fields ≤ 32 →
         bytes.now ≡ written (Fields (named_of fields)) → GivesFields fields result }
+    // The answer as a function of the bytes.
+    ensures object { IfOk result (λ event. object_of bytes.now ≡ Some event.fields) }
+    ensures no_object { IfErr result (λ fault. fault ≢ JsonFault.WantOfMemory → object_of bytes.now ≡ None) }
 {
     event(alloc, bytes)
 }

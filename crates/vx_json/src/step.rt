@@ -21,7 +21,7 @@ use std::alloc::Global;
 use vx_value::{FieldList, Text, Value, ValueList, WantOfMemory};
 
 /// Whether a byte is a blank.
-fn is_blank(b: u8) -> bool
+pub fn is_blank(b: u8) -> bool
     ensures { result ≡ is_blank b }
 {
     b == b' ' || (b == b'\t' || (b == b'\n' || b == b'\r'))
@@ -158,7 +158,7 @@ fn add(b: u8, step: TextMove, text: &mut Vec<u8>) -> Result<(), WantOfMemory>
 }
 
 /// The place to which a byte leads inside a text. `None` where it ends the text or is wrong.
-fn place_of(step: TextMove) -> Option<TextPlace>
+pub fn place_of(step: TextMove) -> Option<TextPlace>
     ensures { (b : ℕ) → result ≡ move_place (move_view step b) }
 {
     match step {
@@ -169,7 +169,7 @@ fn place_of(step: TextMove) -> Option<TextPlace>
 }
 
 /// Whether a byte ends a text.
-fn ends(step: TextMove) -> bool
+pub fn ends(step: TextMove) -> bool
     ensures { (b : ℕ) → result ≡ move_ends (move_view step b) }
 {
     match step {

@@ -1,0 +1,94 @@
+ghost use Rattle.std.specs.Prelude.{◌≡◌, OnOk, IfOk};
+ghost use Rattle.std.specs.Option.{option_copied};
+ghost use Rattle.vx_json.specs.Objects.{object_of};
+ghost use Rattle.vx_json.specs.LineEvents.{message_of, with_text, from_source, content_of, line_fields, event_fields};
+
+use crate::decoding::Decoding;
+use crate::json_fault::JsonFault;
+use crate::put_field::put_field;
+use crate::reader::read;
+use std::alloc::Global;
+use vx_value::{Event, FieldList, Text, Value, WantOfMemory};
+
+/// The event of a line as text: its message.
+fn message(alloc: Global, line: &[u8]) -> Result<Event, WantOfMemory>
+    ensures { IfOk result (λ event. event.fields ≡ message_of line.now) }
+{
+    let mut fields = FieldList::new(alloc);
+    let name = Text::copy_of(alloc, "message")?;
+    let text = Text::lossy(alloc, line)?;
+    put_field(alloc, &mut fields, name, Value::Words(text))?;
+    Ok(Event { fields })
+}
+
+/// The event of a line that is an object, if it is one.
+fn object(alloc: Global, line: &[u8]) -> Result<Option<Event>, WantOfMemory>
+    ensures { IfOk result (λ event. event_fields event ≡ object_of line.now) }
+{
+    match read(alloc, line) {
+        Ok(event) => Ok(Some(event)),
+        Err(JsonFault::WantOfMemory) => Err(WantOfMemory),
+        Err(_) => Ok(None),
+    }
+}
+
+/// The event that a line gives by itself, if it gives one.
+fn content(alloc: Global, decoding: Decoding, line: &[u8]) -> Result<Option<Event>, WantOfMemory>
+    ensures { IfOk result (λ event. event_fields event ≡ content_of decoding line.now) }
+{
+    match decoding {
+        Decoding::Bytes => Ok(Some(message(alloc, line)?)),
+        Decoding::Json => object(alloc, line),
+    }
+}
+
+/// Puts a text under a name, unless something stands there.
+fn add_text(alloc: Global, event: &mut Event, name: &str, text: &Text) -> Result<(), WantOfMemory>
+    ensures { OnOk result (event.new.fields ≡ with_text event.old.fields name.now text.now) }
+{
+    if event.fields.find(name).is_some() {
+        return Ok(());
+    }
+    let name = Text::copy_of(alloc, name)?;
+    let text = text.copy(alloc)?;
+    put_field(alloc, &mut event.fields, name, Value::Words(text))
+}
+
+/// Puts the type of the source into an event, and the path of its file if it reads one.
+fn add_source(
+    alloc: Global,
+    event: &mut Event,
+    source_type: &Text,
+    file: Option<&Text>,
+) -> Result<(), WantOfMemory>
+    ensures { OnOk result (event.new.fields
+        ≡ from_source source_type.now (option_copied file.entry) event.old.fields) }
+{
+    add_text(alloc, event, "source_type", source_type)?;
+    match file {
+        None => Ok(()),
+        Some(path) => add_text(alloc, event, "file", path),
+    }
+}
+
+/// The event of a line under a codec, if the line gives one.
+///
+/// Under `Bytes` the line is the message. Under `Json` the event is the object that the line is, and a line that is
+/// empty or no object gives none. The event has the type of its source under `source_type`, and where the source reads
+/// a file that file's path under `file`, but for what stands there already.
+pub fn line_event(
+    alloc: Global,
+    decoding: Decoding,
+    line: &[u8],
+    source_type: &Text,
+    file: Option<&Text>,
+) -> Result<Option<Event>, WantOfMemory>
+    ensures { IfOk result (λ event. event_fields event
+        ≡ line_fields decoding source_type.now (option_copied file.entry) line.now) }
+{
+    let Some(mut event) = content(alloc, decoding, line)? else {
+        return Ok(None);
+    };
+    add_source(alloc, &mut event, source_type, file)?;
+    Ok(Some(event))
+}
