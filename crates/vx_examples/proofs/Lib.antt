@@ -14,3 +14,5 @@ mod FailedTakeLegal
 mod FurtherRefusals
 mod ThreeTargetsLegal
 mod FanOutRefusals
+mod JsonLinesLegal
+mod JsonLinesRefusals

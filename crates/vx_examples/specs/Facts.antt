@@ -4,7 +4,7 @@ use Rattle.std.specs.Str.Lossy.{utf8_lossy}
 use Rattle.vx_plan.specs.declared.component.Component.{Component}
 use Rattle.vx_plan.specs.declared.class.Class.TheVariants.{Sink}
 use Rattle.vx_plan.specs.declared.settings.Settings.TheVariants.{Console}
-use Rattle.vx_plan.specs.declared.codec.Codec.TheVariants as codec
+use Rattle.vx_json.specs.declared.codec.Codec.TheVariants as codec
 use Rattle.vx_plan.specs.declared.console_target.ConsoleTarget.TheVariants.{Stdout}
 use Rattle.vx_plan.specs.declared.plan.Plan.{Plan}
 use Rattle.vx_plan.specs.Components.{retry_wait}
@@ -26,6 +26,7 @@ use Rattle.vx_examples.specs.Dropped as dropped
 use Rattle.vx_examples.specs.Lost as lost
 use Rattle.vx_examples.specs.FanOut as fan_out
 use Rattle.vx_examples.specs.FailedTake as failed_take
+use Rattle.vx_examples.specs.JsonLines as json_lines
 
 -- the counts of the first run
 abbrev pub SourceCounts : Type 0
@@ -62,6 +63,12 @@ UnconfirmedCounts = tally lost.run 0 ≡ record nothing_counted { read = 2; line
 abbrev pub RefusedCounts : Type 0
 RefusedCounts =
     tally fan_out.run 0 ≡ record nothing_counted { read = 1; lines = 1; events = 1; batches = 1; rejected = 1; confirmed = 1 }
+
+-- an empty line is a line, and not undecodable
+abbrev pub UndecodableCounts : Type 0
+UndecodableCounts =
+    tally json_lines.run 0
+    ≡ record nothing_counted { read = 11; lines = 3; undecodable = 1; events = 1; batches = 1; delivered = 1; confirmed = 11 }
 
 -- lines and their ends; the last one counts where the stream ended; overlong ones are left out
 abbrev pub Cut : Type 0

@@ -16,3 +16,5 @@ pub mod FailedTake
 pub mod RefusedMore
 pub mod ThreeTargets
 pub mod RefusedFanOuts
+pub mod JsonLines
+pub mod RefusedJsonLines

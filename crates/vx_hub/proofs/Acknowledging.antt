@@ -12,7 +12,7 @@ use Rattle.vx_record.specs.Records.{Record}
 use Rattle.vx_record.specs.declared.entry.Entry.TheVariants.{Install}
 use Rattle.vx_record.specs.Installs.{Wiring, in_force, name_at, name_of, plan_of, wiring}
 use Rattle.vx_record.specs.Sourcing.{must_wait}
-use Rattle.vx_hub.specs.Acknowledging.{AcknowledgesNothing}
+use Rattle.vx_plan.specs.Acknowledging.{AcknowledgesNothing}
 use Rattle.vx_hub.specs.Order.{IsOrderly}
 
 -- A PLAN

@@ -24,7 +24,7 @@ use Rattle.vx_record.specs.declared.entry.Entry.TheVariants.{Lease, Home, Idle, 
 use Rattle.vx_value.specs.declared.event.Event.{Event}
 use Rattle.vx_hub.specs.declared.facts.Facts.{Facts}
 use Rattle.vx_hub.specs.declared.hub.Hub.{Hub}
-use Rattle.vx_hub.specs.Acknowledging.{AcknowledgesNothing}
+use Rattle.vx_plan.specs.Acknowledging.{AcknowledgesNothing}
 use Rattle.vx_hub.specs.Asking.{asked, HasTold, HadNoneDue, IsAskedBy, asked_of, to_ask}
 use Rattle.vx_hub.specs.Confirming.{HasConfirmed, HadNothing}
 use Rattle.vx_hub.specs.Failures.{IsFailureOf}

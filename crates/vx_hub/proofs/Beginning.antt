@@ -14,7 +14,7 @@ use Rattle.vx_record.specs.Wirings.{names_differ, begun}
 use Rattle.vx_record.proofs.FirstWiring.{component_of_first, targets_of_first}
 use Rattle.vx_hub.specs.declared.parts.Named.{Named}
 use Rattle.vx_hub.specs.Stands.{Stands, IsTold, IsKnown, IsRecorded, HasRooms, facts_at, spec_of, HasFew}
-use Rattle.vx_hub.specs.Acknowledging.{AcknowledgesNothing}
+use Rattle.vx_plan.specs.Acknowledging.{AcknowledgesNothing}
 use Rattle.vx_hub.specs.Beginning.{Begins, HasFirst}
 use Rattle.vx_hub.specs.Order.{IsOrderly}
 use Rattle.vx_hub.proofs.Moments.{least}

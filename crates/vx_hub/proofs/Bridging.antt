@@ -1,14 +1,12 @@
 -- The record's lines are those of a framer.
 use Rattle.std.proofs.Common.{◌≡◌, ℕ, ◌+◌, ◌≤◌, Bool, true, false, List, [], ◌∷◌, ◌++◌, ◌&&◌, length, map, arith, Option, Some, None, refl, sym, subst, ◌∙◌, ap}
-use Rattle.std.specs.Prelude.{drop, nat_le, IsSomeAnd, if◌then◌else◌}
+use Rattle.std.specs.Prelude.{drop, nat_le, IsSomeAnd, flat_map, if◌then◌else◌}
 use Rattle.vx_value.specs.Texts.{Word}
 use Rattle.vx_frame.specs.Frames.{Frame, cut, capped, kept, some_byte, lines_of, frames}
 use Rattle.vx_frame.specs.Framings.{line_of}
-use Rattle.vx_frame.specs.declared.line.Line.{Line as CutLine}
 use Rattle.vx_value.specs.declared.event.Event.{Event}
+use Rattle.vx_json.specs.declared.decoding.Decoding.{Decoding}
 use Rattle.vx_plan.specs.declared.component.Component.{Component}
-use Rattle.vx_plan.specs.declared.decoding.Decoding.{Decoding}
-use Rattle.vx_plan.specs.declared.decoding.Decoding.TheVariants as codec
 use Rattle.vx_plan.specs.declared.settings.Settings.{Settings}
 use Rattle.vx_plan.specs.Components.{longest_line}
 use Rattle.vx_plan.specs.Options.{decoding, type_name}
@@ -16,9 +14,9 @@ use Rattle.vx_record.specs.declared.taken.Taken.{Taken}
 use Rattle.vx_record.specs.declared.taken.Taken.TheVariants.{Bytes, StreamEnded, AllEnded}
 use Rattle.vx_record.specs.Records.{Record}
 use Rattle.vx_record.specs.Installs.{component_of}
-use Rattle.vx_record.specs.Reads.{stream_of, open_bytes, lines_past, new_lines, limit_of, line_event, decoded, events_of_lines, events_of, last_end as record_end}
+use Rattle.vx_record.specs.Reads.{stream_of, open_bytes, lines_past, new_lines, limit_of, line_events, decoded, events_of_lines, events_of, last_end as record_end}
 use Rattle.vx_hub.specs.declared.source.SourceCore.{SourceCore}
-use Rattle.vx_hub.specs.Sources.{event_of_line, last_end, AreOf}
+use Rattle.vx_hub.specs.Sources.{events_of_cut, last_end, AreOf}
 use Rattle.vx_hub.specs.Abreast.{IsMadeFor}
 
 drop_front : {X : Type 0} (xs ys : List X) → drop (length xs) (xs ++ ys) ≡ ys
@@ -73,9 +71,9 @@ added_fit limit before AllEnded behind more =
     behind_fits (frames before limit false) behind (subst fits more (lines_fit limit true 0 [] (cut before).first (cut before).more))
 
 -- their events and their end
-events_by : (settings : Settings) (stream : ℕ) (lines : List Frame) → map (λ (line : Frame). line_event settings line.bytes) lines ≡ map (λ (line : CutLine). event_of_line (type_name settings) line.bytes) (map (line_of stream) lines)
-events_by settings stream [] = refl
-events_by settings stream (line ∷ lines) = ap (λ (es : List Event). line_event settings line.bytes ∷ es) (events_by settings stream lines)
+events_by : (d : Decoding) (settings : Settings) (stream : ℕ) (lines : List Frame) → decoded d settings lines ≡ flat_map (events_of_cut d (type_name settings)) (map (line_of stream) lines)
+events_by d settings stream [] = refl
+events_by d settings stream (line ∷ lines) = ap (λ (es : List Event). line_events d settings line ++ es) (events_by d settings stream lines)
 
 end_by : (stream : ℕ) (lines : List Frame) → record_end lines ≡ last_end (map (line_of stream) lines)
 end_by stream [] = refl
@@ -85,8 +83,8 @@ end_by stream (line ∷ next ∷ rest) = end_by stream (next ∷ rest)
 still : (n : ℕ) → n ≤ 18446744073709551615 → capped n ≡ n
 still n small = omega arith
 
-decoded_by : (settings : Settings) (lines : List Frame) → decoding settings ≡ Some codec.Bytes → events_of_lines settings lines ≡ map (λ (line : Frame). line_event settings line.bytes) lines
-decoded_by settings lines is = ap (λ (o : Option Decoding). elim o [ None ↦ [] | Some d ↦ decoded d settings lines ]) is
+decoded_by : (d : Decoding) (settings : Settings) (lines : List Frame) → decoding settings ≡ Some d → events_of_lines settings lines ≡ decoded d settings lines
+decoded_by d settings lines is = ap (λ (o : Option Decoding). elim o [ None ↦ [] | Some by ↦ decoded by settings lines ]) is
 
 -- what a record says of the component that there is
 told_some : {X : Type 0} (o : Option Component) (P : Component → Type 0) (none x : X) (f : Component → X) → IsSomeAnd o P → ((c : Component) → P c → x ≡ f c) → x ≡ elim o [ None ↦ none | Some c ↦ f c ]
@@ -95,13 +93,13 @@ told_some (Some c) P none x f some is = is c some
 
 -- the events of the lines that a framer adds are those that the record's Read gives, and so is the end
 pub given_by : (h : Record) (i stream : ℕ) (took : Taken) (core : SourceCore) (behind : List Frame) (events : List Event) (end : ℕ) → IsSomeAnd (component_of h i) (λ (c : Component). IsMadeFor c.settings core) →
-    Adds core.framer.limit (open_bytes h i (stream_of h i stream took)) took behind → AreOf core.source_type (map (line_of (stream_of h i stream took)) behind) events end →
+    Adds core.framer.limit (open_bytes h i (stream_of h i stream took)) took behind → AreOf core.decoding core.source_type (map (line_of (stream_of h i stream took)) behind) events end →
     (events ≡ events_of h i stream took) × (end ≡ capped (record_end (new_lines h i stream took)))
 given_by h i stream took core behind events end made adds are = (
   told_some (component_of h i) (λ c. IsMadeFor c.settings core) [] events (λ c. events_of_lines c.settings lines) made
-      (λ c m. are.each ∙ ap (λ (w : Word). map (λ (line : CutLine). event_of_line w line.bytes) (map (line_of s) behind)) m.source_type
-      ∙ ap (λ (fs : List Frame). map (λ (line : CutLine). event_of_line (type_name c.settings) line.bytes) (map (line_of s) fs)) (sym framed)
-      ∙ sym (events_by c.settings s lines) ∙ sym (decoded_by c.settings lines m.decoding_is)),
+      (λ c m. are.each ∙ ap (λ (w : Word). flat_map (events_of_cut core.decoding w) (map (line_of s) behind)) m.source_type
+      ∙ ap (λ (fs : List Frame). flat_map (events_of_cut core.decoding (type_name c.settings)) (map (line_of s) fs)) (sym framed)
+      ∙ sym (events_by core.decoding c.settings s lines) ∙ sym (decoded_by core.decoding c.settings lines m.decoding_is)),
   are.last ∙ ap (λ (fs : List Frame). last_end (map (line_of s) fs)) (sym framed) ∙ sym (end_by s lines)
       ∙ sym (still (record_end lines) (subst fits (sym framed) (added_fit (limit_of h i) (open_bytes h i s) took behind added))),
 )

@@ -10,7 +10,7 @@ use Rattle.vx_record.specs.Records.{Record}
 use Rattle.vx_record.specs.Wirings.{names_differ, begun}
 use Rattle.vx_record.specs.Installs.{in_force, component_of, source_at, sink_at}
 use Rattle.vx_record.proofs.FirstWiring.{component_of_first}
-use Rattle.vx_hub.specs.Acknowledging.{AcknowledgesNothing}
+use Rattle.vx_plan.specs.Acknowledging.{AcknowledgesNothing}
 use Rattle.vx_hub.specs.Order.{IsOrderly, IsOfClass, component_in}
 use Rattle.vx_hub.proofs.Naming.{component_is}
 use Rattle.vx_hub.proofs.Ordering.{named_apart}

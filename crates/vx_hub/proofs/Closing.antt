@@ -1,30 +1,31 @@
 -- A sink's batch is closed in the record where it is by what the hub knows, and is written with the codec of the sink.
 use Rattle.std.proofs.Common.{◌≡◌, ℕ, ◌<◌, ◌≤◌, Bool, true, false, ◌&&◌, ◌||◌, List, [], ◌∷◌, length, Option, Some, None, refl, ap, ◌∙◌, arith, inl, inr}
-use Rattle.std.specs.Prelude.{◌⊎◌, IsSome, not, map}
+use Rattle.std.specs.Prelude.{◌⊎◌, IsSomeAnd, not, map}
 use Rattle.vx_value.specs.Texts.{is_empty}
 use Rattle.vx_ends.specs.Told.{Told}
-use Rattle.vx_plan.specs.declared.codec.Codec.TheVariants.{Text}
+use Rattle.vx_json.specs.declared.codec.Codec.{Codec}
 use Rattle.vx_plan.specs.declared.component.Component.{Component}
-use Rattle.vx_plan.specs.declared.settings.Settings.{Settings}
-use Rattle.vx_plan.specs.declared.settings.Settings.TheVariants.{Stdin, Console}
-use Rattle.vx_plan.specs.Options.{sink_options}
+use Rattle.vx_plan.specs.Options.{encoding}
 use Rattle.vx_record.specs.Records.{Record}
 use Rattle.vx_record.specs.Encoding.{encode, encoded, bytes_for}
+use Rattle.vx_record.specs.Installs.{in_force}
 use Rattle.vx_record.specs.Lists.{held}
 use Rattle.vx_record.specs.Parcels.{parcel_event}
 use Rattle.vx_record.specs.Places.Place.{Held}
 use Rattle.vx_record.specs.SinkBatches.{is_full_batch, is_timed_out, is_last_batch, was_attempted, is_batch_closed, retry_from}
 use Rattle.vx_hub.specs.declared.hub.Hub.{Hub}
+use Rattle.vx_hub.specs.declared.task.SinkCore.{SinkCore}
 use Rattle.vx_hub.specs.declared.task.Role.{Role}
 use Rattle.vx_hub.specs.declared.task.Role.TheVariants as role
 use Rattle.vx_hub.specs.Abreast.{HasCome}
-use Rattle.vx_hub.specs.Collecting.{IsSizedFor, IsFullOrOld}
-use Rattle.vx_hub.specs.Order.{IsOrderly, IsClosedFor, IsLastOf}
+use Rattle.vx_hub.specs.Collecting.{IsSizedFor, IsCollecting, IsFullOrOld}
+use Rattle.vx_hub.specs.Order.{IsOrderly, IsClosedFor, IsLastOf, component_in}
 use Rattle.vx_hub.specs.Places.{all_numbers}
 use Rattle.vx_hub.specs.Rows.{role_parcels}
 use Rattle.vx_hub.specs.Sinks.{IsClosedAt, IsLastAt}
 use Rattle.vx_hub.specs.Stands.{Stands, IsSound, IsAtHome, IsSinkAt}
 use Rattle.vx_hub.proofs.Ceasing.{going_on}
+use Rattle.vx_hub.proofs.EventLaws.{IsWriter}
 use Rattle.vx_hub.proofs.Placing.{places_all}
 use Rattle.vx_hub.proofs.Settling.{known_at_home, settled_home}
 use Rattle.vx_hub.proofs.Sinking.{last_of}
@@ -54,18 +55,27 @@ closed_so h i now closed =
     (some_full (held h i) closed.some) (any_of (is_full_batch h i) (is_timed_out h i now) (is_last_batch h i) (was_attempted h i) closed.cause)
 
 -- THE CODEC
--- a sink's options name the codec `text`
-text_by : (settings : Settings) (events : List _) → IsSome (sink_options settings) → bytes_for settings events ≡ encode Text events
-text_by (Stdin max_length codec) events sink = cc
-text_by (Console target Text sink_is) events sink = refl
+-- the component of a sink has the sink's codec
+codec_in : (o : Option Component) (core : SinkCore) → IsSomeAnd o (λ (c : Component). IsSizedFor c.settings core) → IsSomeAnd o (λ (c : Component). encoding c.settings ≡ Some core.codec)
+codec_in None core sized = absurd sized
+codec_in (Some c) core sized = sized.codec
 
 -- so what a sink writes of some parcels is what that writes
-pub codec_so : (h : Record) (i : ℕ) (role : Role) (parcels : List (List ℕ)) → IsOrderly h → HasCome h i role → 0 < length (role_parcels role) → encoded h i parcels ≡ encode Text (map (parcel_event h) parcels)
-codec_so h i (role.Source core) parcels order come some = absurd (omega (arith, some))
-codec_so h i (role.Sink core) parcels order come some =
-    let f = component_found h i (λ (c : Component). IsSizedFor c.settings core) order come.sized in
+pub codec_so : (h : Record) (i : ℕ) (core : SinkCore) (parcels : List (List ℕ)) → IsOrderly h → IsCollecting h i core → encoded h i parcels ≡ encode core.codec (map (parcel_event h) parcels)
+codec_so h i core parcels order collecting =
+    let f = component_found h i (λ (c : Component). IsSizedFor c.settings core) order collecting.sized in
     ap (λ (o : Option Component). elim o [ None ↦ [] | Some c ↦ bytes_for c.settings (map (parcel_event h) parcels) ]) f.found
-    ∙ text_by f.component.settings (map (parcel_event h) parcels) f.has.options
+    ∙ ap (λ (o : Option Codec). elim o [ None ↦ [] | Some codec ↦ encode codec (map (parcel_event h) parcels) ]) f.has.codec
+
+-- what an instance holds it writes so, if that is anything
+pub writer_so : (h : Record) (i : ℕ) (role : Role) → IsOrderly h → HasCome h i role → 0 < length (role_parcels role) → IsWriter h i role
+writer_so h i (role.Source core) order come some = absurd (omega (arith, some))
+writer_so h i (role.Sink core) order come some = record {
+  codec = core.codec;
+  codec_is = codec_in (component_in (in_force h) i) core come.sized;
+  writes = refl;
+  encoded_is = λ parcels. codec_so h i core parcels order come;
+}
 
 -- IN THE HUB
 -- a sink at home, as the record has it

@@ -3,6 +3,7 @@ use Rattle.std.proofs.Common.{◌≡◌, ℕ, zero, suc, ◌+◌, ◌<◌, Bool,
 use Rattle.std.specs.Prelude.{◌==◌, ◌&&◌, if◌then◌else◌, nat_lt, IfNone, IsSome, IsSomeAnd}
 use Rattle.std.proofs.lemmas.Bool.Decides.{nat_tests}
 use Rattle.vx_ledger.specs.declared.parcel.Parcel.{Parcel}
+use Rattle.vx_json.specs.declared.codec.Codec.{Codec}
 use Rattle.vx_plan.specs.declared.component.Component.{Component}
 use Rattle.vx_record.specs.Records.{Record}
 use Rattle.vx_record.specs.declared.abandon_cause.AbandonCause.{AbandonCause}
@@ -111,16 +112,16 @@ since_popped h i (Some x) old (p ∷ ps) since some empty may = λ going none.
     let more : 0 < attempts_with h i (first_copy (numbers_in p.finalizers)) = tried.1.0 in
     absurd (omega (arith, more, none))
 
--- its sizes stay
-sized_on : (o : Option Component) (old new : SinkCore) → new.held.room ≡ old.held.room → new.timeout ≡ old.timeout → IsSomeAnd o (λ (c : Component). IsSizedFor c.settings old) → IsSomeAnd o (λ (c : Component). IsSizedFor c.settings new)
-sized_on None old new room timeout is = absurd is
-sized_on (Some c) old new room timeout is = record { room = room ∙ is.room; timeout = timeout ∙ is.timeout; options = is.options }
+-- its sizes and its codec stay
+sized_on : (o : Option Component) (old new : SinkCore) → new.held.room ≡ old.held.room → new.timeout ≡ old.timeout → new.codec ≡ old.codec → IsSomeAnd o (λ (c : Component). IsSizedFor c.settings old) → IsSomeAnd o (λ (c : Component). IsSizedFor c.settings new)
+sized_on None old new room timeout codec is = absurd is
+sized_on (Some c) old new room timeout codec is = record { room = room ∙ is.room; timeout = timeout ∙ is.timeout; options = is.options; codec = is.codec ∙ ap (λ (k : Codec). Some k) (sym codec) }
 
 -- the oldest leaves, where all may leave
-pub popped_collecting : (h : Record) (i : ℕ) (old new : SinkCore) (r : Option Parcel) → IfSome r (λ x. old.held.items ≡ x ∷ new.held.items) → IfNone r (new.held.items ≡ []) → new.held.room ≡ old.held.room → new.since ≡ old.since → new.timeout ≡ old.timeout →
+pub popped_collecting : (h : Record) (i : ℕ) (old new : SinkCore) (r : Option Parcel) → IfSome r (λ x. old.held.items ≡ x ∷ new.held.items) → IfNone r (new.held.items ≡ []) → new.held.room ≡ old.held.room → new.since ≡ old.since → new.timeout ≡ old.timeout → new.codec ≡ old.codec →
     MayLeave h i (parcel_numbers old.held.items) → IsCollecting h i old → IsCollecting h i new
-popped_collecting h i old new r some empty room since timeout may c = record {
-  sized = sized_on (component_in (in_force h) i) old new room timeout c.sized;
+popped_collecting h i old new r some empty room since timeout codec may c = record {
+  sized = sized_on (component_in (in_force h) i) old new room timeout codec c.sized;
   since = since_popped h i r old.held.items new.held.items new.since some empty may;
 }
 
@@ -129,10 +130,10 @@ since_held h i [] new parcel now before since more moment first later is = subst
 since_held h i (p ∷ ps) new parcel now before since more moment first later is = subst (λ (qs : List Parcel). IsSince h i qs since) (sym more) (λ going none. later (λ empty. cc) ∙ is going none)
 
 -- a parcel is added that was taken at that moment
-pub held_collecting : (h : Record) (i : ℕ) (old new : SinkCore) (parcel : Parcel) (now : ℕ) → new.held.items ≡ old.held.items ++ parcel ∷ [] → new.held.room ≡ old.held.room → new.timeout ≡ old.timeout → now ≡ taken_at h i (first_copy (numbers_in parcel.finalizers)) →
+pub held_collecting : (h : Record) (i : ℕ) (old new : SinkCore) (parcel : Parcel) (now : ℕ) → new.held.items ≡ old.held.items ++ parcel ∷ [] → new.held.room ≡ old.held.room → new.timeout ≡ old.timeout → new.codec ≡ old.codec → now ≡ taken_at h i (first_copy (numbers_in parcel.finalizers)) →
     (old.held.items ≡ [] → new.since ≡ now) → ((old.held.items ≡ [] → ⊥) → new.since ≡ old.since) → IsCollecting h i old → IsCollecting h i new
-held_collecting h i old new parcel now more room timeout moment first later c = record {
-  sized = sized_on (component_in (in_force h) i) old new room timeout c.sized;
+held_collecting h i old new parcel now more room timeout codec moment first later c = record {
+  sized = sized_on (component_in (in_force h) i) old new room timeout codec c.sized;
   since = since_held h i old.held.items new.held.items parcel now old.since new.since more moment first later c.since;
 }
 

@@ -1,11 +1,12 @@
 -- The record goes on having the events of the parcels that stand at the instances.
 use Rattle.std.proofs.Common.{◌≡◌, ℕ, zero, suc, ◌+◌, ◌*◌, ◌-◌, ◌<◌, ◌≤◌, Bool, true, false, List, [], ◌∷◌, ◌++◌, length, get_or, Option, Some, None, IfSome, refl, sym, ap, subst, ◌∙◌, arith}
-use Rattle.std.specs.Prelude.{slice_set, remove, nat_lt, slice_index_or, map, IfNone}
+use Rattle.std.specs.Prelude.{slice_set, remove, nat_lt, slice_index_or, map, IfNone, IsSomeAnd}
 use Rattle.std.proofs.lemmas.List.{append_assoc, length-append}
 use Rattle.std.specs.List.{list_any}
 use Rattle.vx_value.specs.declared.event.Event.{Event}
 use Rattle.vx_ends.specs.declared.trouble.Reply.{Reply}
-use Rattle.vx_plan.specs.declared.codec.Codec.TheVariants.{Text}
+use Rattle.vx_json.specs.declared.codec.Codec.{Codec}
+use Rattle.vx_plan.specs.Options.{encoding}
 use Rattle.vx_ledger.specs.Copies.{Copy, numbered, renumbered}
 use Rattle.vx_ledger.specs.Routing.{children_for}
 use Rattle.vx_ledger.specs.declared.parcel.Parcel.{Parcel}
@@ -14,7 +15,7 @@ use Rattle.vx_record.specs.Records.{Record}
 use Rattle.vx_record.specs.Noted.{Noted}
 use Rattle.vx_record.specs.Copies.{next_copy}
 use Rattle.vx_record.specs.Encoding.{encode, encode_event, encoded, is_prefix}
-use Rattle.vx_record.specs.Installs.{sink_at}
+use Rattle.vx_record.specs.Installs.{in_force, sink_at}
 use Rattle.vx_record.specs.Lists.{held}
 use Rattle.vx_record.specs.SinkBatches.{is_batch_closed}
 use Rattle.vx_record.specs.Turns.{is_out, lease_now, since_lease, is_attempt_of}
@@ -28,10 +29,10 @@ use Rattle.vx_hub.specs.declared.task.Task.{Task}
 use Rattle.vx_hub.specs.declared.task.Role.{Role}
 use Rattle.vx_hub.specs.Births.{IsSaidBy}
 use Rattle.vx_hub.specs.Abreast.{HasCome, HasComeHome}
-use Rattle.vx_hub.specs.Events.{written, IsPartOf, IsSaid, Each, EachChild, HasEach, IsSaidAt, AreSaid, ArePaired}
+use Rattle.vx_hub.specs.Events.{written, written_by, IsPartOf, IsSaid, Each, EachChild, HasEach, IsSaidAt, AreSaid, ArePaired}
 use Rattle.vx_hub.specs.Numbers.{numbers_in}
 use Rattle.vx_plan.specs.declared.class.Class.TheVariants.{Sink}
-use Rattle.vx_hub.specs.Order.{IsAttemptOf, IsOfClass, IsClosedFor}
+use Rattle.vx_hub.specs.Order.{IsAttemptOf, IsOfClass, IsClosedFor, component_in}
 use Rattle.vx_hub.specs.Places.{parcel_numbers}
 use Rattle.vx_hub.specs.Rows.{task_parcels, role_parcels, role_copies}
 use Rattle.vx_hub.proofs.Homing.{held_numbers, held_some}
@@ -176,28 +177,38 @@ children_said h i ports numbers event noted parcel (t ∷ targets) first same so
     here (c ∷ cs) l = record { made = within; event = sym (chosen_false (nat_lt first (next_copy h)) (event_of h first) event (above first (next_copy h) at) ∙ same) }
 
 -- ATTEMPTS
-written_events : (h : Record) (ps : List Parcel) → Each (IsSaid h) ps → encode Text (map (parcel_event h) (parcel_numbers ps)) ≡ written ps
-written_events h [] all = refl
-written_events h (p ∷ ps) all =
-    ap (λ (w : List ℕ). encode_event Text (parcel_event h (numbers_in p.finalizers)) ++ w) (written_events h ps all.1)
-    ∙ ap (λ (e : Event). encode_event Text e ++ written ps) (sym all.0.event)
+written_events : (codec : Codec) (h : Record) (ps : List Parcel) → Each (IsSaid h) ps → encode codec (map (parcel_event h) (parcel_numbers ps)) ≡ written codec ps
+written_events codec h [] all = refl
+written_events codec h (p ∷ ps) all =
+    ap (λ (w : List ℕ). encode_event codec (parcel_event h (numbers_in p.finalizers)) ++ w) (written_events codec h ps all.1)
+    ∙ ap (λ (e : Event). encode_event codec e ++ written codec ps) (sym all.0.event)
 
-pub attempt_in_order : (h : Record) (i : ℕ) (role : Role) (bytes : List ℕ) (reply : Reply) → is_out h i ≡ true → IsOfClass h i Sink → list_any (is_attempt_of i) (since_lease h i) ≡ false → 0 < length (role_parcels role) → held h i ≡ parcel_numbers (role_parcels role) → Each (IsSaid h) (role_parcels role) → IsPartOf (written (role_parcels role)) bytes reply → IsClosedFor h i (lease_now h i) → sink_at h i ≡ true → is_batch_closed h i (lease_now h i) ≡ true → encoded h i (held h i) ≡ encode Text (map (parcel_event h) (held h i)) →
+-- a sink writes what it holds by the codec of its component
+pub record IsWriter (h : Record) (i : ℕ) (role : Role) : Type 0 where
+  pub codec : Codec
+  pub codec_is : IsSomeAnd (component_in (in_force h) i) (λ component. encoding component.settings ≡ Some codec)
+  pub writes : written_by role ≡ written codec (role_parcels role)
+  pub encoded_is : (parcels : List (List ℕ)) → encoded h i parcels ≡ encode codec (map (parcel_event h) parcels)
+
+pub attempt_in_order : (h : Record) (i : ℕ) (role : Role) (bytes : List ℕ) (reply : Reply) → is_out h i ≡ true → IsOfClass h i Sink → list_any (is_attempt_of i) (since_lease h i) ≡ false → 0 < length (role_parcels role) → held h i ≡ parcel_numbers (role_parcels role) → Each (IsSaid h) (role_parcels role) → IsPartOf (written_by role) bytes reply → IsClosedFor h i (lease_now h i) → sink_at h i ≡ true → is_batch_closed h i (lease_now h i) ≡ true → IsWriter h i role →
     IsAttemptOf h i (numbers_in (role_copies role)) bytes reply
-attempt_in_order h i role bytes reply out sink once some is said part batch_closed is_sink closed codec =
-    let all : encode Text (map (parcel_event h) (held h i)) ≡ written (role_parcels role) = ap (λ (ps : List (List ℕ)). encode Text (map (parcel_event h) ps)) is ∙ written_events h (role_parcels role) said in
+attempt_in_order h i role bytes reply out sink once some is said part batch_closed is_sink closed writer =
+    let all : encode writer.codec (map (parcel_event h) (held h i)) ≡ written_by role =
+    ap (λ (ps : List (List ℕ)). encode writer.codec (map (parcel_event h) ps)) is ∙ written_events writer.codec h (role_parcels role) said ∙ sym writer.writes in
     record {
       out = out;
       sink = sink;
       once = once;
       some = let n = ap length (held_numbers h i role is) in let m = held_some h i (role_parcels role) is some in omega (arith, n, m);
       all = held_numbers h i role is;
+      codec = writer.codec;
+      codec_is = writer.codec_is;
       given = subst (λ (w : List ℕ). is_prefix bytes w ≡ true) (sym all) part.given;
       whole = λ ok. part.whole ok ∙ sym all;
       batch_closed = batch_closed;
       is_sink = is_sink;
       closed = closed;
       waited = batch_closed.waited;
-      given_by = subst (λ (w : List ℕ). is_prefix bytes w ≡ true) (sym (codec ∙ all)) part.given;
-      whole_by = λ ok. part.whole ok ∙ sym (codec ∙ all);
+      given_by = subst (λ (w : List ℕ). is_prefix bytes w ≡ true) (sym (writer.encoded_is (held h i) ∙ all)) part.given;
+      whole_by = λ ok. part.whole ok ∙ sym (writer.encoded_is (held h i) ∙ all);
     }

@@ -26,7 +26,7 @@ use Rattle.vx_record.specs.Routing.{is_dry, is_sent, outlets, routes, all_ports,
 use Rattle.vx_record.proofs.Changes.{same_place_is}
 use Rattle.vx_record.proofs.FirstWiring.{component_of_first}
 use Rattle.vx_hub.specs.declared.facts.Facts.{Facts}
-use Rattle.vx_hub.specs.Acknowledging.{AcknowledgesNothing}
+use Rattle.vx_plan.specs.Acknowledging.{AcknowledgesNothing}
 use Rattle.vx_hub.specs.Order.{IsInOrder, IsOrderly, component_in, readers_at}
 use Rattle.vx_hub.specs.Stands.{IsKnown}
 use Rattle.vx_hub.proofs.Naming.{component_is}

@@ -1,6 +1,6 @@
 -- A source stays abreast of the record.
 use Rattle.std.proofs.Common.{◌≡◌, ℕ, zero, suc, ◌+◌, ◌-◌, ◌<◌, Bool, true, false, List, [], ◌∷◌, ◌++◌, length, map, Option, Some, None, inl, inr, arith, refl, sym, subst, ◌∙◌, ap}
-use Rattle.std.specs.Prelude.{◌≢◌, ◌⊎◌, ◌==◌, ◌&&◌, ◌||◌, not, if◌then◌else◌, unwrap_or, IsSomeAnd, slice_index_or, Contains}
+use Rattle.std.specs.Prelude.{◌≢◌, ◌⊎◌, ◌==◌, ◌&&◌, ◌||◌, not, if◌then◌else◌, unwrap_or, IsSomeAnd, slice_index_or, Contains, flat_map}
 use Rattle.std.proofs.lemmas.Bool.Decides.{nat_tests}
 use Rattle.std.proofs.lemmas.List.{append-nil}
 use Rattle.std.proofs.lemmas.List.Elements.{Contains-append_left, Contains-append_right, Contains-append_cases, Contains-push}
@@ -8,7 +8,6 @@ use Rattle.vx_value.specs.declared.event.Event.{Event}
 use Rattle.vx_value.specs.Texts.{Word, is_empty}
 use Rattle.vx_frame.specs.Frames.{Frame, frames, capped}
 use Rattle.vx_frame.specs.Framings.{Framing, HasTaken, untouched, left_behind, line_of}
-use Rattle.vx_frame.specs.declared.line.Line.{Line}
 use Rattle.vx_plan.specs.declared.component.Component.{Component}
 use Rattle.vx_record.specs.Records.{Record}
 use Rattle.vx_record.specs.Installs.{component_of}
@@ -21,7 +20,7 @@ use Rattle.vx_record.specs.declared.taken.Taken.TheVariants as taken
 use Rattle.vx_hub.specs.declared.source.SourceCore.{SourceCore}
 use Rattle.vx_hub.specs.declared.source.Turned.{Turned}
 use Rattle.vx_hub.specs.declared.source.Turned.TheVariants.{Lines, StreamEnded, AllEnded, Idle, Failed}
-use Rattle.vx_hub.specs.Sources.{AreOf, KeepsOthers, HasFed, HasFinished, IsUnmoved, HasBrought, event_of_line, new_lines as cut_lines}
+use Rattle.vx_hub.specs.Sources.{AreOf, KeepsOthers, HasFed, HasFinished, IsUnmoved, HasBrought, events_of_cut, new_lines as cut_lines}
 use Rattle.vx_hub.specs.Turns.{BringsSome, IsOfOpen}
 use Rattle.vx_hub.specs.declared.task.Role.{Role}
 use Rattle.vx_hub.specs.declared.task.Role.TheVariants.{Source, Sink}
@@ -128,7 +127,7 @@ open_whole (e ∷ h) i stream over unended =
 -- SOURCES
 made_on : (o : Option Component) (old : SourceCore) (stream : ℕ) (new : SourceCore) → KeepsOthers old stream new → IsSomeAnd o (λ (c : Component). IsMadeFor c.settings old) → IsSomeAnd o (λ (c : Component). IsMadeFor c.settings new)
 made_on None old stream new rest m = m
-made_on (Some c) old stream new rest m = record { limit = rest.limit ∙ m.limit; source_type = rest.source_type ∙ m.source_type; decoding_is = m.decoding_is }
+made_on (Some c) old stream new rest m = record { limit = rest.limit ∙ m.limit; source_type = rest.source_type ∙ m.source_type; decoding_is = m.decoding_is ∙ ap Some (sym rest.decoding) }
 
 -- what was left of another stream is left of it
 others_taken : (old : SourceCore) (stream : ℕ) (new : SourceCore) (s : ℕ) (bytes : Word) → KeepsOthers old stream new → s ≢ stream → HasTaken old.framer s bytes → HasTaken new.framer s bytes
@@ -233,12 +232,12 @@ finished_gives : (h : Record) (i stream : ℕ) (took : Taken) (at : ℕ) (events
 finished_gives h i stream took at events end old new is a finished adds apart =
     (given_by h i stream took old (cut_lines old.framer at true []) events end (a.made_for apart)
     (subst (λ z. Adds old.framer.limit (open_bytes h i z) took (cut_lines old.framer at true [])) (sym is) (adds (open_bytes h i at) (cut_lines old.framer at true []) (finished.behind (open_bytes h i at) (a.taken at))))
-    (subst (λ z. AreOf old.source_type (map (line_of z) (cut_lines old.framer at true [])) events end) (sym is) finished.gave)).0
+    (subst (λ z. AreOf old.decoding old.source_type (map (line_of z) (cut_lines old.framer at true [])) events end) (sym is) finished.gave)).0
 
 -- a stream of which nothing is unended gives nothing at its end
 nothing_gave : (old : SourceCore) (at : ℕ) (events : List Event) (end : ℕ) (new : SourceCore) → HasTaken old.framer at [] → HasFinished old at events end new → 0 < length events → ⊥
 nothing_gave old at events end new none finished some =
-    let empty : events ≡ [] = finished.gave.each ∙ ap (λ (fs : List Frame). map (λ (line : Line). event_of_line old.source_type line.bytes) (map (line_of at) fs)) (sym (finished.behind [] none)) in
+    let empty : events ≡ [] = finished.gave.each ∙ ap (λ (fs : List Frame). flat_map (events_of_cut old.decoding old.source_type) (map (line_of at) fs)) (sym (finished.behind [] none)) in
     let zero_long : length events ≡ 0 = ap length empty in
     omega (arith, some, zero_long)
 
@@ -254,7 +253,7 @@ finished_yields h i stream took at events end old new over is a finished adds ap
         let more = finished.behind (open_bytes h i at) (a.taken at) in
         let given = given_by h i stream took old (cut_lines old.framer at true []) events end (a.made_for apart)
         (subst (λ z. Adds old.framer.limit (open_bytes h i z) took (cut_lines old.framer at true [])) (sym is) (adds (open_bytes h i at) (cut_lines old.framer at true []) more))
-        (subst (λ z. AreOf old.source_type (map (line_of z) (cut_lines old.framer at true [])) events end) (sym is) finished.gave) in
+        (subst (λ z. AreOf old.decoding old.source_type (map (line_of z) (cut_lines old.framer at true [])) events end) (sym is) finished.gave) in
         record {
           reader = refl;
           given = given.0;
@@ -273,7 +272,7 @@ unmoved_abreast h i old new same a = record {
   where
     made_same : (o : Option Component) → IsSomeAnd o (λ (c : Component). IsMadeFor c.settings old) → IsSomeAnd o (λ (c : Component). IsMadeFor c.settings new)
     made_same None m = m
-    made_same (Some c) m = record { limit = ap (λ (f : Framing). f.limit) same.framer ∙ m.limit; source_type = same.source_type ∙ m.source_type; decoding_is = m.decoding_is }
+    made_same (Some c) m = record { limit = ap (λ (f : Framing). f.limit) same.framer ∙ m.limit; source_type = same.source_type ∙ m.source_type; decoding_is = m.decoding_is ∙ ap Some (sym same.decoding) }
 
 -- a turn of a source that may be read
 pub has_turned : (h : Record) (i : ℕ) (old : SourceCore) (turned : Turned) (new : SourceCore) → all_ended h i ≡ false → IsAbreast h i old → BringsSome turned → IsOfOpen (ended_streams h i) turned → HasBrought old turned new → HasTurned h i new turned

@@ -32,7 +32,7 @@ use Rattle.vx_hub.specs.Away.{WasNoticed}
 use Rattle.vx_hub.specs.Finishing.{WasDone}
 use Rattle.vx_hub.specs.Leases.{IsLeased, IsBack, IsOpenAt, Adds, Brings}
 use Rattle.vx_ledger.specs.declared.parcel.Parcel.{Parcel}
-use Rattle.vx_hub.specs.Events.{IsSaid, Each, IsWrittenOf}
+use Rattle.vx_hub.specs.Events.{IsSaid, Each, written_by, IsPartOf, IsWrittenOf}
 use Rattle.vx_hub.specs.declared.facts.Facts.{Facts}
 use Rattle.vx_hub.specs.declared.task.Role.{Role}
 use Rattle.vx_hub.specs.declared.task.Role.TheVariants.{Source, Sink}
@@ -114,10 +114,18 @@ done_of old new confirm (Read turned) h i was now reports told going come moves 
     go (Source core) (Sink next) come moves = absurd moves
     go (Sink core) now come moves = absurd moves
 
+-- what was attempted is what is held now too
+still_written : (was : Role) (done : Done) (now : Role) → Moves was done now → IsWrittenOf was done → IsWrittenOf now done
+still_written was Nothing now moves writes = tt
+still_written was (Attempted bytes reply) now moves writes = subst (λ (r : Role). IsPartOf (written_by r) bytes reply) (sym moves) writes
+still_written was Closed now moves writes = tt
+still_written was (Read turned) now moves writes = tt
+still_written was Starved now moves writes = tt
+
 -- what was handed out may land
 pub back_of : {P : Type 0} (told_by : P → Told) (hub : Hub P) (work : Work P) (landing : Landing P) → IsLeased told_by hub work → landing.instance ≡ work.instance →
     role_copies landing.task.role ≡ role_copies work.task.role → role_parcels landing.task.role ≡ role_parcels work.task.role → Reports (told_by work.task.port) landing.confirmed landing.done (told_by landing.task.port) → NamesBy work.positions landing.confirmed landing.done → event_count_of landing.done ≤ 65536 →
-    (IsReading landing.done → work.job ≡ job.Read) → (landing.done ≡ Closed → work.job ≡ job.Close) → (IsAttempted landing.done → work.job ≡ job.Attempt) → IsWrittenOf (role_parcels work.task.role) landing.done → Moves work.task.role landing.done landing.task.role → IsBack told_by hub landing
+    (IsReading landing.done → work.job ≡ job.Read) → (landing.done ≡ Closed → work.job ≡ job.Close) → (IsAttempted landing.done → work.job ≡ job.Attempt) → IsWrittenOf work.task.role landing.done → Moves work.task.role landing.done landing.task.role → IsBack told_by hub landing
 back_of {P} told_by hub work landing leased instance copies parcels reports names events reads closes sends writes moves = record {
   stands = subst (λ (cs : List Copy). Stands told_by hub cs hub.log.history) (sym copies) leased.stands;
   open_at = subst (λ (i : ℕ). IsOpenAt hub i) (sym instance) leased.open_at;
@@ -130,7 +138,7 @@ back_of {P} told_by hub work landing leased instance copies parcels reports name
   come = λ sound. subst (λ (i : ℕ). HasDone hub.log.history i landing.task.role landing.done) (sym instance)
       (done_of (told_by work.task.port) (told_by landing.task.port) landing.confirmed landing.done hub.log.history work.instance work.task.role landing.task.role reports (leased.told sound)
       (λ reading. going_on hub.log.history work.instance (facts_at hub.facts.items work.instance) ((leased.stands.recorded sound).facts work.instance) (leased.unlost (reads reading))) (leased.come sound) moves);
-  writes = subst (λ (ps : List Parcel). IsWrittenOf ps landing.done) (sym parcels) writes;
+  writes = still_written work.task.role landing.done landing.task.role moves writes;
   sent = λ reading. subst (λ (i : ℕ). numbers_at (Outputs i) hub.rows.items ≡ []) (sym instance) (leased.sent (reads reading));
   due = λ sound. subst (λ (i : ℕ). IfSome landing.confirmed (λ c. IsDueOf hub.log.history i c.positions)) (sym instance) (named_by work.positions landing.confirmed landing.done (IsDueOf hub.log.history work.instance) names (leased.due sound));
   shut = λ done. subst (λ (i : ℕ). MayShut hub i) (sym instance) (leased.shut (closes done));

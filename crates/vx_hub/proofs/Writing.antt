@@ -4,7 +4,7 @@ use Rattle.std.specs.Prelude.{slice_get, ◌&&◌}
 use Rattle.std.proofs.lemmas.List.{append_assoc, append-nil}
 use Rattle.vx_ends.specs.declared.trouble.Reply.{Reply}
 use Rattle.vx_ends.specs.declared.trouble.Reply.TheVariants.{Ok}
-use Rattle.vx_plan.specs.declared.codec.Codec.TheVariants.{Text}
+use Rattle.vx_json.specs.declared.codec.Codec.{Codec}
 use Rattle.vx_ledger.specs.declared.parcel.Parcel.{Parcel}
 use Rattle.vx_record.specs.Encoding.{encode_event, is_prefix}
 use Rattle.vx_hub.specs.Events.{written, IsPartOf}
@@ -13,15 +13,15 @@ use Rattle.vx_hub.proofs.Silence.{same_test}
 one_more : (i : ℕ) → suc i ≡ i + 1
 one_more i = omega arith
 
-written_next : (ps : List Parcel) (i : ℕ) (p : Parcel) → slice_get ps i ≡ Some p → written (take (suc i) ps) ≡ written (take i ps) ++ encode_event Text p.event
-written_next [] i p is = cc
-written_next (q ∷ ps) zero p is = let same : q ≡ p = cc in ap (λ (x : Parcel). encode_event Text x.event ++ []) same ∙ append-nil (encode_event Text p.event)
-written_next (q ∷ ps) (suc i) p is =
-    ap (λ (w : List ℕ). encode_event Text q.event ++ w) (written_next ps i p is) ∙ sym (append_assoc (encode_event Text q.event) (written (take i ps)) (encode_event Text p.event))
+written_next : (codec : Codec) (ps : List Parcel) (i : ℕ) (p : Parcel) → slice_get ps i ≡ Some p → written codec (take (suc i) ps) ≡ written codec (take i ps) ++ encode_event codec p.event
+written_next codec [] i p is = cc
+written_next codec (q ∷ ps) zero p is = let same : q ≡ p = cc in ap (λ (x : Parcel). encode_event codec x.event ++ []) same ∙ append-nil (encode_event codec p.event)
+written_next codec (q ∷ ps) (suc i) p is =
+    ap (λ (w : List ℕ). encode_event codec q.event ++ w) (written_next codec ps i p is) ∙ sym (append_assoc (encode_event codec q.event) (written codec (take i ps)) (encode_event codec p.event))
 
-pub written_step : (now new : List ℕ) (ps : List Parcel) (i : ℕ) (p : Parcel) → slice_get ps i ≡ Some p → now ≡ written (take i ps) → new ≡ now ++ encode_event Text p.event → new ≡ written (take (i + 1) ps)
-written_step now new ps i p is so added =
-    added ∙ ap (λ (w : List ℕ). w ++ encode_event Text p.event) so ∙ sym (written_next ps i p is) ∙ ap (λ k. written (take k ps)) (one_more i)
+pub written_step : (codec : Codec) (now new : List ℕ) (ps : List Parcel) (i : ℕ) (p : Parcel) → slice_get ps i ≡ Some p → now ≡ written codec (take i ps) → new ≡ now ++ encode_event codec p.event → new ≡ written codec (take (i + 1) ps)
+written_step codec now new ps i p is so added =
+    added ∙ ap (λ (w : List ℕ). w ++ encode_event codec p.event) so ∙ sym (written_next codec ps i p is) ∙ ap (λ k. written codec (take k ps)) (one_more i)
 
 -- the first of some bytes
 taken_prefix : (n : ℕ) (w : List ℕ) → is_prefix (take n w) w ≡ true

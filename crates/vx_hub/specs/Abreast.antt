@@ -3,7 +3,6 @@ use Rattle.std.specs.Prelude.{◌≡◌, ℕ, ◌<◌, true, Option, Some, None,
 use Rattle.vx_value.specs.declared.event.Event.{Event}
 use Rattle.vx_frame.specs.Framings.{HasTaken}
 use Rattle.vx_plan.specs.declared.component.Component.{Component}
-use Rattle.vx_plan.specs.declared.decoding.Decoding.TheVariants as codec
 use Rattle.vx_plan.specs.declared.plan.Plan.{Plan}
 use Rattle.vx_plan.specs.declared.settings.Settings.{Settings}
 use Rattle.vx_plan.specs.Components.{longest_line}
@@ -31,11 +30,11 @@ use Rattle.vx_hub.specs.Collecting.{IsCollecting}
 abbrev pub AreNamedApart : Record → Type 0
 AreNamedApart h = IfSome (in_force h) (λ (plan : Plan). names_differ plan.components ≡ true)
 
--- a source takes the lines of its component, and makes of each the event that the component's codec makes of it
+-- a source takes the lines of its component, and decodes them by the component's codec, with its type
 pub record IsMadeFor (settings : Settings) (core : SourceCore) : Type 0 where
   pub limit : core.framer.limit ≡ longest_line settings
   pub source_type : core.source_type ≡ type_name settings
-  pub decoding_is : decoding settings ≡ Some codec.Bytes
+  pub decoding_is : decoding settings ≡ Some core.decoding
 
 -- a source is made for the component of its instance, where names differ; it knows the stream of which bytes came last,
 -- and has of each stream the bytes that came since its last end; none came of a stream that has ended

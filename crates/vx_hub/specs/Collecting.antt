@@ -4,7 +4,7 @@ use Rattle.vx_ledger.specs.declared.parcel.Parcel.{Parcel}
 use Rattle.vx_plan.specs.declared.component.Component.{Component}
 use Rattle.vx_plan.specs.declared.settings.Settings.{Settings}
 use Rattle.vx_plan.specs.Components.{batch_max_events, batch_timeout}
-use Rattle.vx_plan.specs.Options.{sink_options}
+use Rattle.vx_plan.specs.Options.{sink_options, encoding}
 use Rattle.vx_record.specs.Records.{Record}
 use Rattle.vx_record.specs.Installs.{in_force}
 use Rattle.vx_record.specs.Parcels.{first_copy}
@@ -17,11 +17,13 @@ use Rattle.vx_hub.specs.Numbers.{numbers_in}
 use Rattle.vx_hub.specs.Order.{component_in, cause_of}
 use Rattle.vx_hub.specs.Rows.{row_at}
 
--- a sink collects as many parcels, and waits as long, as its component's options say, which are those of a sink
+-- a sink collects as many parcels, waits as long, and writes by the codec, as its component's options say, which are those
+-- of a sink
 pub record IsSizedFor (settings : Settings) (core : SinkCore) : Type 0 where
   pub room : core.held.room ≡ batch_max_events settings
   pub timeout : core.timeout ≡ batch_timeout settings
   pub options : IsSome (sink_options settings)
+  pub codec : encoding settings ≡ Some core.codec
 
 -- the moment that a sink keeps is that of the take of the oldest of some parcels, until that one is attempted or the run
 -- is given up

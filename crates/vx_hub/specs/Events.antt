@@ -4,7 +4,7 @@ use Rattle.vx_value.specs.Texts.{Word}
 use Rattle.vx_value.specs.declared.event.Event.{Event}
 use Rattle.vx_ends.specs.declared.trouble.Reply.{Reply}
 use Rattle.vx_ends.specs.declared.trouble.Reply.TheVariants.{Ok}
-use Rattle.vx_plan.specs.declared.codec.Codec.TheVariants.{Text}
+use Rattle.vx_json.specs.declared.codec.Codec.{Codec}
 use Rattle.vx_ledger.specs.Copies.{Copy}
 use Rattle.vx_ledger.specs.declared.parcel.Parcel.{Parcel}
 use Rattle.vx_ledger.specs.declared.child.Child.{Child}
@@ -13,30 +13,33 @@ use Rattle.vx_record.specs.Records.{Record}
 use Rattle.vx_record.specs.Copies.{next_copy}
 use Rattle.vx_record.specs.Parcels.{first_copy, parcel_event, event_of}
 use Rattle.vx_hub.specs.declared.row.Row.{Row}
+use Rattle.vx_hub.specs.declared.task.Role.{Role}
+use Rattle.vx_hub.specs.declared.task.Role.TheVariants.{Source, Sink}
 use Rattle.vx_hub.specs.declared.work.Done.{Done}
 use Rattle.vx_hub.specs.declared.work.Done.TheVariants.{Attempted}
 use Rattle.vx_hub.specs.Abreast.{HasComeHome}
 use Rattle.vx_hub.specs.Numbers.{numbers_in}
 use Rattle.vx_hub.specs.Rows.{row_at, task_parcels}
 
--- what the codec `text` writes of an event
-abbrev pub line_of : Event → Word
-line_of event = encode_event Text event
+-- what a codec writes of some parcels, the oldest first
+abbrev pub written : Codec → List Parcel → Word
+written codec [] = []
+written codec (p ∷ ps) = encode_event codec p.event ++ written codec ps
 
--- what it writes of some parcels, the oldest first
-abbrev pub written : List Parcel → Word
-written [] = []
-written (p ∷ ps) = encode_event Text p.event ++ written ps
+-- what an instance writes of all that it holds: a sink what its codec writes of that, and a source nothing
+abbrev pub written_by : Role → Word
+written_by (Source core) = []
+written_by (Sink core) = written core.codec core.held.items
 
 -- an attempt gives the first of some bytes, and all of them where it was answered with `Ok`
 pub record IsPartOf (all bytes : Word) (reply : Reply) : Type 0 where
   pub given : is_prefix bytes all ≡ true
   pub whole : reply ≡ Ok → bytes ≡ all
 
--- an attempt gives what is written of some parcels, or the beginning of that
-abbrev pub IsWrittenOf : List Parcel → Done → Type 0
-IsWrittenOf ps (Attempted bytes reply) = IsPartOf (written ps) bytes reply
-IsWrittenOf ps other = Unit {0}
+-- an attempt gives what its instance writes of all that it holds, or the beginning of that
+abbrev pub IsWrittenOf : Role → Done → Type 0
+IsWrittenOf role (Attempted bytes reply) = IsPartOf (written_by role) bytes reply
+IsWrittenOf role other = Unit {0}
 
 -- the first copy of a parcel was made with its event
 pub record IsSaid (h : Record) (p : Parcel) : Type 0 where

@@ -87,7 +87,7 @@ pub record IsBack {P : Type 0} (told_by : P → Told) (hub : Hub P) (landing : L
   pub held : IsHeldBy hub landing.instance landing.task.role
   pub said : IsSaidBy hub landing.task.role
   pub come : HasDoneBy hub landing.instance landing.task.role landing.done
-  pub writes : IsWrittenOf (role_parcels landing.task.role) landing.done
+  pub writes : IsWrittenOf landing.task.role landing.done
   pub unlost : IsReading landing.done → IsUnlost hub landing.instance
   pub sent : IsReading landing.done → numbers_at (Outputs landing.instance) hub.rows.items ≡ []
   pub due : IsSound hub → IfSome landing.confirmed (λ confirmed. IsDueOf hub.log.history landing.instance confirmed.positions)

@@ -1,6 +1,5 @@
 pub mod Turns
 pub mod Sources
-pub mod Acknowledging
 pub mod Collecting
 pub mod Abreast
 pub mod Attempts

@@ -9,7 +9,6 @@ use Rattle.vx_plan.specs.Ports.{port_of}
 use Rattle.vx_plan.specs.Components.{component_named, stages, longest_line}
 use Rattle.vx_plan.specs.declared.stage.Stage.{Stage}
 use Rattle.vx_value.specs.Texts.{Word}
-use Rattle.vx_plan.specs.declared.decoding.Decoding.TheVariants as codec
 use Rattle.vx_plan.specs.declared.settings.Settings.{Settings}
 use Rattle.vx_plan.specs.Options.{decoding, type_name}
 use Rattle.vx_hub.specs.Sources.{IsFresh}
@@ -62,10 +61,10 @@ room_named plan name = elim (component_named plan name) [ None ↦ 0 | Some comp
 abbrev pub room_at : Plan → ℕ → ℕ
 room_at plan i = elim (slice_get plan.components i) [ None ↦ 0 | Some component ↦ room_named plan component.name ]
 
--- a source begins with the lines of its component, of each of which it makes the event that the codec makes of it, and a
--- sink with its component's sizes
+-- a source begins with the lines of its component and the codec by which it decodes them, and a sink with its component's
+-- sizes
 abbrev pub IsBegun : Settings → Role → Type 0
-IsBegun settings (Source core) = IsFresh (longest_line settings) (type_name settings) core × (decoding settings ≡ Some codec.Bytes)
+IsBegun settings (Source core) = IsFresh (longest_line settings) core.decoding (type_name settings) core × (decoding settings ≡ Some core.decoding)
 IsBegun settings (Sink core) = IsSizedFor settings core
 
 -- a seat is for a component

@@ -20,7 +20,8 @@ use Rattle.vx_record.specs.Abandoning.{abandoned, MayStillCome}
 use Rattle.vx_record.specs.Turns.{is_out, at_lease, is_take_of, since_lease, is_attempt_of, is_confirm_of, worker_now, lease_now}
 use Rattle.vx_record.specs.Parcels.{parcel_event, parcel_ports, port_list}
 use Rattle.vx_record.specs.Encoding.{encode, encoded, is_prefix}
-use Rattle.vx_plan.specs.declared.codec.Codec.TheVariants.{Text}
+use Rattle.vx_json.specs.declared.codec.Codec.{Codec}
+use Rattle.vx_plan.specs.Options.{encoding}
 use Rattle.vx_value.specs.Texts.{Word}
 use Rattle.vx_record.specs.Starting.{MayInstall}
 use Rattle.vx_record.specs.declared.instance.Instance.{Instance}
@@ -38,7 +39,7 @@ use Rattle.vx_record.specs.Sourcing.{failed_starts, IsYield, MayTurn, must_wait}
 use Rattle.vx_record.specs.Spending.{WasAnswered, HadNoTarget, oldest}
 use Rattle.vx_record.specs.SinkBatches.{failures_with, attempts_allowed, attempts_with, is_batch_closed, is_full_batch, is_timed_out, is_last_batch, retry_from}
 use Rattle.vx_record.specs.Owing.{owes_spends_in, owes_birth}
-use Rattle.vx_hub.specs.Acknowledging.{AcknowledgesNothing}
+use Rattle.vx_plan.specs.Acknowledging.{AcknowledgesNothing}
 use Rattle.vx_record.specs.Ready.{is_ready}
 use Rattle.vx_record.specs.Ending.{BirthWants, SplitWants}
 use Rattle.vx_hub.specs.Closures.{IsDone}
@@ -180,16 +181,18 @@ pub record IsClosedFor (h : Record) (i now : ℕ) : Type 0 where
   pub waited : retry_from h i ≤ now
 
 -- an attempt is made by a sink that is out, once while it is out, and names what it holds, in order, which is at least
--- one copy; it gives what the codec of the sink, which is `text`, writes of the events of that, or the beginning of it,
--- and with the reply `Ok` the whole; the batch is closed at the moment of the lease
+-- one copy; it gives what the codec of the sink, which is that of its component, writes of the events of that, or the
+-- beginning of it, and with the reply `Ok` the whole; the batch is closed at the moment of the lease
 pub record IsAttemptOf (h : Record) (j : ℕ) (copies : List ℕ) (bytes : Word) (answer : Reply) : Type 0 where
   pub out : is_out h j ≡ true
   pub sink : IsOfClass h j Sink
   pub once : list_any (is_attempt_of j) (since_lease h j) ≡ false
   pub some : 0 < length copies
   pub all : copies ≡ joined (held h j)
-  pub given : is_prefix bytes (encode Text (map (parcel_event h) (held h j))) ≡ true
-  pub whole : answer ≡ reply.Ok → bytes ≡ encode Text (map (parcel_event h) (held h j))
+  pub codec : Codec
+  pub codec_is : IsSomeAnd (component_in (in_force h) j) (λ component. encoding component.settings ≡ Some codec)
+  pub given : is_prefix bytes (encode codec (map (parcel_event h) (held h j))) ≡ true
+  pub whole : answer ≡ reply.Ok → bytes ≡ encode codec (map (parcel_event h) (held h j))
   pub batch_closed : IsClosedFor h j (lease_now h j)
   pub is_sink : sink_at h j ≡ true
   pub closed : is_batch_closed h j (lease_now h j) ≡ true

@@ -18,7 +18,7 @@ ghost use Rattle.vx_hub.specs.Turns.{event_count};
 ghost use Rattle.vx_record.specs.Places.Place.{Outputs, Held};
 ghost use Rattle.vx_hub.specs.Places.{numbers_at, copies_at};
 ghost use Rattle.vx_hub.specs.Births.{IsHeldBy, IsSaidBy, HasComeBy};
-ghost use Rattle.vx_hub.specs.Events.{written, IsPartOf};
+ghost use Rattle.vx_hub.specs.Events.{written_by, IsPartOf};
 ghost use Rattle.vx_hub.specs.Rows.{role_copies, role_parcels, port_at, IsOutAt};
 
 use crate::confirming::Confirmed;
@@ -308,7 +308,7 @@ impl<P: Port> Hub<P> {
         requires sink { IsSinkAt self.old instance }
         requires untried { IsUntried self.old instance }
         requires some { 0 < length (role_parcels task.role) }
-        requires writes { IsPartOf (written (role_parcels task.role)) bytes reply }
+        requires writes { IsPartOf (written_by task.role) bytes reply }
         requires held { IsHeldBy self.old instance task.role }
         requires said { IsSaidBy self.old task.role }
         requires come { HasComeBy self.old instance task.role }

@@ -11,7 +11,6 @@ mod finishing;
 mod hub;
 mod landing;
 mod leasing;
-mod line;
 mod making;
 mod notes;
 mod numbers;

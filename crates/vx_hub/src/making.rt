@@ -3,7 +3,7 @@ ghost use Rattle.vx_plan.specs.declared.plan.Plan.{Plan};
 ghost use Rattle.vx_record.specs.Installs.{in_force};
 ghost use Rattle.vx_record.specs.Starting.{first_instances};
 ghost use Rattle.vx_record.specs.Wirings.{names_differ, begun};
-ghost use Rattle.vx_hub.specs.Acknowledging.{AcknowledgesNothing};
+ghost use Rattle.vx_plan.specs.Acknowledging.{AcknowledgesNothing};
 ghost use Rattle.vx_hub.specs.Stands.{Stands, spec_of};
 ghost use Rattle.vx_hub.specs.Beginning.{HasRoomFor, HasSeats, Begins};
 ghost use Rattle.vx_hub.specs.Making.{IsUnused, AreUnused, IsSeatOf, AreFitted, IsUntouched, AreUntouched};

@@ -10,6 +10,7 @@ use crate::stack::Stack;
 use crate::task::{Role, SinkCore};
 use std::alloc::Global;
 use vx_ends::PositionList;
+use vx_json::{Codec, Decoding};
 use vx_ledger::{Outlet, Parcel};
 use vx_plan::{Class, Component, Plan, Settings};
 use vx_value::{Queue, Text, WantOfMemory};
@@ -143,13 +144,15 @@ fn role(alloc: Global, settings: &Settings) -> Result<Role, WantOfMemory>
     match settings.sink() {
         None => {
             let limit = settings.line_limit().unwrap_or(0);
+            let decoding = settings.decoding().unwrap_or(Decoding::Bytes);
             let source_type = Text::copy_of(alloc, "stdin")?;
-            Ok(Role::Source(SourceCore::new(alloc, limit, source_type)?))
+            Ok(Role::Source(SourceCore::new(alloc, limit, decoding, source_type)?))
         }
         Some(sink) => Ok(Role::Sink(SinkCore {
             held: Queue::new(alloc, sink.batch_max_events as usize)?,
             since: 0,
             timeout: u64::from(sink.batch_timeout_secs) * 1000,
+            codec: settings.encoding().unwrap_or(Codec::Text),
         })),
     }
 }
@@ -191,6 +194,7 @@ pub(crate) fn end_role(role: Role)
                 held,
                 since: _,
                 timeout: _,
+                codec: _,
             } = core;
             held.end();
         }

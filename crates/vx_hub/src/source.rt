@@ -1,16 +1,18 @@
-ghost use Rattle.std.specs.Prelude.{◌≡◌, ◌∷◌, ◌++◌, [], length, OnOk};
+ghost use Rattle.std.specs.Prelude.{◌≡◌, ◌++◌, length, OnOk};
+ghost use Rattle.vx_json.specs.LineEvents.{event_fields};
+ghost use Rattle.vx_record.specs.Reads.{event_with};
 
-use crate::line::event_of_line;
 use std::alloc::Global;
 use vx_ends::{Port, Took, Trouble};
 use vx_frame::{Framer, LineList};
+use vx_json::{Decoding, line_event};
 use vx_value::{Bytes, Event, EventList, Text, WantOfMemory};
 
 /// The greatest number of bytes that one take asks for.
 pub const ROOM: usize = 65_536;
 
 /// What one turn of a source brought. `end` is the number of the stream's bytes up to the end of the last line that
-/// gave an event, and 0 where none did.
+/// was completed, also where that gave no event, and 0 where none was.
 #[derive(Drop)]
 pub enum Turned {
     /// Bytes of a stream, and the events of the lines that they complete.
@@ -20,7 +22,7 @@ pub enum Turned {
         events: EventList,
         end: u64,
     },
-    /// The stream has ended, and its unfinished line, if there is one, gives an event.
+    /// The stream has ended, and that completes its unfinished line, if there is one.
     StreamEnded {
         stream: u64,
         events: EventList,
@@ -40,10 +42,11 @@ pub enum Turned {
     },
 }
 
-/// A source at work: it cuts the bytes that it takes into lines, and makes an event of each.
+/// A source at work: it cuts the bytes that it takes into lines, and makes the events of those by its codec.
 #[derive(Drop)]
 pub struct SourceCore {
     alloc: Global,
+    decoding: Decoding,
     source_type: Text,
     room: Vec<u8>,
     framer: Framer,
@@ -57,13 +60,19 @@ impl SourceCore {
     ghost use Rattle.vx_hub.specs.Turns.{taken_in, ended_in, event_count, BringsSome, FailsBy, IsOfOpen, LeavesNothing, OnlyTakes};
     ghost use Rattle.vx_hub.specs.Sources.{AreOf, HasFed, HasFinished, HasBrought, IsFresh};
 
-    /// A source that takes lines of at most `limit` bytes.
-    pub fn new(alloc: Global, limit: u32, source_type: Text) -> Result<Self, WantOfMemory>
-        ensures { IfOk result (IsFresh limit source_type) }
+    /// A source that takes lines of at most `limit` bytes, and decodes each.
+    pub fn new(
+        alloc: Global,
+        limit: u32,
+        decoding: Decoding,
+        source_type: Text,
+    ) -> Result<Self, WantOfMemory>
+        ensures { IfOk result (IsFresh limit decoding source_type) }
     {
         let room = vec![in alloc; 0u8; ROOM]?;
         Ok(SourceCore {
             alloc,
+            decoding,
             source_type,
             room,
             framer: Framer::new(alloc, limit),
@@ -148,7 +157,8 @@ impl SourceCore {
         self.events(&lines)
     }
 
-    /// The event of the unfinished line with which a stream ends, and that line's end; no event and 0 where there is none.
+    /// The event of the unfinished line with which a stream ends, if it gives one, and that line's end; no event and 0
+    /// where there is no such line.
     fn finish(&mut self, stream: u64) -> Result<(EventList, u64), WantOfMemory>
         ensures finished { IfOk result (λ cut. HasFinished self.old stream cut.0 cut.1 self.new) }
         ensures few { IfOk result (λ cut. length cut.0 ≤ 1) }
@@ -158,14 +168,21 @@ impl SourceCore {
         self.events(&lines)
     }
 
-    /// The events of some lines, and the end of the last of them, or 0.
+    /// The events of some lines, and the end of the last of them, whether or not that gave an event; 0 where there is
+    /// none.
     fn events(&self, lines: &LineList) -> Result<(EventList, u64), WantOfMemory>
-        ensures { IfOk result (λ cut. AreOf self.now.source_type lines.now cut.0 cut.1) }
+        ensures { IfOk result (λ cut. AreOf self.now.decoding self.now.source_type lines.now cut.0 cut.1) }
     {
         let mut events = EventList::new(self.alloc);
         let mut end = 0;
         for line in lines.as_slice() {
-            let event = event_of_line(self.alloc, line.bytes.as_slice(), &self.source_type)?;
+            let event = line_event(
+                self.alloc,
+                self.decoding,
+                line.bytes.as_slice(),
+                &self.source_type,
+                None,
+            )?;
             push(&mut events, event)?;
             end = line.end;
         }
@@ -173,10 +190,13 @@ impl SourceCore {
     }
 }
 
-/// Adds an event.
-fn push(events: &mut EventList, event: Event) -> Result<(), WantOfMemory>
-    ensures { OnOk result (events.new ≡ events.old ++ event ∷ []) }
+/// Adds an event, if there is one.
+fn push(events: &mut EventList, event: Option<Event>) -> Result<(), WantOfMemory>
+    ensures { OnOk result (events.new ≡ events.old ++ event_with (event_fields event)) }
 {
+    let Some(event) = event else {
+        return Ok(());
+    };
     match events.push(event) {
         Ok(()) => Ok(()),
         Err(_) => Err(WantOfMemory),

@@ -2,6 +2,7 @@ ghost use Rattle.std.specs.Prelude.{◌≡◌, ◌+◌, ◌≤◌, [], IsTrue, I
 ghost use Rattle.vx_hub.specs.Rows.{task_parcels};
 
 use crate::source::SourceCore;
+use vx_json::Codec;
 use vx_ledger::Parcel;
 use vx_value::Queue;
 
@@ -13,6 +14,8 @@ pub struct SinkCore {
     pub since: u64,
     /// How long a sink batch waits for more parcels, in milliseconds.
     pub timeout: u64,
+    /// How it writes an event.
+    pub codec: Codec,
 }
 
 impl SinkCore {

@@ -1,5 +1,4 @@
-ghost use Rattle.std.specs.Prelude.{◌≡◌, ◌≢◌, ◌≤◌, List, None, IfOk};
-ghost use Rattle.vx_ledger.specs.declared.parcel.Parcel.{Parcel};
+ghost use Rattle.std.specs.Prelude.{◌≡◌, ◌≢◌, ◌≤◌, None, IfOk};
 ghost use Rattle.vx_hub.specs.Events.{written, IsWrittenOf};
 ghost use Rattle.vx_hub.specs.Rows.{role_copies, role_parcels};
 ghost use Rattle.vx_hub.specs.Works.{Reports, NamesBy, IsReading, IsAttempted, event_count_of, IsSending, Moves};
@@ -9,12 +8,12 @@ ghost use Rattle.vx_hub.specs.declared.work.Done.{Done};
 ghost use Rattle.vx_hub.specs.declared.task.Role.{Role};
 
 use crate::confirming::{Confirmed, confirm};
-use crate::line::write_text;
 use crate::sending::attempt;
 use crate::source::{SourceCore, Turned};
 use crate::task::{Role, SinkCore, Task};
 use std::alloc::Global;
 use vx_ends::{Clock, Port, PositionList, Reply};
+use vx_json::encode_event;
 use vx_value::{Bytes, WantOfMemory};
 
 /// What a leased instance has to do.
@@ -77,7 +76,7 @@ impl<P: Port> Work<P> {
         ensures closes { result.done ≡ Done.Closed → self.job ≡ Job.Close }
         ensures sends { IsAttempted result.done → self.job ≡ Job.Attempt }
         ensures events { event_count_of result.done ≤ 65536 }
-        ensures writes { IsWrittenOf (role_parcels self.task.role) result.done }
+        ensures writes { IsWrittenOf self.task.role result.done }
         ensures moves { Moves self.task.role result.done result.task.role }
         ensures back { (hub : Hub P) → IsLeased P.told hub self → IsBack P.told hub result }
     {
@@ -117,7 +116,7 @@ fn confirm_and_act<P: Port>(
     ensures parcels { role_parcels role.new ≡ role_parcels role.old }
     ensures reports { Reports (P.told port.old) result.confirmed result.done (P.told port.new) }
     ensures names { NamesBy positions result.confirmed result.done }
-    ensures writes { IsWrittenOf (role_parcels role.old) result.done }
+    ensures writes { IsWrittenOf role.old result.done }
     ensures reads { IsReading result.done → job ≡ Job.Read }
     ensures closes { result.done ≡ Done.Closed → job ≡ Job.Close }
     ensures sends { IsAttempted result.done → job ≡ Job.Attempt }
@@ -145,7 +144,7 @@ fn act<P: Port>(alloc: Global, job: Job, port: &mut P, role: &mut Role) -> Done
     ensures reads { IsReading result → job ≡ Job.Read }
     ensures closes { result ≡ Done.Closed → job ≡ Job.Close }
     ensures sends { IsAttempted result → job ≡ Job.Attempt }
-    ensures writes { IsWrittenOf (role_parcels role.old) result }
+    ensures writes { IsWrittenOf role.old result }
     ensures moves { Moves role.old result role.new }
 {
     match (job, role) {
@@ -160,7 +159,7 @@ fn act<P: Port>(alloc: Global, job: Job, port: &mut P, role: &mut Role) -> Done
 fn nothing<P: Port>(_port: &P) -> Done
     ensures reports { Reports (P.told _port.now) None result (P.told _port.now) }
     ensures none { result ≡ Done.Nothing }
-    ensures writes { (ps : List Parcel) → IsWrittenOf ps result }
+    ensures writes { (role : Role) → IsWrittenOf role result }
 {
     Done::Nothing
 }
@@ -169,7 +168,7 @@ fn nothing<P: Port>(_port: &P) -> Done
 fn close<P: Port>(port: &mut P) -> Done
     ensures reports { Reports (P.told port.old) None result (P.told port.new) }
     ensures closed { result ≡ Done.Closed }
-    ensures writes { (ps : List Parcel) → IsWrittenOf ps result }
+    ensures writes { (role : Role) → IsWrittenOf role result }
 {
     port.close();
     Done::Closed
@@ -181,7 +180,7 @@ fn read<P: Port>(port: &mut P, core: &mut SourceCore) -> Done
     ensures events { event_count_of result ≤ 65536 }
     ensures unsent { IsAttempted result → ⊥ }
     ensures unclosed { result ≢ Done.Closed }
-    ensures writes { (ps : List Parcel) → IsWrittenOf ps result }
+    ensures writes { (role : Role) → IsWrittenOf role result }
     ensures moves { Moves (Role.Source core.old) result (Role.Source core.new) }
 {
     match core.turn(port) {
@@ -196,7 +195,7 @@ fn send<P: Port>(alloc: Global, port: &mut P, core: &SinkCore) -> Done
     ensures events { event_count_of result ≤ 65536 }
     ensures unread { IsReading result → ⊥ }
     ensures unclosed { result ≢ Done.Closed }
-    ensures writes { IsWrittenOf core.now.held.items result }
+    ensures writes { IsWrittenOf (Role.Sink core.now) result }
     ensures moves { (role : Role) → Moves role result role }
 {
     let Ok(mut bytes) = encode(alloc, core) else {
@@ -214,14 +213,14 @@ fn send<P: Port>(alloc: Global, port: &mut P, core: &SinkCore) -> Done
     }
 }
 
-/// What a sink batch is written as: each of its events, the oldest first.
+/// What a sink batch is written as: each of its events by the sink's codec, the oldest first.
 fn encode(alloc: Global, core: &SinkCore) -> Result<Bytes, WantOfMemory>
-    ensures { IfOk result (λ bytes. bytes ≡ written core.now.held.items) }
+    ensures { IfOk result (λ bytes. bytes ≡ written core.now.codec core.now.held.items) }
 {
     let mut out = Bytes::new(alloc);
     for i in 0..core.held.len() {
         if let Some(parcel) = core.held.get(i) {
-            write_text(&parcel.event, &mut out)?;
+            encode_event(core.codec, &parcel.event, &mut out)?;
         }
     }
     Ok(out)

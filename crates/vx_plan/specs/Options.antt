@@ -1,8 +1,8 @@
 -- What settings say, one accessor for each option, so that a new type of component adds one line to each.
 use Rattle.std.specs.Prelude.{ℕ, Bool, true, Option, Some, None, [], ◌∷◌}
 use Rattle.vx_value.specs.Texts.{Word}
-use Rattle.vx_plan.specs.declared.codec.Codec.{Codec}
-use Rattle.vx_plan.specs.declared.decoding.Decoding.{Decoding}
+use Rattle.vx_json.specs.declared.codec.Codec.{Codec}
+use Rattle.vx_json.specs.declared.decoding.Decoding.{Decoding}
 use Rattle.vx_plan.specs.declared.settings.Settings.{Settings}
 use Rattle.vx_plan.specs.declared.settings.Settings.TheVariants.{Stdin, Console}
 use Rattle.vx_plan.specs.declared.sink_settings.SinkSettings.{SinkSettings}

@@ -2,10 +2,8 @@ ghost use Rattle.std.specs.Prelude.{◌≡◌, IfOk};
 ghost use Rattle.vx_plan.specs.First.{default_global, default_sink, first_source, first_sink, first_plan};
 
 use crate::class::Class;
-use crate::codec::Codec;
 use crate::component::{Component, ComponentList};
 use crate::console_target::ConsoleTarget;
-use crate::decoding::Decoding;
 use crate::global::Global;
 use crate::plan::Plan;
 use crate::settings::Settings;
@@ -13,6 +11,7 @@ use crate::sink_settings::SinkSettings;
 use crate::stage::{Stage, StageList};
 use crate::when_full::WhenFull;
 use std::alloc::Global as Allocator;
+use vx_json::{Codec, Decoding};
 use vx_value::{Text, TextList, WantOfMemory};
 
 /// The plan of standard input to standard output, as text: a source named `in`, and a sink named `out` that reads it.

@@ -2,10 +2,8 @@
 #![tactic(auto)]
 
 mod class;
-mod codec;
 mod component;
 mod console_target;
-mod decoding;
 mod first;
 mod global;
 mod names;
@@ -19,14 +17,13 @@ mod walk;
 mod when_full;
 
 pub use class::Class;
-pub use codec::Codec;
 pub use component::{Component, ComponentList};
 pub use console_target::ConsoleTarget;
-pub use decoding::Decoding;
 pub use first::first_plan;
 pub use global::Global;
 pub use plan::Plan;
 pub use settings::Settings;
 pub use sink_settings::SinkSettings;
 pub use stage::{Stage, StageList};
+pub use vx_json::{Codec, Decoding};
 pub use when_full::WhenFull;

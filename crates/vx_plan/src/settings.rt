@@ -5,12 +5,11 @@ ghost use Rattle.vx_plan.specs.declared.sink_settings.SinkSettings.{SinkSettings
 ghost use Rattle.vx_plan.specs.Ports.{form_of};
 ghost use Rattle.vx_plan.specs.Options.{sink_options, line_limit, decoding, encoding, has_device};
 
-use crate::codec::Codec;
 use crate::console_target::ConsoleTarget;
-use crate::decoding::Decoding;
 use crate::sink_settings::SinkSettings;
 use std::alloc::Global;
 use vx_ends::Form;
+use vx_json::{Codec, Decoding};
 use vx_value::WantOfMemory;
 
 /// The options of a component, one variant for each type.

@@ -9,7 +9,7 @@ use Rattle.vx_plan.specs.Components.{acknowledges}
 use Rattle.vx_reading.specs.declared.kind.Kind.{Kind}
 use Rattle.vx_reading.specs.declared.kind.Kind.TheVariants.{Stdin, Console}
 use Rattle.vx_reading.specs.declared.plan_fault.PlanFault.{PlanFault}
-use Rattle.vx_reading.specs.Acknowledging.{AcknowledgesNothing}
+use Rattle.vx_plan.specs.Acknowledging.{AcknowledgesNothing}
 use Rattle.vx_reading.specs.Components.{Part, parts, kind_of}
 use Rattle.vx_reading.specs.Plans.{component, component_of, plan_of}
 use Rattle.vx_reading.specs.Reading.{IsPlanOf, IsJudged}

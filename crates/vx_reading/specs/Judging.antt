@@ -1,11 +1,11 @@
 -- What a table gives, and how each value of it is judged.
-use Rattle.std.specs.Prelude.{ℕ, Bool, false, true, not, ◌&&◌, Option, Some, None, List, [], ◌∷◌, length, map, find, if◌then◌else◌, nat_lt}
+use Rattle.std.specs.Prelude.{ℕ, ℤ, pos, negsuc, Bool, false, true, not, ◌&&◌, Option, Some, None, option_and_then, List, [], ◌∷◌, length, map, find, if◌then◌else◌, nat_lt, nat_le}
 use Rattle.std.specs.List.{list_any, flat_map}
 use Rattle.vx_value.specs.Texts.{Word, same_text}
-use Rattle.toml.specs.Data.{Data, Items, no_items, item, Members, no_members, member, as_table, as_array, as_str}
+use Rattle.toml.specs.Data.{Data, Items, no_items, item, Members, no_members, member, as_table, as_array, as_str, as_integer}
 use Rattle.vx_reading.specs.declared.trouble.Trouble.{Trouble}
 use Rattle.vx_reading.specs.declared.trouble.Trouble.TheVariants.{UnknownOption, BadValue, TooMany}
-use Rattle.vx_reading.specs.Options.{Place, Alone, Within, Shape, AnyText, OneOf, Texts, Row, same_place}
+use Rattle.vx_reading.specs.Options.{Place, Alone, Within, Shape, AnyText, OneOf, Texts, Whole, Row, same_place}
 
 -- a name and the value under it
 pub record Pair : Type 0 where
@@ -75,11 +75,21 @@ fits_texts most items =
     if list_any (λ d. not (is_text d)) items then Some BadValue
     else (if nat_lt most (length items) then Some (TooMany (length items) most) else None)
 
+-- a whole number, where it is between two, both among them
+abbrev pub between : ℕ → ℕ → ℤ → Option ℕ
+between least most (pos n) = if nat_le least n && nat_le n most then Some n else None
+between least most (negsuc n) = None
+
+-- the whole number that a value is, where it is one between two
+abbrev pub whole_in : ℕ → ℕ → Data → Option ℕ
+whole_in least most value = option_and_then (between least most) (as_integer value)
+
 -- what is wrong with a value, by what it has to be
 abbrev pub fits : Shape → Data → Option Trouble
 fits AnyText value = if is_text value then None else Some BadValue
 fits (OneOf texts) value = if is_one_of texts value then None else Some BadValue
 fits (Texts most) value = elim (as_array value) [ None ↦ Some BadValue | Some items ↦ fits_texts most (items_in items) ]
+fits (Whole least most) value = elim (whole_in least most value) [ None ↦ Some BadValue | Some n ↦ None ]
 
 -- the row of a place
 abbrev pub row_at : List Row → Place → Option Row

@@ -6,4 +6,3 @@ pub mod Findings
 pub mod Plans
 pub mod Reading
 pub mod Views
-pub mod Acknowledging

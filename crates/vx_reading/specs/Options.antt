@@ -11,11 +11,13 @@ pub data Place : Type 0 where
   Alone : Word → Place
   Within : Word → Word → Place
 
--- what a value has to be: a text, one of some texts, or a list of texts, at most so many
+-- what a value has to be: a text, one of some texts, a list of texts, at most so many, or a whole number between two, both
+-- among them
 pub data Shape : Type 0 where
   AnyText : Shape
   OneOf : List Word → Shape
   Texts : ℕ → Shape
+  Whole : ℕ → ℕ → Shape
 
 -- an option: where it stands, what its value has to be, and whether it has to be there
 pub record Row : Type 0 where
@@ -56,11 +58,23 @@ target_row = record { place = Alone (codes "target"); shape = OneOf (codes "stdo
 
 -- how a sink writes an event
 abbrev pub codec_row : Row
-codec_row = record { place = Within (codes "encoding") (codes "codec"); shape = OneOf (codes "text" ∷ []); required = true }
+codec_row = record { place = Within (codes "encoding") (codes "codec"); shape = OneOf (codes "text" ∷ codes "json" ∷ []); required = true }
+
+-- the longest line that a source may allow, without its line feed
+abbrev pub most_length : ℕ
+most_length = 16777216
+
+-- the longest line that a source takes
+abbrev pub length_row : Row
+length_row = record { place = Alone (codes "max_length"); shape = Whole 1 most_length; required = false }
+
+-- how a source makes an event of a line
+abbrev pub decoding_row : Row
+decoding_row = record { place = Within (codes "decoding") (codes "codec"); shape = OneOf (codes "bytes" ∷ codes "json" ∷ []); required = false }
 
 -- the options of each type
 abbrev pub rows_of : Kind → List Row
-rows_of Stdin = type_row ∷ []
+rows_of Stdin = type_row ∷ length_row ∷ decoding_row ∷ []
 rows_of Console = type_row ∷ inputs_row ∷ target_row ∷ codec_row ∷ []
 
 -- the types, each with the table in which it stands and its name

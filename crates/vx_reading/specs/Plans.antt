@@ -1,18 +1,20 @@
 -- The plan of a document without faults.
-use Rattle.std.specs.Prelude.{Option, Some, None, option_and_then, List, [], ◌∷◌, map, codes, if◌then◌else◌, false, ◌^◌, ◌-◌}
+use Rattle.std.specs.Prelude.{ℕ, Option, Some, None, option_and_then, unwrap_or, List, [], ◌∷◌, map, codes, if◌then◌else◌, false, ◌^◌, ◌-◌}
 use Rattle.std.specs.List.{flat_map}
 use Rattle.vx_value.specs.Texts.{Word, same_text}
 use Rattle.toml.specs.Data.{Data, Items, get, as_str, as_array}
 use Rattle.vx_graph.specs.declared.node.Class as graph_class
 use Rattle.vx_graph.specs.declared.node.Class.TheVariants as graph
 use Rattle.vx_graph.specs.declared.node.Node.{Node}
+use Rattle.vx_json.specs.declared.codec.Codec.{Codec}
+use Rattle.vx_json.specs.declared.codec.Codec.TheVariants as codec
+use Rattle.vx_json.specs.declared.decoding.Decoding.{Decoding}
+use Rattle.vx_json.specs.declared.decoding.Decoding.TheVariants as decoding
 use Rattle.vx_plan.specs.declared.class.Class.{Class}
 use Rattle.vx_plan.specs.declared.class.Class.TheVariants.{Source, Transform, Sink}
-use Rattle.vx_plan.specs.declared.codec.Codec.TheVariants as codec
 use Rattle.vx_plan.specs.declared.component.Component.{Component}
 use Rattle.vx_plan.specs.declared.console_target.ConsoleTarget.{ConsoleTarget}
 use Rattle.vx_plan.specs.declared.console_target.ConsoleTarget.TheVariants.{Stdout, Stderr}
-use Rattle.vx_plan.specs.declared.decoding.Decoding.TheVariants as decoding
 use Rattle.vx_plan.specs.declared.global.Global.{Global}
 use Rattle.vx_plan.specs.declared.plan.Plan.{Plan}
 use Rattle.vx_plan.specs.declared.settings.Settings.{Settings}
@@ -23,7 +25,8 @@ use Rattle.vx_plan.specs.Components.{class_ports}
 use Rattle.vx_reading.specs.declared.kind.Kind.{Kind}
 use Rattle.vx_reading.specs.declared.kind.Kind.TheVariants.{Stdin, Console}
 use Rattle.vx_reading.specs.Components.{Part, parts, kind_of}
-use Rattle.vx_reading.specs.Judging.{items_in}
+use Rattle.vx_reading.specs.Judging.{items_in, whole_in}
+use Rattle.vx_reading.specs.Options.{most_length}
 
 -- a text, or another where it isn't given
 abbrev pub text_or : Word → Option Word → Word
@@ -33,6 +36,10 @@ text_or other (Some text) = text
 -- the text under a name of a table
 abbrev pub text_at : Word → Data → Option Word
 text_at name value = option_and_then as_str (get name value)
+
+-- the text under a name of a table that stands under another name
+abbrev pub text_within : Word → Word → Data → Option Word
+text_within group name value = option_and_then (text_at name) (get group value)
 
 -- the options of the whole
 abbrev pub global_of : Data → Global
@@ -55,6 +62,20 @@ abbrev pub target_named : Option Word → ConsoleTarget
 target_named None = Stdout
 target_named (Some text) = if same_text text (codes "stderr") then Stderr else Stdout
 
+-- the length of the longest line that a source takes: 102,400 bytes where it doesn't say
+abbrev pub length_of : Data → ℕ
+length_of value = unwrap_or (option_and_then (whole_in 1 most_length) (get (codes "max_length") value)) 102400
+
+-- how a source makes an event of a line: the line is the message where it doesn't say
+abbrev pub decoding_named : Option Word → Decoding
+decoding_named None = decoding.Bytes
+decoding_named (Some text) = if same_text text (codes "json") then decoding.Json else decoding.Bytes
+
+-- how a sink writes an event; it has to say
+abbrev pub codec_named : Option Word → Codec
+codec_named None = codec.Text
+codec_named (Some text) = if same_text text (codes "json") then codec.Json else codec.Text
+
 -- what every sink has that says nothing of it
 abbrev pub sink_defaults : SinkSettings
 sink_defaults = record {
@@ -69,8 +90,10 @@ sink_defaults = record {
 
 -- the settings of a component of a type
 abbrev pub settings_of : Data → Kind → Settings
-settings_of value Stdin = settings.Stdin 102400 decoding.Bytes
-settings_of value Console = settings.Console (target_named (text_at (codes "target") value)) codec.Text sink_defaults
+settings_of value Stdin =
+    settings.Stdin (length_of value) (decoding_named (text_within (codes "decoding") (codes "codec") value))
+settings_of value Console =
+    settings.Console (target_named (text_at (codes "target") value)) (codec_named (text_within (codes "encoding") (codes "codec") value)) sink_defaults
 
 -- the component of a type
 abbrev pub component : Part → Kind → Component

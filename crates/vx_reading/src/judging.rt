@@ -3,7 +3,7 @@ ghost use Rattle.std.specs.Option.{option_map};
 ghost use Rattle.std.specs.List.{list_any};
 ghost use Rattle.toml.specs.View.{view, items_view};
 ghost use Rattle.vx_value.specs.Texts.{same_text};
-ghost use Rattle.vx_reading.specs.Judging.{fits, fits_texts, judged, items_in, is_text, is_one_of, row_at};
+ghost use Rattle.vx_reading.specs.Judging.{fits, fits_texts, judged, items_in, is_text, is_one_of, between, whole_in, row_at};
 ghost use Rattle.vx_reading.specs.Views.{shape_view, rows_view, row_view, place_view, given_view};
 
 use crate::given::{Given, same_place};
@@ -71,6 +71,26 @@ fn has_other(items: &[Value]) -> bool
     false
 }
 
+/// A whole number, where it is between two, both among them.
+fn between(least: u32, most: u32, number: i64) -> Option<u32>
+    ensures { result ≡ between least most number }
+{
+    match u32::try_from(number) {
+        Ok(number) if least <= number && number <= most => Some(number),
+        _ => None,
+    }
+}
+
+/// The whole number that a value is, where it is one between two.
+pub(crate) fn whole_in(least: u32, most: u32, value: &Value) -> Option<u32>
+    ensures { result ≡ whole_in least most (view value.now) }
+{
+    match value.as_integer() {
+        Some(number) => between(least, most, number),
+        None => None,
+    }
+}
+
 /// What is wrong with a value, by what it has to be.
 fn fits(shape: Shape, value: &Value) -> Option<Trouble>
     ensures { result ≡ fits (shape_view shape) (view value.now) }
@@ -80,6 +100,10 @@ fn fits(shape: Shape, value: &Value) -> Option<Trouble>
         Shape::OneOf(texts) if is_one_of(texts, value) => None,
         Shape::Texts(most) => match value.as_array() {
             Some(items) => fits_texts(most, items.as_slice()),
+            None => Some(Trouble::BadValue),
+        },
+        Shape::Whole(least, most) => match whole_in(least, most, value) {
+            Some(_) => None,
             None => Some(Trouble::BadValue),
         },
         _ => Some(Trouble::BadValue),

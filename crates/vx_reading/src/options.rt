@@ -28,8 +28,23 @@ const TYPE_ROW: Row = Row {
     required: true,
 };
 
+/// The longest line that a source may allow, in bytes, without its line feed.
+pub(crate) const MOST_LENGTH: u32 = 16_777_216;
+
 /// The options of a source that reads standard input.
-static STDIN_ROWS: [Row; 1] = [TYPE_ROW];
+static STDIN_ROWS: [Row; 3] = [
+    TYPE_ROW,
+    Row {
+        place: Place::Alone("max_length"),
+        shape: Shape::Whole(1, MOST_LENGTH),
+        required: false,
+    },
+    Row {
+        place: Place::Within("decoding", "codec"),
+        shape: Shape::OneOf(&["bytes", "json"]),
+        required: false,
+    },
+];
 
 /// The options of a sink that writes to standard output or standard error.
 static CONSOLE_ROWS: [Row; 4] = [
@@ -46,7 +61,7 @@ static CONSOLE_ROWS: [Row; 4] = [
     },
     Row {
         place: Place::Within("encoding", "codec"),
-        shape: Shape::OneOf(&["text"]),
+        shape: Shape::OneOf(&["text", "json"]),
         required: true,
     },
 ];

@@ -4,10 +4,12 @@ ghost use Rattle.std.specs.List.{flat_map};
 ghost use Rattle.toml.specs.View.{view, items_view};
 ghost use Rattle.vx_reading.specs.Judging.{items_in};
 ghost use Rattle.vx_reading.specs.Components.{parts};
-ghost use Rattle.vx_reading.specs.Plans.{text_at, global_of, text_of, inputs_of, target_named, sink_defaults, settings_of, component, component_of, plan_of};
+ghost use Rattle.vx_reading.specs.Plans.{text_at, text_within, global_of, text_of, inputs_of, target_named, length_of, decoding_named, codec_named, sink_defaults, settings_of, component, component_of, plan_of};
 ghost use Rattle.vx_reading.specs.Views.{part_view, parts_view};
 
+use crate::judging::whole_in;
 use crate::kind::Kind;
+use crate::options::MOST_LENGTH;
 use crate::part::{Part, kind_of};
 use crate::texts::same_text;
 use std::alloc::Global as Allocator;
@@ -30,6 +32,16 @@ fn text_at<'a>(name: &str, table: &'a Value) -> Option<&'a str>
 {
     match table.get(name) {
         Some(value) => value.as_str(),
+        None => None,
+    }
+}
+
+/// The text under a name of a table that stands under another name.
+fn text_within<'a>(group: &str, name: &str, table: &'a Value) -> Option<&'a str>
+    ensures { option_map (λ t. t.now) result ≡ text_within group.now name.now (view table.now) }
+{
+    match table.get(group) {
+        Some(inner) => text_at(name, inner),
         None => None,
     }
 }
@@ -95,6 +107,39 @@ fn target_named(name: Option<&str>) -> ConsoleTarget
     }
 }
 
+/// The length of the longest line that a source takes.
+fn length_of(table: &Value) -> u32
+    ensures { result ≡ length_of (view table.now) }
+{
+    let Some(value) = table.get("max_length") else {
+        return LINE_LIMIT;
+    };
+    match whole_in(1, MOST_LENGTH, value) {
+        Some(length) => length,
+        None => LINE_LIMIT,
+    }
+}
+
+/// How a source makes an event of a line: the line is the message where it doesn't say.
+fn decoding_named(name: Option<&str>) -> Decoding
+    ensures { result ≡ decoding_named (option_map (λ t. t.now) name.entry) }
+{
+    match name {
+        Some(text) if same_text(text, "json") => Decoding::Json,
+        _ => Decoding::Bytes,
+    }
+}
+
+/// How a sink writes an event; it has to say.
+fn codec_named(name: Option<&str>) -> Codec
+    ensures { result ≡ codec_named (option_map (λ t. t.now) name.entry) }
+{
+    match name {
+        Some(text) if same_text(text, "json") => Codec::Json,
+        _ => Codec::Text,
+    }
+}
+
 /// What every sink has that says nothing of it.
 fn sink_defaults(alloc: Allocator) -> Result<SinkSettings, WantOfMemory>
     ensures { IfOk result (λ sink. sink ≡ sink_defaults) }
@@ -122,12 +167,12 @@ fn settings_of(alloc: Allocator, table: &Value, kind: Kind) -> Result<Settings, 
 {
     match kind {
         Kind::Stdin => Ok(Settings::Stdin {
-            max_length: LINE_LIMIT,
-            decoding_codec: Decoding::Bytes,
+            max_length: length_of(table),
+            decoding_codec: decoding_named(text_within("decoding", "codec", table)),
         }),
         Kind::Console => Ok(Settings::Console {
             target: target_named(text_at("target", table)),
-            encoding_codec: Codec::Text,
+            encoding_codec: codec_named(text_within("encoding", "codec", table)),
             sink: sink_defaults(alloc)?,
         }),
     }

@@ -1,6 +1,6 @@
 ghost use Rattle.std.specs.Prelude.{◌≡◌, IfOk};
 ghost use Rattle.toml.specs.View.{view};
-ghost use Rattle.vx_reading.specs.Acknowledging.{AcknowledgesNothing};
+ghost use Rattle.vx_plan.specs.Acknowledging.{AcknowledgesNothing};
 ghost use Rattle.vx_reading.specs.Components.{parts};
 ghost use Rattle.vx_reading.specs.Names.{AreApart, names_of};
 ghost use Rattle.vx_reading.specs.Views.{parts_view};

@@ -7,4 +7,6 @@ pub(crate) enum Shape {
     OneOf(&'static [&'static str]),
     /// A list of texts, at most so many.
     Texts(usize),
+    /// A whole number between two, both among them.
+    Whole(u32, u32),
 }

@@ -16,9 +16,9 @@ use Rattle.vx_record.specs.Growth.{counts_for_nobody}
 use Rattle.vx_record.specs.Reads.{taken}
 use Rattle.vx_record.specs.Confirms.{births, births_in}
 use Rattle.vx_record.specs.Reads.{bytes_taken}
-use Rattle.vx_record.specs.Tallies.{lines_read, overlong_read, events_born, notices, takes, attempts_made, bytes_sent}
+use Rattle.vx_record.specs.Tallies.{lines_read, overlong_read, undecodable_read, events_born, notices, takes, attempts_made, bytes_sent}
 use Rattle.vx_status.specs.declared.batch_status.BatchStatus.{BatchStatus}
-use Rattle.vx_record.specs.Growth.{Rises, bytes_in, lines_in, overlong_in, events_in, batches_in, notices_in, takes_in, attempts_in, sent_in, TakenGrows, GivenGrows, ConfirmedGrows, EndedGrows, SourceRises, SinkRises, TallyStays}
+use Rattle.vx_record.specs.Growth.{Rises, bytes_in, lines_in, overlong_in, undecodable_in, events_in, batches_in, notices_in, takes_in, attempts_in, sent_in, TakenGrows, GivenGrows, ConfirmedGrows, EndedGrows, SourceRises, SinkRises, TallyStays}
 
 pub taken_grows : TakenGrows
 taken_grows (Read j stream' took) h i stream = refl
@@ -45,6 +45,10 @@ overlong_rises : Rises overlong_read overlong_in
 overlong_rises (Read j stream took) h i = refl
 overlong_rises e h i = omega arith
 
+undecodable_rises : Rises undecodable_read undecodable_in
+undecodable_rises (Read j stream took) h i = refl
+undecodable_rises e h i = omega arith
+
 events_rise : Rises events_born events_in
 events_rise (Born j b place copies events waits stream end) h i = refl
 events_rise e h i = omega arith
@@ -69,7 +73,7 @@ notices_rise status (Notice b s) h i = refl
 notices_rise status e h i = omega arith
 
 pub source_rises : SourceRises
-source_rises = (bytes_rise, lines_rise, overlong_rises, events_rise, batches_rise, notices_rise)
+source_rises = (bytes_rise, lines_rise, overlong_rises, undecodable_rises, events_rise, batches_rise, notices_rise)
 
 pub sink_rises : SinkRises
 sink_rises = (takes_rise, attempts_rise, sent_rise)

@@ -17,7 +17,8 @@ pub mod Grows
 pub mod FirstWiring
 pub mod SpentParcels
 mod ChunkLaws
-pub mod LineLengths
+pub mod LineBytes
+pub mod CutSteps
 pub mod Pasts
 pub mod ConfirmedPositions
 pub mod LineSteps

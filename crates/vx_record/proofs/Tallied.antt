@@ -16,6 +16,9 @@ use Rattle.vx_record.specs.Tally.{nothing_counted}
 use Rattle.vx_record.specs.Tallies.{source_tally, transform_tally, sink_tally, tally}
 use Rattle.vx_record.specs.TallyLists.{tallies_of}
 use Rattle.vx_plan.specs.Components.{longest_line}
+use Rattle.vx_plan.specs.Options.{decoding}
+use Rattle.vx_json.specs.declared.decoding.Decoding.{Decoding}
+use Rattle.vx_record.specs.LineCounting.{decoding_of}
 use Rattle.vx_record.specs.Reads.{limit_of}
 use Rattle.vx_record.specs.Counting.{IsRole, AreWays, positions_of, role_of}
 use Rattle.vx_record.specs.declared.counted.Counted.{Counted}
@@ -29,6 +32,7 @@ pub source_is : (i : ℕ) (h : Record) (counted : Counted) (none : Tally) → no
       read = counted.plain.read;
       lines = counted.lines.lines;
       overlong = counted.lines.overlong;
+      undecodable = counted.lines.undecodable;
       events = counted.plain.events;
       unread = counted.puts.unread;
       batches = counted.plain.batches;
@@ -42,6 +46,7 @@ source_is i h counted none is_none is = λ t. record (is_none t) {
   read = is.entries.plain.read t;
   lines = is.entries.lines.lines t;
   overlong = is.entries.lines.overlong t;
+  undecodable = is.entries.lines.undecodable t;
   events = is.entries.plain.events t;
   unread = is.entries.puts.unread t;
   batches = is.entries.plain.batches t;
@@ -130,5 +135,13 @@ pub limit_is : (h : Record) (i : ℕ) (role : Role) → IsRole i h role → role
 limit_is h i role is = ap (λ (r : Role). r.limit) is.is ∙ go (component_of h i)
   where
     go : (o : Option Component) → (role_of o).limit ≡ elim o as (λ _. ℕ) [ None ↦ 0 | Some c ↦ longest_line c.settings ]
+    go None = refl
+    go (Some c) = refl
+
+-- the codec by the role
+pub codec_is : (h : Record) (i : ℕ) (role : Role) → IsRole i h role → role.decoding ≡ decoding_of h i
+codec_is h i role is = ap (λ (r : Role). r.decoding) is.is ∙ go (component_of h i)
+  where
+    go : (o : Option Component) → (role_of o).decoding ≡ elim o as (λ _. Option Decoding) [ None ↦ None | Some c ↦ decoding c.settings ]
     go None = refl
     go (Some c) = refl

@@ -6,6 +6,7 @@ use Rattle.std.specs.HashSet as set
 use Rattle.vx_ends.specs.declared.position.Position.{Position}
 use Rattle.vx_plan.specs.declared.component.Component.{Component}
 use Rattle.vx_plan.specs.Components.{longest_line}
+use Rattle.vx_plan.specs.Options.{decoding}
 use Rattle.vx_status.specs.declared.outcome.Outcome.{Outcome}
 use Rattle.vx_status.specs.declared.event_status.EventStatus.{EventStatus}
 use Rattle.vx_status.specs.Tables.{status_of}
@@ -84,8 +85,8 @@ pub record AreEnds (i : ℕ) (h : Record) (ends : ConfirmedEnds) : Type 0 where
 
 -- what runs a component, or none
 abbrev pub role_of : Option Component → Role
-role_of None = record { class = None; limit = 0 }
-role_of (Some c) = record { class = Some c.class; limit = longest_line c.settings }
+role_of None = record { class = None; limit = 0; decoding = None }
+role_of (Some c) = record { class = Some c.class; limit = longest_line c.settings; decoding = decoding c.settings }
 
 -- the role of an instance
 pub record IsRole (i : ℕ) (h : Record) (role : Role) : Type 0 where

@@ -3,10 +3,7 @@ use Rattle.std.specs.Prelude.{ℕ, Bool, true, false, ◌&&◌, Some, None, List
 use Rattle.vx_value.specs.Texts.{Word}
 use Rattle.vx_value.specs.declared.event.Event.{Event}
 use Rattle.vx_json.specs.Encoding.{encoded_event, encoded as encoded_events}
-use Rattle.vx_json.specs.declared.codec.Codec.{Codec as WriterCodec}
-use Rattle.vx_json.specs.declared.codec.Codec.TheVariants as writer
-use Rattle.vx_plan.specs.declared.codec.Codec.{Codec}
-use Rattle.vx_plan.specs.declared.codec.Codec.TheVariants as codec
+use Rattle.vx_json.specs.declared.codec.Codec.{Codec}
 use Rattle.vx_plan.specs.declared.settings.Settings.{Settings}
 use Rattle.vx_plan.specs.Options.{encoding}
 use Rattle.vx_plan.specs.declared.component.Component.{Component}
@@ -17,17 +14,13 @@ use Rattle.vx_record.specs.Copies.{all_of}
 use Rattle.vx_record.specs.Installs.{told}
 use Rattle.vx_record.specs.Parcels.{parcel_event}
 
--- a plan's codec, as the crate that writes events has it
-abbrev pub writer_codec : Codec → WriterCodec
-writer_codec codec.Text = writer.Text
-
 -- an event as a sink writes it
 abbrev pub encode_event : Codec → Event → Word
-encode_event codec event = encoded_event (writer_codec codec) event.fields
+encode_event codec event = encoded_event codec event.fields
 
 -- some events as a sink writes them, in a row
 abbrev pub encode : Codec → List Event → Word
-encode codec events = encoded_events (writer_codec codec) events
+encode codec events = encoded_events codec events
 
 -- the bytes that a sink with these settings gives for some events
 abbrev pub bytes_for : Settings → List Event → Word

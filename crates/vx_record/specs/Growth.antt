@@ -9,13 +9,13 @@ use Rattle.vx_status.specs.declared.batch_status.BatchStatus.{BatchStatus}
 use Rattle.vx_record.specs.declared.entry.Entry.{Entry}
 use Rattle.vx_record.specs.declared.entry.Entry.TheVariants.{Lease, Home, Read, Idle, SourceLost, Born, Take, Attempt, Spent, Notice, Closed, Retired, Abandon}
 use Rattle.vx_record.specs.Records.{Record}
-use Rattle.vx_record.specs.Reads.{bytes_of, taken, bytes_taken, ended_by, ended_streams, new_lines, new_overlong}
+use Rattle.vx_record.specs.Reads.{bytes_of, taken, bytes_taken, ended_by, ended_streams, new_lines, new_overlong, new_undecodable}
 use Rattle.vx_record.specs.Encoding.{given_in, given}
 use Rattle.vx_record.specs.Confirms.{births_in, births, confirmed_in, confirmed}
 use Rattle.vx_record.specs.Places.{Place}
 use Rattle.vx_record.specs.Parcels.{first_copy}
 use Rattle.vx_record.specs.Legal.{IsLegal}
-use Rattle.vx_record.specs.Tallies.{is_unread, is_newest, is_output, is_child_for, any_copy, same_status, spent_as, is_held_by, parcels_that, unread_parcels, newest_parcels, parcels_spent, lines_read, overlong_read, events_born, same_end, is_batch_of, notices, takes, attempts_made, bytes_sent, tally}
+use Rattle.vx_record.specs.Tallies.{is_unread, is_newest, is_output, is_child_for, any_copy, same_status, spent_as, is_held_by, parcels_that, unread_parcels, newest_parcels, parcels_spent, lines_read, overlong_read, undecodable_read, events_born, same_end, is_batch_of, notices, takes, attempts_made, bytes_sent, tally}
 
 -- the bytes of a stream that an entry took for the instance
 abbrev pub taken_in : ℕ → ℕ → Entry → Word
@@ -57,6 +57,11 @@ abbrev pub overlong_in : Record → ℕ → Entry → ℕ
 overlong_in h i (Read j stream took) = if j == i then new_overlong h i stream took else 0
 overlong_in h i other = 0
 
+-- the undecodable lines that a Read completes
+abbrev pub undecodable_in : Record → ℕ → Entry → ℕ
+undecodable_in h i (Read j stream took) = if j == i then new_undecodable h i stream took else 0
+undecodable_in h i other = 0
+
 -- the events of a Born
 abbrev pub events_in : Record → ℕ → Entry → ℕ
 events_in h i (Born j b place copies events waits stream end) = if j == i then length events else 0
@@ -89,7 +94,7 @@ sent_in h i other = 0
 -- a source's numbers rise with its Reads and Borns, and with the notices of its batches
 abbrev pub SourceRises : Type 0
 SourceRises =
-    Rises bytes_taken bytes_in × Rises lines_read lines_in × Rises overlong_read overlong_in × Rises events_born events_in
+    Rises bytes_taken bytes_in × Rises lines_read lines_in × Rises overlong_read overlong_in × Rises undecodable_read undecodable_in × Rises events_born events_in
     × Rises (λ h i. length (births h i)) batches_in × ((status : BatchStatus) → Rises (notices status) (notices_in status))
 
 -- a sink's numbers rise with its Takes and Attempts

@@ -4,13 +4,15 @@ use Rattle.std.specs.Str.Lossy.{utf8_lossy}
 use Rattle.vx_value.specs.Texts.{Word}
 use Rattle.vx_value.specs.Datum.{NamedDatum, Words}
 use Rattle.vx_value.specs.declared.event.Event.{Event}
+use Rattle.vx_json.specs.declared.decoding.Decoding.{Decoding}
 use Rattle.vx_json.specs.declared.decoding.Decoding.TheVariants as decoding
 use Rattle.vx_json.specs.LineEvents.{IsLineEvent}
 use Rattle.vx_plan.specs.declared.settings.Settings.{Settings}
 use Rattle.vx_plan.specs.Options.{type_name}
 use Rattle.vx_record.specs.Records.{Record}
 use Rattle.vx_record.specs.declared.child.Child.{Child}
-use Rattle.vx_record.specs.Reads.{line_event}
+use Rattle.vx_frame.specs.Frames.{Frame}
+use Rattle.vx_record.specs.Reads.{line_events}
 use Rattle.vx_record.specs.Parcels.{event_of, port_list}
 use Rattle.vx_record.specs.Routing.{routes}
 use Rattle.vx_record.specs.Abandoning.{abandoned}
@@ -168,14 +170,22 @@ abbrev pub PrefixGrows : Type 0
 PrefixGrows =
     (later earlier : Record) (i : ℕ) → (more : List Birth) × (confirm_prefix (later ++ earlier) i ≡ confirm_prefix earlier i ++ more)
 
--- the fields of a line's event under codec bytes: the line as a text, and the type of its source
-abbrev pub line_fields : Settings → Word → List NamedDatum
-line_fields settings text =
-    record { name = codes "message"; value = Words (utf8_lossy text) } ∷ record { name = codes "source_type"; value = Words (type_name settings) } ∷ []
-
--- under codec bytes a line gives one event, with no file's path, and a record has that of it
+-- a line gives one event, which is the event of the line, or none, which is where it is no event's
 abbrev pub LineGives : Type 0
 LineGives =
-    (settings : Settings) (text : Word) →
-    ((line_event settings text).fields ≡ line_fields settings text)
-    × ((fields : List NamedDatum) → IsLineEvent decoding.Bytes (type_name settings) None text fields ↔ (fields ≡ line_fields settings text))
+    (d : Decoding) (settings : Settings) (line : Frame) (fields : List NamedDatum) →
+    (line_events d settings line ≡ record { fields = fields } ∷ []) ↔ IsLineEvent d (type_name settings) None line.bytes fields
+
+abbrev pub LineGivesNone : Type 0
+LineGivesNone =
+    (d : Decoding) (settings : Settings) (line : Frame) →
+    (line_events d settings line ≡ []) ↔ ((fields : List NamedDatum) → IsLineEvent d (type_name settings) None line.bytes fields → ⊥)
+
+-- the fields of a line's event under codec bytes: the line as a text, and the type of its source
+abbrev pub text_fields : Settings → Word → List NamedDatum
+text_fields settings text =
+    record { name = codes "message"; value = Words (utf8_lossy text) } ∷ record { name = codes "source_type"; value = Words (type_name settings) } ∷ []
+
+-- under codec bytes a line always gives one event
+abbrev pub TextGives : Type 0
+TextGives = (settings : Settings) (line : Frame) → line_events decoding.Bytes settings line ≡ record { fields = text_fields settings line.bytes } ∷ []

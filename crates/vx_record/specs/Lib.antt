@@ -34,7 +34,8 @@ pub mod Laws
 pub mod Growth
 pub mod Wirings
 pub mod Counting
-pub mod Lengths
+pub mod LineBytes
+pub mod Unfinished
 pub mod Cuts
 pub mod LineCounting
 pub mod PutCounting

@@ -1,13 +1,13 @@
 -- The bytes that an instance took, and the lines and events that a Read completes.
-use Rattle.std.specs.Prelude.{ℕ, ◌+◌, ◌-◌, Bool, true, false, not, ◌&&◌, ◌||◌, Option, Some, None, unwrap_or, List, [], ◌∷◌, ◌++◌, drop, length, map, if◌then◌else◌, ◌==◌}
+use Rattle.std.specs.Prelude.{ℕ, ◌+◌, ◌-◌, Bool, true, false, not, ◌&&◌, ◌||◌, Option, Some, None, unwrap_or, List, [], ◌∷◌, ◌++◌, drop, length, filter, flat_map, if◌then◌else◌, ◌==◌}
 use Rattle.vx_value.specs.Texts.{Word, is_empty}
+use Rattle.vx_value.specs.Datum.{NamedDatum}
 use Rattle.vx_value.specs.declared.event.Event.{Event}
 use Rattle.vx_frame.specs.Frames.{Frame, frames, discarded}
-use Rattle.vx_json.specs.LineEvents.{message_of, from_source}
+use Rattle.vx_json.specs.LineEvents.{line_fields, is_undecodable}
+use Rattle.vx_json.specs.declared.decoding.Decoding.{Decoding}
 use Rattle.vx_plan.specs.declared.component.Component.{Component}
 use Rattle.vx_plan.specs.declared.settings.Settings.{Settings}
-use Rattle.vx_plan.specs.declared.decoding.Decoding.{Decoding}
-use Rattle.vx_plan.specs.declared.decoding.Decoding.TheVariants as codec
 use Rattle.vx_plan.specs.Options.{decoding, type_name}
 use Rattle.vx_plan.specs.Components.{longest_line}
 use Rattle.vx_record.specs.declared.taken.Taken.{Taken}
@@ -133,13 +133,22 @@ new_lines h i stream took = lines_past (limit_of h i) (open_bytes h i (stream_of
 abbrev pub new_overlong : Record → ℕ → ℕ → Taken → ℕ
 new_overlong h i stream took = overlong_past (limit_of h i) (open_bytes h i (stream_of h i stream took)) took
 
--- the event of a line of codec bytes: the line as the message, and the type of its source
-abbrev pub line_event : Settings → Word → Event
-line_event settings text = record { fields = from_source (type_name settings) None (message_of text) }
+-- the event with some fields, if there are any to have
+abbrev pub event_with : Option (List NamedDatum) → List Event
+event_with None = []
+event_with (Some fields) = record { fields = fields } ∷ []
 
--- the events of some lines by a codec: of codec bytes each line gives one
+-- the event that a line gives by a codec, with the type of its source and no file's path, or none
+abbrev pub line_events : Decoding → Settings → Frame → List Event
+line_events d settings line = event_with (line_fields d (type_name settings) None line.bytes)
+
+-- the events of some lines by a codec, in order
 abbrev pub decoded : Decoding → Settings → List Frame → List Event
-decoded codec.Bytes settings lines = map (λ (line : Frame). line_event settings line.bytes) lines
+decoded d settings lines = flat_map (line_events d settings) lines
+
+-- how many of some lines have bytes and give no event by a codec
+abbrev pub undecodable_among : Decoding → List Frame → ℕ
+undecodable_among d lines = length (filter (λ (line : Frame). is_undecodable d line.bytes) lines)
 
 -- the events of some lines by a component's codec, if it reads lines
 abbrev pub events_of_lines : Settings → List Frame → List Event
@@ -148,6 +157,14 @@ events_of_lines settings lines = elim (decoding settings) [ None ↦ [] | Some d
 -- the events that a Read gives
 abbrev pub events_of : Record → ℕ → ℕ → Taken → List Event
 events_of h i stream took = told [] (λ (c : Component). events_of_lines c.settings (new_lines h i stream took)) h i
+
+-- how many of some lines are undecodable by a component's codec, if it reads lines
+abbrev pub undecodable_lines : Settings → List Frame → ℕ
+undecodable_lines settings lines = elim (decoding settings) [ None ↦ 0 | Some d ↦ undecodable_among d lines ]
+
+-- how many undecodable lines a Read completes
+abbrev pub new_undecodable : Record → ℕ → ℕ → Taken → ℕ
+new_undecodable h i stream took = told 0 (λ (c : Component). undecodable_lines c.settings (new_lines h i stream took)) h i
 
 -- the end of the last of some lines
 abbrev pub last_end : List Frame → ℕ

@@ -18,7 +18,7 @@ use Rattle.vx_record.specs.Tally.{nothing_counted}
 use Rattle.vx_record.specs.Places.{Place, Put, all_puts}
 use Rattle.vx_record.specs.Places.Place.{Outputs, Waiting, Held}
 use Rattle.vx_record.specs.Installs.{told}
-use Rattle.vx_record.specs.Reads.{bytes_taken, new_lines, new_overlong}
+use Rattle.vx_record.specs.Reads.{bytes_taken, new_lines, new_overlong, new_undecodable}
 use Rattle.vx_record.specs.Confirms.{Birth, births, confirmed, last_of_each}
 use Rattle.vx_record.specs.Parcels.{first_copy}
 
@@ -33,6 +33,12 @@ abbrev pub overlong_read : Record → ℕ → ℕ
 overlong_read [] i = 0
 overlong_read (Read j stream took ∷ h) i = overlong_read h i + (if j == i then new_overlong h i stream took else 0)
 overlong_read (e ∷ h) i = overlong_read h i
+
+-- how many undecodable lines all its Reads have
+abbrev pub undecodable_read : Record → ℕ → ℕ
+undecodable_read [] i = 0
+undecodable_read (Read j stream took ∷ h) i = undecodable_read h i + (if j == i then new_undecodable h i stream took else 0)
+undecodable_read (e ∷ h) i = undecodable_read h i
 
 -- the events of its births
 abbrev pub events_born : Record → ℕ → ℕ
@@ -156,12 +162,13 @@ bytes_sent [] i = 0
 bytes_sent (Attempt j copies bytes reply ∷ h) i = bytes_sent h i + (if j == i then length bytes else 0)
 bytes_sent (e ∷ h) i = bytes_sent h i
 
--- the counts of a source; each of its lines gives an event
+-- the counts of a source
 abbrev pub source_tally : Record → ℕ → Tally
 source_tally h i = record nothing_counted {
   read = capped (bytes_taken h i);
   lines = capped (lines_read h i);
   overlong = capped (overlong_read h i);
+  undecodable = capped (undecodable_read h i);
   events = capped (events_born h i);
   unread = capped (unread_parcels h i);
   batches = capped (length (births h i));

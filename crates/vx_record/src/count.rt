@@ -52,7 +52,8 @@ impl Count {
         ensures { OnOk result ((h : Record) → IsCount (way_of ways.now) instance h self.old →
             IsCount (way_of ways.now) instance (entry.now ∷ h) self.new) }
     {
-        self.lines.note(self.role.limit, instance, entry)?;
+        self.lines
+            .note(self.role.limit, self.role.decoding, instance, entry)?;
         self.notices.note(instance, entry)?;
         self.ends.note(instance, entry)?;
         self.role.note(instance, entry);

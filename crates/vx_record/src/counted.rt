@@ -54,7 +54,14 @@ impl Counted {
             IsCounting (outcome_of history.now) instance (past history.now (at + 1)) self.new }
     {
         let entry = history.entry(at);
-        let cut = lines_at(self.role.limit, history, at, instance, entry);
+        let cut = lines_at(
+            self.role.limit,
+            self.role.decoding,
+            history,
+            at,
+            instance,
+            entry,
+        );
         self.lines.add(cut);
         note_notice(&mut self.notices, history, at, instance, entry);
         self.role.note(instance, entry);
@@ -104,6 +111,7 @@ impl Counted {
             read: self.plain.read,
             lines: self.lines.lines,
             overlong: self.lines.overlong,
+            undecodable: self.lines.undecodable,
             events: self.plain.events,
             unread: self.puts.unread,
             batches: self.plain.batches,

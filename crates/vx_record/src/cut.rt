@@ -1,8 +1,10 @@
-ghost use Rattle.std.specs.Prelude.{◌≡◌, ◌+◌, ◌-◌, ◌^◌, ◌<◌, ◌≤◌, ◌∷◌, List, ℕ};
-ghost use Rattle.vx_record.specs.Records.{capped};
-ghost use Rattle.vx_record.specs.Lengths.{is_within, is_over, ended, left_of};
+ghost use Rattle.std.specs.Prelude.{◌≡◌, ◌+◌, ◌-◌, ◌^◌, ◌<◌, ◌≤◌, [], ◌∷◌, ◌++◌, List, ℕ};
+ghost use Rattle.vx_value.specs.Texts.{Word};
+ghost use Rattle.vx_record.specs.Unfinished.{IsUnfinished};
 
 use crate::taken::Taken;
+use crate::unfinished::Unfinished;
+use vx_json::Decoding;
 
 /// How many lines some bytes end, and what they leave unfinished.
 #[derive(Clone, Copy, Debug)]
@@ -11,69 +13,95 @@ pub(crate) struct Cut {
     pub within: u64,
     /// Lines that pass it.
     pub over: u64,
-    /// The length of the unfinished line, which stands still at its type's end.
-    pub left: u64,
+    /// Lines within the limit that have bytes and give no event.
+    pub undecodable: u64,
+    /// The unfinished line.
+    pub left: Unfinished,
 }
 
 impl Cut {
     ghost use Rattle.vx_record.specs.declared.taken.Taken.TheVariants.{Bytes, StreamEnded};
-    ghost use Rattle.vx_record.specs.Cuts.{IsCut};
+    ghost use Rattle.vx_record.specs.Cuts.{IsCut, EndsLine};
 
-    /// What a read brings, behind so many bytes of an unfinished line.
-    pub(crate) fn by(limit: u32, left: u64, taken: &Taken) -> Self
-        ensures { IsCut limit left taken.now result }
+    /// What a read brings behind an unfinished line, by the limit of a line and the codec.
+    pub(crate) fn by(
+        limit: u32,
+        decoding: Option<Decoding>,
+        left: Unfinished,
+        taken: &Taken,
+    ) -> Self
+        ensures { (line : Word) → IsUnfinished line left → IsCut limit decoding line taken.now result }
     {
         match taken {
-            Taken::Bytes(bytes) => Cut::of_bytes(limit, left, bytes.as_slice()),
-            Taken::StreamEnded | Taken::AllEnded => Cut::of_end(limit, left),
+            Taken::Bytes(bytes) => Cut::of_bytes(limit, decoding, left, bytes.as_slice()),
+            Taken::StreamEnded | Taken::AllEnded => Cut::of_end(limit, decoding, left),
         }
     }
 
     // What some bytes bring.
-    fn of_bytes(limit: u32, left: u64, bytes: &[u8]) -> Self
-        ensures { IsCut limit left (Bytes bytes.now) result }
+    fn of_bytes(limit: u32, decoding: Option<Decoding>, left: Unfinished, bytes: &[u8]) -> Self
+        ensures { (line : Word) → IsUnfinished line left → IsCut limit decoding line (Bytes bytes.now) result }
     {
-        let mut cut = Cut {
-            within: 0,
-            over: 0,
-            left,
-        };
+        let mut cut = Cut::none(left);
         for byte in bytes {
-            cut.take(limit, *byte);
+            cut.take(limit, decoding, *byte);
         }
         cut
     }
 
     // What the end of a stream brings: it ends a line that isn't empty.
-    fn of_end(limit: u32, left: u64) -> Self
-        ensures { IsCut limit left StreamEnded result }
+    fn of_end(limit: u32, decoding: Option<Decoding>, left: Unfinished) -> Self
+        ensures { (line : Word) → IsUnfinished line left → IsCut limit decoding line StreamEnded result }
     {
-        let over = left > u64::from(limit);
+        let mut cut = Cut::none(left);
+        if !left.is_empty() {
+            cut.end_line(limit, decoding);
+        }
+        cut
+    }
+
+    /// No lines, and an unfinished one.
+    pub(crate) fn none(left: Unfinished) -> Self
+        ensures { result ≡ record { within = 0; over = 0; undecodable = 0; left = left } }
+    {
         Cut {
-            within: u64::from(left > 0 && !over),
-            over: u64::from(over),
-            left: 0,
+            within: 0,
+            over: 0,
+            undecodable: 0,
+            left,
         }
     }
 
     // Takes one more byte.
-    fn take(&mut self, limit: u32, byte: u8)
-        requires { self.old.within + self.old.over < 2 ^ 64 - 1 }
-        ensures within { (rest : List ℕ) → self.new.within + ended (is_within limit) self.new.left rest
-            ≡ self.old.within + ended (is_within limit) self.old.left (byte ∷ rest) }
-        ensures over { (rest : List ℕ) → self.new.over + ended (is_over limit) self.new.left rest
-            ≡ self.old.over + ended (is_over limit) self.old.left (byte ∷ rest) }
-        ensures left { (rest : List ℕ) → capped (left_of self.new.left rest) ≡ capped (left_of self.old.left (byte ∷ rest)) }
-        ensures few { self.new.within + self.new.over ≤ self.old.within + self.old.over + 1 }
+    fn take(&mut self, limit: u32, decoding: Option<Decoding>, byte: u8)
+        requires room { self.old.within + self.old.over < 2 ^ 64 - 1 }
+        requires few { self.old.undecodable ≤ self.old.within }
+        ensures cut { (line bytes : Word) → IsCut limit decoding line (Bytes bytes) self.old →
+            IsCut limit decoding line (Bytes (bytes ++ byte ∷ [])) self.new }
+        ensures room { self.new.within + self.new.over ≤ self.old.within + self.old.over + 1 }
+        ensures few { self.new.undecodable ≤ self.new.within }
     {
-        if byte != b'\n' {
-            self.left = self.left.saturating_add(1);
-        } else if self.left > u64::from(limit) {
+        if byte == b'\n' {
+            self.end_line(limit, decoding);
+        } else {
+            self.left.take(byte);
+        }
+    }
+
+    // Counts the unfinished line, which ends here, and begins the next.
+    fn end_line(&mut self, limit: u32, decoding: Option<Decoding>)
+        requires room { self.old.within + self.old.over < 2 ^ 64 - 1 }
+        requires few { self.old.undecodable ≤ self.old.within }
+        ensures counted { (line : Word) → IsUnfinished line self.old.left → EndsLine limit decoding line self.old self.new }
+        ensures room { self.new.within + self.new.over ≤ self.old.within + self.old.over + 1 }
+        ensures few { self.new.undecodable ≤ self.new.within }
+    {
+        if self.left.is_over(limit) {
             self.over += 1;
-            self.left = 0;
         } else {
             self.within += 1;
-            self.left = 0;
+            self.undecodable += u64::from(self.left.is_undecodable(decoding));
         }
+        self.left = Unfinished::none();
     }
 }

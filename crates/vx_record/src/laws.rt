@@ -1,7 +1,7 @@
 //! The laws of every legal record, and of every record of which some of that holds. A law's function does nothing: what it
 //! ensures is proved.
 
-ghost use Rattle.vx_record.specs.Laws.{OnePlace, PlacesMeant, LiveStands, LegalConserved, ConservedPlace, ConservedLive, LegalAccounted, AccountedOnce, AccountedLate, AccountedSo, AccountedTells, OneNotice, OneNoticeAtLast, NoEarlyNotice, NoticeAtOnce, NoSpentAfterNotice, NoticeTells, BeginningLegal, RunningStatus, DeliveredWhereGood, OneEvent, NumbersBounded, RoutingKept, NoLeaseAfterAbandon, PrefixGrows, LineGives};
+ghost use Rattle.vx_record.specs.Laws.{OnePlace, PlacesMeant, LiveStands, LegalConserved, ConservedPlace, ConservedLive, LegalAccounted, AccountedOnce, AccountedLate, AccountedSo, AccountedTells, OneNotice, OneNoticeAtLast, NoEarlyNotice, NoticeAtOnce, NoSpentAfterNotice, NoticeTells, BeginningLegal, RunningStatus, DeliveredWhereGood, OneEvent, NumbersBounded, RoutingKept, NoLeaseAfterAbandon, PrefixGrows, LineGives, LineGivesNone, TextGives};
 ghost use Rattle.vx_record.specs.Wirings.{WiringStays, StartedStays, ComponentOfFirst, TargetsOfFirst};
 ghost use Rattle.vx_record.specs.Growth.{TakenGrows, GivenGrows, ConfirmedGrows, EndedGrows, SourceRises, SinkRises, SpentRises, TallyStays};
 
@@ -50,9 +50,11 @@ pub fn one_event()
     ensures numbers { NumbersBounded }
 {}
 
-/// The event that a record has of a line is the one that the line gives.
+/// The event that a record has of a line is the one that the line gives, and none where the line gives none.
 pub fn line_events()
-    ensures { LineGives }
+    ensures gives { LineGives }
+    ensures gives_none { LineGivesNone }
+    ensures text_gives { TextGives }
 {}
 
 /// Children go where the routing in force says, no Lease follows an Abandon, and what may be confirmed stays so.

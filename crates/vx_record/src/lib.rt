@@ -26,6 +26,7 @@ mod status_counts;
 mod taken;
 mod tally;
 mod tally_list;
+mod unfinished;
 mod ways;
 
 pub use abandon_cause::AbandonCause;

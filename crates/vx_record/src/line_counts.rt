@@ -1,15 +1,20 @@
-ghost use Rattle.std.specs.Prelude.{◌≡◌, ℕ, [], ◌∷◌, Some, OnOk, if◌then◌else◌};
+ghost use Rattle.std.specs.Prelude.{◌≡◌, ℕ, [], ◌∷◌, Some, OnOk, nat_eq, if◌then◌else◌};
+ghost use Rattle.std.specs.HashMap as table;
+ghost use Rattle.vx_value.specs.Texts.{Word};
 ghost use Rattle.vx_record.specs.declared.entry.Entry.TheVariants.{Read};
 ghost use Rattle.vx_record.specs.Records.{Record};
 ghost use Rattle.vx_record.specs.Reads.{has_bytes, last_stream, limit_of, stream_of};
-ghost use Rattle.vx_record.specs.LineCounting.{AreLines};
+ghost use Rattle.vx_record.specs.LineCounting.{AreLines, IsKept, decoding_of};
+ghost use Rattle.vx_record.specs.Unfinished.{IsUnfinished};
 
 use crate::cut::Cut;
 use crate::entry::Entry;
 use crate::line_totals::LineTotals;
 use crate::taken::Taken;
+use crate::unfinished::Unfinished;
 use std::alloc::Global;
 use std::collections::HashMap;
+use vx_json::Decoding;
 use vx_value::WantOfMemory;
 
 /// The lines of an instance's reads.
@@ -19,8 +24,8 @@ pub(crate) struct LineCounts {
     pub totals: LineTotals,
     /// The stream that bytes were last taken of.
     last: Option<u64>,
-    /// The length of each stream's unfinished line.
-    unfinished: HashMap<u64, u64>,
+    /// Each stream's unfinished line.
+    unfinished: HashMap<u64, Unfinished>,
 }
 
 impl LineCounts {
@@ -35,14 +40,15 @@ impl LineCounts {
         }
     }
 
-    /// Notes one more entry, before which a line may be as long as the limit.
+    /// Notes one more entry, before which a line may be as long as the limit, and is decoded by the codec.
     pub(crate) fn note(
         &mut self,
         limit: u32,
+        decoding: Option<Decoding>,
         instance: u32,
         entry: &Entry,
     ) -> Result<(), WantOfMemory>
-        ensures { OnOk result ((h : Record) → limit ≡ limit_of h instance → AreLines instance h self.old →
+        ensures { OnOk result ((h : Record) → limit ≡ limit_of h instance → decoding ≡ decoding_of h instance → AreLines instance h self.old →
             AreLines instance (entry.now ∷ h) self.new) }
     {
         match entry {
@@ -51,7 +57,7 @@ impl LineCounts {
                 stream,
                 taken,
             } if *source == instance => {
-                self.take(limit, *stream, taken)?;
+                self.take(limit, decoding, *stream, taken)?;
                 Ok(())
             }
             _ => Ok(()),
@@ -59,13 +65,18 @@ impl LineCounts {
     }
 
     // Takes what a read brings.
-    fn take(&mut self, limit: u32, stream: u64, taken: &Taken) -> Result<(), WantOfMemory>
-        ensures { OnOk result ((i : ℕ) (h : Record) → limit ≡ limit_of h i → AreLines i h self.old →
+    fn take(
+        &mut self,
+        limit: u32,
+        decoding: Option<Decoding>,
+        stream: u64,
+        taken: &Taken,
+    ) -> Result<(), WantOfMemory>
+        ensures { OnOk result ((i : ℕ) (h : Record) → limit ≡ limit_of h i → decoding ≡ decoding_of h i → AreLines i h self.old →
             AreLines i (Read i stream taken.now ∷ h) self.new) }
     {
         let ending = ending(self.last, stream, taken);
-        let left = self.unfinished.get(&ending).copied().unwrap_or(0);
-        let cut = Cut::by(limit, left, taken);
+        let cut = Cut::by(limit, decoding, self.left(ending), taken);
         match self.unfinished.insert(ending, cut.left) {
             Ok(_) => {}
             Err(_) => return Err(WantOfMemory),
@@ -73,6 +84,16 @@ impl LineCounts {
         self.totals.add(cut);
         self.last = last_after(self.last, stream, taken);
         Ok(())
+    }
+
+    // The unfinished line of a stream.
+    fn left(&self, stream: u64) -> Unfinished
+        ensures { (line : Word) → IsKept line (table.get nat_eq self.now.unfinished stream) → IsUnfinished line result }
+    {
+        match self.unfinished.get(&stream) {
+            Some(unfinished) => *unfinished,
+            None => Unfinished::none(),
+        }
     }
 }
 

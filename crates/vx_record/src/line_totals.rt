@@ -1,6 +1,5 @@
-ghost use Rattle.std.specs.Prelude.{◌≡◌, ℕ, ◌+◌, [], ◌∷◌};
-ghost use Rattle.vx_record.specs.Records.{capped};
-ghost use Rattle.vx_record.specs.LineCounting.{AreTotals};
+ghost use Rattle.std.specs.Prelude.{ℕ, []};
+ghost use Rattle.vx_record.specs.LineCounting.{AreTotals, AreAdded};
 
 use crate::cut::Cut;
 
@@ -11,6 +10,8 @@ pub(crate) struct LineTotals {
     pub lines: u64,
     /// Lines that were too long.
     pub overlong: u64,
+    /// Lines that were not too long, and of which no event could be made.
+    pub undecodable: u64,
 }
 
 impl LineTotals {
@@ -21,14 +22,16 @@ impl LineTotals {
         LineTotals {
             lines: 0,
             overlong: 0,
+            undecodable: 0,
         }
     }
 
     /// Counts the lines that some bytes end.
     pub(crate) fn add(&mut self, cut: Cut)
-        ensures { self.new ≡ record { lines = capped (self.old.lines + cut.within); overlong = capped (self.old.overlong + cut.over) } }
+        ensures { AreAdded cut self.old self.new }
     {
         self.lines = self.lines.saturating_add(cut.within);
         self.overlong = self.overlong.saturating_add(cut.over);
+        self.undecodable = self.undecodable.saturating_add(cut.undecodable);
     }
 }

@@ -1,24 +1,28 @@
-ghost use Rattle.std.specs.Prelude.{◌≡◌, ◌≤◌, ◌==◌, ℕ, [], ◌∷◌, length, Bool, if◌then◌else◌};
+ghost use Rattle.std.specs.Prelude.{◌≡◌, ◌≤◌, ◌==◌, ℕ, [], ◌∷◌, length, if◌then◌else◌};
 ghost use Rattle.vx_record.specs.declared.entry.Entry.TheVariants.{Read};
-ghost use Rattle.vx_record.specs.Records.{Record, capped};
+ghost use Rattle.vx_value.specs.Texts.{Word};
+ghost use Rattle.vx_record.specs.Records.{Record};
 ghost use Rattle.vx_record.specs.Pasts.{past};
 ghost use Rattle.vx_record.specs.Reads.{limit_of};
-ghost use Rattle.vx_record.specs.Lengths.{left_behind};
-ghost use Rattle.vx_record.specs.LineCounting.{IsOpenLine, IsCutIn};
+ghost use Rattle.vx_record.specs.LineBytes.{left_behind};
+ghost use Rattle.vx_record.specs.LineCounting.{IsOpenLine, IsCutIn, decoding_of};
+ghost use Rattle.vx_record.specs.Unfinished.{IsUnfinished};
 
 use crate::cut::Cut;
 use crate::entry::Entry;
 use crate::line_counts::{ending, last_after};
 use crate::record::Record;
 use crate::taken::Taken;
+use crate::unfinished::Unfinished;
+use vx_json::Decoding;
 
 /// The unfinished line of one stream of an instance.
 #[derive(Clone, Copy, Debug)]
 struct OpenLine {
     /// The stream that bytes were last taken of.
     last: Option<u64>,
-    /// The length of the line.
-    left: u64,
+    /// What is kept of the line.
+    left: Unfinished,
 }
 
 impl OpenLine {
@@ -28,7 +32,7 @@ impl OpenLine {
     {
         OpenLine {
             last: None,
-            left: 0,
+            left: Unfinished::none(),
         }
     }
 
@@ -58,12 +62,12 @@ impl OpenLine {
     }
 }
 
-// The length of an unfinished line after a read, which may end lines of its stream.
-fn left_after(left: u64, is_its: bool, taken: &Taken) -> u64
-    ensures { capped result ≡ capped (if is_its then left_behind left taken.now else left) }
+// What is left of an unfinished line after a read, which may end lines of its stream.
+fn left_after(left: Unfinished, is_its: bool, taken: &Taken) -> Unfinished
+    ensures { (line : Word) → IsUnfinished line left → IsUnfinished (if is_its then left_behind line taken.now else line) result }
 {
     if is_its {
-        Cut::by(0, left, taken).left
+        Cut::by(0, None, left, taken).left
     } else {
         left
     }
@@ -81,10 +85,19 @@ fn open_line(history: &Record, end: usize, instance: u32, stream: u64) -> OpenLi
     line
 }
 
-/// The lines that the entry at an index completes for an instance, where a line may be as long as the limit.
-pub(crate) fn lines_at(limit: u32, history: &Record, at: usize, instance: u32, entry: &Entry) -> Cut
+/// The lines that the entry at an index completes for an instance, where a line may be as long as the limit, and is
+/// decoded by the codec.
+pub(crate) fn lines_at(
+    limit: u32,
+    decoding: Option<Decoding>,
+    history: &Record,
+    at: usize,
+    instance: u32,
+    entry: &Entry,
+) -> Cut
     requires { at ≤ length history.now }
-    ensures { limit ≡ limit_of (past history.now at) instance → IsCutIn (past history.now at) instance entry.now result }
+    ensures { limit ≡ limit_of (past history.now at) instance → decoding ≡ decoding_of (past history.now at) instance →
+        IsCutIn (past history.now at) instance entry.now result }
 {
     match entry {
         Entry::Read {
@@ -94,12 +107,13 @@ pub(crate) fn lines_at(limit: u32, history: &Record, at: usize, instance: u32, e
         } if *source == instance => {
             let last = open_line(history, at, instance, 0).last;
             let of = ending(last, *stream, taken);
-            Cut::by(limit, open_line(history, at, instance, of).left, taken)
+            Cut::by(
+                limit,
+                decoding,
+                open_line(history, at, instance, of).left,
+                taken,
+            )
         }
-        _ => Cut {
-            within: 0,
-            over: 0,
-            left: 0,
-        },
+        _ => Cut::none(Unfinished::none()),
     }
 }

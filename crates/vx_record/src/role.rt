@@ -7,6 +7,7 @@ ghost use Rattle.vx_record.specs.Counting.{IsRole, role_of};
 
 use crate::entry::Entry;
 use crate::instance::{Instance, Start};
+use vx_json::Decoding;
 use vx_plan::{Class, Component, Plan};
 use vx_value::Text;
 
@@ -17,6 +18,8 @@ pub(crate) struct Role {
     pub class: Option<Class>,
     /// How long a line may be.
     pub limit: u32,
+    /// How events are made of lines; `None` where none are.
+    pub decoding: Option<Decoding>,
 }
 
 impl Role {
@@ -27,6 +30,7 @@ impl Role {
         Role {
             class: None,
             limit: 0,
+            decoding: None,
         }
     }
 
@@ -38,10 +42,12 @@ impl Role {
             None => Role {
                 class: None,
                 limit: 0,
+                decoding: None,
             },
             Some(component) => Role {
                 class: Some(component.class),
                 limit: component.settings.line_limit().unwrap_or(0),
+                decoding: component.settings.decoding(),
             },
         }
     }

@@ -3,7 +3,7 @@ ghost use Rattle.vx_ends.specs.Texts.{IsTextAt};
 ghost use Rattle.vx_ends.specs.Told.{Rose};
 ghost use Rattle.vx_plan.specs.Ports.{port_of};
 ghost use Rattle.vx_record.specs.Wirings.{names_differ};
-ghost use Rattle.vx_hub.specs.Acknowledging.{AcknowledgesNothing};
+ghost use Rattle.vx_plan.specs.Acknowledging.{AcknowledgesNothing};
 ghost use Rattle.vx_hub.specs.Making.{IsUntouched, AreUntouched};
 ghost use Rattle.vx_reading.specs.Reading.{IsReading};
 ghost use Rattle.vx_run.specs.Answers.{IsPlanAt, IsUnready, IsUnread, IsMisread};

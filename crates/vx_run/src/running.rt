@@ -1,7 +1,7 @@
 ghost use Rattle.std.specs.Prelude.{◌≡◌, ◌≢◌, ◌⊎◌, List, ◌<◌, ◌^◌, [], length, true, Some};
 ghost use Rattle.vx_record.specs.Legal.{IsLegal};
 ghost use Rattle.vx_record.specs.Wirings.{names_differ};
-ghost use Rattle.vx_hub.specs.Acknowledging.{AcknowledgesNothing};
+ghost use Rattle.vx_plan.specs.Acknowledging.{AcknowledgesNothing};
 ghost use Rattle.vx_hub.specs.Making.{AreUntouched};
 ghost use Rattle.vx_hub.specs.Order.{IsOrderly};
 ghost use Rattle.vx_hub.specs.Stands.{Stands};

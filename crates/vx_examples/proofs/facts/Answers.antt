@@ -1,6 +1,10 @@
 use Rattle.std.proofs.Common.{refl}
 use Rattle.std.specs.Str.{chars, is_utf8}
 use Rattle.std.specs.Str.Lossy.{utf8_lossy, utf8_valid_len, utf8_error_len}
+use Rattle.std.specs.Fmt.{digits}
+use Rattle.vx_json.specs.Machine.{number_datum}
+use Rattle.vx_json.specs.Objects.{object_of}
+use Rattle.vx_json.specs.Written.{escaped}
 use Rattle.vx_examples.proofs.facts.Goals as goal
 
 pub returns-clause-source_counts : goal.returns-clause-source_counts
@@ -42,6 +46,10 @@ returns-clause-unconfirmed_counts c = refl
 pub returns-clause-refused_counts : goal.returns-clause-refused_counts
 unfolding utf8_lossy utf8_valid_len utf8_error_len is_utf8 chars lib.Utf8.encode
 returns-clause-refused_counts c = refl
+
+pub returns-clause-undecodable_counts : goal.returns-clause-undecodable_counts
+unfolding utf8_lossy utf8_valid_len utf8_error_len is_utf8 chars lib.Utf8.encode object_of number_datum escaped digits
+returns-clause-undecodable_counts c = refl
 
 pub returns-clause-cut : goal.returns-clause-cut
 unfolding utf8_lossy utf8_valid_len utf8_error_len is_utf8 chars lib.Utf8.encode

@@ -23,7 +23,7 @@ returns-clause-gains g c =
       arith,
       row_counts batch place c.index_mut.result.now,
       held_copies batch place c.index_mut.result.now.task c.in-Some.task c.in-Sink.core c.in-Some.is c.in-Sink.is,
-      row_counts batch place (record c.index_mut.result.now { task = Some (record { port = c.in-Some.task.port; role = Sink (record { held = c.push.new.self; since = c.if-is_empty.core; timeout = c.in-Sink.core.timeout }) }) }),
+      row_counts batch place (record c.index_mut.result.now { task = Some (record { port = c.in-Some.task.port; role = Sink (record { held = c.push.new.self; since = c.if-is_empty.core; timeout = c.in-Sink.core.timeout; codec = c.in-Sink.core.codec }) }) }),
       ap (λ ps. copies_of batch place (parcel_copies ps)) c.push.ensures.items,
       parcels_pushed batch place c.in-Sink.core.held.items c.args.parcel,
     ))
@@ -49,7 +49,7 @@ returns-clause-said g c h moment said is =
     let row = c.index_mut.result.now in
     let all : HasEach (IsSaid h) row = row_each h rows c.args.i row c.requires.within c.index_mut.ensures.value said in
     rows_said h rows c.args.i row _ c.requires.within c.index_mut.ensures.value said
-    (λ was. held_collecting h c.args.i c.in-Sink.core (record { held = c.push.new.self; since = c.if-is_empty.core; timeout = c.in-Sink.core.timeout }) c.args.parcel c.args.now c.push.ensures.items c.push.ensures.room refl moment
+    (λ was. held_collecting h c.args.i c.in-Sink.core (record { held = c.push.new.self; since = c.if-is_empty.core; timeout = c.in-Sink.core.timeout; codec = c.in-Sink.core.codec }) c.args.parcel c.args.now c.push.ensures.items c.push.ensures.room refl refl moment
     (λ none. elim c.if-is_empty.branch [ then-is_empty w ↦ w.core-is | else-is_empty w ↦ let empty = c.is_empty.ensures.1 none in let full = w.if-is_empty.false in cc ])
     (λ some. elim c.if-is_empty.branch [ then-is_empty w ↦ absurd (some (c.is_empty.ensures.0 w.if-is_empty.true)) | else-is_empty w ↦ w.core-is ])
     (home_sink h c.args.i row.task c.in-Some.task c.in-Sink.core c.in-Some.is c.in-Sink.is was)) (record {

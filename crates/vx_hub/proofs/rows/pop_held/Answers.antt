@@ -25,7 +25,7 @@ returns-in-Sink-clause-loses g c =
       arith,
       row_counts batch place c.index_mut.result.now,
       held_copies batch place c.index_mut.result.now.task c.in-Some.task c.in-Sink.core c.in-Some.is c.in-Sink.is,
-      row_counts batch place (record c.index_mut.result.now { task = Some (record { port = c.in-Some.task.port; role = Sink (record { held = c.pop.new.self; since = c.in-Sink.core.since; timeout = c.in-Sink.core.timeout }) }) }),
+      row_counts batch place (record c.index_mut.result.now { task = Some (record { port = c.in-Some.task.port; role = Sink (record { held = c.pop.new.self; since = c.in-Sink.core.since; timeout = c.in-Sink.core.timeout; codec = c.in-Sink.core.codec }) }) }),
       popped_first batch place c.pop.result c.in-Sink.core.held.items c.pop.new.self.items c.pop.ensures.some c.pop.ensures.none c.pop.ensures.empty,
     ))
 
@@ -62,7 +62,7 @@ returns-in-Sink-clause-said g c h may said =
     let out = queue_each (IsSaid h) c.pop.result c.in-Sink.core.held.items c.pop.new.self.items c.pop.ensures.some c.pop.ensures.empty
     (subst (λ (ps : List Parcel). Each (IsSaid h) ps) (task_holds row.task c.in-Some.task c.in-Sink.core c.in-Some.is c.in-Sink.is) all.held) in (
       rows_said h rows c.args.i row _ c.requires c.index_mut.ensures.value said (λ was.
-          popped_collecting h c.args.i c.in-Sink.core (record { held = c.pop.new.self; since = c.in-Sink.core.since; timeout = c.in-Sink.core.timeout }) c.pop.result c.pop.ensures.some c.pop.ensures.empty c.pop.ensures.room refl refl
+          popped_collecting h c.args.i c.in-Sink.core (record { held = c.pop.new.self; since = c.in-Sink.core.since; timeout = c.in-Sink.core.timeout; codec = c.in-Sink.core.codec }) c.pop.result c.pop.ensures.some c.pop.ensures.empty c.pop.ensures.room refl refl refl
           (subst (λ (ps : List (List Copy)). MayLeave h c.args.i (all_numbers ps)) (read_at (Held c.args.i) rows c.args.i row c.requires c.index_mut.ensures.value refl ∙ ap parcel_lists (task_holds row.task c.in-Some.task c.in-Sink.core c.in-Some.is c.in-Sink.is)) may)
           (home_sink h c.args.i row.task c.in-Some.task c.in-Sink.core c.in-Some.is c.in-Sink.is was)) (record { outputs = all.outputs; waiting = all.waiting; buffer = all.buffer; held = out.0 }),
       out.1,

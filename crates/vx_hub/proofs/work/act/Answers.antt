@@ -1,6 +1,5 @@
 use Rattle.std.proofs.Common.{◌∙◌, sym, subst}
 use Rattle.vx_hub.specs.Events.{IsWrittenOf}
-use Rattle.vx_hub.specs.Rows.{role_parcels}
 use Rattle.vx_hub.specs.declared.work.Done.{Done}
 use Rattle.vx_hub.specs.declared.task.Role.{Role}
 use Rattle.vx_hub.specs.declared.work.Done.TheVariants.{Closed, Nothing}
@@ -32,8 +31,8 @@ returns-clause-sends g c sent = elim c.match-job.branch [
 
 pub returns-clause-writes : goal.returns-clause-writes
 returns-clause-writes g c = elim c.match-job.branch [
-  | in-Read-Source w ↦ subst (λ (d : Done). IsWrittenOf (role_parcels c.args.role.now) d) (sym w.result-is) (w.read.ensures.writes (role_parcels c.args.role.now))
-  | in-Attempt-Sink w ↦ subst (λ (d : Done). IsWrittenOf (role_parcels c.args.role.now) d) (sym w.result-is) (subst (λ (r : Role). IsWrittenOf (role_parcels r) w.send.result) (sym w.in-Attempt-Sink.is-1) w.send.ensures.writes)
-  | in-Close-default w ↦ subst (λ (d : Done). IsWrittenOf (role_parcels c.args.role.now) d) (sym w.result-is) (w.close.ensures.writes (role_parcels c.args.role.now))
-  | in_default w ↦ subst (λ (d : Done). IsWrittenOf (role_parcels c.args.role.now) d) (sym w.result-is) (w.nothing.ensures.writes (role_parcels c.args.role.now))
+  | in-Read-Source w ↦ subst (λ (d : Done). IsWrittenOf c.args.role.now d) (sym w.result-is) (w.read.ensures.writes c.args.role.now)
+  | in-Attempt-Sink w ↦ subst (λ (d : Done). IsWrittenOf c.args.role.now d) (sym w.result-is) (subst (λ (r : Role). IsWrittenOf r w.send.result) (sym w.in-Attempt-Sink.is-1) w.send.ensures.writes)
+  | in-Close-default w ↦ subst (λ (d : Done). IsWrittenOf c.args.role.now d) (sym w.result-is) (w.close.ensures.writes c.args.role.now)
+  | in_default w ↦ subst (λ (d : Done). IsWrittenOf c.args.role.now d) (sym w.result-is) (w.nothing.ensures.writes c.args.role.now)
 ]

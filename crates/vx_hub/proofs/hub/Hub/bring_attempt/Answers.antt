@@ -12,10 +12,9 @@ use Rattle.vx_hub.proofs.Placing.{conserved}
 use Rattle.vx_hub.specs.Numbers.{numbers_in}
 use Rattle.vx_hub.specs.Rows.{role_copies}
 use Rattle.vx_hub.specs.Stands.{IsSound, facts_at}
-use Rattle.vx_record.specs.Lists.{held}
 use Rattle.vx_record.specs.Turns.{lease_now}
 use Rattle.vx_hub.proofs.Classes.{sink_there}
-use Rattle.vx_hub.proofs.Closing.{closed_so, codec_so}
+use Rattle.vx_hub.proofs.Closing.{closed_so, writer_so}
 use Rattle.vx_hub.proofs.Drying.{sink_known}
 use Rattle.vx_hub.proofs.EventLaws.{attempt_in_order, said_by_on}
 use Rattle.vx_record.specs.declared.entry.Entry.TheVariants.{Attempt}
@@ -31,7 +30,7 @@ bring-requires-clause-stands g c =
     (sink_there c.args.self.now.log.history c.args.instance (c.requires.stands.recorded fine).order
     (sink_known c.args.self.now.log.history c.args.instance (facts_at c.args.self.now.facts.items c.args.instance) c.requires.sink ((c.requires.stands.recorded fine).facts c.args.instance)))
     (closed_so c.args.self.now.log.history c.args.instance (lease_now c.args.self.now.log.history c.args.instance) (c.requires.closing fine))
-    (codec_so c.args.self.now.log.history c.args.instance c.args.task.role (held c.args.self.now.log.history c.args.instance) (c.requires.stands.recorded fine).order (c.requires.come fine) c.requires.some)) c.note_attempt.ensures
+    (writer_so c.args.self.now.log.history c.args.instance c.args.task.role (c.requires.stands.recorded fine).order (c.requires.come fine) c.requires.some)) c.note_attempt.ensures
 
 pub returns-clause-replied : goal.returns-clause-replied
 returns-clause-replied g c sound =

@@ -1,6 +1,0 @@
-/// How a source makes an event of a line.
-#[derive(Clone, Copy, PartialEq, Eq, Debug)]
-pub enum Decoding {
-    /// The line is the message.
-    Bytes,
-}
