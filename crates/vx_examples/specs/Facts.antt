@@ -130,9 +130,9 @@ EmptyRead = last_stream (Read 0 5 (Bytes []) ∷ failed_take.after3) 0 ≡ Some 
 abbrev pub late : Record
 late = Take 1 0 (1 ∷ []) ∷ Lease 1 0 (2 ^ 64 - 1) 0 ∷ failed_take.after7
 
--- a wait goes past the last moment, and so does a sink batch's timeout
-abbrev pub RetryPastTheEnd : Type 0
-RetryPastTheEnd = retry_from (Attempt 1 (1 ∷ []) [] Failed ∷ late) 1 ≡ 2 ^ 64 + 999
+-- a wait ends at the last moment, and so does a sink batch's timeout
+abbrev pub RetryAtTheEnd : Type 0
+RetryAtTheEnd = retry_from (Attempt 1 (1 ∷ []) [] Failed ∷ late) 1 ≡ 2 ^ 64 - 1
 
-abbrev pub TimeoutPastTheEnd : Type 0
-TimeoutPastTheEnd = is_timed_out late 1 (2 ^ 64 - 1) ≡ false
+abbrev pub TimeoutAtTheEnd : Type 0
+TimeoutAtTheEnd = is_timed_out late 1 (2 ^ 64 - 1) ≡ true

@@ -16,7 +16,7 @@ ghost use Rattle.vx_examples.specs.Waiting.{run as waiting};
 ghost use Rattle.vx_examples.specs.ThreeTargets.{run as three_targets};
 ghost use Rattle.vx_examples.specs.JsonLines.{run as json_lines};
 ghost use Rattle.vx_examples.specs.RefusedJsonLines.{born_of_no_object, born_before_the_last_line, written_as_text};
-ghost use Rattle.vx_examples.specs.Facts.{SourceCounts, SinkCounts, SourceBytes, SinkBytes, Positions, NewestCounts, UnreadCounts, FailedCounts, UnconfirmedCounts, RefusedCounts, UndecodableCounts, Cut, CutOpen, CutShort, Likeness, Readers, NoReaders, Waits, NoWait, RetryWaits, Replaced, EmptyRead, RetryPastTheEnd, TimeoutPastTheEnd};
+ghost use Rattle.vx_examples.specs.Facts.{SourceCounts, SinkCounts, SourceBytes, SinkBytes, Positions, NewestCounts, UnreadCounts, FailedCounts, UnconfirmedCounts, RefusedCounts, UndecodableCounts, Cut, CutOpen, CutShort, Likeness, Readers, NoReaders, Waits, NoWait, RetryWaits, Replaced, EmptyRead, RetryAtTheEnd, TimeoutAtTheEnd};
 ghost use Rattle.vx_examples.specs.RefusedFanOuts.{swapped_targets, copy_of_another_child, notice_before_the_third, delivered_past_a_refusal, errored_by_a_refusal};
 ghost use Rattle.vx_examples.specs.RefusedMore.{born_of_nothing, born_of_too_few, confirm_at_home, confirm_of_a_sink, retired_stranger, second_notice, push_to_a_later_stage, idle_of_a_sink, lost_at_home, split_after_an_abandon, attempt_of_nothing, closed_before_its_confirm, closed_with_a_parcel, closed_with_a_held_parcel, lease_before_its_notice, lease_without_its_birth, given_up_elsewhere, closed_at_home};
 ghost use Rattle.vx_examples.specs.RefusedToo.{no_install, later_version, missing_instances, polled_lease, falling_moment, lease_of_the_retired, fifth_idle, lost_too_soon, lost_at_another_byte, take_of_a_later_stage, take_after_an_attempt, early_attempt, second_attempt, attempt_of_a_part, spent_by_no_failure, filtered_by_a_sink, unread_though_read, newest_with_room, given_up_without_an_abandon, spent_after_a_split, confirmed_again, retired_with_a_copy, second_abandon, waiting_missed, confirmed_before_its_notice, confirmed_past_an_error, home_twice, read_at_home, read_of_a_sink, born_by_another, born_of_another_stream, born_late, split_while_a_child_waits, split_on_another_port, split_to_nobody, push_while_out, take_at_home, attempt_at_home, confirmed_twice, closed_twice, retired_while_out, retired_twice, numbers_not_used_up};
@@ -126,8 +126,8 @@ pub fn facts()
     ensures retry_waits { RetryWaits }
     ensures replaced { Replaced }
     ensures empty_read { EmptyRead }
-    ensures retry_past_the_end { RetryPastTheEnd }
-    ensures timeout_past_the_end { TimeoutPastTheEnd }
+    ensures retry_at_the_end { RetryAtTheEnd }
+    ensures timeout_at_the_end { TimeoutAtTheEnd }
 {}
 
 /// And each of these another one.

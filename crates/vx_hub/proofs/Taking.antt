@@ -13,7 +13,7 @@ use Rattle.vx_ledger.specs.declared.parcel.Parcel.{Parcel}
 use Rattle.vx_plan.specs.declared.plan.Plan.{Plan}
 use Rattle.vx_plan.specs.declared.component.Component.{Component}
 use Rattle.vx_plan.specs.Components.{component_named, batch_max_events, batch_timeout}
-use Rattle.vx_record.specs.Records.{Record}
+use Rattle.vx_record.specs.Records.{Record, capped}
 use Rattle.vx_record.specs.declared.entry.Entry.{Entry}
 use Rattle.vx_record.specs.declared.entry.Entry.TheVariants.{Install, Read, Take, Attempt}
 use Rattle.vx_record.specs.declared.abandon_cause.AbandonCause.{AbandonCause}
@@ -223,12 +223,12 @@ full_is h i core order c is =
     ∙ ap (λ n. nat_le core.held.room n) (length_parcels core.held.items)
 
 -- and timed out where its core has waited
-timed_is : (h : Record) (i : ℕ) (core : SinkCore) (now : ℕ) → IsOrderly h → IsCollecting h i core → core.since ≡ taken_at h i (oldest_held h i) → is_timed_out h i now ≡ nat_le (core.since + core.timeout) now
+timed_is : (h : Record) (i : ℕ) (core : SinkCore) (now : ℕ) → IsOrderly h → IsCollecting h i core → core.since ≡ taken_at h i (oldest_held h i) → is_timed_out h i now ≡ nat_le (capped (core.since + core.timeout)) now
 timed_is h i core now order c since =
     let f = component_found h i (λ (x : Component). IsSizedFor x.settings core) order c.sized in
-    ap (λ (o : Option Component). elim o [ None ↦ false | Some x ↦ nat_le (taken_at h i (oldest_held h i) + batch_timeout x.settings) now ]) f.found
-    ∙ ap (λ n. nat_le (taken_at h i (oldest_held h i) + n) now) (sym f.has.timeout)
-    ∙ ap (λ n. nat_le (n + core.timeout) now) (sym since)
+    ap (λ (o : Option Component). elim o [ None ↦ false | Some x ↦ nat_le (capped (taken_at h i (oldest_held h i) + batch_timeout x.settings)) now ]) f.found
+    ∙ ap (λ n. nat_le (capped (taken_at h i (oldest_held h i) + n)) now) (sym f.has.timeout)
+    ∙ ap (λ n. nat_le (capped (n + core.timeout)) now) (sym since)
 
 first_joined : (q : List ℕ) (qs : List (List ℕ)) → NoneEmpty (q ∷ qs) → first_copy (joined (q ∷ qs)) ≡ first_copy q
 first_joined [] qs full = absurd full
@@ -275,7 +275,7 @@ pub waits_for_none : (h : Record) (i : ℕ) → attempts_with h i (oldest_held h
 waits_for_none h i none =
     let few = failures_fewer h i (oldest_held h i) in
     let zero_failed : failures_with h i (oldest_held h i) ≡ 0 = omega (arith, none, few) in
-    ap (λ k. if k == 0 then 0 else failed_at h i (oldest_held h i) + wait_after h i k) zero_failed
+    ap (λ k. if k == 0 then 0 else capped (failed_at h i (oldest_held h i) + wait_after h i k)) zero_failed
 
 -- the buffer of an instance has a parcel where its first stage has one
 pub buffer_some : (i s : ℕ) (ps : List Put) (copies : List ℕ) (rest : List (List ℕ)) → parcels_at (Contents i s) ps ≡ copies ∷ rest → is_empty (parcels_where (is_stage_of i) ps) ≡ false
@@ -376,7 +376,7 @@ closed_for h i now core f some cause =
   where
     go : IsFullOrOld core now ⊎ IsLastOf h i → core.since ≡ taken_at h i (oldest_held h i) → (is_full_batch h i ≡ true) ⊎ ((is_timed_out h i now ≡ true) ⊎ IsLastOf h i)
     go (inl (inl full)) since = inl (full_is h i core f.order f.collecting f.holds ∙ within core.held.room (length core.held.items) full)
-    go (inl (inr old)) since = inr (inl (timed_is h i core now f.order f.collecting since ∙ within (core.since + core.timeout) now old))
+    go (inl (inr old)) since = inr (inl (timed_is h i core now f.order f.collecting since ∙ within (capped (core.since + core.timeout)) now old))
     go (inr last) since = inr (inr last)
 
 -- one that isn't, and that may take a parcel of the buffer, is not
@@ -397,7 +397,7 @@ takable h i now core f more unclosed buffer = record { unclosed = go core.held.i
         let some : 0 < length core.held.items = subst (λ (qs : List Parcel). 0 < length qs) (sym e) (omega arith) in
         let none = fresh_untried h i core f some in
         let since = oldest_since h i core.held.items core.since f.holds some f.going none f.collecting.since in
-        let young : is_timed_out h i now ≡ false = timed_is h i core now f.order f.collecting since ∙ beyond (core.since + core.timeout) now (λ l. unclosed some (inr l)) in
+        let young : is_timed_out h i now ≡ false = timed_is h i core now f.order f.collecting since ∙ beyond (capped (core.since + core.timeout)) now (λ l. unclosed some (inr l)) in
         let unlast : is_last_batch h i ≡ false = and_none (is_ending h i) (is_empty (buffered h i)) buffer in
         let untried : was_attempted h i ≡ false = ap (λ n. nat_lt 0 n) none in
         and_none (not (is_empty (held h i))) (is_full_batch h i || is_timed_out h i now || is_last_batch h i || was_attempted h i)

@@ -5,7 +5,7 @@ use Rattle.vx_plan.specs.declared.component.Component.{Component}
 use Rattle.vx_plan.specs.declared.settings.Settings.{Settings}
 use Rattle.vx_plan.specs.Components.{batch_max_events, batch_timeout}
 use Rattle.vx_plan.specs.Options.{sink_options, encoding}
-use Rattle.vx_record.specs.Records.{Record}
+use Rattle.vx_record.specs.Records.{Record, capped}
 use Rattle.vx_record.specs.Installs.{in_force}
 use Rattle.vx_record.specs.Parcels.{first_copy}
 use Rattle.vx_record.specs.SinkBatches.{taken_at, attempts_with}
@@ -60,4 +60,4 @@ role_at rows i = role_of (row_at rows i)
 
 -- a sink holds as many parcels as it may, or holds the oldest of them long enough at some moment
 abbrev pub IsFullOrOld : SinkCore → ℕ → Type 0
-IsFullOrOld core now = (core.held.room ≤ length core.held.items) ⊎ (core.since + core.timeout ≤ now)
+IsFullOrOld core now = (core.held.room ≤ length core.held.items) ⊎ (capped (core.since + core.timeout) ≤ now)

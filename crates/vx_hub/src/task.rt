@@ -1,4 +1,5 @@
 ghost use Rattle.std.specs.Prelude.{◌≡◌, ◌+◌, ◌≤◌, [], IsTrue, IsSome, false};
+ghost use Rattle.vx_record.specs.Records.{capped};
 ghost use Rattle.vx_hub.specs.Rows.{task_parcels};
 
 use crate::source::SourceCore;
@@ -21,10 +22,10 @@ pub struct SinkCore {
 impl SinkCore {
     /// Whether the first of the parcels has waited as long as it may at that moment.
     pub(crate) fn is_old(&self, now: u64) -> bool
-        ensures old { IsTrue result → self.now.since + self.now.timeout ≤ now }
-        ensures young { result ≡ false → self.now.since + self.now.timeout ≤ now → ⊥ }
+        ensures old { IsTrue result → capped (self.now.since + self.now.timeout) ≤ now }
+        ensures young { result ≡ false → capped (self.now.since + self.now.timeout) ≤ now → ⊥ }
     {
-        now >= self.since && now - self.since >= self.timeout
+        self.since.saturating_add(self.timeout) <= now
     }
 }
 

@@ -6,7 +6,7 @@ use Rattle.vx_ends.specs.declared.trouble.Reply.TheVariants as reply
 use Rattle.vx_plan.specs.declared.component.Component.{Component}
 use Rattle.vx_plan.specs.Components.{batch_max_events, batch_timeout, retry_wait}
 use Rattle.vx_record.specs.declared.entry.Entry.TheVariants.{Take, Attempt}
-use Rattle.vx_record.specs.Records.{Record}
+use Rattle.vx_record.specs.Records.{Record, capped}
 use Rattle.vx_record.specs.Copies.{contains, joined}
 use Rattle.vx_record.specs.Turns.{lease_now}
 use Rattle.vx_record.specs.Installs.{told}
@@ -69,7 +69,7 @@ is_full_batch h i = told false (λ (c : Component). nat_le (batch_max_events c.s
 -- whether its oldest parcel has waited long enough
 abbrev pub is_timed_out : Record → ℕ → ℕ → Bool
 is_timed_out h i now =
-    told false (λ (c : Component). nat_le (taken_at h i (oldest_held h i) + batch_timeout c.settings) now) h i
+    told false (λ (c : Component). nat_le (capped (taken_at h i (oldest_held h i) + batch_timeout c.settings)) now) h i
 
 -- whether no parcel can follow
 abbrev pub is_last_batch : Record → ℕ → Bool
@@ -89,4 +89,4 @@ abbrev pub retry_from : Record → ℕ → ℕ
 retry_from h i =
     let c = oldest_held h i in
     let k = failures_with h i c in
-    if k == 0 then 0 else failed_at h i c + wait_after h i k
+    if k == 0 then 0 else capped (failed_at h i c + wait_after h i k)

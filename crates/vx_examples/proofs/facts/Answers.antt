@@ -95,10 +95,10 @@ pub returns-clause-empty_read : goal.returns-clause-empty_read
 unfolding utf8_lossy utf8_valid_len utf8_error_len is_utf8 chars lib.Utf8.encode
 returns-clause-empty_read c = refl
 
-pub returns-clause-retry_past_the_end : goal.returns-clause-retry_past_the_end
+pub returns-clause-retry_at_the_end : goal.returns-clause-retry_at_the_end
 unfolding utf8_lossy utf8_valid_len utf8_error_len is_utf8 chars lib.Utf8.encode
-returns-clause-retry_past_the_end c = refl
+returns-clause-retry_at_the_end c = refl
 
-pub returns-clause-timeout_past_the_end : goal.returns-clause-timeout_past_the_end
+pub returns-clause-timeout_at_the_end : goal.returns-clause-timeout_at_the_end
 unfolding utf8_lossy utf8_valid_len utf8_error_len is_utf8 chars lib.Utf8.encode
-returns-clause-timeout_past_the_end c = refl
+returns-clause-timeout_at_the_end c = refl
