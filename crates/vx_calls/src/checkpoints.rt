@@ -1,6 +1,7 @@
 //! The worked document, and documents that are none.
 
 use std::alloc::Global;
+use std::process::Abort;
 use std::test::Fail;
 use vx_checkpoint::{Checkpoint, CheckpointFault, read, write};
 use vx_value::Text;
@@ -20,108 +21,116 @@ fn said(alloc: Global, bytes: &[u8]) -> Result<String, Fail> {
     }
 }
 
-#[test]
-fn checkpoint_document(rt: HostRuntime) -> Result<(), Fail> {
-    let alloc = rt.alloc();
-    let checkpoint = Checkpoint {
-        path: Text::copy_of(alloc, "app.log")?,
-        offset: 72,
-    };
-    let bytes = write(alloc, &checkpoint)?;
-    let want: &[u8] = b"{\"offset\":72,\"path\":\"app.log\",\"version\":1}\n";
-    assert_eq!(rt; bytes.as_slice(), want);
-    for (text, want) in [
-        (
-            "{\"offset\":72,\"path\":\"app.log\",\"version\":1}\n",
-            "app.log 72",
-        ),
-        (
-            "{\"offset\":72,\"path\":\"app.log\",\"version\":9}\n",
-            "version 9",
-        ),
-        ("{}", "wrong shape"),
-        ("{", "not json"),
-    ] {
-        let answer = said(alloc, text.as_bytes())?;
-        assert_eq!(rt; answer.as_str(), want);
+/// Checks what some bytes are read as.
+fn has_answer(rt: &impl Abort, alloc: Global, bytes: &[u8], want: &str) -> Result<(), Fail> {
+    let answer = said(alloc, bytes)?;
+    assert_eq!(rt; answer.as_str(), want);
+    Ok(())
+}
+
+/// Checks what each text is read as.
+fn have_answers(rt: &impl Abort, alloc: Global, cases: &[(&str, &str)]) -> Result<(), Fail> {
+    for (text, want) in cases {
+        has_answer(rt, alloc, text.as_bytes(), *want)?;
     }
     Ok(())
 }
 
+/// The worked document, and one of each fault.
+const WORKED: &[(&str, &str)] = &[
+    (
+        "{\"offset\":72,\"path\":\"app.log\",\"version\":1}\n",
+        "app.log 72",
+    ),
+    (
+        "{\"offset\":72,\"path\":\"app.log\",\"version\":9}\n",
+        "version 9",
+    ),
+    ("{}", "wrong shape"),
+    ("{", "not json"),
+];
+
+#[test]
+fn checkpoint_document(rt: HostRuntime) -> Result<(), Fail> {
+    let checkpoint = Checkpoint {
+        path: Text::copy_of(rt.alloc(), "app.log")?,
+        offset: 72,
+    };
+    let bytes = write(rt.alloc(), &checkpoint)?;
+    let want: &[u8] = b"{\"offset\":72,\"path\":\"app.log\",\"version\":1}\n";
+    assert_eq!(rt; bytes.as_slice(), want);
+    have_answers(&rt, rt.alloc(), WORKED)
+}
+
+/// Documents at the edges.
+const OTHERS: &[(&str, &str)] = &[
+    (
+        "{\"offset\":-1,\"path\":\"a\",\"version\":1}",
+        "wrong shape",
+    ),
+    (
+        "{\"offset\":9223372036854775807,\"path\":\"a\",\"version\":1}",
+        "a 9223372036854775807",
+    ),
+    (
+        "{\"offset\":9223372036854775808,\"path\":\"a\",\"version\":1}",
+        "wrong shape",
+    ),
+    (
+        "{\"offset\":7.0,\"path\":\"a\",\"version\":1}",
+        "wrong shape",
+    ),
+    (
+        "{\"offset\":7e1,\"path\":\"a\",\"version\":1}",
+        "wrong shape",
+    ),
+    (
+        "{\"offset\":7,\"path\":\"a\",\"version\":1.0}",
+        "wrong shape",
+    ),
+    (
+        "{\"offset\":7,\"path\":\"a\",\"version\":1,\"more\":0}",
+        "wrong shape",
+    ),
+    (
+        "{\"offset\":7,\"path\":\"a\",\"more\":0,\"version\":2}",
+        "version 2",
+    ),
+    ("{\"offset\":7,\"path\":7,\"version\":1}", "wrong shape"),
+    ("{\"offset\":7,\"version\":1}", "wrong shape"),
+    (
+        "{\"offset\":7,\"path\":\"a\",\"offset\":8,\"version\":1}",
+        "a 8",
+    ),
+    (
+        " {\t\"path\" : \"b c\\u00e9\" ,\r\n\"version\":1,\"offset\" :0 } \n\n",
+        "b cé 0",
+    ),
+    ("{\"version\":-3}", "version -3"),
+    ("{\"version\":9223372036854775808}", "wrong shape"),
+    ("[1]", "wrong shape"),
+    ("\"version\"", "wrong shape"),
+    ("", "not json"),
+    ("{} {}", "not json"),
+];
+
 #[test]
 fn other_documents(rt: HostRuntime) -> Result<(), Fail> {
-    let alloc = rt.alloc();
-    for (text, want) in [
-        (
-            "{\"offset\":-1,\"path\":\"a\",\"version\":1}",
-            "wrong shape",
-        ),
-        (
-            "{\"offset\":9223372036854775807,\"path\":\"a\",\"version\":1}",
-            "a 9223372036854775807",
-        ),
-        (
-            "{\"offset\":9223372036854775808,\"path\":\"a\",\"version\":1}",
-            "wrong shape",
-        ),
-        (
-            "{\"offset\":7.0,\"path\":\"a\",\"version\":1}",
-            "wrong shape",
-        ),
-        (
-            "{\"offset\":7e1,\"path\":\"a\",\"version\":1}",
-            "wrong shape",
-        ),
-        (
-            "{\"offset\":7,\"path\":\"a\",\"version\":1.0}",
-            "wrong shape",
-        ),
-        (
-            "{\"offset\":7,\"path\":\"a\",\"version\":1,\"more\":0}",
-            "wrong shape",
-        ),
-        (
-            "{\"offset\":7,\"path\":\"a\",\"more\":0,\"version\":2}",
-            "version 2",
-        ),
-        ("{\"offset\":7,\"path\":7,\"version\":1}", "wrong shape"),
-        ("{\"offset\":7,\"version\":1}", "wrong shape"),
-        (
-            "{\"offset\":7,\"path\":\"a\",\"offset\":8,\"version\":1}",
-            "a 8",
-        ),
-        (
-            " {\t\"path\" : \"b c\\u00e9\" ,\r\n\"version\":1,\"offset\" :0 } \n\n",
-            "b cé 0",
-        ),
-        ("{\"version\":-3}", "version -3"),
-        ("{\"version\":9223372036854775808}", "wrong shape"),
-        ("[1]", "wrong shape"),
-        ("\"version\"", "wrong shape"),
-        ("", "not json"),
-        ("{} {}", "not json"),
-    ] {
-        let answer = said(alloc, text.as_bytes())?;
-        assert_eq!(rt; answer.as_str(), want, "at {text}");
-    }
-    let answer = said(alloc, b"{\"path\":\"\xff\",\"offset\":7,\"version\":1}")?;
-    assert_eq!(rt; answer.as_str(), "not json");
-    Ok(())
+    have_answers(&rt, rt.alloc(), OTHERS)?;
+    let no_text = b"{\"path\":\"\xff\",\"offset\":7,\"version\":1}";
+    has_answer(&rt, rt.alloc(), no_text, "not json")
+}
+
+/// Checks what the first `n` bytes of the worked document are read as.
+fn has_cut(rt: &impl Abort, alloc: Global, n: usize, want: &str) -> Result<(), Fail> {
+    let whole: &[u8] = b"{\"offset\":72,\"path\":\"app.log\",\"version\":1}\n";
+    has_answer(rt, alloc, whole.get(..n).ok_or("a beginning")?, want)
 }
 
 #[test]
 fn cut_documents(rt: HostRuntime) -> Result<(), Fail> {
-    let alloc = rt.alloc();
-    let whole: &[u8] = b"{\"offset\":72,\"path\":\"app.log\",\"version\":1}\n";
-    for n in 0..whole.len() {
-        let (front, _) = whole.split_at(n);
-        let answer = said(alloc, front)?;
-        let want = if n + 1 == whole.len() {
-            "app.log 72"
-        } else {
-            "not json"
-        };
-        assert_eq!(rt; answer.as_str(), want);
+    for n in 0..42usize {
+        has_cut(&rt, rt.alloc(), n, "not json")?;
     }
-    Ok(())
+    has_cut(&rt, rt.alloc(), 42, "app.log 72")
 }

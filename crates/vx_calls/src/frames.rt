@@ -1,7 +1,8 @@
+use std::alloc::Global;
 use std::process::Abort;
 use std::test::Fail;
 use vx_frame::{Framer, LineList};
-use vx_value::ItemList;
+use vx_value::{ItemList, WantOfMemory};
 
 // What one line is: its stream, its bytes and its end.
 fn check(rt: &impl Abort, out: &LineList, i: usize, bytes: &[u8], end: u64) -> Result<(), Fail> {
@@ -12,65 +13,104 @@ fn check(rt: &impl Abort, out: &LineList, i: usize, bytes: &[u8], end: u64) -> R
     Ok(())
 }
 
+// Checks that three lines came of `a`, `bc` and `d`.
+fn are_three(rt: &impl Abort, out: &LineList) -> Result<(), Fail> {
+    assert_eq!(rt; out.len(), 3);
+    check(rt, out, 0, b"a", 2)?;
+    check(rt, out, 1, b"bc", 5)?;
+    check(rt, out, 2, b"d", 6)
+}
+
+// Feeds a piece of the stream.
+fn feed(framer: &mut Framer, piece: &[u8], out: &mut LineList) -> Result<(), WantOfMemory> {
+    framer.feed(7, piece, out)
+}
+
+// Feeds a piece of the stream, and one of a stream beside it.
+fn feed_both(framer: &mut Framer, piece: &[u8], out: &mut LineList) -> Result<(), WantOfMemory> {
+    feed(framer, piece, out)?;
+    framer.feed(8, b"x", out)
+}
+
+// Ends the stream.
+fn finish(framer: &mut Framer, out: &mut LineList) -> Result<(), WantOfMemory> {
+    framer.finish(7, out)
+}
+
+// Feeds a text, torn behind each byte whose bit is set in `tear`.
+fn feed_torn(framer: &mut Framer, tear: u32, out: &mut LineList) -> Result<(), Fail> {
+    let text = b"a\nbc\nd";
+    let mut start = 0;
+    for end in 1..7 {
+        if end == 6 || (tear >> (end - 1)) % 2 == 1 {
+            feed_both(framer, text.get(start..end).ok_or("a piece")?, out)?;
+            start = end;
+        }
+    }
+    Ok(())
+}
+
+// Checks the lines of a text that is torn so, an end, and a second end.
+fn has_lines(rt: &impl Abort, alloc: Global, tear: u32) -> Result<(), Fail> {
+    let mut framer = Framer::new(alloc, 10);
+    let mut out = ItemList::new(alloc);
+    feed_torn(&mut framer, tear, &mut out)?;
+    finish(&mut framer, &mut out)?;
+    are_three(rt, &out)?;
+    finish(&mut framer, &mut out)?;
+    assert_eq!(rt; out.len(), 3);
+    assert_eq!(rt; framer.overlong(), 0);
+    Ok(())
+}
+
 // Every tear of a text into pieces, an end, and a stream beside it.
 #[test]
 fn lines_however_cut(rt: HostRuntime) -> Result<(), Fail> {
-    let alloc = rt.alloc();
-    let text = b"a\nbc\nd";
     for tear in 0u32..32 {
-        let mut framer = Framer::new(alloc, 10);
-        let mut out = ItemList::new(alloc);
-        let mut start = 0;
-        for end in 1..7 {
-            if end == 6 || (tear >> (end - 1)) % 2 == 1 {
-                let piece = text.get(start..end).ok_or("a piece")?;
-                framer.feed(7, piece, &mut out)?;
-                framer.feed(8, b"x", &mut out)?;
-                start = end;
-            }
-        }
-        framer.finish(7, &mut out)?;
-        assert_eq!(rt; out.len(), 3, "tear {tear}");
-        check(&rt, &out, 0, b"a", 2)?;
-        check(&rt, &out, 1, b"bc", 5)?;
-        check(&rt, &out, 2, b"d", 6)?;
-        framer.finish(7, &mut out)?;
-        assert_eq!(rt; out.len(), 3);
-        assert_eq!(rt; framer.overlong(), 0);
+        has_lines(&rt, rt.alloc(), tear)?;
     }
+    Ok(())
+}
+
+// Feeds 102,400 bytes, and some behind them.
+fn feed_many(framer: &mut Framer, back: &[u8], out: &mut LineList) -> Result<(), WantOfMemory> {
+    let piece = [b'x'; 1024];
+    for _ in 0..100 {
+        feed(framer, &piece, out)?;
+    }
+    feed(framer, back, out)
+}
+
+// A line of 102,400 bytes is a line where that is the limit, and one of a byte more is counted.
+fn has_long_line(rt: &impl Abort, alloc: Global) -> Result<(), Fail> {
+    let mut framer = Framer::new(alloc, 102400);
+    let mut out = ItemList::new(alloc);
+    feed_many(&mut framer, b"\n", &mut out)?;
+    feed_many(&mut framer, b"y\n", &mut out)?;
+    assert_eq!(rt; out.len(), 1);
+    assert_eq!(rt; framer.overlong(), 1);
+    let line = out.get(0).ok_or("a line")?;
+    assert_eq!(rt; (line.bytes.len(), line.end), (102400, 102401));
+    Ok(())
+}
+
+// Lines of three bytes and less are lines where that is the limit, and longer ones are counted.
+fn has_short_lines(rt: &impl Abort, alloc: Global) -> Result<(), Fail> {
+    let mut framer = Framer::new(alloc, 3);
+    let mut out = ItemList::new(alloc);
+    feed(&mut framer, b"abc\nabcd\nd\n", &mut out)?;
+    assert_eq!(rt; (out.len(), framer.overlong()), (2, 1));
+    check(rt, &out, 0, b"abc", 4)?;
+    check(rt, &out, 1, b"d", 11)?;
+    feed(&mut framer, b"abcd", &mut out)?;
+    finish(&mut framer, &mut out)?;
+    assert_eq!(rt; (out.len(), framer.overlong()), (2, 2));
     Ok(())
 }
 
 // A line of the limit's length is a line, and a longer one is counted.
 #[test]
 fn line_limit(rt: HostRuntime) -> Result<(), Fail> {
-    let alloc = rt.alloc();
-    let mut framer = Framer::new(alloc, 102400);
-    let mut out = ItemList::new(alloc);
-    let piece = [b'x'; 1024];
-    for _ in 0..100 {
-        framer.feed(7, &piece, &mut out)?;
-    }
-    framer.feed(7, b"\n", &mut out)?;
-    for _ in 0..100 {
-        framer.feed(7, &piece, &mut out)?;
-    }
-    framer.feed(7, b"y\n", &mut out)?;
-    assert_eq!(rt; out.len(), 1);
-    assert_eq!(rt; out.get(0).ok_or("a line")?.bytes.len(), 102400);
-    assert_eq!(rt; out.get(0).ok_or("a line")?.end, 102401);
-    assert_eq!(rt; framer.overlong(), 1);
-
-    let mut small = Framer::new(alloc, 3);
-    let mut lines = ItemList::new(alloc);
-    small.feed(7, b"abc\nabcd\nd\n", &mut lines)?;
-    assert_eq!(rt; lines.len(), 2);
-    check(&rt, &lines, 0, b"abc", 4)?;
-    check(&rt, &lines, 1, b"d", 11)?;
-    assert_eq!(rt; small.overlong(), 1);
-    small.feed(7, b"abcd", &mut lines)?;
-    small.finish(7, &mut lines)?;
-    assert_eq!(rt; lines.len(), 2);
-    assert_eq!(rt; small.overlong(), 2);
-    Ok(())
+    has_long_line(&rt, rt.alloc())?;
+    has_short_lines(&rt, rt.alloc())
 }

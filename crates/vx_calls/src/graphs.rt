@@ -1,32 +1,47 @@
 //! The worked graphs, and each refusal before the next kind.
 
 use std::alloc::Global;
+use std::process::Abort;
 use std::test::Fail;
 use vx_graph::{Class, Graph, GraphFault, Node, NodeList, check};
 use vx_value::{ItemList, Text, TextList, WantOfMemory};
 
-/// The texts between blanks; `-` alone is the empty text.
-fn texts(alloc: Global, words: &str) -> Result<TextList, WantOfMemory> {
+/// A component: its class, its name, its ports and its inputs.
+type Row = (
+    Class,
+    &'static str,
+    &'static [&'static str],
+    &'static [&'static str],
+);
+
+/// The one port of a component that has no others.
+const ALONE: &[&str] = &[""];
+
+/// A list of texts.
+fn texts(alloc: Global, words: &[&str]) -> Result<TextList, WantOfMemory> {
     let mut list = Vec::new(alloc);
-    for word in words.split_whitespace() {
-        list.push(Text::copy_of(alloc, if word == "-" { "" } else { word })?)?;
+    for word in words {
+        list.push(Text::copy_of(alloc, *word)?)?;
     }
     Ok(ItemList::from_vec(list))
 }
 
-/// The components of some rows: class, name, ports, inputs.
-fn nodes(alloc: Global, rows: &[(Class, &str, &str, &str)]) -> Result<NodeList, WantOfMemory> {
+/// The component of a row.
+fn node(alloc: Global, row: &Row) -> Result<Node, WantOfMemory> {
+    let (class, name, ports, inputs) = row;
+    Ok(Node {
+        name: Text::copy_of(alloc, *name)?,
+        class: *class,
+        ports: texts(alloc, *ports)?,
+        inputs: texts(alloc, *inputs)?,
+    })
+}
+
+/// The components of some rows.
+fn nodes(alloc: Global, rows: &[Row]) -> Result<NodeList, WantOfMemory> {
     let mut list = Vec::new(alloc);
-    for (class, name, ports, inputs) in rows {
-        let name = Text::copy_of(alloc, name)?;
-        let ports = texts(alloc, ports)?;
-        let inputs = texts(alloc, inputs)?;
-        list.push(Node {
-            name,
-            class: *class,
-            ports,
-            inputs,
-        })?;
+    for row in rows {
+        list.push(node(alloc, row)?)?;
     }
     Ok(ItemList::from_vec(list))
 }
@@ -41,17 +56,8 @@ fn joined(alloc: Global, list: &TextList) -> Result<String, Fail> {
     Ok(all)
 }
 
-/// The readers of a port.
-fn targets_of(alloc: Global, graph: &Graph, name: &str, port: u32) -> Result<String, Fail> {
-    if (port as usize) < graph.ports(name) {
-        joined(alloc, graph.targets(name, port))
-    } else {
-        Err(Fail::new("no such port"))
-    }
-}
-
 /// What the check of some components says.
-fn said(alloc: Global, rows: &[(Class, &str, &str, &str)]) -> Result<String, Fail> {
+fn said(alloc: Global, rows: &[Row]) -> Result<String, Fail> {
     match check(alloc, nodes(alloc, rows)?) {
         Ok(_) => Ok(String::from_str(alloc, "accepted")?),
         Err(GraphFault::NoSources) => Ok(String::from_str(alloc, "no sources")?),
@@ -74,139 +80,185 @@ fn said(alloc: Global, rows: &[(Class, &str, &str, &str)]) -> Result<String, Fai
     }
 }
 
-#[test]
-fn cycle_is_refused(rt: HostRuntime) -> Result<(), Fail> {
-    let alloc = rt.alloc();
-    let answer = said(
-        alloc,
-        &[
-            (Class::Source, "s", "-", ""),
-            (Class::Transform, "x", "-", "y"),
-            (Class::Transform, "y", "-", "x"),
-            (Class::Sink, "z", "", "x"),
-        ],
-    )?;
-    assert_eq!(rt; answer.as_str(), "cycle x y ");
+/// Checks what the check of a graph says.
+fn has_answer(rt: &impl Abort, alloc: Global, rows: &[Row], want: &str) -> Result<(), Fail> {
+    let answer = said(alloc, rows)?;
+    assert_eq!(rt; answer.as_str(), want);
     Ok(())
 }
+
+/// Checks what the check of each graph says.
+fn have_answers(
+    rt: &impl Abort,
+    alloc: Global,
+    cases: &[(&'static [Row], &'static str)],
+) -> Result<(), Fail> {
+    for (rows, want) in cases {
+        has_answer(rt, alloc, *rows, *want)?;
+    }
+    Ok(())
+}
+
+/// Two transforms that read each other.
+const CYCLE: &[(&[Row], &str)] = &[(
+    &[
+        (Class::Source, "s", ALONE, &[]),
+        (Class::Transform, "x", ALONE, &["y"]),
+        (Class::Transform, "y", ALONE, &["x"]),
+        (Class::Sink, "z", &[], &["x"]),
+    ],
+    "cycle x y ",
+)];
+
+#[test]
+fn cycle_is_refused(rt: HostRuntime) -> Result<(), Fail> {
+    have_answers(&rt, rt.alloc(), CYCLE)
+}
+
+/// Graphs with one fault, and with others that come after it.
+const REFUSED: &[(&[Row], &str)] = &[
+    (&[(Class::Transform, "t", ALONE, &[])], "no sources"),
+    (
+        &[
+            (Class::Source, "s", ALONE, &[]),
+            (Class::Transform, "t", ALONE, &[]),
+        ],
+        "no sinks",
+    ),
+    (
+        &[
+            (Class::Source, "s", ALONE, &[]),
+            (Class::Sink, "z", &[], &["no"]),
+            (Class::Sink, "k", &[], &[]),
+            (Class::Transform, "j", ALONE, &[]),
+        ],
+        "no inputs of j",
+    ),
+    (
+        &[
+            (Class::Source, "s", ALONE, &[]),
+            (Class::Transform, "x", ALONE, &["x"]),
+            (Class::Sink, "z", &[], &["none"]),
+            (Class::Sink, "k", &[], &["s", "q*", "r*"]),
+        ],
+        "unknown q* of k",
+    ),
+];
 
 #[test]
 fn each_refusal_before_the_next(rt: HostRuntime) -> Result<(), Fail> {
-    let alloc = rt.alloc();
-    let answer = said(alloc, &[(Class::Transform, "t", "-", "")])?;
-    assert_eq!(rt; answer.as_str(), "no sources");
-    let answer = said(
-        alloc,
-        &[
-            (Class::Source, "s", "-", ""),
-            (Class::Transform, "t", "-", ""),
-        ],
-    )?;
-    assert_eq!(rt; answer.as_str(), "no sinks");
-    let answer = said(
-        alloc,
-        &[
-            (Class::Source, "s", "-", ""),
-            (Class::Sink, "z", "", "no"),
-            (Class::Sink, "k", "", ""),
-            (Class::Transform, "j", "-", ""),
-        ],
-    )?;
-    assert_eq!(rt; answer.as_str(), "no inputs of j");
-    let answer = said(
-        alloc,
-        &[
-            (Class::Source, "s", "-", ""),
-            (Class::Transform, "x", "-", "x"),
-            (Class::Sink, "z", "", "none"),
-            (Class::Sink, "k", "", "s q* r*"),
-        ],
-    )?;
-    assert_eq!(rt; answer.as_str(), "unknown q* of k");
-    Ok(())
+    have_answers(&rt, rt.alloc(), REFUSED)
 }
+
+/// A `*` doesn't mean the reader's own outputs, and a name alone doesn't mean a named port.
+const WILDCARDS: &[(&[Row], &str)] = &[
+    (
+        &[
+            (Class::Source, "s", ALONE, &[]),
+            (Class::Transform, "t", ALONE, &["t*"]),
+            (Class::Sink, "z", &[], &["s"]),
+        ],
+        "unknown t* of t",
+    ),
+    (
+        &[
+            (Class::Source, "s", ALONE, &[]),
+            (Class::Transform, "r", &["a", "b"], &["s"]),
+            (Class::Sink, "z", &[], &["r"]),
+        ],
+        "unknown r of z",
+    ),
+    (
+        &[
+            (Class::Source, "s", ALONE, &[]),
+            (Class::Transform, "t", ALONE, &["t", "s"]),
+            (Class::Sink, "z", &[], &["*"]),
+        ],
+        "cycle t ",
+    ),
+];
 
 #[test]
 fn wildcards_and_ports(rt: HostRuntime) -> Result<(), Fail> {
-    let alloc = rt.alloc();
-    // A `*` doesn't mean the reader's own outputs, and a name alone doesn't mean a named port.
-    let answer = said(
-        alloc,
-        &[
-            (Class::Source, "s", "-", ""),
-            (Class::Transform, "t", "-", "t*"),
-            (Class::Sink, "z", "", "s"),
-        ],
-    )?;
-    assert_eq!(rt; answer.as_str(), "unknown t* of t");
-    let answer = said(
-        alloc,
-        &[
-            (Class::Source, "s", "-", ""),
-            (Class::Transform, "r", "a b", "s"),
-            (Class::Sink, "z", "", "r"),
-        ],
-    )?;
-    assert_eq!(rt; answer.as_str(), "unknown r of z");
-    let answer = said(
-        alloc,
-        &[
-            (Class::Source, "s", "-", ""),
-            (Class::Transform, "t", "-", "t s"),
-            (Class::Sink, "z", "", "*"),
-        ],
-    )?;
-    assert_eq!(rt; answer.as_str(), "cycle t ");
-    Ok(())
+    have_answers(&rt, rt.alloc(), WILDCARDS)
 }
+
+/// A graph with two cycles.
+const TWO_CYCLES: &[Row] = &[
+    (Class::Source, "s", ALONE, &[]),
+    (Class::Transform, "y", ALONE, &["x"]),
+    (Class::Transform, "x", ALONE, &["y"]),
+    (Class::Transform, "q", ALONE, &["n"]),
+    (Class::Transform, "p", ALONE, &["q"]),
+    (Class::Transform, "n", ALONE, &["p", "s"]),
+    (Class::Sink, "z", &[], &["x", "q"]),
+];
 
 #[test]
 fn either_of_two_cycles(rt: HostRuntime) -> Result<(), Fail> {
-    let alloc = rt.alloc();
-    let answer = said(
-        alloc,
-        &[
-            (Class::Source, "s", "-", ""),
-            (Class::Transform, "y", "-", "x"),
-            (Class::Transform, "x", "-", "y"),
-            (Class::Transform, "q", "-", "n"),
-            (Class::Transform, "p", "-", "q"),
-            (Class::Transform, "n", "-", "p s"),
-            (Class::Sink, "z", "", "x q"),
-        ],
-    )?;
+    let answer = said(rt.alloc(), TWO_CYCLES)?;
     let answer = answer.as_str();
     assert!(rt; answer == "cycle x y " || answer == "cycle n q p ");
     Ok(())
 }
 
-#[test]
-fn targets_in_byte_order(rt: HostRuntime) -> Result<(), Fail> {
-    let alloc = rt.alloc();
-    let rows = [
-        (Class::Sink, "z", "", "s s r.a r.a"),
-        (Class::Source, "s", "-", ""),
-        (Class::Transform, "r", "a b c", "s"),
-        (Class::Transform, "f", "-", "r.*"),
-        (Class::Sink, "B", "", "*.a f*"),
-        (Class::Sink, "b", "", "r.b"),
-    ];
-    match check(alloc, nodes(alloc, &rows)?) {
-        Ok(graph) => {
-            for (name, port, want) in [
-                ("s", 0, "r z "),
-                ("r", 0, "B f z "),
-                ("r", 1, "b f "),
-                ("f", 0, "B "),
-                ("r", 2, "f "),
-            ] {
-                let found = targets_of(alloc, &graph, name, port)?;
-                assert_eq!(rt; found.as_str(), want);
-            }
-            assert_eq!(rt; graph.ports("r"), 3);
-            assert_eq!(rt; graph.ports("none"), 0);
-            Ok(())
-        }
+/// A graph in which ports have several readers.
+const READERS: &[Row] = &[
+    (Class::Sink, "z", &[], &["s", "s", "r.a", "r.a"]),
+    (Class::Source, "s", ALONE, &[]),
+    (Class::Transform, "r", &["a", "b", "c"], &["s"]),
+    (Class::Transform, "f", ALONE, &["r.*"]),
+    (Class::Sink, "B", &[], &["*.a", "f*"]),
+    (Class::Sink, "b", &[], &["r.b"]),
+];
+
+/// The readers of its ports.
+const TARGETS: &[(&str, u32, &str)] = &[
+    ("s", 0, "r z "),
+    ("r", 0, "B f z "),
+    ("r", 1, "b f "),
+    ("f", 0, "B "),
+    ("r", 2, "f "),
+];
+
+/// The graph of some rows that is accepted.
+fn accepted(alloc: Global, rows: &[Row]) -> Result<Graph, Fail> {
+    match check(alloc, nodes(alloc, rows)?) {
+        Ok(graph) => Ok(graph),
         Err(_) => Err(Fail::new("refused")),
     }
+}
+
+/// The readers of a port.
+fn targets_of(alloc: Global, graph: &Graph, name: &str, port: u32) -> Result<String, Fail> {
+    if (port as usize) < graph.ports(name) {
+        joined(alloc, graph.targets(name, port))
+    } else {
+        Err(Fail::new("no such port"))
+    }
+}
+
+/// Checks the readers of a port.
+fn has_targets(
+    rt: &impl Abort,
+    alloc: Global,
+    graph: &Graph,
+    name: &str,
+    port: u32,
+    want: &str,
+) -> Result<(), Fail> {
+    let found = targets_of(alloc, graph, name, port)?;
+    assert_eq!(rt; found.as_str(), want);
+    Ok(())
+}
+
+#[test]
+fn targets_in_byte_order(rt: HostRuntime) -> Result<(), Fail> {
+    let graph = accepted(rt.alloc(), READERS)?;
+    assert_eq!(rt; graph.ports("r"), 3);
+    assert_eq!(rt; graph.ports("none"), 0);
+    for (name, port, want) in TARGETS {
+        has_targets(&rt, rt.alloc(), &graph, *name, *port, *want)?;
+    }
+    Ok(())
 }

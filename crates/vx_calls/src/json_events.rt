@@ -2,9 +2,13 @@
 
 mod texts;
 
+use crate::comparing::same;
 use std::alloc::Global;
+use std::process::Abort;
 use std::test::Fail;
-use vx_json::{Codec, DemoSettings, JsonFault, encode_event, read, write, write_value};
+use vx_json::{
+    Codec, Decoding, DemoSettings, JsonFault, encode_event, line_event, read, write, write_value,
+};
 use vx_value::{
     Bytes, Event, FieldList, ItemList, Path, PathFault, PutFault, Text, Value, ValueList,
     WantOfMemory,
@@ -28,111 +32,241 @@ fn spelled(alloc: Global, event: &Event) -> Result<String, Fail> {
     Ok(String::from_utf8_lossy(alloc, out.as_slice())?)
 }
 
-#[test]
-fn json_faults(rt: HostRuntime) -> Result<(), Fail> {
-    let alloc = rt.alloc();
-    for (text, want) in [
-        ("{\"a\":[[[[[[[[[[[[[[[[[[[[[[[[[[[[[[[[", "deep at 36"),
-        ("{\"a\":}", "not json at 5"),
-        ("{\"a\":1", "not json at 6"),
-        ("[1]", "not an object"),
-    ] {
-        let answer = said(alloc, text.as_bytes())?;
-        assert_eq!(rt; answer.as_str(), want);
+/// Checks what some bytes are read as.
+fn has_answer(rt: &impl Abort, alloc: Global, bytes: &[u8], want: &str) -> Result<(), Fail> {
+    let answer = said(alloc, bytes)?;
+    assert_eq!(rt; answer.as_str(), want);
+    Ok(())
+}
+
+/// Checks what a text is read as.
+fn text_has_answer(rt: &impl Abort, alloc: Global, text: &str, want: &str) -> Result<(), Fail> {
+    let answer = said(alloc, text.as_bytes())?;
+    same(rt, answer.as_str(), want, text);
+    Ok(())
+}
+
+/// Checks what each text is read as.
+fn have_answers(rt: &impl Abort, alloc: Global, cases: &[(&str, &str)]) -> Result<(), Fail> {
+    for (text, want) in cases {
+        text_has_answer(rt, alloc, *text, *want)?;
     }
     Ok(())
+}
+
+/// Texts with each fault.
+const FAULTS: &[(&str, &str)] = &[
+    ("{\"a\":[[[[[[[[[[[[[[[[[[[[[[[[[[[[[[[[", "deep at 36"),
+    ("{\"a\":}", "not json at 5"),
+    ("{\"a\":1", "not json at 6"),
+    ("[1]", "not an object"),
+];
+
+#[test]
+fn json_faults(rt: HostRuntime) -> Result<(), Fail> {
+    have_answers(&rt, rt.alloc(), FAULTS)
+}
+
+/// What a put of 2 at `.a.b` answers in the event of a text.
+fn put_below(alloc: Global, text: &str) -> Result<Result<(), PutFault>, Fail> {
+    let mut event = read(alloc, text.as_bytes())?;
+    let below = Path::read(alloc, ".a.b")?;
+    Ok(event.put(&below, Value::Whole(2)))
+}
+
+/// The event that comes of that.
+fn spelled_below(alloc: Global, text: &str) -> Result<String, Fail> {
+    let mut event = read(alloc, text.as_bytes())?;
+    let below = Path::read(alloc, ".a.b")?;
+    event.put(&below, Value::Whole(2))?;
+    spelled(alloc, &event)
+}
+
+/// The fault of a text that is no path.
+fn path_fault(alloc: Global, text: &str) -> Option<PathFault> {
+    match Path::read(alloc, text) {
+        Err(fault) => Some(fault),
+        Ok(_) => None,
+    }
 }
 
 #[test]
 fn put_and_lossy(rt: HostRuntime) -> Result<(), Fail> {
-    let alloc = rt.alloc();
-    let below = Path::read(alloc, ".a.b")?;
-    let mut event = read(alloc, b"{\"a\":1}")?;
-    let refused = event.put(&below, Value::Whole(2));
+    let refused = put_below(rt.alloc(), "{\"a\":1}")?;
     assert_eq!(rt; refused, Err(PutFault::Blocked { names: 1 }));
-    let mut event = read(alloc, b"{}")?;
-    event.put(&below, Value::Whole(2))?;
-    assert_eq!(rt; spelled(alloc, &event)?.as_str(), "{\"a\":{\"b\":2}}");
-    match Path::read(alloc, "a..b") {
-        Err(fault) => assert_eq!(rt; fault, PathFault::Syntax { at: 2 }),
-        Ok(_) => return Err(Fail::from(PathFault::Long)),
-    }
-    let lossy = Text::lossy(alloc, b"a\xE2\x82b")?;
+    let fault = path_fault(rt.alloc(), "a..b");
+    assert_eq!(rt; fault, Some(PathFault::Syntax { at: 2 }));
+    let text = spelled_below(rt.alloc(), "{}")?;
+    assert_eq!(rt; text.as_str(), "{\"a\":{\"b\":2}}");
+    let lossy = Text::lossy(rt.alloc(), b"a\xE2\x82b")?;
     assert_eq!(rt; lossy.as_str(), "a\u{FFFD}b");
     Ok(())
 }
 
+/// Texts of events, each with its one spelling.
+const SPELLINGS: &[(&str, &str)] = &[
+    (
+        "{\"n\":0.25,\"b\":1,\"a\":null}",
+        "{\"a\":null,\"b\":1,\"n\":0.25}",
+    ),
+    (
+        " { \"a\" : [ true , false , { } , [ ] ] , \"\" : \"\" }\r\n\t",
+        "{\"\":\"\",\"a\":[true,false,{},[]]}",
+    ),
+    ("{\"a\":1,\"b\":2,\"a\":3}", "{\"a\":3,\"b\":2}"),
+    (
+        "{\"c\":1,\"a\":2,\"b\":3,\"a\":4}",
+        "{\"a\":4,\"b\":3,\"c\":1}",
+    ),
+    (
+        "{\"a\":\"\\u0041\\ud83d\\ude00\\/\\b\\f\\n\\r\\t\\u001f\"}",
+        "{\"a\":\"A😀/\\b\\f\\n\\r\\t\\u001f\"}",
+    ),
+    (
+        "{\"a\":[-0,1.0,1e2,9223372036854775807,-9223372036854775808,9223372036854775808]}",
+        "{\"a\":[-0,1.0,1e2,9223372036854775807,-9223372036854775808,9223372036854775808]}",
+    ),
+];
+
 #[test]
 fn json_in_and_out(rt: HostRuntime) -> Result<(), Fail> {
-    let alloc = rt.alloc();
-    for (text, want) in [
-        (
-            "{\"n\":0.25,\"b\":1,\"a\":null}",
-            "{\"a\":null,\"b\":1,\"n\":0.25}",
-        ),
-        (
-            " { \"a\" : [ true , false , { } , [ ] ] , \"\" : \"\" }\r\n\t",
-            "{\"\":\"\",\"a\":[true,false,{},[]]}",
-        ),
-        ("{\"a\":1,\"b\":2,\"a\":3}", "{\"a\":3,\"b\":2}"),
-        (
-            "{\"c\":1,\"a\":2,\"b\":3,\"a\":4}",
-            "{\"a\":4,\"b\":3,\"c\":1}",
-        ),
-        (
-            "{\"a\":\"\\u0041\\ud83d\\ude00\\/\\b\\f\\n\\r\\t\\u001f\"}",
-            "{\"a\":\"A😀/\\b\\f\\n\\r\\t\\u001f\"}",
-        ),
-        (
-            "{\"a\":[-0,1.0,1e2,9223372036854775807,-9223372036854775808,9223372036854775808]}",
-            "{\"a\":[-0,1.0,1e2,9223372036854775807,-9223372036854775808,9223372036854775808]}",
-        ),
-    ] {
-        let answer = said(alloc, text.as_bytes())?;
-        assert_eq!(rt; answer.as_str(), want);
+    have_answers(&rt, rt.alloc(), SPELLINGS)
+}
+
+/// What a sink writes of the event of a text under each codec, first as JSON.
+fn encoded(alloc: Global, text: &str) -> Result<Bytes, Fail> {
+    let event = read(alloc, text.as_bytes())?;
+    let mut out = Bytes::new(alloc);
+    encode_event(Codec::Json, &event, &mut out)?;
+    encode_event(Codec::Text, &event, &mut out)?;
+    Ok(out)
+}
+
+/// Checks what a sink writes of the event of a text.
+fn has_encoding(rt: &impl Abort, alloc: Global, text: &str, want: &str) -> Result<(), Fail> {
+    let out = encoded(alloc, text)?;
+    assert_eq!(rt; out.as_slice(), want.as_bytes());
+    Ok(())
+}
+
+/// Events, and what a sink writes of them.
+const ENCODED: &[(&str, &str)] = &[
+    ("{\"message\":\"a\\n\"}", "{\"message\":\"a\\n\"}\na\n\n"),
+    ("{\"message\":[1]}", "{\"message\":[1]}\n[1]\n"),
+    ("{}", "{}\n\n"),
+];
+
+#[test]
+fn events_for_sinks(rt: HostRuntime) -> Result<(), Fail> {
+    for (text, want) in ENCODED {
+        has_encoding(&rt, rt.alloc(), *text, *want)?;
     }
     Ok(())
 }
 
-// What a sink writes of an event under each codec.
+/// The event that a line of standard input, or of a file, gives in its one spelling.
+fn given(
+    alloc: Global,
+    decoding: Decoding,
+    line: &str,
+    file: Option<&Text>,
+) -> Result<String, Fail> {
+    let source_type = Text::copy_of(alloc, "stdin")?;
+    match line_event(alloc, decoding, line.as_bytes(), &source_type, file)? {
+        Some(event) => spelled(alloc, &event),
+        None => Ok(String::from_str(alloc, "none")?),
+    }
+}
+
+/// Checks the event that a line of standard input gives.
+fn has_event(
+    rt: &impl Abort,
+    alloc: Global,
+    decoding: Decoding,
+    line: &str,
+    want: &str,
+) -> Result<(), Fail> {
+    let answer = given(alloc, decoding, line, None)?;
+    assert_eq!(rt; answer.as_str(), want);
+    Ok(())
+}
+
+/// The events of lines under each codec. The type of the source comes in its place by the bytes of its name, unless
+/// the event has its own.
+const LINES: &[(Decoding, &str, &str)] = &[
+    (
+        Decoding::Bytes,
+        "{}",
+        "{\"message\":\"{}\",\"source_type\":\"stdin\"}",
+    ),
+    (
+        Decoding::Bytes,
+        "",
+        "{\"message\":\"\",\"source_type\":\"stdin\"}",
+    ),
+    (
+        Decoding::Json,
+        " {\"z\":1,\"a\":2}",
+        "{\"a\":2,\"source_type\":\"stdin\",\"z\":1}",
+    ),
+    (
+        Decoding::Json,
+        "{\"source_type\":null}",
+        "{\"source_type\":null}",
+    ),
+    (Decoding::Json, "", "none"),
+    (Decoding::Json, "[{}]", "none"),
+    (Decoding::Json, "{}}", "none"),
+];
+
 #[test]
-fn events_for_sinks(rt: HostRuntime) -> Result<(), Fail> {
-    let alloc = rt.alloc();
-    for (text, want) in [
-        ("{\"message\":\"a\\n\"}", "{\"message\":\"a\\n\"}\na\n\n"),
-        ("{\"message\":[1]}", "{\"message\":[1]}\n[1]\n"),
-        ("{}", "{}\n\n"),
-    ] {
-        let Ok(event) = read(alloc, text.as_bytes()) else {
-            return Err(Fail::from("an event"));
-        };
-        let mut out = Bytes::new(alloc);
-        encode_event(Codec::Json, &event, &mut out)?;
-        encode_event(Codec::Text, &event, &mut out)?;
-        assert_eq!(rt; out.as_slice(), want.as_bytes());
+fn events_of_lines(rt: HostRuntime) -> Result<(), Fail> {
+    for (decoding, line, want) in LINES {
+        has_event(&rt, rt.alloc(), *decoding, *line, *want)?;
     }
     Ok(())
+}
+
+// The path of a file comes in its place too.
+#[test]
+fn events_of_lines_of_a_file(rt: HostRuntime) -> Result<(), Fail> {
+    let path = Text::copy_of(rt.alloc(), "a.log")?;
+    let answer = given(rt.alloc(), Decoding::Json, "{\"b\":1}", Some(&path))?;
+    assert_eq!(rt;
+        answer.as_str(),
+        "{\"b\":1,\"file\":\"a.log\",\"source_type\":\"stdin\"}"
+    );
+    Ok(())
+}
+
+/// A value of each kind, by its number.
+fn value_of_kind(alloc: Global, kind: u8) -> Result<Value, Fail> {
+    Ok(match kind {
+        0 => Value::Whole(-7),
+        1 => Value::Truth(true),
+        2 => Value::Words(Text::copy_of(alloc, "é\u{7f}\u{1}")?),
+        3 => Value::Spelled(Text::copy_of(alloc, "1E+2")?),
+        _ => Value::Items(two_items(alloc)?),
+    })
+}
+
+/// Nothing, and no fields.
+fn two_items(alloc: Global) -> Result<ValueList, WantOfMemory> {
+    let mut items = ValueList::new(alloc);
+    items.push(Value::Null).map_err(|_| WantOfMemory)?;
+    items
+        .push(Value::Fields(FieldList::new(alloc)))
+        .map_err(|_| WantOfMemory)?;
+    Ok(items)
 }
 
 // A value of each kind alone, behind what is there. The texts are those that Python's `json` writes without blanks; a
 // spelled number is its spelling.
 #[test]
 fn values_alone(rt: HostRuntime) -> Result<(), Fail> {
-    let alloc = rt.alloc();
-    let mut out = Bytes::copy_of(alloc, b"x")?;
-    let mut items = ValueList::new(alloc);
-    items.push(Value::Null).map_err(|_| WantOfMemory)?;
-    items
-        .push(Value::Fields(FieldList::new(alloc)))
-        .map_err(|_| WantOfMemory)?;
-    for value in [
-        Value::Whole(-7),
-        Value::Truth(true),
-        Value::Words(Text::copy_of(alloc, "é\u{7f}\u{1}")?),
-        Value::Spelled(Text::copy_of(alloc, "1E+2")?),
-        Value::Items(items),
-    ] {
-        write_value(&value, &mut out)?;
+    let mut out = Bytes::copy_of(rt.alloc(), b"x")?;
+    for kind in 0..5u8 {
+        write_value(&value_of_kind(rt.alloc(), kind)?, &mut out)?;
     }
     assert_eq!(rt;
         out.as_slice(),
@@ -141,16 +275,27 @@ fn values_alone(rt: HostRuntime) -> Result<(), Fail> {
     Ok(())
 }
 
+/// Puts a value at a path.
+fn put(alloc: Global, event: &mut Event, path: &str, value: Value) -> Result<(), Fail> {
+    let path = Path::read(alloc, path)?;
+    event.put(&path, value)?;
+    Ok(())
+}
+
+/// An event with two values.
+fn two_values(alloc: Global) -> Result<Event, Fail> {
+    let mut event = Event::new(alloc);
+    put(alloc, &mut event, ".b.a", Value::Truth(false))?;
+    put(alloc, &mut event, ".a", Value::Whole(0))?;
+    Ok(event)
+}
+
 // An event behind what is there.
 #[test]
 fn an_event_alone(rt: HostRuntime) -> Result<(), Fail> {
-    let alloc = rt.alloc();
-    let mut out = Bytes::copy_of(alloc, b"x")?;
-    let mut event = Event::new(alloc);
-    write(&event, &mut out)?;
-    event.put(&Path::read(alloc, ".b.a")?, Value::Truth(false))?;
-    event.put(&Path::read(alloc, ".a")?, Value::Whole(0))?;
-    write(&event, &mut out)?;
+    let mut out = Bytes::copy_of(rt.alloc(), b"x")?;
+    write(&Event::new(rt.alloc()), &mut out)?;
+    write(&two_values(rt.alloc())?, &mut out)?;
     assert_eq!(rt;
         out.as_slice(),
         b"x{}{\"a\":0,\"b\":{\"a\":false}}".as_slice()

@@ -4,6 +4,8 @@
 #[cfg(test)]
 mod checkpoints;
 #[cfg(test)]
+mod comparing;
+#[cfg(test)]
 mod conditions;
 #[cfg(test)]
 mod frames;
@@ -13,6 +15,8 @@ mod graphs;
 mod json_events;
 #[cfg(test)]
 mod plans;
+#[cfg(test)]
+mod probes;
 #[cfg(test)]
 mod records;
 #[cfg(test)]

@@ -1,26 +1,36 @@
+use std::alloc::Global;
+use std::process::Abort;
 use std::test::Fail;
-use vx_ends::Form;
-use vx_plan::first_plan;
+use vx_ends::{Form, PortSpec};
+use vx_plan::{Plan, first_plan};
+
+// Checks that the sink alone reads the source.
+fn has_one_reader(rt: &impl Abort, alloc: Global, plan: &Plan) -> Result<(), Fail> {
+    let names = plan.targets(alloc, "in", 0)?;
+    assert_eq!(rt; names.len(), 1);
+    let numbers = plan.readers(alloc, "in", 0)?;
+    assert_eq!(rt; numbers.as_slice(), [1].as_slice());
+    Ok(())
+}
+
+// Checks that a port is for standard output.
+fn is_standard_output(rt: &impl Abort, spec: &PortSpec) {
+    assert_eq!(rt; spec.name.as_str(), "out");
+    match spec.form {
+        Form::Stdin => assert!(rt; false, "it is no standard input"),
+        Form::Console { err } => assert!(rt; !err),
+    }
+}
 
 #[test]
 fn first_plan_reads_standard_input(rt: HostRuntime) -> Result<(), Fail> {
-    let plan = first_plan(rt.alloc())?;
-    let plan = plan.copy(rt.alloc())?;
+    let plan = first_plan(rt.alloc())?.copy(rt.alloc())?;
     assert_eq!(rt; plan.components.len(), 2);
     assert!(rt; !plan.acknowledged("in"));
-    let names = plan.targets(rt.alloc(), "in", 0)?;
-    assert_eq!(rt; names.len(), 1);
-    let numbers = plan.readers(rt.alloc(), "in", 0)?;
-    assert_eq!(rt; numbers.as_slice(), [1].as_slice());
+    has_one_reader(&rt, rt.alloc(), &plan)?;
     match plan.port_spec(rt.alloc(), "out", false)? {
         None => assert!(rt; false, "a console has a port"),
-        Some(spec) => {
-            assert_eq!(rt; spec.name.as_str(), "out");
-            match spec.form {
-                Form::Stdin => assert!(rt; false, "it is no standard input"),
-                Form::Console { err } => assert!(rt; !err),
-            }
-        }
+        Some(spec) => is_standard_output(&rt, &spec),
     }
     Ok(())
 }

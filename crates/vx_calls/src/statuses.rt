@@ -17,40 +17,91 @@ fn event_table(rt: HostRuntime) {
     }
 }
 
-// The rows of the batches' table, by the old status, and in each the columns Dropped, Delivered, Errored and
-// Rejected.
+// The rows of the batches' table: the old status, that of an event, and the new one.
+const BATCH_ROWS: &[(BatchStatus, EventStatus, BatchStatus)] = &[
+    (
+        BatchStatus::Delivered,
+        EventStatus::Dropped,
+        BatchStatus::Delivered,
+    ),
+    (
+        BatchStatus::Delivered,
+        EventStatus::Delivered,
+        BatchStatus::Delivered,
+    ),
+    (
+        BatchStatus::Delivered,
+        EventStatus::Errored,
+        BatchStatus::Errored,
+    ),
+    (
+        BatchStatus::Delivered,
+        EventStatus::Rejected,
+        BatchStatus::Rejected,
+    ),
+    (
+        BatchStatus::Errored,
+        EventStatus::Dropped,
+        BatchStatus::Errored,
+    ),
+    (
+        BatchStatus::Errored,
+        EventStatus::Delivered,
+        BatchStatus::Errored,
+    ),
+    (
+        BatchStatus::Errored,
+        EventStatus::Errored,
+        BatchStatus::Errored,
+    ),
+    (
+        BatchStatus::Errored,
+        EventStatus::Rejected,
+        BatchStatus::Rejected,
+    ),
+    (
+        BatchStatus::Rejected,
+        EventStatus::Dropped,
+        BatchStatus::Rejected,
+    ),
+    (
+        BatchStatus::Rejected,
+        EventStatus::Delivered,
+        BatchStatus::Rejected,
+    ),
+    (
+        BatchStatus::Rejected,
+        EventStatus::Errored,
+        BatchStatus::Rejected,
+    ),
+    (
+        BatchStatus::Rejected,
+        EventStatus::Rejected,
+        BatchStatus::Rejected,
+    ),
+];
+
 #[test]
 fn batch_table(rt: HostRuntime) {
-    let (delivered, errored, rejected) = (
-        BatchStatus::Delivered,
-        BatchStatus::Errored,
-        BatchStatus::Rejected,
-    );
-    let rows = [
-        (delivered, [delivered, delivered, errored, rejected]),
-        (errored, [errored, errored, errored, rejected]),
-        (rejected, [rejected, rejected, rejected, rejected]),
-    ];
-    for (old, row) in rows {
-        assert_eq!(rt; batch_update(old, EventStatus::Dropped), row[0]);
-        assert_eq!(rt; batch_update(old, EventStatus::Delivered), row[1]);
-        assert_eq!(rt; batch_update(old, EventStatus::Errored), row[2]);
-        assert_eq!(rt; batch_update(old, EventStatus::Rejected), row[3]);
+    for (old, event, new) in BATCH_ROWS {
+        assert_eq!(rt; batch_update(*old, *event), *new);
     }
 }
 
+// Each outcome with its status.
+const OUTCOMES: &[(Outcome, EventStatus)] = &[
+    (Outcome::Delivered, EventStatus::Delivered),
+    (Outcome::Filtered, EventStatus::Dropped),
+    (Outcome::NewestDropped, EventStatus::Dropped),
+    (Outcome::NoConsumer, EventStatus::Dropped),
+    (Outcome::Attempts, EventStatus::Errored),
+    (Outcome::Abandoned, EventStatus::Errored),
+    (Outcome::Refusal, EventStatus::Rejected),
+];
+
 #[test]
 fn outcomes(rt: HostRuntime) {
-    let table = [
-        (Outcome::Delivered, EventStatus::Delivered),
-        (Outcome::Filtered, EventStatus::Dropped),
-        (Outcome::NewestDropped, EventStatus::Dropped),
-        (Outcome::NoConsumer, EventStatus::Dropped),
-        (Outcome::Attempts, EventStatus::Errored),
-        (Outcome::Abandoned, EventStatus::Errored),
-        (Outcome::Refusal, EventStatus::Rejected),
-    ];
-    for (outcome, status) in table {
-        assert_eq!(rt; outcome.status(), status);
+    for (outcome, status) in OUTCOMES {
+        assert_eq!(rt; outcome.status(), *status);
     }
 }

@@ -1,8 +1,9 @@
 use std::alloc::Global;
+use std::process::Abort;
 use std::test::Fail;
 use vx_ends::{Position, Reply};
 use vx_plan::first_plan;
-use vx_record::{Child, Entry, Instance, Record, Start, Taken, Tally, tallies};
+use vx_record::{Child, Entry, Instance, Record, Start, Taken, Tally, TallyList, tallies};
 use vx_status::{BatchStatus, Outcome};
 use vx_value::{Bytes, Event, ItemList, Text, WantOfMemory};
 
@@ -55,7 +56,7 @@ fn read(alloc: Global, bytes: &[u8]) -> Result<Entry, WantOfMemory> {
 }
 
 // A line that is as long as may be, and a byte more.
-fn read_much(alloc: Global) -> Result<Entry, Fail> {
+fn read_much(alloc: Global) -> Result<Entry, WantOfMemory> {
     let bytes = vec![in alloc; b'c'; 102_401]?;
     Ok(Entry::Read {
         instance: 0,
@@ -110,14 +111,6 @@ fn attempt(alloc: Global, copy: u64, bytes: &[u8], reply: Reply) -> Result<Entry
     })
 }
 
-fn spent(instance: u32, copy: u64, outcome: Outcome) -> Entry {
-    Entry::Spent {
-        instance,
-        copy,
-        outcome,
-    }
-}
-
 fn confirm(alloc: Global, stream: u64, end: u64, made: bool) -> Result<Entry, WantOfMemory> {
     Ok(Entry::Confirm {
         instance: 0,
@@ -126,79 +119,181 @@ fn confirm(alloc: Global, stream: u64, end: u64, made: bool) -> Result<Entry, Wa
     })
 }
 
-// Four lines, and one that is too long.
-fn push_reads(alloc: Global, history: &mut Record) -> Result<(), Fail> {
-    history.push(read(alloc, b"ab\n")?)?;
-    history.push(born(alloc, 0, 0)?)?;
-    history.push(read_much(alloc)?)?;
-    history.push(read(alloc, b"\nh")?)?;
-    history.push(Entry::Read {
-        instance: 0,
-        stream: 0,
-        taken: Taken::StreamEnded,
-    })?;
-    history.push(born(alloc, 1, 1)?)?;
-    history.push(read(alloc, b"x\n")?)?;
-    history.push(born(alloc, 2, 2)?)?;
-    history.push(read(alloc, b"y\n")?)?;
-    history.push(born(alloc, 3, 3)?)?;
-    Ok(())
+// What happens, as far as a row of a record has to say.
+#[derive(Clone, Copy)]
+enum Happening {
+    Read(&'static [u8]),
+    ReadMuch,
+    Ended,
+    Born {
+        batch: u64,
+        copy: u64,
+    },
+    Split {
+        copy: u64,
+        child: u64,
+    },
+    Take(u64),
+    Attempt {
+        copy: u64,
+        bytes: &'static [u8],
+        reply: Reply,
+    },
+    Spent {
+        instance: u32,
+        copy: u64,
+        outcome: Outcome,
+    },
+    Notice {
+        batch: u64,
+        status: BatchStatus,
+    },
+    Confirm {
+        stream: u64,
+        end: u64,
+        made: bool,
+    },
 }
 
-// The first event has no reader, the second is written at the second attempt.
-fn push_first_ways(alloc: Global, history: &mut Record) -> Result<(), WantOfMemory> {
-    history.push(spent(0, 0, Outcome::NoConsumer))?;
-    history.push(Entry::Notice {
+// Its entry.
+fn entry(alloc: Global, happening: Happening) -> Result<Entry, WantOfMemory> {
+    match happening {
+        Happening::Read(bytes) => read(alloc, bytes),
+        Happening::ReadMuch => read_much(alloc),
+        Happening::Ended => Ok(Entry::Read {
+            instance: 0,
+            stream: 0,
+            taken: Taken::StreamEnded,
+        }),
+        Happening::Born { batch, copy } => born(alloc, batch, copy),
+        Happening::Split { copy, child } => split(alloc, copy, child),
+        Happening::Take(copy) => take(alloc, copy),
+        Happening::Attempt { copy, bytes, reply } => attempt(alloc, copy, bytes, reply),
+        Happening::Spent {
+            instance,
+            copy,
+            outcome,
+        } => Ok(Entry::Spent {
+            instance,
+            copy,
+            outcome,
+        }),
+        Happening::Notice { batch, status } => Ok(Entry::Notice { batch, status }),
+        Happening::Confirm { stream, end, made } => confirm(alloc, stream, end, made),
+    }
+}
+
+// Four lines, and one that is too long. The first event has no reader, the second is written at the second attempt,
+// the third is dropped as the newest, and the fourth is refused. Three confirms are made, and one fails.
+const HAPPENINGS: &[Happening] = &[
+    Happening::Read(b"ab\n"),
+    Happening::Born { batch: 0, copy: 0 },
+    Happening::ReadMuch,
+    Happening::Read(b"\nh"),
+    Happening::Ended,
+    Happening::Born { batch: 1, copy: 1 },
+    Happening::Read(b"x\n"),
+    Happening::Born { batch: 2, copy: 2 },
+    Happening::Read(b"y\n"),
+    Happening::Born { batch: 3, copy: 3 },
+    Happening::Spent {
+        instance: 0,
+        copy: 0,
+        outcome: Outcome::NoConsumer,
+    },
+    Happening::Notice {
         batch: 0,
         status: BatchStatus::Delivered,
-    })?;
-    history.push(split(alloc, 1, 4)?)?;
-    history.push(take(alloc, 4)?)?;
-    history.push(attempt(alloc, 4, b"h\n", Reply::Failed)?)?;
-    history.push(attempt(alloc, 4, b"h\n", Reply::Ok)?)?;
-    history.push(spent(1, 4, Outcome::Delivered))?;
-    history.push(Entry::Notice {
+    },
+    Happening::Split { copy: 1, child: 4 },
+    Happening::Take(4),
+    Happening::Attempt {
+        copy: 4,
+        bytes: b"h\n",
+        reply: Reply::Failed,
+    },
+    Happening::Attempt {
+        copy: 4,
+        bytes: b"h\n",
+        reply: Reply::Ok,
+    },
+    Happening::Spent {
+        instance: 1,
+        copy: 4,
+        outcome: Outcome::Delivered,
+    },
+    Happening::Notice {
         batch: 1,
         status: BatchStatus::Delivered,
-    })
-}
-
-// The third event is dropped as the newest, the fourth is refused.
-fn push_last_ways(alloc: Global, history: &mut Record) -> Result<(), WantOfMemory> {
-    history.push(split(alloc, 2, 5)?)?;
-    history.push(spent(0, 5, Outcome::NewestDropped))?;
-    history.push(Entry::Notice {
+    },
+    Happening::Split { copy: 2, child: 5 },
+    Happening::Spent {
+        instance: 0,
+        copy: 5,
+        outcome: Outcome::NewestDropped,
+    },
+    Happening::Notice {
         batch: 2,
         status: BatchStatus::Delivered,
-    })?;
-    history.push(split(alloc, 3, 6)?)?;
-    history.push(take(alloc, 6)?)?;
-    history.push(attempt(alloc, 6, b"y\n", Reply::Refused)?)?;
-    history.push(spent(1, 6, Outcome::Refusal))?;
-    history.push(Entry::Notice {
+    },
+    Happening::Split { copy: 3, child: 6 },
+    Happening::Take(6),
+    Happening::Attempt {
+        copy: 6,
+        bytes: b"y\n",
+        reply: Reply::Refused,
+    },
+    Happening::Spent {
+        instance: 1,
+        copy: 6,
+        outcome: Outcome::Refusal,
+    },
+    Happening::Notice {
         batch: 3,
         status: BatchStatus::Rejected,
-    })
+    },
+    Happening::Confirm {
+        stream: 0,
+        end: 3,
+        made: true,
+    },
+    Happening::Confirm {
+        stream: 1,
+        end: 6,
+        made: true,
+    },
+    Happening::Confirm {
+        stream: 0,
+        end: 9,
+        made: true,
+    },
+    Happening::Confirm {
+        stream: 0,
+        end: 99,
+        made: false,
+    },
+];
+
+// The record of all that.
+fn record(alloc: Global) -> Result<Record, Fail> {
+    let mut history = Record::new(alloc);
+    history.push(install(alloc)?)?;
+    for happening in HAPPENINGS {
+        history.push(entry(alloc, *happening)?)?;
+    }
+    Ok(history)
 }
 
-// Three confirms that were made, and one that failed.
-fn push_confirms(alloc: Global, history: &mut Record) -> Result<(), WantOfMemory> {
-    history.push(confirm(alloc, 0, 3, true)?)?;
-    history.push(confirm(alloc, 1, 6, true)?)?;
-    history.push(confirm(alloc, 0, 9, true)?)?;
-    history.push(confirm(alloc, 0, 99, false)?)
+// Checks the counts of an instance, from the record and from the list.
+fn has_counts(rt: &impl Abort, history: &Record, list: &TallyList, number: u32, wanted: Tally) {
+    assert_eq!(rt; list.get(number as usize).copied(), Some(wanted));
+    assert_eq!(rt; history.tally(number), wanted);
 }
 
 #[test]
 fn a_record_is_counted(rt: HostRuntime) -> Result<(), Fail> {
-    let alloc = rt.alloc();
-    let mut history = Record::new(alloc);
-    history.push(install(alloc)?)?;
-    push_reads(alloc, &mut history)?;
-    push_first_ways(alloc, &mut history)?;
-    push_last_ways(alloc, &mut history)?;
-    push_confirms(alloc, &mut history)?;
-    let list = tallies(alloc, &history, 3)?;
+    let history = record(rt.alloc())?;
+    let list = tallies(rt.alloc(), &history, 3)?;
     assert_eq!(rt; list.len(), 3);
     let source = Tally {
         read: 102_410,
@@ -221,11 +316,8 @@ fn a_record_is_counted(rt: HostRuntime) -> Result<(), Fail> {
         bytes: 6,
         ..Tally::zero()
     };
-    assert_eq!(rt; list.get(0).copied().ok_or("a tally")?, source);
-    assert_eq!(rt; list.get(1).copied().ok_or("a tally")?, sink);
-    assert_eq!(rt; list.get(2).copied().ok_or("a tally")?, Tally::zero());
-    assert_eq!(rt; history.tally(0), source);
-    assert_eq!(rt; history.tally(1), sink);
-    assert_eq!(rt; history.tally(2), Tally::zero());
+    has_counts(&rt, &history, &list, 0, source);
+    has_counts(&rt, &history, &list, 1, sink);
+    has_counts(&rt, &history, &list, 2, Tally::zero());
     Ok(())
 }

@@ -1,4 +1,5 @@
 use std::alloc::Global;
+use std::process::Abort;
 use std::test::Fail;
 use vx_value::{
     Bytes, Event, EventList, NumberList, Path, PathFault, PutFault, Queue, Text, TextList, Value,
@@ -38,29 +39,41 @@ fn put_levels(alloc: Global, text: &str, levels: u32) -> Result<Result<(), PutFa
     Ok(event.put(&path, nested(alloc, levels)?))
 }
 
+// An event whose `.a` is 1, and what a put below that answers.
+fn put_below(alloc: Global) -> Result<(Event, Result<(), PutFault>), Fail> {
+    let mut event = event_with(alloc, &Path::read(alloc, ".a")?, 1)?;
+    let below = Path::read(alloc, ".a.b")?;
+    let answer = event.put(&below, Value::Null);
+    Ok((event, answer))
+}
+
+// Whether an event has a whole number at a path.
+fn has_whole(alloc: Global, event: &Event, path: &str, whole: i64) -> Result<bool, Fail> {
+    let path = Path::read(alloc, path)?;
+    Ok(is_whole(event.get(&path), whole))
+}
+
 #[test]
 fn put_and_lossy(rt: HostRuntime) -> Result<(), Fail> {
-    let alloc = rt.alloc();
-    let a = Path::read(alloc, ".a")?;
-    let below = Path::read(alloc, ".a.b")?;
-    let mut event = event_with(alloc, &a, 1)?;
-    assert_eq!(rt;
-        event.put(&below, Value::Null),
-        Err(PutFault::Blocked { names: 1 })
-    );
-    assert!(rt; is_whole(event.get(&a), 1));
+    let (event, answer) = put_below(rt.alloc())?;
+    assert_eq!(rt; answer, Err(PutFault::Blocked { names: 1 }));
+    assert!(rt; has_whole(rt.alloc(), &event, ".a", 1)?);
     Ok(())
+}
+
+// An event whose `.a.b` is 2, and whose `.B` is 3.
+fn two_wholes(alloc: Global) -> Result<Event, Fail> {
+    let mut event = event_with(alloc, &Path::read(alloc, ".a.b")?, 2)?;
+    let beside = Path::read(alloc, "\"B\"")?;
+    event.put(&beside, Value::Whole(3))?;
+    Ok(event)
 }
 
 #[test]
 fn put_keeps_a_neighbour(rt: HostRuntime) -> Result<(), Fail> {
-    let alloc = rt.alloc();
-    let below = Path::read(alloc, ".a.b")?;
-    let beside = Path::read(alloc, "\"B\"")?;
-    let mut event = event_with(alloc, &below, 2)?;
-    assert_eq!(rt; event.put(&beside, Value::Whole(3)), Ok(()));
-    assert!(rt; is_whole(event.get(&below), 2));
-    assert!(rt; is_whole(event.get(&beside), 3));
+    let event = two_wholes(rt.alloc())?;
+    assert!(rt; has_whole(rt.alloc(), &event, ".a.b", 2)?);
+    assert!(rt; has_whole(rt.alloc(), &event, "\"B\"", 3)?);
     Ok(())
 }
 
@@ -76,59 +89,84 @@ fn put_below_the_last_level(rt: HostRuntime) -> Result<(), Fail> {
     Ok(())
 }
 
-// Faults of paths, each at its place.
-#[test]
-fn path_faults(rt: HostRuntime) -> Result<(), Fail> {
-    let alloc = rt.alloc();
-    let table = [
-        ("a..b", 2),
-        ("", 0),
-        (".", 1),
-        ("a.\"b", 4),
-        ("\"\"", 1),
-        ("1", 0),
-        ("a b", 1),
-    ];
-    for (text, at) in table {
-        match Path::read(alloc, text) {
-            Err(fault) => assert_eq!(rt; fault, PathFault::Syntax { at }, "{text}"),
-            Ok(_) => return Err(Fail::from(PathFault::Long)),
-        }
+// The fault of a text that is no path.
+fn path_fault(alloc: Global, text: &str) -> Option<PathFault> {
+    match Path::read(alloc, text) {
+        Err(fault) => Some(fault),
+        Ok(_) => None,
     }
-    Ok(())
+}
+
+// Whether a text is no path, and its fault is at that place.
+fn has_path_fault(rt: &impl Abort, alloc: Global, text: &str, at: u64) {
+    let fault = path_fault(alloc, text);
+    assert_eq!(rt; fault, Some(PathFault::Syntax { at }));
+}
+
+// Texts that are no paths, each with the place of its fault.
+const NO_PATHS: &[(&str, u64)] = &[
+    ("a..b", 2),
+    ("", 0),
+    (".", 1),
+    ("a.\"b", 4),
+    ("\"\"", 1),
+    ("1", 0),
+    ("a b", 1),
+];
+
+#[test]
+fn path_faults(rt: HostRuntime) {
+    for (text, at) in NO_PATHS {
+        has_path_fault(&rt, rt.alloc(), *text, *at);
+    }
+}
+
+// The names of a path, each followed by a blank.
+fn names_of(alloc: Global, path: &Path) -> Result<String, Fail> {
+    let mut all = String::new(alloc);
+    for name in path.names() {
+        all.push_str(name.as_str())?;
+        all.push_str(" ")?;
+    }
+    Ok(all)
 }
 
 #[test]
 fn reads_quoted_names(rt: HostRuntime) -> Result<(), Fail> {
-    let alloc = rt.alloc();
-    let path = Path::read(alloc, ".a_1.\"b.\\\"c\"")?.copy(alloc)?;
+    let path = Path::read(rt.alloc(), ".a_1.\"b.\\\"c\"")?.copy(rt.alloc())?;
+    let names = names_of(rt.alloc(), &path)?;
     assert_eq!(rt; path.names().len(), 2);
-    for (name, text) in path.names().iter().zip(["a_1", "b.\"c"]) {
-        assert_eq!(rt; name.as_str(), text);
-    }
+    assert_eq!(rt; names.as_str(), "a_1 b.\"c ");
     Ok(())
 }
 
-// The texts are those of python3's bytes.decode('utf-8', 'replace').
+// Whether a text stands for some bytes.
+fn is_lossy(rt: &impl Abort, alloc: Global, bytes: &[u8], want: &str) -> Result<(), Fail> {
+    let text = Text::lossy(alloc, bytes)?;
+    assert_eq!(rt; text.as_str(), want);
+    Ok(())
+}
+
+// Bytes and their texts, which are those of python3's bytes.decode('utf-8', 'replace').
+const LOSSY: &[(&[u8], &str)] = &[
+    (b"a\xE2\x82b", "a\u{FFFD}b"),
+    (b"\xC0\xAF", "\u{FFFD}\u{FFFD}"),
+    (b"\xE0\x80\x80", "\u{FFFD}\u{FFFD}\u{FFFD}"),
+    (b"\xED\xA0\x80", "\u{FFFD}\u{FFFD}\u{FFFD}"),
+    (b"\xF0\x90\x80", "\u{FFFD}"),
+    (b"\xF0\x9F\x98\x80", "\u{1F600}"),
+    (b"\xF4\x90\x80\x80", "\u{FFFD}\u{FFFD}\u{FFFD}\u{FFFD}"),
+    (b"\xE2\x82", "\u{FFFD}"),
+    (b"\xC3(", "\u{FFFD}("),
+    (b"\xF1\x80\x80\xE1\x80\xC2b", "\u{FFFD}\u{FFFD}\u{FFFD}b"),
+    (b"x\xE1\x80\xF1", "x\u{FFFD}\u{FFFD}"),
+    (b"\xEE\x80\x80\x80", "\u{E000}\u{FFFD}"),
+];
+
 #[test]
 fn lossy_as_another_decoder(rt: HostRuntime) -> Result<(), Fail> {
-    let alloc = rt.alloc();
-    let table: [(&[u8], &str); 12] = [
-        (b"a\xE2\x82b", "a\u{FFFD}b"),
-        (b"\xC0\xAF", "\u{FFFD}\u{FFFD}"),
-        (b"\xE0\x80\x80", "\u{FFFD}\u{FFFD}\u{FFFD}"),
-        (b"\xED\xA0\x80", "\u{FFFD}\u{FFFD}\u{FFFD}"),
-        (b"\xF0\x90\x80", "\u{FFFD}"),
-        (b"\xF0\x9F\x98\x80", "\u{1F600}"),
-        (b"\xF4\x90\x80\x80", "\u{FFFD}\u{FFFD}\u{FFFD}\u{FFFD}"),
-        (b"\xE2\x82", "\u{FFFD}"),
-        (b"\xC3(", "\u{FFFD}("),
-        (b"\xF1\x80\x80\xE1\x80\xC2b", "\u{FFFD}\u{FFFD}\u{FFFD}b"),
-        (b"x\xE1\x80\xF1", "x\u{FFFD}\u{FFFD}"),
-        (b"\xEE\x80\x80\x80", "\u{E000}\u{FFFD}"),
-    ];
-    for (bytes, text) in table {
-        assert_eq!(rt; Text::lossy(alloc, bytes)?.as_str(), text);
+    for (bytes, want) in LOSSY {
+        is_lossy(&rt, rt.alloc(), *bytes, *want)?;
     }
     Ok(())
 }

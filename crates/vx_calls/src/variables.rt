@@ -1,6 +1,8 @@
 //! The worked examples, and each form at its edges.
 
+use crate::comparing::same;
 use std::alloc::Global;
+use std::process::Abort;
 use std::test::Fail;
 use vx_subst::{SubstFault, replace};
 use vx_value::{Text, Variable, VariableList, WantOfMemory};
@@ -10,6 +12,15 @@ fn variable(alloc: Global, name: &str, value: &str) -> Result<Variable, WantOfMe
     let name = Text::copy_of(alloc, name)?;
     let value = Text::copy_of(alloc, value)?;
     Ok(Variable { name, value })
+}
+
+/// An environment: names with their values.
+fn environment(alloc: Global, pairs: &[(&str, &str)]) -> Result<VariableList, WantOfMemory> {
+    let mut list = Vec::new(alloc);
+    for (name, value) in pairs {
+        list.push(variable(alloc, *name, *value)?)?;
+    }
+    Ok(VariableList::from_vec(list))
 }
 
 /// What the text becomes in an environment, or its fault in words.
@@ -24,57 +35,80 @@ fn said(alloc: Global, text: &str, environment: &VariableList) -> Result<String,
     }
 }
 
-#[test]
-fn variables(rt: HostRuntime) -> Result<(), Fail> {
-    let alloc = rt.alloc();
-    let mut list = Vec::new(alloc);
-    list.push(variable(alloc, "A", "1")?)?;
-    let environment = VariableList::from_vec(list);
-    for (text, want) in [
-        ("a=$A ${B:-c} $$ $-", "a=1 c $ $-"),
-        ("$9", "missing 9 at 0"),
-        ("x ${N}", "missing N at 2"),
-    ] {
-        let answer = said(alloc, text, &environment)?;
-        assert_eq!(rt; answer.as_str(), want);
+/// Checks what a text becomes in an environment.
+fn has_answer(
+    rt: &impl Abort,
+    alloc: Global,
+    environment: &VariableList,
+    text: &str,
+    want: &str,
+) -> Result<(), Fail> {
+    let answer = said(alloc, text, environment)?;
+    same(rt, answer.as_str(), want, text);
+    Ok(())
+}
+
+/// Checks what each text becomes in an environment.
+fn have_answers(
+    rt: &impl Abort,
+    alloc: Global,
+    environment: &VariableList,
+    cases: &[(&str, &str)],
+) -> Result<(), Fail> {
+    for (text, want) in cases {
+        has_answer(rt, alloc, environment, *text, *want)?;
     }
     Ok(())
 }
 
+/// The worked texts.
+const WORKED: &[(&str, &str)] = &[
+    ("a=$A ${B:-c} $$ $-", "a=1 c $ $-"),
+    ("$9", "missing 9 at 0"),
+    ("x ${N}", "missing N at 2"),
+];
+
+#[test]
+fn variables(rt: HostRuntime) -> Result<(), Fail> {
+    let one = environment(rt.alloc(), &[("A", "1")])?;
+    have_answers(&rt, rt.alloc(), &one, WORKED)
+}
+
+/// Variables with long, dotted and empty names and values, one of them twice.
+const VARIABLES: &[(&str, &str)] = &[
+    ("A", "1"),
+    ("A", "2"),
+    ("AB", "long"),
+    ("my.host_1", "h"),
+    ("E", ""),
+    ("D", "$A $$ ${A}"),
+];
+
+/// Texts with each form at its edges.
+const EDGES: &[(&str, &str)] = &[
+    ("", ""),
+    ("end $", "end $"),
+    ("${", "${"),
+    ("${A", "${A"),
+    ("${A:-x", "${A:-x"),
+    ("${}", "${}"),
+    ("${:-x}", "${:-x}"),
+    ("${A-x}", "${A-x}"),
+    ("${A:x}", "${A:x}"),
+    ("${-$A", "${-1"),
+    ("$my.host_1!${my.host_1}", "h!h"),
+    ("$AB$A-$A.", "missing A. at 6"),
+    ("${A}B$AB", "1Blong"),
+    ("[$E][${E}][${E:-d}][${E:-}][${Z:-}]", "[][][d][][]"),
+    ("${Z:-a$A{b}c}", "a$A{bc}"),
+    ("$D", "$A $$ ${A}"),
+    ("$$A $$$A", "$A $1"),
+    ("# $A é$A→", "# 1 é1→"),
+    ("é$N $M", "missing N at 2"),
+];
+
 #[test]
 fn forms_at_their_edges(rt: HostRuntime) -> Result<(), Fail> {
-    let alloc = rt.alloc();
-    let mut list = Vec::new(alloc);
-    list.push(variable(alloc, "A", "1")?)?;
-    list.push(variable(alloc, "A", "2")?)?;
-    list.push(variable(alloc, "AB", "long")?)?;
-    list.push(variable(alloc, "my.host_1", "h")?)?;
-    list.push(variable(alloc, "E", "")?)?;
-    list.push(variable(alloc, "D", "$A $$ ${A}")?)?;
-    let environment = VariableList::from_vec(list);
-    for (text, want) in [
-        ("", ""),
-        ("end $", "end $"),
-        ("${", "${"),
-        ("${A", "${A"),
-        ("${A:-x", "${A:-x"),
-        ("${}", "${}"),
-        ("${:-x}", "${:-x}"),
-        ("${A-x}", "${A-x}"),
-        ("${A:x}", "${A:x}"),
-        ("${-$A", "${-1"),
-        ("$my.host_1!${my.host_1}", "h!h"),
-        ("$AB$A-$A.", "missing A. at 6"),
-        ("${A}B$AB", "1Blong"),
-        ("[$E][${E}][${E:-d}][${E:-}][${Z:-}]", "[][][d][][]"),
-        ("${Z:-a$A{b}c}", "a$A{bc}"),
-        ("$D", "$A $$ ${A}"),
-        ("$$A $$$A", "$A $1"),
-        ("# $A é$A→", "# 1 é1→"),
-        ("é$N $M", "missing N at 2"),
-    ] {
-        let answer = said(alloc, text, &environment)?;
-        assert_eq!(rt; answer.as_str(), want);
-    }
-    Ok(())
+    let several = environment(rt.alloc(), VARIABLES)?;
+    have_answers(&rt, rt.alloc(), &several, EDGES)
 }

@@ -1,19 +1,22 @@
-use crate::runs::{FIRST, add, one_piece, run, staged, words};
+use crate::runs::{FIRST, acts, given, one_piece, run, staged, words};
 use std::alloc::Global;
 use std::process::Abort;
 use std::sync::Wait;
 use std::test::Fail;
-use vx_ends::{Act, ActList};
+use vx_ends::{Act, MemoryWorld};
 use vx_record::{Entry, Record};
 use vx_status::BatchStatus;
 use vx_value::WantOfMemory;
 
-fn acts(alloc: Global, acts: &[Act]) -> Result<ActList, WantOfMemory> {
-    let mut list = ActList::new(alloc);
-    for act in acts {
-        add(&mut list, *act)?;
-    }
-    Ok(list)
+/// A world whose `in` gives the line `ab`, and whose ends meet their other calls with these acts.
+fn acting(alloc: Global, source: &[Act], sink: &[Act]) -> Result<MemoryWorld, WantOfMemory> {
+    staged(
+        alloc,
+        FIRST,
+        one_piece(alloc, "ab\n")?,
+        acts(alloc, source)?,
+        acts(alloc, sink)?,
+    )
 }
 
 /// Copies the line `ab` between ends that meet their calls with these acts. Checks the status, what is printed, and
@@ -25,21 +28,13 @@ fn meets<R: Wait + Abort>(
     sink: &[Act],
     status: u8,
     printed: &str,
-    given: &str,
-) -> Result<Record, Fail> {
-    let world = staged(
-        alloc,
-        FIRST,
-        one_piece(alloc, "ab\n")?,
-        acts(alloc, source)?,
-        acts(alloc, sink)?,
-    )?;
+    wanted: &str,
+) -> Result<Record, WantOfMemory> {
+    let world = acting(alloc, source, sink)?;
     let words = words(alloc, "first.toml")?;
     let ended = run(rt, alloc, &words, world, status, printed);
     assert_eq!(rt; ended.ports.len(), 2);
-    if let Some(sink) = ended.ports.get(1) {
-        assert!(rt; sink.port.given() == given.as_bytes());
-    }
+    assert!(rt; given(&ended, 1) == wanted.as_bytes());
     Ok(ended.history)
 }
 

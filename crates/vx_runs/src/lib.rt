@@ -10,6 +10,8 @@ mod ends;
 #[cfg(test)]
 mod faults;
 #[cfg(test)]
+mod json_runs;
+#[cfg(test)]
 mod memory_ends;
 #[cfg(test)]
 mod plans;

@@ -1,14 +1,14 @@
 ghost use Rattle.std.specs.Prelude.{[], Some};
 
-use crate::runs::{FIRST, add, one_piece, two_words, words, world};
+use crate::runs::{FIRST, add, one_piece, run_onto, two_words, words, world};
 use std::alloc::Global;
 use std::process::Abort;
 use std::sync::Wait;
 use std::test::Fail;
-use vx_ends::{Failed, MemoryClock, MemoryPrinter, Printer, Step, StepList};
+use vx_ends::{Failed, MemoryPrinter, Printer, Step, StepList};
 use vx_graph::GraphFault;
 use vx_reading::PlanFault;
-use vx_run::{Fault, vector};
+use vx_run::Fault;
 use vx_value::{TextList, VariableList};
 
 /// A printer that fails at each print, and counts that.
@@ -40,19 +40,9 @@ fn untold<R: Wait + Abort>(
 ) -> Result<Option<Fault>, Fail> {
     let environment = VariableList::new(alloc);
     let world = world(alloc, text, steps)?;
-    let clock = MemoryClock::new();
     let mut out = MemoryPrinter::new(alloc, None);
     let mut err = FailingPrinter { faults: 0 };
-    let ended = vector(
-        rt,
-        alloc,
-        words,
-        &environment,
-        world,
-        &clock,
-        &mut out,
-        &mut err,
-    );
+    let ended = run_onto(rt, alloc, words, &environment, world, &mut out, &mut err);
     assert_eq!(rt; ended.status, status);
     assert_eq!(rt; err.faults, 1);
     assert!(rt; out.printed().is_empty());

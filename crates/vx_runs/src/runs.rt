@@ -3,8 +3,8 @@ use std::process::Abort;
 use std::sync::Wait;
 use std::test::Fail;
 use vx_ends::{
-    ActList, Config, ConfigList, MemoryClock, MemoryPrinter, MemoryWorld, Scripted, ScriptedList,
-    Step, StepList,
+    Act, ActList, Config, ConfigList, MemoryClock, MemoryPrinter, MemoryWorld, Printer, Scripted,
+    ScriptedList, Step, StepList,
 };
 use vx_run::{Ended, vector};
 use vx_value::{Bytes, ItemList, Text, TextList, VariableList, WantOfMemory};
@@ -38,11 +38,21 @@ pub(crate) fn two_words(
     Ok(words)
 }
 
-fn piece(alloc: Global, bytes: &str) -> Result<Step, WantOfMemory> {
+/// A step that gives these bytes.
+pub(crate) fn piece(alloc: Global, bytes: &[u8]) -> Result<Step, WantOfMemory> {
     Ok(Step::Bytes {
         stream: 0,
-        bytes: Bytes::copy_of(alloc, bytes.as_bytes())?,
+        bytes: Bytes::copy_of(alloc, bytes)?,
     })
+}
+
+/// Some acts.
+pub(crate) fn acts(alloc: Global, some: &[Act]) -> Result<ActList, WantOfMemory> {
+    let mut list = ActList::new(alloc);
+    for act in some {
+        add(&mut list, *act)?;
+    }
+    Ok(list)
 }
 
 /// A world with that text at `first.toml`, whose `in` plays these steps.
@@ -99,6 +109,14 @@ pub(crate) fn script(
     })
 }
 
+/// What the port of an instance was given.
+pub(crate) fn given(ended: &Ended<MemoryWorld>, instance: usize) -> &[u8] {
+    match ended.ports.get(instance) {
+        Some(end) => end.port.given(),
+        None => "no port".as_bytes(),
+    }
+}
+
 /// Runs those words in that world, and checks the status and what is printed on standard error.
 pub(crate) fn run<R: Wait + Abort>(
     rt: &R,
@@ -132,17 +150,29 @@ pub(crate) fn run_within<R: Wait + Abort>(
 }
 
 /// Runs those words in that world, and prints to these printers.
-pub(crate) fn run_onto<R: Wait + Abort>(
+pub(crate) fn run_onto<R: Wait + Abort, P: Printer>(
     rt: &R,
     alloc: Global,
     words: &TextList,
     environment: &VariableList,
     world: MemoryWorld,
     out: &mut MemoryPrinter,
-    err: &mut MemoryPrinter,
+    err: &mut P,
 ) -> Ended<MemoryWorld> {
     let clock = MemoryClock::new();
     vector(rt, alloc, words, environment, world, &clock, out, err)
+}
+
+/// Runs a configuration on these steps, and checks that this ends well.
+pub(crate) fn ran<R: Wait + Abort>(
+    rt: &R,
+    alloc: Global,
+    text: &str,
+    steps: StepList,
+) -> Result<Ended<MemoryWorld>, WantOfMemory> {
+    let world = world(alloc, text, steps)?;
+    let words = words(alloc, "first.toml")?;
+    Ok(run(rt, alloc, &words, world, 0, ""))
 }
 
 /// Runs the first configuration on these steps, and checks what `out` was given.
@@ -152,99 +182,103 @@ fn copies<R: Wait + Abort>(
     steps: StepList,
     status: u8,
     printed: &str,
-    given: &str,
-) -> Result<(), Fail> {
-    let ended = run(
-        rt,
-        alloc,
-        &words(alloc, "first.toml")?,
-        world(alloc, FIRST, steps)?,
-        status,
-        printed,
-    );
+    wanted: &str,
+) -> Result<(), WantOfMemory> {
+    let world = world(alloc, FIRST, steps)?;
+    let words = words(alloc, "first.toml")?;
+    let ended = run(rt, alloc, &words, world, status, printed);
     assert_eq!(rt; ended.ports.len(), 2);
-    if let Some(sink) = ended.ports.get(1) {
-        assert!(rt; sink.port.given() == given.as_bytes());
-    }
+    assert!(rt; given(&ended, 1) == wanted.as_bytes());
     Ok(())
 }
 
+/// The steps of a source that gives one piece.
 pub(crate) fn one_piece(alloc: Global, bytes: &str) -> Result<StepList, WantOfMemory> {
     let mut steps = StepList::new(alloc);
-    add(&mut steps, piece(alloc, bytes)?)?;
+    add(&mut steps, piece(alloc, bytes.as_bytes())?)?;
+    Ok(steps)
+}
+
+/// The steps of a source that gives a piece, and fails.
+fn failing(alloc: Global, bytes: &str) -> Result<StepList, WantOfMemory> {
+    let mut steps = one_piece(alloc, bytes)?;
+    add(&mut steps, Step::Fail)?;
     Ok(steps)
 }
 
 #[test]
 fn copies_two_lines(rt: HostRuntime) -> Result<(), Fail> {
-    let alloc = rt.alloc();
-    copies(&rt, alloc, one_piece(alloc, "a\nb\n")?, 0, "", "a\nb\n")
+    let steps = one_piece(rt.alloc(), "a\nb\n")?;
+    copies(&rt, rt.alloc(), steps, 0, "", "a\nb\n")?;
+    Ok(())
 }
 
 #[test]
 fn empty_input(rt: HostRuntime) -> Result<(), Fail> {
-    let alloc = rt.alloc();
-    copies(&rt, alloc, StepList::new(alloc), 0, "", "")
+    copies(&rt, rt.alloc(), StepList::new(rt.alloc()), 0, "", "")?;
+    Ok(())
 }
 
 #[test]
 fn unfinished_last_line(rt: HostRuntime) -> Result<(), Fail> {
-    let alloc = rt.alloc();
-    copies(&rt, alloc, one_piece(alloc, "a")?, 0, "", "a\n")
+    let steps = one_piece(rt.alloc(), "a")?;
+    copies(&rt, rt.alloc(), steps, 0, "", "a\n")?;
+    Ok(())
 }
 
 #[test]
 fn fails_before_the_first_line(rt: HostRuntime) -> Result<(), Fail> {
-    let alloc = rt.alloc();
-    let mut steps = StepList::new(alloc);
+    let mut steps = StepList::new(rt.alloc());
     add(&mut steps, Step::Fail)?;
     let printed = "vector: source in failed after 0 bytes\n";
-    copies(&rt, alloc, steps, 69, printed, "")
+    copies(&rt, rt.alloc(), steps, 69, printed, "")?;
+    Ok(())
 }
 
 #[test]
 fn fails_after_one_line(rt: HostRuntime) -> Result<(), Fail> {
-    let alloc = rt.alloc();
-    let mut steps = one_piece(alloc, "a\n")?;
-    add(&mut steps, Step::Fail)?;
-    add(&mut steps, piece(alloc, "b\n")?)?;
+    let mut steps = failing(rt.alloc(), "a\n")?;
+    add(&mut steps, piece(rt.alloc(), b"b\n")?)?;
     let printed = "vector: source in failed after 2 bytes\n";
-    copies(&rt, alloc, steps, 69, printed, "a\n")
+    copies(&rt, rt.alloc(), steps, 69, printed, "a\n")?;
+    Ok(())
 }
 
 #[test]
 fn fails_after_two_lines(rt: HostRuntime) -> Result<(), Fail> {
-    let alloc = rt.alloc();
-    let mut steps = one_piece(alloc, "a\nb\n")?;
-    add(&mut steps, Step::Fail)?;
+    let steps = failing(rt.alloc(), "a\nb\n")?;
     let printed = "vector: source in failed after 4 bytes\n";
-    copies(&rt, alloc, steps, 69, printed, "a\nb\n")
+    copies(&rt, rt.alloc(), steps, 69, printed, "a\nb\n")?;
+    Ok(())
 }
 
-#[test]
-fn finds_no_such_file(rt: HostRuntime) -> Result<(), Fail> {
-    let alloc = rt.alloc();
+/// Checks that with those words nothing is run.
+fn runs_nothing<R: Wait + Abort>(
+    rt: &R,
+    alloc: Global,
+    words: &TextList,
+    status: u8,
+    printed: &str,
+) -> Result<(), WantOfMemory> {
     let world = world(alloc, FIRST, StepList::new(alloc))?;
-    let printed = "vector: cannot read second.toml\n";
-    let ended = run(
-        &rt,
-        alloc,
-        &words(alloc, "second.toml")?,
-        world,
-        74,
-        printed,
-    );
+    let ended = run(rt, alloc, words, world, status, printed);
     assert!(rt; ended.ports.is_empty());
     Ok(())
 }
 
 #[test]
+fn finds_no_such_file(rt: HostRuntime) -> Result<(), Fail> {
+    let words = words(rt.alloc(), "second.toml")?;
+    let printed = "vector: cannot read second.toml\n";
+    runs_nothing(&rt, rt.alloc(), &words, 74, printed)?;
+    Ok(())
+}
+
+#[test]
 fn says_how_it_is_called(rt: HostRuntime) -> Result<(), Fail> {
-    let alloc = rt.alloc();
-    let world = world(alloc, FIRST, StepList::new(alloc))?;
+    let words = TextList::new(rt.alloc());
     let printed =
         "vector: usage: vector --config FILE [options]\nvector: usage: vector validate FILE\n";
-    let ended = run(&rt, alloc, &TextList::new(alloc), world, 64, printed);
-    assert!(rt; ended.ports.is_empty());
+    runs_nothing(&rt, rt.alloc(), &words, 64, printed)?;
     Ok(())
 }

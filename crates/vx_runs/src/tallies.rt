@@ -1,4 +1,4 @@
-use crate::runs::{FIRST, one_piece, run, words, world};
+use crate::runs::{FIRST, one_piece, ran};
 use std::alloc::Global;
 use std::process::Abort;
 use std::sync::Wait;
@@ -14,14 +14,7 @@ fn counts<R: Wait + Abort>(
     source: Tally,
     sink: Tally,
 ) -> Result<(), Fail> {
-    let ended = run(
-        rt,
-        alloc,
-        &words(alloc, "first.toml")?,
-        world(alloc, FIRST, steps)?,
-        0,
-        "",
-    );
+    let ended = ran(rt, alloc, FIRST, steps)?;
     assert_eq!(rt; ended.tallies.len(), 2);
     assert!(rt; ended.tallies.get(0) == Some(&source));
     assert!(rt; ended.tallies.get(1) == Some(&sink));

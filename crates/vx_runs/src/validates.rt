@@ -30,18 +30,20 @@ fn judged<R: Wait + Abort>(
     Ok(ended)
 }
 
-#[test]
-fn validate_counts(rt: HostRuntime) -> Result<(), Fail> {
-    let alloc = rt.alloc();
+/// Checks what is printed of a text that stands for a plan.
+fn is_valid<R: Wait + Abort>(rt: &R, alloc: Global, text: &str, counts: &str) -> Result<(), Fail> {
     let mut out = MemoryPrinter::new(alloc, None);
-    judged(&rt, alloc, TWO_SINKS, &mut out, 0, "")?;
-    let counts = "valid: 1 sources, 0 transforms, 2 sinks\n";
-    assert!(rt; out.printed() == counts.as_bytes());
-    let mut out = MemoryPrinter::new(alloc, None);
-    judged(&rt, alloc, FIRST, &mut out, 0, "")?;
-    let counts = "valid: 1 sources, 0 transforms, 1 sinks\n";
+    judged(rt, alloc, text, &mut out, 0, "")?;
     assert!(rt; out.printed() == counts.as_bytes());
     Ok(())
+}
+
+#[test]
+fn validate_counts(rt: HostRuntime) -> Result<(), Fail> {
+    let two = "valid: 1 sources, 0 transforms, 2 sinks\n";
+    is_valid(&rt, rt.alloc(), TWO_SINKS, two)?;
+    let one = "valid: 1 sources, 0 transforms, 1 sinks\n";
+    is_valid(&rt, rt.alloc(), FIRST, one)
 }
 
 /// The same component under another name.
@@ -51,23 +53,25 @@ fn renamed(alloc: Global, component: &Component, name: &str) -> Result<Component
     Ok(copy)
 }
 
-/// A plan of two sources and three consoles.
-fn two_and_three(alloc: Global) -> Result<Plan, WantOfMemory> {
-    let mut plan = first_plan(alloc)?;
+/// The places of components in the first plan, and other names for them.
+const RENAMED: &[(usize, &str)] = &[(0, "i1"), (0, "i2"), (1, "o1"), (1, "o2"), (1, "o3")];
+
+/// Two sources and three consoles.
+fn two_and_three(alloc: Global, plan: &Plan) -> Result<ComponentList, WantOfMemory> {
     let mut components = ComponentList::new(alloc);
-    for (place, name) in [(0, "i1"), (0, "i2"), (1, "o1"), (1, "o2"), (1, "o3")] {
-        if let Some(component) = plan.components.get(place) {
-            add(&mut components, renamed(alloc, component, name)?)?;
+    for (place, name) in RENAMED {
+        if let Some(component) = plan.components.get(*place) {
+            add(&mut components, renamed(alloc, component, *name)?)?;
         }
     }
-    plan.components = components;
-    Ok(plan)
+    Ok(components)
 }
 
 #[test]
 fn each_class_has_its_own_count(rt: HostRuntime) -> Result<(), Fail> {
-    let alloc = rt.alloc();
-    let text = valid_text(alloc, &two_and_three(alloc)?)?;
+    let mut plan = first_plan(rt.alloc())?;
+    plan.components = two_and_three(rt.alloc(), &plan)?;
+    let text = valid_text(rt.alloc(), &plan)?;
     let counts = "valid: 2 sources, 0 transforms, 3 sinks\n";
     assert_eq!(rt; text.as_str(), counts);
     Ok(())

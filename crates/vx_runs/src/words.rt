@@ -1,6 +1,7 @@
 //! The words of each command, at their edges.
 
 use std::alloc::Global;
+use std::process::Abort;
 use std::test::Fail;
 use vx_cli::{CliFault, Command, read_words};
 use vx_value::{Text, TextList};
@@ -9,7 +10,7 @@ use vx_value::{Text, TextList};
 fn said(alloc: Global, words: &[&str]) -> Result<String, Fail> {
     let mut list = Vec::new(alloc);
     for word in words {
-        list.push(Text::copy_of(alloc, word)?)?;
+        list.push(Text::copy_of(alloc, *word)?)?;
     }
     match read_words(alloc, &TextList::from_vec(list)) {
         Ok(Command::Run { config }) => {
@@ -25,96 +26,102 @@ fn said(alloc: Global, words: &[&str]) -> Result<String, Fail> {
     }
 }
 
+/// Checks what some words are.
+fn has_answer(rt: &impl Abort, alloc: Global, words: &[&str], want: &str) -> Result<(), Fail> {
+    let answer = said(alloc, words)?;
+    assert_eq!(rt; answer.as_str(), want);
+    Ok(())
+}
+
+/// Words that run a file.
+const RUN: &[(&[&str], &str)] = &[
+    (&["-c", "f"], "run f"),
+    (&["-cf"], "run f"),
+    (&["-c=f"], "run f"),
+    (&["-c==f"], "run =f"),
+    (&["-c-f"], "run -f"),
+    (&["--config", "f"], "run f"),
+    (&["--config=f"], "run f"),
+    (&["--config==f"], "run =f"),
+    (&["--config=--config"], "run --config"),
+    (&["--config", "-"], "run -"),
+    (&["--config", "validate"], "run validate"),
+    (&["-c", "f", "--"], "run f"),
+    (&["--config", ""], "run "),
+    (&["--config="], "run "),
+    (&["-c", ""], "run "),
+    (&["-c="], "run "),
+];
+
 #[test]
 fn to_run(rt: HostRuntime) -> Result<(), Fail> {
-    let alloc = rt.alloc();
-    for (words, want) in [
-        (["-c", "f"].as_slice(), "run f"),
-        (["-cf"].as_slice(), "run f"),
-        (["-c=f"].as_slice(), "run f"),
-        (["-c==f"].as_slice(), "run =f"),
-        (["-c-f"].as_slice(), "run -f"),
-        (["--config", "f"].as_slice(), "run f"),
-        (["--config=f"].as_slice(), "run f"),
-        (["--config==f"].as_slice(), "run =f"),
-        (["--config=--config"].as_slice(), "run --config"),
-        (["--config", "-"].as_slice(), "run -"),
-        (["--config", "validate"].as_slice(), "run validate"),
-        (["-c", "f", "--"].as_slice(), "run f"),
-        (["--config", ""].as_slice(), "run "),
-        (["--config="].as_slice(), "run "),
-        (["-c", ""].as_slice(), "run "),
-        (["-c="].as_slice(), "run "),
-    ] {
-        let answer = said(alloc, words)?;
-        assert_eq!(rt; answer.as_str(), want);
+    for (words, want) in RUN {
+        has_answer(&rt, rt.alloc(), *words, *want)?;
     }
     Ok(())
 }
+
+/// Words that judge a file.
+const VALIDATE: &[(&[&str], &str)] = &[
+    (&["validate", "f"], "validate f"),
+    (&["validate", ""], "validate "),
+    (&["validate", "-"], "validate -"),
+    (&["validate", "validate"], "validate validate"),
+    (&["validate", "--", "f"], "validate f"),
+    (&["validate", "--", "--config"], "validate --config"),
+    (&["validate", "--", "--"], "validate --"),
+    (&["validate", "f", "--"], "validate f"),
+];
 
 #[test]
 fn to_validate(rt: HostRuntime) -> Result<(), Fail> {
-    let alloc = rt.alloc();
-    for (words, want) in [
-        (["validate", "f"].as_slice(), "validate f"),
-        (["validate", ""].as_slice(), "validate "),
-        (["validate", "-"].as_slice(), "validate -"),
-        (["validate", "validate"].as_slice(), "validate validate"),
-        (["validate", "--", "f"].as_slice(), "validate f"),
-        (
-            ["validate", "--", "--config"].as_slice(),
-            "validate --config",
-        ),
-        (["validate", "--", "--"].as_slice(), "validate --"),
-        (["validate", "f", "--"].as_slice(), "validate f"),
-    ] {
-        let answer = said(alloc, words)?;
-        assert_eq!(rt; answer.as_str(), want);
+    for (words, want) in VALIDATE {
+        has_answer(&rt, rt.alloc(), *words, *want)?;
     }
     Ok(())
 }
 
+/// Words that are no command.
+const NO_COMMAND: &[&[&str]] = &[
+    &[],
+    &[""],
+    &["--"],
+    &["f"],
+    &["-c"],
+    &["--config"],
+    &["-c", "f", "-c", "f"],
+    &["--config", "f", "--config", "g"],
+    &["-cf", "--config=g"],
+    &["-c", "f", "more"],
+    &["-c", "f", "validate", "g"],
+    &["-c", "f", "--", "g"],
+    &["--", "-c", "f"],
+    &["--confg", "f"],
+    &["--conf", "f"],
+    &["-C", "f"],
+    &["--config", "--config"],
+    &["--config", "--", "f"],
+    &["-c", "-f"],
+    &["-h"],
+    &["--help"],
+    &["-V"],
+    &["--version"],
+    &["-c", "f", "--help"],
+    &["help"],
+    &["validate"],
+    &["validate", "--"],
+    &["validate", "f", "g"],
+    &["validate", "--config", "f"],
+    &["validate", "--config=f"],
+    &["validate", "--help"],
+    &["validate", "-f"],
+    &["Validate", "f"],
+];
+
 #[test]
 fn no_command(rt: HostRuntime) -> Result<(), Fail> {
-    let alloc = rt.alloc();
-    let none: [&str; 0] = [];
-    for (words, want) in [
-        (none.as_slice(), "usage"),
-        ([""].as_slice(), "usage"),
-        (["--"].as_slice(), "usage"),
-        (["f"].as_slice(), "usage"),
-        (["-c"].as_slice(), "usage"),
-        (["--config"].as_slice(), "usage"),
-        (["-c", "f", "-c", "f"].as_slice(), "usage"),
-        (["--config", "f", "--config", "g"].as_slice(), "usage"),
-        (["-cf", "--config=g"].as_slice(), "usage"),
-        (["-c", "f", "more"].as_slice(), "usage"),
-        (["-c", "f", "validate", "g"].as_slice(), "usage"),
-        (["-c", "f", "--", "g"].as_slice(), "usage"),
-        (["--", "-c", "f"].as_slice(), "usage"),
-        (["--confg", "f"].as_slice(), "usage"),
-        (["--conf", "f"].as_slice(), "usage"),
-        (["-C", "f"].as_slice(), "usage"),
-        (["--config", "--config"].as_slice(), "usage"),
-        (["--config", "--", "f"].as_slice(), "usage"),
-        (["-c", "-f"].as_slice(), "usage"),
-        (["-h"].as_slice(), "usage"),
-        (["--help"].as_slice(), "usage"),
-        (["-V"].as_slice(), "usage"),
-        (["--version"].as_slice(), "usage"),
-        (["-c", "f", "--help"].as_slice(), "usage"),
-        (["help"].as_slice(), "usage"),
-        (["validate"].as_slice(), "usage"),
-        (["validate", "--"].as_slice(), "usage"),
-        (["validate", "f", "g"].as_slice(), "usage"),
-        (["validate", "--config", "f"].as_slice(), "usage"),
-        (["validate", "--config=f"].as_slice(), "usage"),
-        (["validate", "--help"].as_slice(), "usage"),
-        (["validate", "-f"].as_slice(), "usage"),
-        (["Validate", "f"].as_slice(), "usage"),
-    ] {
-        let answer = said(alloc, words)?;
-        assert_eq!(rt; answer.as_str(), want);
+    for words in NO_COMMAND {
+        has_answer(&rt, rt.alloc(), *words, "usage")?;
     }
     Ok(())
 }

@@ -1,6 +1,6 @@
 //! Texts whose verdicts other readers told.
 
-use super::said;
+use super::{has_answer, have_answers, text_has_answer};
 use std::test::Fail;
 
 /// Texts that are no event, each with its verdict. Which texts are JSON told Node: its strict decoder of UTF-8, its
@@ -101,126 +101,123 @@ true => not an object
 
 #[test]
 fn texts_that_are_refused(rt: HostRuntime) -> Result<(), Fail> {
-    let alloc = rt.alloc();
     let mut count = 0u32;
     for line in REFUSED.lines() {
         let (text, want) = line.split_once(" => ").ok_or("a verdict")?;
-        let answer = said(alloc, text.as_bytes())?;
-        assert_eq!(rt; answer.as_str(), want, "{text}");
+        text_has_answer(&rt, rt.alloc(), text, want)?;
         count = count.saturating_add(1);
     }
     assert_eq!(rt; count, 92);
     Ok(())
 }
 
-// Bytes that no text has, with verdicts of the same origin: control characters, and what is no UTF-8.
+/// Bytes that no text has, with verdicts of the same origin: control characters, and what is no UTF-8.
+const BYTES: &[(&[u8], &str)] = &[
+    (b"\xEF\xBB\xBF{}", "not json at 0"),
+    (b"{\"a\":1}\xC2\xA0", "not json at 7"),
+    (b"{\"a\":\"\x09\"}", "not json at 6"),
+    (b"{\"a\x09b\":1}", "not json at 3"),
+    (b"\x09{\"a\":\x091\x09}\x09x", "not json at 11"),
+    (b"{\"a\":\"\x00\"}", "not json at 6"),
+    (b"{\"a\":\"\x1F\"}", "not json at 6"),
+    (b"{\"a\":\"\x0A\"}", "not json at 6"),
+    (b"\x0B{}", "not json at 0"),
+    (b"\x0C{}", "not json at 0"),
+    (b"{}\x00", "not json at 2"),
+    (b"{\"\xC0\xAF\":1}", "not json at 2"),
+    (b"{\"\xC1\xBF\":1}", "not json at 2"),
+    (b"{\"\xE0\x80\x80\":1}", "not json at 3"),
+    (b"{\"\xE0\x9F\xBF\":1}", "not json at 3"),
+    (b"{\"\xF0\x80\x80\x80\":1}", "not json at 3"),
+    (b"{\"\xF0\x8F\xBF\xBF\":1}", "not json at 3"),
+    (b"{\"\xC3\":1}", "not json at 3"),
+    (b"{\"\xE2\x82\":1}", "not json at 4"),
+    (b"{\"\xF0\x9F\x98\":1}", "not json at 5"),
+    (b"{\"\xE2(\xA1\":1}", "not json at 3"),
+    (b"{\"\xED\xA0\x80\":1}", "not json at 3"),
+    (b"{\"\xED\xBF\xBF\":1}", "not json at 3"),
+    (b"{\"\xF4\x90\x80\x80\":1}", "not json at 3"),
+    (b"{\"\xF5\x80\x80\x80\":1}", "not json at 2"),
+    (b"{\"\xFF\":1}", "not json at 2"),
+    (b"{\"\x80\":1}", "not json at 2"),
+    (b"{\"\xE2\x82", "not json at 4"),
+    (b"{\"\xF0\x9F", "not json at 4"),
+    (b"\xC2\xA0{}", "not json at 0"),
+    (b"{\"a\":\xE2\x80\xA81}", "not json at 5"),
+];
+
 #[test]
 fn bytes_that_are_refused(rt: HostRuntime) -> Result<(), Fail> {
-    let alloc = rt.alloc();
-    let table: [(&[u8], &str); 31] = [
-        (b"\xEF\xBB\xBF{}", "not json at 0"),
-        (b"{\"a\":1}\xC2\xA0", "not json at 7"),
-        (b"{\"a\":\"\x09\"}", "not json at 6"),
-        (b"{\"a\x09b\":1}", "not json at 3"),
-        (b"\x09{\"a\":\x091\x09}\x09x", "not json at 11"),
-        (b"{\"a\":\"\x00\"}", "not json at 6"),
-        (b"{\"a\":\"\x1F\"}", "not json at 6"),
-        (b"{\"a\":\"\x0A\"}", "not json at 6"),
-        (b"\x0B{}", "not json at 0"),
-        (b"\x0C{}", "not json at 0"),
-        (b"{}\x00", "not json at 2"),
-        (b"{\"\xC0\xAF\":1}", "not json at 2"),
-        (b"{\"\xC1\xBF\":1}", "not json at 2"),
-        (b"{\"\xE0\x80\x80\":1}", "not json at 3"),
-        (b"{\"\xE0\x9F\xBF\":1}", "not json at 3"),
-        (b"{\"\xF0\x80\x80\x80\":1}", "not json at 3"),
-        (b"{\"\xF0\x8F\xBF\xBF\":1}", "not json at 3"),
-        (b"{\"\xC3\":1}", "not json at 3"),
-        (b"{\"\xE2\x82\":1}", "not json at 4"),
-        (b"{\"\xF0\x9F\x98\":1}", "not json at 5"),
-        (b"{\"\xE2(\xA1\":1}", "not json at 3"),
-        (b"{\"\xED\xA0\x80\":1}", "not json at 3"),
-        (b"{\"\xED\xBF\xBF\":1}", "not json at 3"),
-        (b"{\"\xF4\x90\x80\x80\":1}", "not json at 3"),
-        (b"{\"\xF5\x80\x80\x80\":1}", "not json at 2"),
-        (b"{\"\xFF\":1}", "not json at 2"),
-        (b"{\"\x80\":1}", "not json at 2"),
-        (b"{\"\xE2\x82", "not json at 4"),
-        (b"{\"\xF0\x9F", "not json at 4"),
-        (b"\xC2\xA0{}", "not json at 0"),
-        (b"{\"a\":\xE2\x80\xA81}", "not json at 5"),
-    ];
-    for (bytes, want) in table {
-        let answer = said(alloc, bytes)?;
-        assert_eq!(rt; answer.as_str(), want, "{bytes:?}");
+    for (bytes, want) in BYTES {
+        has_answer(&rt, rt.alloc(), *bytes, *want)?;
     }
     Ok(())
 }
 
-// Events, spelled as Python's `json` does, with sorted names and no blanks; Node reads the same values.
+/// Events, spelled as Python's `json` does, with sorted names and no blanks; Node reads the same values.
+const EVENTS: &[(&str, &str)] = &[
+    (
+        "{\"a\":\"\\\"\\\\\\/\\b\\f\\n\\r\\t\"}",
+        "{\"a\":\"\\\"\\\\/\\b\\f\\n\\r\\t\"}",
+    ),
+    (
+        "{\"a\":\"\\u0000\\u001F\\u007f\\u00e9\\u20AC\\uD7ff\\uE000\\uffff\"}",
+        "{\"a\":\"\\u0000\\u001f\u{7F}é€\u{D7FF}\u{E000}\u{FFFF}\"}",
+    ),
+    (
+        "{\"a\":\"\\uD800\\uDC00\\uDBFF\\uDFFF\\ud83d\\uDe00\"}",
+        "{\"a\":\"\u{10000}\u{10FFFF}😀\"}",
+    ),
+    ("{\"a\":\"\\u0022\\u005c\\u002F\"}", "{\"a\":\"\\\"\\\\/\"}"),
+    ("{\"a\":1,\"\\u0061\":2}", "{\"a\":2}"),
+    (
+        "{\"a\":{\"b\":1,\"b\":2},\"a\":{\"c\":3}}",
+        "{\"a\":{\"c\":3}}",
+    ),
+    (
+        "{\"b\":0,\"a\":1,\"b\":2,\"a\":3,\"c\":4,\"b\":5}",
+        "{\"a\":3,\"b\":5,\"c\":4}",
+    ),
+    (
+        "{\"é\":1,\"z\":2,\"Z\":3,\"\":4,\"\\uffff\":5,\"\\ud800\\udc00\":6}",
+        "{\"\":4,\"Z\":3,\"z\":2,\"é\":1,\"\u{FFFF}\":5,\"\u{10000}\":6}",
+    ),
+    (
+        "{\"a\":[-1,0,9007199254740993,-9223372036854775808,18446744073709551616]}",
+        "{\"a\":[-1,0,9007199254740993,-9223372036854775808,18446744073709551616]}",
+    ),
+    (
+        "{\"f\":1,\"e\":2,\"d\":3,\"c\":4,\"b\":5,\"a\":6}",
+        "{\"a\":6,\"b\":5,\"c\":4,\"d\":3,\"e\":2,\"f\":1}",
+    ),
+    (
+        "{\"a\":\" / \",\"b\":[[],[{}],{\"c\":[]}],\"c\":null}",
+        "{\"a\":\" / \",\"b\":[[],[{}],{\"c\":[]}],\"c\":null}",
+    ),
+    (
+        "{\"a\":\"\u{80}\u{7FF}\u{800}\u{D7FF}\u{E000}\u{FFFF}\u{10000}\u{10FFFF}\"}",
+        "{\"a\":\"\u{80}\u{7FF}\u{800}\u{D7FF}\u{E000}\u{FFFF}\u{10000}\u{10FFFF}\"}",
+    ),
+];
+
 #[test]
 fn texts_that_are_events(rt: HostRuntime) -> Result<(), Fail> {
-    let alloc = rt.alloc();
-    let table: [(&str, &str); 12] = [
-        (
-            "{\"a\":\"\\\"\\\\\\/\\b\\f\\n\\r\\t\"}",
-            "{\"a\":\"\\\"\\\\/\\b\\f\\n\\r\\t\"}",
-        ),
-        (
-            "{\"a\":\"\\u0000\\u001F\\u007f\\u00e9\\u20AC\\uD7ff\\uE000\\uffff\"}",
-            "{\"a\":\"\\u0000\\u001f\u{7F}é€\u{D7FF}\u{E000}\u{FFFF}\"}",
-        ),
-        (
-            "{\"a\":\"\\uD800\\uDC00\\uDBFF\\uDFFF\\ud83d\\uDe00\"}",
-            "{\"a\":\"\u{10000}\u{10FFFF}😀\"}",
-        ),
-        ("{\"a\":\"\\u0022\\u005c\\u002F\"}", "{\"a\":\"\\\"\\\\/\"}"),
-        ("{\"a\":1,\"\\u0061\":2}", "{\"a\":2}"),
-        (
-            "{\"a\":{\"b\":1,\"b\":2},\"a\":{\"c\":3}}",
-            "{\"a\":{\"c\":3}}",
-        ),
-        (
-            "{\"b\":0,\"a\":1,\"b\":2,\"a\":3,\"c\":4,\"b\":5}",
-            "{\"a\":3,\"b\":5,\"c\":4}",
-        ),
-        (
-            "{\"é\":1,\"z\":2,\"Z\":3,\"\":4,\"\\uffff\":5,\"\\ud800\\udc00\":6}",
-            "{\"\":4,\"Z\":3,\"z\":2,\"é\":1,\"\u{FFFF}\":5,\"\u{10000}\":6}",
-        ),
-        (
-            "{\"a\":[-1,0,9007199254740993,-9223372036854775808,18446744073709551616]}",
-            "{\"a\":[-1,0,9007199254740993,-9223372036854775808,18446744073709551616]}",
-        ),
-        (
-            "{\"f\":1,\"e\":2,\"d\":3,\"c\":4,\"b\":5,\"a\":6}",
-            "{\"a\":6,\"b\":5,\"c\":4,\"d\":3,\"e\":2,\"f\":1}",
-        ),
-        (
-            "{\"a\":\" / \",\"b\":[[],[{}],{\"c\":[]}],\"c\":null}",
-            "{\"a\":\" / \",\"b\":[[],[{}],{\"c\":[]}],\"c\":null}",
-        ),
-        (
-            "{\"a\":\"\u{80}\u{7FF}\u{800}\u{D7FF}\u{E000}\u{FFFF}\u{10000}\u{10FFFF}\"}",
-            "{\"a\":\"\u{80}\u{7FF}\u{800}\u{D7FF}\u{E000}\u{FFFF}\u{10000}\u{10FFFF}\"}",
-        ),
-    ];
-    for (text, want) in table {
-        let answer = said(alloc, text.as_bytes())?;
-        assert_eq!(rt; answer.as_str(), want, "{text}");
-    }
-    Ok(())
+    have_answers(&rt, rt.alloc(), EVENTS)
 }
 
-// An object with arrays in it, of 32 levels and of 33. Where the last opens was counted.
+/// An object with arrays in it, of 32 levels and of 33. Where the last opens was counted.
+const LEVELS: &[(&str, &str)] = &[
+    (
+        "{\"a\":[[[[[[[[[[[[[[[[[[[[[[[[[[[[[[[]]]]]]]]]]]]]]]]]]]]]]]]]]]]]]]}",
+        "{\"a\":[[[[[[[[[[[[[[[[[[[[[[[[[[[[[[[]]]]]]]]]]]]]]]]]]]]]]]]]]]]]]]}",
+    ),
+    (
+        "{\"a\":[[[[[[[[[[[[[[[[[[[[[[[[[[[[[[[[]]]]]]]]]]]]]]]]]]]]]]]]]]]]]]]]}",
+        "deep at 36",
+    ),
+];
+
 #[test]
 fn as_deep_as_may_be(rt: HostRuntime) -> Result<(), Fail> {
-    let alloc = rt.alloc();
-    let most = "{\"a\":[[[[[[[[[[[[[[[[[[[[[[[[[[[[[[[]]]]]]]]]]]]]]]]]]]]]]]]]]]]]]]}";
-    let answer = said(alloc, most.as_bytes())?;
-    assert_eq!(rt; answer.as_str(), most);
-    let more = "{\"a\":[[[[[[[[[[[[[[[[[[[[[[[[[[[[[[[[]]]]]]]]]]]]]]]]]]]]]]]]]]]]]]]]}";
-    let answer = said(alloc, more.as_bytes())?;
-    assert_eq!(rt; answer.as_str(), "deep at 36");
-    Ok(())
+    have_answers(&rt, rt.alloc(), LEVELS)
 }
