@@ -4,6 +4,7 @@
 It prints a line for each check, and ends with 'N passed, M failed'. The status is 1 where one failed.
 """
 
+import json
 import os
 import random
 import select
@@ -16,6 +17,7 @@ TOP = Path(__file__).resolve().parent.parent
 PROGRAM = str(TOP / "vector")
 FIRST = str(TOP / "examples" / "first.toml")
 TWO = str(TOP / "examples" / "two_consoles.toml")
+JSON = str(TOP / "examples" / "json_lines.toml")
 USAGE = b"vector: usage: vector --config FILE [options]\nvector: usage: vector validate FILE\n"
 LONGEST = 102_400
 PATIENCE = 120
@@ -221,6 +223,58 @@ def consoles():
         check("255 consoles", (seen[0], sorted(seen[1].split()), seen[2]) == (0, [b"a"] * 255 + [b"b"] * 255, b""), seen[0])
 
 
+def written(fields):
+    """The line of an event: its fields by the bytes of their names, without blanks."""
+    return json.dumps(fields, sort_keys=True, ensure_ascii=False, separators=(",", ":")).encode() + b"\n"
+
+
+def random_value(chance, depth):
+    """A value of JSON without fractions."""
+    kind = chance.randrange(7 if depth < 4 else 4)
+    if kind == 0:
+        return chance.choice([None, True, False])
+    if kind == 1:
+        return chance.randrange(-(2**63) + 1, 2**63)
+    if kind < 4:
+        return "".join(chance.choice(["a", "\n", "\t", '"', "\\", "/", "\x01", "\x7f", "ä", "€", "😀", " "]) for _ in range(chance.randrange(12)))
+    if kind < 6:
+        return {random_name(chance): random_value(chance, depth + 1) for _ in range(chance.randrange(4))}
+    return [random_value(chance, depth + 1) for _ in range(chance.randrange(4))]
+
+
+def random_name(chance):
+    """A name of a field."""
+    return "".join(chance.choice("abcxyz_ä€") for _ in range(chance.randrange(1, 5)))
+
+
+def json_lines():
+    """Lines that are events as JSON, and lines that are none."""
+    given = b'{"message":"started","level":"info","port":8080}\nSegmentation fault\n{"level":"error","message":"disk full","at":{"free":0.5,"disk":"sda1"}}\n'
+    out = b'{"level":"info","message":"started","port":8080,"source_type":"stdin"}\n{"at":{"disk":"sda1","free":0.5},"level":"error","message":"disk full","source_type":"stdin"}\n'
+    seen = run(given, ["--config", JSON])
+    check("JSON in, JSON and text out", seen == (0, out, b"started\ndisk full\n"), seen)
+    chance = random.Random(20_261_128)
+    events = [{random_name(chance): random_value(chance, 0) for _ in range(chance.randrange(6))} for _ in range(20_000)]
+    given = b"".join(json.dumps(event, ensure_ascii=chance.random() < 0.5).encode() + b"\n" for event in events)
+    seen = run(given, ["--config", JSON])
+    wanted = b"".join(written({"source_type": "stdin", **event}) for event in events)
+    check("20,000 events of all kinds", seen[:2] == (0, wanted), (seen[0], len(seen[1]), len(wanted)))
+    text = b'[sources.in]\ntype = "stdin"\nmax_length = %d\ndecoding.codec = "%s"\n[sinks.out]\ntype = "console"\ninputs = ["in"]\nencoding.codec = "%s"\n'
+    with tempfile.TemporaryDirectory() as folder:
+        at = Path(folder) / "other.toml"
+        at.write_bytes(text % (3, b"bytes", b"json"))
+        seen = run(b"abc\nabcd\nd", ["--config", "other.toml"], cwd=folder)
+        check("lines of three bytes", seen == (0, b"".join(written({"message": it, "source_type": "stdin"}) for it in ["abc", "d"]), b""), seen)
+        at.write_bytes(text % (16_777_216, b"json", b"json"))
+        line = written({"a": "b" * (16_777_216 - len(written({"a": "", "source_type": "stdin"})) + 1), "source_type": "stdin"})
+        seen = run(b"{}\n" + line + line.replace(b"b", b"bb", 1), ["--config", "other.toml"], cwd=folder)
+        check("a line of 16 MiB, and one of a byte more", seen == (0, written({"source_type": "stdin"}) + line, b""), (seen[0], len(seen[1]), seen[2]))
+        at.write_bytes(text % (102_400, b"json", b"text"))
+        given = b'{"message":1.50}\n{"message":[1,"a"]}\n{}\n\n[1]\n{"message":"last"}'
+        seen = run(given, ["--config", "other.toml"], cwd=folder)
+        check("messages of all kinds", seen == (0, b'1.50\n[1,"a"]\n\nlast\n', b""), seen)
+
+
 def judgements():
     """The command that judges a configuration, and runs nothing."""
     seen = run(b"a\n", ["validate", TWO])
@@ -248,7 +302,7 @@ def main():
     if not built():
         print("0 passed, 1 failed")
         return 1
-    for part in [refusals, consoles, judgements, inputs, bytes_of_all_kinds, lines_as_they_come, a_reader_that_leaves, ends_that_fail, many_lines]:
+    for part in [refusals, consoles, judgements, json_lines, inputs, bytes_of_all_kinds, lines_as_they_come, a_reader_that_leaves, ends_that_fail, many_lines]:
         part()
     failed = results.count(False)
     print(f"{results.count(True)} passed, {failed} failed")
