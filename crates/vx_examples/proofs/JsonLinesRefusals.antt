@@ -1,5 +1,5 @@
 -- Why each of these records is not legal.
-use Rattle.std.proofs.Common.{Bool, true, false, List, [], ◌∷◌, refl}
+use Rattle.std.proofs.Common.{Bool, true, false, List, ◌∷◌, refl}
 use Rattle.std.specs.Str.{chars, is_utf8}
 use Rattle.std.specs.Str.Lossy.{utf8_lossy, utf8_valid_len}
 use Rattle.vx_value.specs.declared.event.Event.{Event}

@@ -1,5 +1,5 @@
 -- What the definitions say of closed things.
-use Rattle.std.specs.Prelude.{◌≡◌, ◌+◌, ◌-◌, ◌^◌, Some, true, false, [], ◌∷◌, codes, map}
+use Rattle.std.specs.Prelude.{◌≡◌, ◌-◌, ◌^◌, Some, true, false, [], ◌∷◌, codes, map}
 use Rattle.std.specs.Str.Lossy.{utf8_lossy}
 use Rattle.vx_plan.specs.declared.component.Component.{Component}
 use Rattle.vx_plan.specs.declared.class.Class.TheVariants.{Sink}

@@ -1,6 +1,6 @@
--- The record of a run that reads JSON and writes JSON, on an object, an empty line and a line that is none, as one worker
--- makes it.
-use Rattle.std.specs.Prelude.{ℕ, ◌-◌, ◌^◌, pos, false, true, List, [], ◌∷◌, ◌++◌, codes}
+-- The record of a run that reads JSON and writes JSON, on an object, an empty line and a line that is no object, as one
+-- worker makes it.
+use Rattle.std.specs.Prelude.{◌-◌, ◌^◌, pos, false, true, [], ◌∷◌, codes}
 use Rattle.vx_value.specs.Texts.{Word}
 use Rattle.vx_value.specs.declared.event.Event.{Event}
 use Rattle.vx_value.specs.Datum.{Words, Whole}
