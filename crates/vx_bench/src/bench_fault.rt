@@ -3,7 +3,7 @@ use vx_json::JsonFault;
 use vx_value::WantOfMemory;
 
 /// Why there is nothing to tell.
-#[derive(Clone, Copy, PartialEq, Eq, Debug)]
+#[derive(Clone, Copy)]
 pub enum BenchFault {
     /// The words are no task.
     Usage,

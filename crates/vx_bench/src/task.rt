@@ -1,5 +1,5 @@
 /// What is done with the input.
-#[derive(Clone, Copy, PartialEq, Eq, Debug)]
+#[derive(Clone, Copy)]
 pub enum Task {
     /// It is cut into lines, whose number is printed.
     Lines,

@@ -1,5 +1,5 @@
 /// Why a text isn't read as a condition.
-#[derive(Clone, Copy, PartialEq, Eq, Debug)]
+#[derive(Clone, Copy, Debug)]
 pub enum ConditionFault {
     /// The text is no condition.
     Syntax {

@@ -1,5 +1,5 @@
 /// How two values of one field are merged, the one that is there so far and one that comes.
-#[derive(Clone, Copy, PartialEq, Eq, Debug)]
+#[derive(Clone, Copy)]
 pub enum How {
     /// The one so far.
     Discard,

@@ -1,5 +1,5 @@
 /// Why bytes are no event. The bytes are read from the left, and the first fault counts.
-#[derive(Clone, Copy, PartialEq, Eq, Debug)]
+#[derive(Clone, Copy, Debug)]
 pub enum JsonFault {
     /// The bytes are no JSON text, and their first `at` bytes are the longest beginning of one.
     NotJson { at: u64 },

@@ -5,7 +5,7 @@ ghost use Rattle.vx_json.specs.Spots.{opened};
 const FULL: u64 = 0x1_0000_0000;
 
 /// The brackets and braces that are open, at most 32.
-#[derive(Clone, Copy, Debug)]
+#[derive(Clone, Copy)]
 pub struct Nesting {
     /// Behind a leading 1 a bit for each level, the innermost last: 1 for an object.
     kinds: u64,

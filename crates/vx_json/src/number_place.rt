@@ -1,5 +1,5 @@
 /// Where a reader stands inside a number.
-#[derive(Clone, Copy, Debug)]
+#[derive(Clone, Copy)]
 pub enum NumberPlace {
     /// Behind the minus.
     Minus,

@@ -6,7 +6,7 @@ use crate::nesting::Nesting;
 use crate::spot::Spot;
 
 /// Whether bytes that come one at a time are an object, as `read` reads one. It takes no memory.
-#[derive(Clone, Copy, Debug)]
+#[derive(Clone, Copy)]
 pub struct Probe {
     /// Where it stands. `None` where no object begins so.
     spot: Option<Spot>,

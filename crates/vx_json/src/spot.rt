@@ -3,7 +3,7 @@ use crate::text_place::TextPlace;
 use crate::word_place::WordPlace;
 
 /// Where a judge stands that keeps no values.
-#[derive(Clone, Copy, Debug)]
+#[derive(Clone, Copy)]
 pub enum Spot {
     /// Before a value.
     Before,

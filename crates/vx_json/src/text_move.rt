@@ -7,7 +7,7 @@ use crate::text_place::TextPlace;
 use vx_value::WantOfMemory;
 
 /// What a byte does inside a text.
-#[derive(Clone, Copy, Debug)]
+#[derive(Clone, Copy)]
 pub enum TextMove {
     /// It leads to a place, and adds nothing.
     Skips(TextPlace),

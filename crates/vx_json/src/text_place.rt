@@ -1,5 +1,5 @@
 /// Where a reader stands inside a text.
-#[derive(Clone, Copy, Debug)]
+#[derive(Clone, Copy)]
 pub enum TextPlace {
     /// Between characters.
     Plain,

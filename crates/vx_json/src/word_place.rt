@@ -5,7 +5,7 @@ ghost use Rattle.vx_json.specs.WordViews.{word_first, word_rest, word_datum};
 use vx_value::Value;
 
 /// Where a reader stands inside one of the words `null`, `true` and `false`: behind these letters.
-#[derive(Clone, Copy, Debug)]
+#[derive(Clone, Copy)]
 pub enum WordPlace {
     N,
     Nu,

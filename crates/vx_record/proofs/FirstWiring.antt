@@ -80,7 +80,7 @@ numbers_of_all components [] = refl
 numbers_of_all components (name ∷ rest) = λ k. numbers_first 0 components name k ++ numbers_of_all components rest k
 
 -- how the k-th instance is wired
-wiring_of_first : (plan : Plan) (once : Bool) (now k : ℕ) (c : Component) → slice_get plan.components k ≡ Some c →
+pub wiring_of_first : (plan : Plan) (once : Bool) (now k : ℕ) (c : Component) → slice_get plan.components k ≡ Some c →
     wiring (begun plan once now) k ≡ Some (record { plan = plan; instances = first_instances 0 plan.components; name = c.name })
 wiring_of_first plan once now k c at =
     let zero_on : 0 + k ≡ k = omega arith in

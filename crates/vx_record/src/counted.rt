@@ -18,7 +18,7 @@ use crate::ways::Ways;
 use vx_plan::Class;
 
 /// All that is counted of one instance, whatever its class.
-#[derive(Clone, Copy, Debug)]
+#[derive(Clone, Copy)]
 pub(crate) struct Counted {
     pub role: Role,
     pub plain: PlainCounts,

@@ -7,7 +7,7 @@ use crate::unfinished::Unfinished;
 use vx_json::Decoding;
 
 /// How many lines some bytes end, and what they leave unfinished.
-#[derive(Clone, Copy, Debug)]
+#[derive(Clone, Copy)]
 pub(crate) struct Cut {
     /// Lines within the limit.
     pub within: u64,

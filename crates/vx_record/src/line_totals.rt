@@ -4,7 +4,7 @@ ghost use Rattle.vx_record.specs.LineCounting.{AreTotals, AreAdded};
 use crate::cut::Cut;
 
 /// How many lines there were. Each count stands still at its type's end.
-#[derive(Clone, Copy, Debug)]
+#[derive(Clone, Copy)]
 pub(crate) struct LineTotals {
     /// Lines that were not too long.
     pub lines: u64,

@@ -5,7 +5,7 @@ ghost use Rattle.vx_record.specs.Counting.{ArePlain};
 use crate::entry::Entry;
 
 /// The counts of an instance to which each entry adds by itself alone. Each stands still at its type's end.
-#[derive(Clone, Copy, Debug)]
+#[derive(Clone, Copy)]
 pub(crate) struct PlainCounts {
     /// Bytes of its reads.
     pub read: u64,

@@ -17,7 +17,7 @@ use crate::unfinished::Unfinished;
 use vx_json::Decoding;
 
 /// The unfinished line of one stream of an instance.
-#[derive(Clone, Copy, Debug)]
+#[derive(Clone, Copy)]
 struct OpenLine {
     /// The stream that bytes were last taken of.
     last: Option<u64>,

@@ -14,7 +14,7 @@ use crate::ways::Ways;
 use vx_status::EventStatus;
 
 /// The parcels of an instance by how they were spent. Each count stands still at its type's end.
-#[derive(Clone, Copy, Debug)]
+#[derive(Clone, Copy)]
 pub(crate) struct PutCounts {
     /// Parcels that it put out and that nobody read.
     pub unread: u64,

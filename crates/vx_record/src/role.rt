@@ -12,7 +12,7 @@ use vx_plan::{Class, Component, Plan};
 use vx_value::Text;
 
 /// What an instance runs, as far as its counts depend on it.
-#[derive(Clone, Copy, Debug)]
+#[derive(Clone, Copy)]
 pub(crate) struct Role {
     /// `None` where the instance was never given work.
     pub class: Option<Class>,

@@ -4,7 +4,7 @@ ghost use Rattle.vx_record.specs.Counting.{AreRaised, AreStatuses};
 use vx_status::BatchStatus;
 
 /// Notices by their status. Each count stands still at its type's end.
-#[derive(Clone, Copy, Debug)]
+#[derive(Clone, Copy)]
 pub(crate) struct StatusCounts {
     pub delivered: u64,
     pub errored: u64,

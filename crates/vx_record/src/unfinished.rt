@@ -6,7 +6,7 @@ ghost use Rattle.vx_record.specs.Unfinished.{IsUnfinished};
 use vx_json::{Decoding, Probe};
 
 /// What is kept of an unfinished line: none of its bytes.
-#[derive(Clone, Copy, Debug)]
+#[derive(Clone, Copy)]
 pub(crate) struct Unfinished {
     /// How many bytes it has, which stands still at its type's end.
     length: u64,
