@@ -1,24 +1,26 @@
 //! The worked document, and documents that are none.
 
+use crate::comparing::{joined, numbered};
 use std::alloc::Global;
 use std::process::Abort;
 use std::test::Fail;
 use vx_checkpoint::{Checkpoint, CheckpointFault, read, write};
 use vx_value::Text;
 
-/// What some bytes are read as.
+/// What some bytes are read as: the path and the offset, or the fault in words.
 fn said(alloc: Global, bytes: &[u8]) -> Result<String, Fail> {
     match read(alloc, bytes) {
-        Ok(checkpoint) => {
-            let path = checkpoint.path.as_str();
-            let offset = checkpoint.offset;
-            Ok(format!(in alloc; "{path} {offset}")?)
-        }
-        Err(CheckpointFault::NotJson) => Ok(String::from_str(alloc, "not json")?),
-        Err(CheckpointFault::WrongShape) => Ok(String::from_str(alloc, "wrong shape")?),
-        Err(CheckpointFault::WrongVersion { found }) => Ok(format!(in alloc; "version {found}")?),
-        Err(CheckpointFault::WantOfMemory) => Ok(String::from_str(alloc, "no memory")?),
+        Ok(checkpoint) => numbered(alloc, checkpoint.path.as_str(), checkpoint.offset),
+        Err(CheckpointFault::NotJson) => joined(alloc, &["not json"]),
+        Err(CheckpointFault::WrongShape) => joined(alloc, &["wrong shape"]),
+        Err(CheckpointFault::WrongVersion { found }) => version(alloc, found),
+        Err(CheckpointFault::WantOfMemory) => joined(alloc, &["no memory"]),
     }
+}
+
+/// A version that is another than 1.
+fn version(alloc: Global, found: i64) -> Result<String, Fail> {
+    Ok(format!(in alloc; "version {found}")?)
 }
 
 /// Checks what some bytes are read as.

@@ -1,43 +1,28 @@
 //! The worked examples, each kind of fault, and truth tables. The verdicts on patterns are those of `re.search` of
 //! python3, and those on `!`, `&&` and `||` are python3's.
 
-use crate::comparing::same;
+use crate::comparing::{joined, numbered, same};
+use crate::events::{event_with, put};
 use std::alloc::Global;
 use std::process::Abort;
 use std::test::Fail;
 use vx_condition::{Condition, ConditionFault, parse};
-use vx_value::{Event, Path, Text, Value, ValueList};
+use vx_value::{Event, Text, Value, ValueList};
 
 // The fault of a text, in words.
 fn fault(alloc: Global, text: &str) -> Result<String, Fail> {
     match parse(alloc, text) {
-        Ok(_) => Ok(String::from_str(alloc, "none")?),
-        Err(ConditionFault::Syntax { at }) => Ok(format!(in alloc; "syntax {at}")?),
-        Err(ConditionFault::Deep { at }) => Ok(format!(in alloc; "deep {at}")?),
-        Err(ConditionFault::BadPattern { at }) => Ok(format!(in alloc; "bad pattern {at}")?),
-        Err(ConditionFault::WantOfMemory) => Ok(String::from_str(alloc, "no memory")?),
+        Ok(_) => joined(alloc, &["none"]),
+        Err(ConditionFault::Syntax { at }) => numbered(alloc, "syntax", at),
+        Err(ConditionFault::Deep { at }) => numbered(alloc, "deep", at),
+        Err(ConditionFault::BadPattern { at }) => numbered(alloc, "bad pattern", at),
+        Err(ConditionFault::WantOfMemory) => joined(alloc, &["no memory"]),
     }
-}
-
-// Puts a value into an event.
-fn put(alloc: Global, event: &mut Event, path: &str, value: Value) -> Result<(), Fail> {
-    let path = Path::read(alloc, path)?;
-    match event.put(&path, value) {
-        Ok(()) => Ok(()),
-        Err(_) => Err(Fail::from("put")),
-    }
-}
-
-// An event with a value at a path.
-fn event(alloc: Global, path: &str, value: Value) -> Result<Event, Fail> {
-    let mut event = Event::new(alloc);
-    put(alloc, &mut event, path, value)?;
-    Ok(event)
 }
 
 // An event with a text at a path.
 fn worded(alloc: Global, path: &str, text: &str) -> Result<Event, Fail> {
-    event(alloc, path, Value::Words(Text::copy_of(alloc, text)?))
+    event_with(alloc, path, Value::Words(Text::copy_of(alloc, text)?))
 }
 
 // An event for each text, which stands at a path.
@@ -69,16 +54,42 @@ fn verdicts(alloc: Global, text: &str, events: &[Event]) -> Result<String, Fail>
     Ok(said)
 }
 
-// Whether a condition has its verdict on an event.
+// Checks the verdict of a condition on an event.
 fn has_verdict(
     rt: &impl Abort,
     alloc: Global,
     text: &str,
-    event: Event,
+    event: &Event,
     want: bool,
 ) -> Result<(), Fail> {
-    assert_eq!(rt; holds(alloc, text, &event)?, want);
+    assert_eq!(rt; holds(alloc, text, event)?, want);
     Ok(())
+}
+
+// Checks the verdict of a condition on an event with a whole number at a path.
+fn has_verdict_on_whole(
+    rt: &impl Abort,
+    alloc: Global,
+    text: &str,
+    path: &str,
+    whole: i64,
+    want: bool,
+) -> Result<(), Fail> {
+    let event = event_with(alloc, path, Value::Whole(whole))?;
+    has_verdict(rt, alloc, text, &event, want)
+}
+
+// Checks the verdict of a condition on an event with a text at a path.
+fn has_verdict_on_words(
+    rt: &impl Abort,
+    alloc: Global,
+    text: &str,
+    path: &str,
+    words: &str,
+    want: bool,
+) -> Result<(), Fail> {
+    let event = worded(alloc, path, words)?;
+    has_verdict(rt, alloc, text, &event, want)
 }
 
 // Whether a text has its fault.
@@ -125,17 +136,28 @@ fn have_verdicts(
 // The worked refusals.
 const WORKED: &[(&str, &str)] = &[(".a = 1", "syntax 4"), (".a == ", "syntax 6")];
 
+// The worked conditions that hold of a whole number at `.n` or not.
+const ON_WHOLES: &[(&str, i64, bool)] = &[
+    (".n > 3 && !exists(.x)", 4, true),
+    (".a == null", 4, true),
+];
+
+// The worked conditions on a text at a path.
+const ON_WORDS: &[(&str, &str, &str, bool)] = &[
+    (".n > 3 && !exists(.x)", ".n", "4", false),
+    ("match(.message, r'^d.*l$')", ".message", "disk full", true),
+];
+
 #[test]
 fn condition_grammar(rt: HostRuntime) -> Result<(), Fail> {
-    let alloc = rt.alloc();
-    have_faults(&rt, alloc, WORKED)?;
-    let both = ".n > 3 && !exists(.x)";
-    has_verdict(&rt, alloc, both, event(alloc, ".n", Value::Whole(4))?, true)?;
-    has_verdict(&rt, alloc, both, worded(alloc, ".n", "4")?, false)?;
-    let full = worded(alloc, ".message", "disk full")?;
-    has_verdict(&rt, alloc, "match(.message, r'^d.*l$')", full, true)?;
-    let four = event(alloc, ".n", Value::Whole(4))?;
-    has_verdict(&rt, alloc, ".a == null", four, true)
+    have_faults(&rt, rt.alloc(), WORKED)?;
+    for (text, whole, want) in ON_WHOLES {
+        has_verdict_on_whole(&rt, rt.alloc(), *text, ".n", *whole, *want)?;
+    }
+    for (text, path, words, want) in ON_WORDS {
+        has_verdict_on_words(&rt, rt.alloc(), *text, *path, *words, *want)?;
+    }
+    Ok(())
 }
 
 const FAULTS: &[(&str, &str)] = &[
@@ -188,11 +210,15 @@ const LITERALS: &[(&str, &str)] = &[
 
 #[test]
 fn literals(rt: HostRuntime) -> Result<(), Fail> {
-    let alloc = rt.alloc();
-    have_faults(&rt, alloc, LITERALS)?;
-    let text = worded(alloc, ".\"a b\".\"c\\\"d\"", "\"\\\n\r\té")?;
-    let same = ".\"a b\".\"c\\\"d\" == \"\\\"\\\\\\n\\r\\té\"";
-    has_verdict(&rt, alloc, same, text, true)
+    have_faults(&rt, rt.alloc(), LITERALS)?;
+    has_verdict_on_words(
+        &rt,
+        rt.alloc(),
+        ".\"a b\".\"c\\\"d\" == \"\\\"\\\\\\n\\r\\té\"",
+        ".\"a b\".\"c\\\"d\"",
+        "\"\\\n\r\té",
+        true,
+    )
 }
 
 const BLANKS: &[(&str, &str)] = &[
@@ -266,9 +292,9 @@ fn kinds(alloc: Global) -> Result<Vec<Event>, Fail> {
     let mut events: Vec<Event> = Vec::new(alloc);
     events.push(Event::new(alloc))?;
     for kind in 0..6u8 {
-        events.push(event(alloc, ".v", value_of_kind(alloc, kind)?)?)?;
+        events.push(event_with(alloc, ".v", value_of_kind(alloc, kind)?)?)?;
     }
-    events.push(event(alloc, ".v.a", Value::Whole(3))?)?;
+    events.push(event_with(alloc, ".v.a", Value::Whole(3))?)?;
     Ok(events)
 }
 

@@ -13,6 +13,12 @@ fn check(rt: &impl Abort, out: &LineList, i: usize, bytes: &[u8], end: u64) -> R
     Ok(())
 }
 
+// Checks how many lines came, and how many were too long.
+fn has_counts(rt: &impl Abort, framer: &Framer, out: &LineList, lines: usize, overlong: u64) {
+    assert_eq!(rt; out.len(), lines);
+    assert_eq!(rt; framer.overlong(), overlong);
+}
+
 // Checks that three lines came of `a`, `bc` and `d`.
 fn are_three(rt: &impl Abort, out: &LineList) -> Result<(), Fail> {
     assert_eq!(rt; out.len(), 3);
@@ -58,8 +64,7 @@ fn has_lines(rt: &impl Abort, alloc: Global, tear: u32) -> Result<(), Fail> {
     finish(&mut framer, &mut out)?;
     are_three(rt, &out)?;
     finish(&mut framer, &mut out)?;
-    assert_eq!(rt; out.len(), 3);
-    assert_eq!(rt; framer.overlong(), 0);
+    has_counts(rt, &framer, &out, 3, 0);
     Ok(())
 }
 
@@ -81,17 +86,22 @@ fn feed_many(framer: &mut Framer, back: &[u8], out: &mut LineList) -> Result<(),
     feed(framer, back, out)
 }
 
+// Checks that the first line has 102,400 bytes, and where it ends.
+fn is_long(rt: &impl Abort, out: &LineList) -> Result<(), Fail> {
+    let line = out.get(0).ok_or("a line")?;
+    assert_eq!(rt; line.bytes.len(), 102400);
+    assert_eq!(rt; line.end, 102401);
+    Ok(())
+}
+
 // A line of 102,400 bytes is a line where that is the limit, and one of a byte more is counted.
 fn has_long_line(rt: &impl Abort, alloc: Global) -> Result<(), Fail> {
     let mut framer = Framer::new(alloc, 102400);
     let mut out = ItemList::new(alloc);
     feed_many(&mut framer, b"\n", &mut out)?;
     feed_many(&mut framer, b"y\n", &mut out)?;
-    assert_eq!(rt; out.len(), 1);
-    assert_eq!(rt; framer.overlong(), 1);
-    let line = out.get(0).ok_or("a line")?;
-    assert_eq!(rt; (line.bytes.len(), line.end), (102400, 102401));
-    Ok(())
+    has_counts(rt, &framer, &out, 1, 1);
+    is_long(rt, &out)
 }
 
 // Lines of three bytes and less are lines where that is the limit, and longer ones are counted.
@@ -99,12 +109,12 @@ fn has_short_lines(rt: &impl Abort, alloc: Global) -> Result<(), Fail> {
     let mut framer = Framer::new(alloc, 3);
     let mut out = ItemList::new(alloc);
     feed(&mut framer, b"abc\nabcd\nd\n", &mut out)?;
-    assert_eq!(rt; (out.len(), framer.overlong()), (2, 1));
+    has_counts(rt, &framer, &out, 2, 1);
     check(rt, &out, 0, b"abc", 4)?;
     check(rt, &out, 1, b"d", 11)?;
     feed(&mut framer, b"abcd", &mut out)?;
     finish(&mut framer, &mut out)?;
-    assert_eq!(rt; (out.len(), framer.overlong()), (2, 2));
+    has_counts(rt, &framer, &out, 2, 2);
     Ok(())
 }
 

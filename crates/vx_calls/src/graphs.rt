@@ -1,5 +1,6 @@
 //! The worked graphs, and each refusal before the next kind.
 
+use crate::comparing::{joined, spaced};
 use std::alloc::Global;
 use std::process::Abort;
 use std::test::Fail;
@@ -46,38 +47,35 @@ fn nodes(alloc: Global, rows: &[Row]) -> Result<NodeList, WantOfMemory> {
     Ok(ItemList::from_vec(list))
 }
 
-/// The texts of a list, each followed by a blank.
-fn joined(alloc: Global, list: &TextList) -> Result<String, Fail> {
-    let mut all = String::new(alloc);
-    for text in list.as_slice() {
-        all.push_str(text.as_str())?;
-        all.push_str(" ")?;
-    }
-    Ok(all)
-}
-
 /// What the check of some components says.
 fn said(alloc: Global, rows: &[Row]) -> Result<String, Fail> {
     match check(alloc, nodes(alloc, rows)?) {
-        Ok(_) => Ok(String::from_str(alloc, "accepted")?),
-        Err(GraphFault::NoSources) => Ok(String::from_str(alloc, "no sources")?),
-        Err(GraphFault::NoSinks) => Ok(String::from_str(alloc, "no sinks")?),
-        Err(GraphFault::NoInputs(name)) => {
-            let name = name.as_str();
-            Ok(format!(in alloc; "no inputs of {name}")?)
-        }
-        Err(GraphFault::UnknownInput { name, input }) => {
-            let name = name.as_str();
-            let input = input.as_str();
-            Ok(format!(in alloc; "unknown {input} of {name}")?)
-        }
-        Err(GraphFault::Cycle(list)) => {
-            let list = joined(alloc, &list)?;
-            let list = list.as_str();
-            Ok(format!(in alloc; "cycle {list}")?)
-        }
-        Err(GraphFault::WantOfMemory) => Ok(String::from_str(alloc, "no memory")?),
+        Ok(_) => joined(alloc, &["accepted"]),
+        Err(fault) => fault_in_words(alloc, &fault),
     }
+}
+
+/// A fault in words.
+fn fault_in_words(alloc: Global, fault: &GraphFault) -> Result<String, Fail> {
+    match fault {
+        GraphFault::NoSources => joined(alloc, &["no sources"]),
+        GraphFault::NoSinks => joined(alloc, &["no sinks"]),
+        GraphFault::NoInputs(name) => joined(alloc, &["no inputs of ", name.as_str()]),
+        GraphFault::UnknownInput { name, input } => unknown(alloc, name, input),
+        GraphFault::Cycle(list) => cycle(alloc, list),
+        GraphFault::WantOfMemory => joined(alloc, &["no memory"]),
+    }
+}
+
+/// An input of a component that means no output.
+fn unknown(alloc: Global, name: &Text, input: &Text) -> Result<String, Fail> {
+    joined(alloc, &["unknown ", input.as_str(), " of ", name.as_str()])
+}
+
+/// The components of a cycle.
+fn cycle(alloc: Global, list: &TextList) -> Result<String, Fail> {
+    let names = spaced(alloc, list.as_slice())?;
+    joined(alloc, &["cycle ", names.as_str()])
 }
 
 /// Checks what the check of a graph says.
@@ -232,7 +230,7 @@ fn accepted(alloc: Global, rows: &[Row]) -> Result<Graph, Fail> {
 /// The readers of a port.
 fn targets_of(alloc: Global, graph: &Graph, name: &str, port: u32) -> Result<String, Fail> {
     if (port as usize) < graph.ports(name) {
-        joined(alloc, graph.targets(name, port))
+        spaced(alloc, graph.targets(name, port).as_slice())
     } else {
         Err(Fail::new("no such port"))
     }
@@ -252,13 +250,23 @@ fn has_targets(
     Ok(())
 }
 
+/// Checks the readers of each port.
+fn have_targets(rt: &impl Abort, alloc: Global, graph: &Graph) -> Result<(), Fail> {
+    for (name, port, want) in TARGETS {
+        has_targets(rt, alloc, graph, *name, *port, *want)?;
+    }
+    Ok(())
+}
+
+/// Checks how many ports a component has.
+fn has_ports(rt: &impl Abort, graph: &Graph, name: &str, want: usize) {
+    assert_eq!(rt; graph.ports(name), want);
+}
+
 #[test]
 fn targets_in_byte_order(rt: HostRuntime) -> Result<(), Fail> {
     let graph = accepted(rt.alloc(), READERS)?;
-    assert_eq!(rt; graph.ports("r"), 3);
-    assert_eq!(rt; graph.ports("none"), 0);
-    for (name, port, want) in TARGETS {
-        has_targets(&rt, rt.alloc(), &graph, *name, *port, *want)?;
-    }
-    Ok(())
+    has_ports(&rt, &graph, "r", 3);
+    has_ports(&rt, &graph, "none", 0);
+    have_targets(&rt, rt.alloc(), &graph)
 }

@@ -2,26 +2,33 @@
 
 mod texts;
 
-use crate::comparing::same;
+use crate::comparing::{joined, numbered, same};
+use crate::events::{has_put_answer, put};
+use crate::lists::add;
+use crate::values::{has_path_fault, is_lossy};
 use std::alloc::Global;
 use std::process::Abort;
 use std::test::Fail;
 use vx_json::{
     Codec, Decoding, DemoSettings, JsonFault, encode_event, line_event, read, write, write_value,
 };
-use vx_value::{
-    Bytes, Event, FieldList, ItemList, Path, PathFault, PutFault, Text, Value, ValueList,
-    WantOfMemory,
-};
+use vx_value::{Bytes, Event, FieldList, ItemList, PutFault, Text, Value, ValueList, WantOfMemory};
 
 /// What some bytes are read as: the event in its one spelling, or the fault in words.
 fn said(alloc: Global, bytes: &[u8]) -> Result<String, Fail> {
     match read(alloc, bytes) {
         Ok(event) => spelled(alloc, &event),
-        Err(JsonFault::NotJson { at }) => Ok(format!(in alloc; "not json at {at}")?),
-        Err(JsonFault::Deep { at }) => Ok(format!(in alloc; "deep at {at}")?),
-        Err(JsonFault::NotObject) => Ok(String::from_str(alloc, "not an object")?),
-        Err(JsonFault::WantOfMemory) => Ok(String::from_str(alloc, "no memory")?),
+        Err(fault) => fault_in_words(alloc, fault),
+    }
+}
+
+/// A fault in words.
+fn fault_in_words(alloc: Global, fault: JsonFault) -> Result<String, Fail> {
+    match fault {
+        JsonFault::NotJson { at } => numbered(alloc, "not json at", at),
+        JsonFault::Deep { at } => numbered(alloc, "deep at", at),
+        JsonFault::NotObject => joined(alloc, &["not an object"]),
+        JsonFault::WantOfMemory => joined(alloc, &["no memory"]),
     }
 }
 
@@ -67,40 +74,27 @@ fn json_faults(rt: HostRuntime) -> Result<(), Fail> {
     have_answers(&rt, rt.alloc(), FAULTS)
 }
 
-/// What a put of 2 at `.a.b` answers in the event of a text.
-fn put_below(alloc: Global, text: &str) -> Result<Result<(), PutFault>, Fail> {
+/// Checks that a put of 2 at `.a.b` is refused in the event of a text, in which `.a` is no fields.
+fn is_blocked(rt: &impl Abort, alloc: Global, text: &str) -> Result<(), Fail> {
     let mut event = read(alloc, text.as_bytes())?;
-    let below = Path::read(alloc, ".a.b")?;
-    Ok(event.put(&below, Value::Whole(2)))
+    let blocked = Err(PutFault::Blocked { names: 1 });
+    has_put_answer(rt, alloc, &mut event, ".a.b", Value::Whole(2), blocked)
 }
 
-/// The event that comes of that.
+/// The event of a text with 2 at `.a.b`.
 fn spelled_below(alloc: Global, text: &str) -> Result<String, Fail> {
     let mut event = read(alloc, text.as_bytes())?;
-    let below = Path::read(alloc, ".a.b")?;
-    event.put(&below, Value::Whole(2))?;
+    put(alloc, &mut event, ".a.b", Value::Whole(2))?;
     spelled(alloc, &event)
-}
-
-/// The fault of a text that is no path.
-fn path_fault(alloc: Global, text: &str) -> Option<PathFault> {
-    match Path::read(alloc, text) {
-        Err(fault) => Some(fault),
-        Ok(_) => None,
-    }
 }
 
 #[test]
 fn put_and_lossy(rt: HostRuntime) -> Result<(), Fail> {
-    let refused = put_below(rt.alloc(), "{\"a\":1}")?;
-    assert_eq!(rt; refused, Err(PutFault::Blocked { names: 1 }));
-    let fault = path_fault(rt.alloc(), "a..b");
-    assert_eq!(rt; fault, Some(PathFault::Syntax { at: 2 }));
+    is_blocked(&rt, rt.alloc(), "{\"a\":1}")?;
+    has_path_fault(&rt, rt.alloc(), "a..b", 2);
     let text = spelled_below(rt.alloc(), "{}")?;
     assert_eq!(rt; text.as_str(), "{\"a\":{\"b\":2}}");
-    let lossy = Text::lossy(rt.alloc(), b"a\xE2\x82b")?;
-    assert_eq!(rt; lossy.as_str(), "a\u{FFFD}b");
-    Ok(())
+    is_lossy(&rt, rt.alloc(), b"a\xE2\x82b", "a\u{FFFD}b")
 }
 
 /// Texts of events, each with its one spelling.
@@ -142,10 +136,15 @@ fn encoded(alloc: Global, text: &str) -> Result<Bytes, Fail> {
     Ok(out)
 }
 
+/// Checks that some bytes are those of a text.
+fn has_bytes(rt: &impl Abort, found: &Bytes, want: &str) {
+    assert_eq!(rt; found.as_slice(), want.as_bytes());
+}
+
 /// Checks what a sink writes of the event of a text.
 fn has_encoding(rt: &impl Abort, alloc: Global, text: &str, want: &str) -> Result<(), Fail> {
     let out = encoded(alloc, text)?;
-    assert_eq!(rt; out.as_slice(), want.as_bytes());
+    has_bytes(rt, &out, want);
     Ok(())
 }
 
@@ -253,32 +252,32 @@ fn value_of_kind(alloc: Global, kind: u8) -> Result<Value, Fail> {
 /// Nothing, and no fields.
 fn two_items(alloc: Global) -> Result<ValueList, WantOfMemory> {
     let mut items = ValueList::new(alloc);
-    items.push(Value::Null).map_err(|_| WantOfMemory)?;
-    items
-        .push(Value::Fields(FieldList::new(alloc)))
-        .map_err(|_| WantOfMemory)?;
+    add(&mut items, Value::Null)?;
+    add(&mut items, Value::Fields(FieldList::new(alloc)))?;
     Ok(items)
 }
 
-// A value of each kind alone, behind what is there. The texts are those that Python's `json` writes without blanks; a
-// spelled number is its spelling.
-#[test]
-fn values_alone(rt: HostRuntime) -> Result<(), Fail> {
-    let mut out = Bytes::copy_of(rt.alloc(), b"x")?;
-    for kind in 0..5u8 {
-        write_value(&value_of_kind(rt.alloc(), kind)?, &mut out)?;
-    }
-    assert_eq!(rt;
-        out.as_slice(),
-        "x-7true\"é\u{7f}\\u0001\"1E+2[null,{}]".as_bytes()
-    );
+/// Writes a value of a kind alone, behind what is there.
+fn write_kind(alloc: Global, kind: u8, out: &mut Bytes) -> Result<(), Fail> {
+    let value = value_of_kind(alloc, kind)?;
+    write_value(&value, out)?;
     Ok(())
 }
 
-/// Puts a value at a path.
-fn put(alloc: Global, event: &mut Event, path: &str, value: Value) -> Result<(), Fail> {
-    let path = Path::read(alloc, path)?;
-    event.put(&path, value)?;
+/// An `x`, and a value of each kind behind it.
+fn kinds_alone(alloc: Global) -> Result<Bytes, Fail> {
+    let mut out = Bytes::copy_of(alloc, b"x")?;
+    for kind in 0..5u8 {
+        write_kind(alloc, kind, &mut out)?;
+    }
+    Ok(out)
+}
+
+// The texts are those that Python's `json` writes without blanks; a spelled number is its spelling.
+#[test]
+fn values_alone(rt: HostRuntime) -> Result<(), Fail> {
+    let out = kinds_alone(rt.alloc())?;
+    has_bytes(&rt, &out, "x-7true\"é\u{7f}\\u0001\"1E+2[null,{}]");
     Ok(())
 }
 
@@ -290,16 +289,18 @@ fn two_values(alloc: Global) -> Result<Event, Fail> {
     Ok(event)
 }
 
-// An event behind what is there.
+/// An `x`, and behind it an event with nothing and one with two values.
+fn events_alone(alloc: Global) -> Result<Bytes, Fail> {
+    let mut out = Bytes::copy_of(alloc, b"x")?;
+    write(&Event::new(alloc), &mut out)?;
+    write(&two_values(alloc)?, &mut out)?;
+    Ok(out)
+}
+
 #[test]
 fn an_event_alone(rt: HostRuntime) -> Result<(), Fail> {
-    let mut out = Bytes::copy_of(rt.alloc(), b"x")?;
-    write(&Event::new(rt.alloc()), &mut out)?;
-    write(&two_values(rt.alloc())?, &mut out)?;
-    assert_eq!(rt;
-        out.as_slice(),
-        b"x{}{\"a\":0,\"b\":{\"a\":false}}".as_slice()
-    );
+    let out = events_alone(rt.alloc())?;
+    has_bytes(&rt, &out, "x{}{\"a\":0,\"b\":{\"a\":false}}");
     Ok(())
 }
 

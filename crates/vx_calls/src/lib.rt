@@ -8,11 +8,17 @@ mod comparing;
 #[cfg(test)]
 mod conditions;
 #[cfg(test)]
+mod events;
+#[cfg(test)]
 mod frames;
 #[cfg(test)]
 mod graphs;
 #[cfg(test)]
 mod json_events;
+#[cfg(test)]
+mod ledgers;
+#[cfg(test)]
+mod lists;
 #[cfg(test)]
 mod plans;
 #[cfg(test)]

@@ -4,10 +4,15 @@ use std::test::Fail;
 use vx_ends::{Form, PortSpec};
 use vx_plan::{Plan, first_plan};
 
-// Checks that the sink alone reads the source.
-fn has_one_reader(rt: &impl Abort, alloc: Global, plan: &Plan) -> Result<(), Fail> {
+// Checks that the source has one target.
+fn has_one_target(rt: &impl Abort, alloc: Global, plan: &Plan) -> Result<(), Fail> {
     let names = plan.targets(alloc, "in", 0)?;
     assert_eq!(rt; names.len(), 1);
+    Ok(())
+}
+
+// Checks that the sink alone reads the source.
+fn has_one_reader(rt: &impl Abort, alloc: Global, plan: &Plan) -> Result<(), Fail> {
     let numbers = plan.readers(alloc, "in", 0)?;
     assert_eq!(rt; numbers.as_slice(), [1].as_slice());
     Ok(())
@@ -22,15 +27,27 @@ fn is_standard_output(rt: &impl Abort, spec: &PortSpec) {
     }
 }
 
-#[test]
-fn first_plan_reads_standard_input(rt: HostRuntime) -> Result<(), Fail> {
-    let plan = first_plan(rt.alloc())?.copy(rt.alloc())?;
-    assert_eq!(rt; plan.components.len(), 2);
-    assert!(rt; !plan.acknowledged("in"));
-    has_one_reader(&rt, rt.alloc(), &plan)?;
-    match plan.port_spec(rt.alloc(), "out", false)? {
+// Checks that the sink has a port.
+fn has_port(rt: &impl Abort, alloc: Global, plan: &Plan) -> Result<(), Fail> {
+    match plan.port_spec(alloc, "out", false)? {
         None => assert!(rt; false, "a console has a port"),
-        Some(spec) => is_standard_output(&rt, &spec),
+        Some(spec) => is_standard_output(rt, &spec),
     }
     Ok(())
+}
+
+// A copy of the first plan.
+fn copied_plan(alloc: Global) -> Result<Plan, Fail> {
+    let plan = first_plan(alloc)?;
+    Ok(plan.copy(alloc)?)
+}
+
+#[test]
+fn first_plan_reads_standard_input(rt: HostRuntime) -> Result<(), Fail> {
+    let plan = copied_plan(rt.alloc())?;
+    assert_eq!(rt; plan.components.len(), 2);
+    assert!(rt; !plan.acknowledged("in"));
+    has_one_target(&rt, rt.alloc(), &plan)?;
+    has_one_reader(&rt, rt.alloc(), &plan)?;
+    has_port(&rt, rt.alloc(), &plan)
 }

@@ -1,3 +1,4 @@
+use crate::lists::{one, two};
 use std::alloc::Global;
 use std::process::Abort;
 use std::test::Fail;
@@ -5,25 +6,7 @@ use vx_ends::{Position, Reply};
 use vx_plan::first_plan;
 use vx_record::{Child, Entry, Instance, Record, Start, Taken, Tally, TallyList, tallies};
 use vx_status::{BatchStatus, Outcome};
-use vx_value::{Bytes, Event, ItemList, Text, WantOfMemory};
-
-// A list of one item.
-fn one<T: Drop>(alloc: Global, item: T) -> Result<ItemList<T>, WantOfMemory> {
-    let mut list = ItemList::new(alloc);
-    match list.push(item) {
-        Ok(()) => Ok(list),
-        Err(_) => Err(WantOfMemory),
-    }
-}
-
-// A list of two items.
-fn two<T: Drop>(alloc: Global, first: T, second: T) -> Result<ItemList<T>, WantOfMemory> {
-    let mut list = one(alloc, first)?;
-    match list.push(second) {
-        Ok(()) => Ok(list),
-        Err(_) => Err(WantOfMemory),
-    }
-}
+use vx_value::{Bytes, Event, Text, WantOfMemory};
 
 fn instance(alloc: Global, name: &str, number: u32) -> Result<Instance, WantOfMemory> {
     Ok(Instance {

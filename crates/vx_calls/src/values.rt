@@ -1,3 +1,6 @@
+use crate::comparing::spaced;
+use crate::events::{has_put_answer, put};
+use crate::lists::{add, one};
 use std::alloc::Global;
 use std::process::Abort;
 use std::test::Fail;
@@ -14,78 +17,100 @@ fn is_whole(value: Option<&Value>, whole: i64) -> bool {
     }
 }
 
-// An event with one whole number.
-fn event_with(alloc: Global, path: &Path, whole: i64) -> Result<Event, PutFault> {
+// An event with whole numbers at some paths.
+fn event_of_wholes(alloc: Global, wholes: &[(&str, i64)]) -> Result<Event, Fail> {
     let mut event = Event::new(alloc);
-    event.put(path, Value::Whole(whole))?;
+    for (path, whole) in wholes {
+        put(alloc, &mut event, *path, Value::Whole(*whole))?;
+    }
     Ok(event)
+}
+
+// Checks that an event has a whole number at a path.
+fn has_whole(
+    rt: &impl Abort,
+    alloc: Global,
+    event: &Event,
+    path: &str,
+    whole: i64,
+) -> Result<(), Fail> {
+    let path = Path::read(alloc, path)?;
+    assert!(rt; is_whole(event.get(&path), whole));
+    Ok(())
+}
+
+// Checks that an event has whole numbers at some paths.
+fn has_wholes(
+    rt: &impl Abort,
+    alloc: Global,
+    event: &Event,
+    wholes: &[(&str, i64)],
+) -> Result<(), Fail> {
+    for (path, whole) in wholes {
+        has_whole(rt, alloc, event, *path, *whole)?;
+    }
+    Ok(())
+}
+
+// A list of one value.
+fn list_of(alloc: Global, value: Value) -> Result<ValueList, WantOfMemory> {
+    let mut list = ValueList::new(alloc);
+    add(&mut list, value)?;
+    Ok(list)
 }
 
 // A list in a list, and so on, of so many levels.
 fn nested(alloc: Global, levels: u32) -> Result<Value, WantOfMemory> {
-    let mut value = Value::Items(ValueList::new(alloc));
+    let mut list = ValueList::new(alloc);
     for _ in 1..levels {
-        let mut list = ValueList::new(alloc);
-        list.push(value).map_err(|_| WantOfMemory)?;
-        value = Value::Items(list);
+        list = list_of(alloc, Value::Items(list))?;
     }
-    Ok(value)
+    Ok(Value::Items(list))
 }
 
-// What a put of some levels below a path answers.
-fn put_levels(alloc: Global, text: &str, levels: u32) -> Result<Result<(), PutFault>, Fail> {
-    let path = Path::read(alloc, text)?;
-    let mut event = Event::new(alloc);
-    Ok(event.put(&path, nested(alloc, levels)?))
-}
-
-// An event whose `.a` is 1, and what a put below that answers.
-fn put_below(alloc: Global) -> Result<(Event, Result<(), PutFault>), Fail> {
-    let mut event = event_with(alloc, &Path::read(alloc, ".a")?, 1)?;
-    let below = Path::read(alloc, ".a.b")?;
-    let answer = event.put(&below, Value::Null);
-    Ok((event, answer))
-}
-
-// Whether an event has a whole number at a path.
-fn has_whole(alloc: Global, event: &Event, path: &str, whole: i64) -> Result<bool, Fail> {
-    let path = Path::read(alloc, path)?;
-    Ok(is_whole(event.get(&path), whole))
-}
+// An event whose `.a` is 1.
+const ALONE: &[(&str, i64)] = &[(".a", 1)];
 
 #[test]
 fn put_and_lossy(rt: HostRuntime) -> Result<(), Fail> {
-    let (event, answer) = put_below(rt.alloc())?;
-    assert_eq!(rt; answer, Err(PutFault::Blocked { names: 1 }));
-    assert!(rt; has_whole(rt.alloc(), &event, ".a", 1)?);
-    Ok(())
+    let mut event = event_of_wholes(rt.alloc(), ALONE)?;
+    let blocked = Err(PutFault::Blocked { names: 1 });
+    has_put_answer(&rt, rt.alloc(), &mut event, ".a.b", Value::Null, blocked)?;
+    has_wholes(&rt, rt.alloc(), &event, ALONE)
 }
 
 // An event whose `.a.b` is 2, and whose `.B` is 3.
-fn two_wholes(alloc: Global) -> Result<Event, Fail> {
-    let mut event = event_with(alloc, &Path::read(alloc, ".a.b")?, 2)?;
-    let beside = Path::read(alloc, "\"B\"")?;
-    event.put(&beside, Value::Whole(3))?;
-    Ok(event)
-}
+const NEIGHBOURS: &[(&str, i64)] = &[(".a.b", 2), ("\"B\"", 3)];
 
 #[test]
 fn put_keeps_a_neighbour(rt: HostRuntime) -> Result<(), Fail> {
-    let event = two_wholes(rt.alloc())?;
-    assert!(rt; has_whole(rt.alloc(), &event, ".a.b", 2)?);
-    assert!(rt; has_whole(rt.alloc(), &event, "\"B\"", 3)?);
-    Ok(())
+    let event = event_of_wholes(rt.alloc(), NEIGHBOURS)?;
+    has_wholes(&rt, rt.alloc(), &event, NEIGHBOURS)
 }
+
+// Checks what a put of a list of 31 levels answers.
+fn has_answer(
+    rt: &impl Abort,
+    alloc: Global,
+    path: &str,
+    want: Result<(), PutFault>,
+) -> Result<(), Fail> {
+    let value = nested(alloc, 31)?;
+    let mut event = Event::new(alloc);
+    has_put_answer(rt, alloc, &mut event, path, value, want)
+}
+
+// Paths, and what a put of 31 levels at each answers: at the last level that there may be, and below it.
+const LAST_LEVELS: &[(&str, Result<(), PutFault>)] = &[
+    (".a", Ok(())),
+    (".a.b", Err(PutFault::TooDeep)),
+];
 
 #[test]
 fn put_at_the_last_level(rt: HostRuntime) -> Result<(), Fail> {
-    assert_eq!(rt; put_levels(rt.alloc(), ".a", 31)?, Ok(()));
-    Ok(())
-}
-
-#[test]
-fn put_below_the_last_level(rt: HostRuntime) -> Result<(), Fail> {
-    assert_eq!(rt; put_levels(rt.alloc(), ".a.b", 31)?, Err(PutFault::TooDeep));
+    for (path, want) in LAST_LEVELS {
+        has_answer(&rt, rt.alloc(), *path, *want)?;
+    }
     Ok(())
 }
 
@@ -98,7 +123,7 @@ fn path_fault(alloc: Global, text: &str) -> Option<PathFault> {
 }
 
 // Whether a text is no path, and its fault is at that place.
-fn has_path_fault(rt: &impl Abort, alloc: Global, text: &str, at: u64) {
+pub(crate) fn has_path_fault(rt: &impl Abort, alloc: Global, text: &str, at: u64) {
     let fault = path_fault(alloc, text);
     assert_eq!(rt; fault, Some(PathFault::Syntax { at }));
 }
@@ -121,27 +146,28 @@ fn path_faults(rt: HostRuntime) {
     }
 }
 
-// The names of a path, each followed by a blank.
-fn names_of(alloc: Global, path: &Path) -> Result<String, Fail> {
-    let mut all = String::new(alloc);
-    for name in path.names() {
-        all.push_str(name.as_str())?;
-        all.push_str(" ")?;
-    }
-    Ok(all)
+// A copy of the path that a text is read as.
+fn copied_path(alloc: Global, text: &str) -> Result<Path, Fail> {
+    let path = Path::read(alloc, text)?;
+    Ok(path.copy(alloc)?)
 }
 
 #[test]
 fn reads_quoted_names(rt: HostRuntime) -> Result<(), Fail> {
-    let path = Path::read(rt.alloc(), ".a_1.\"b.\\\"c\"")?.copy(rt.alloc())?;
-    let names = names_of(rt.alloc(), &path)?;
+    let path = copied_path(rt.alloc(), ".a_1.\"b.\\\"c\"")?;
     assert_eq!(rt; path.names().len(), 2);
+    let names = spaced(rt.alloc(), path.names())?;
     assert_eq!(rt; names.as_str(), "a_1 b.\"c ");
     Ok(())
 }
 
 // Whether a text stands for some bytes.
-fn is_lossy(rt: &impl Abort, alloc: Global, bytes: &[u8], want: &str) -> Result<(), Fail> {
+pub(crate) fn is_lossy(
+    rt: &impl Abort,
+    alloc: Global,
+    bytes: &[u8],
+    want: &str,
+) -> Result<(), Fail> {
     let text = Text::lossy(alloc, bytes)?;
     assert_eq!(rt; text.as_str(), want);
     Ok(())
@@ -184,11 +210,12 @@ fn bytes_grow_and_shrink(rt: HostRuntime) -> Result<(), Fail> {
 
 // Two numbers, of which one was appended.
 fn two_numbers(alloc: Global) -> Result<NumberList, WantOfMemory> {
-    let mut numbers = NumberList::new(alloc);
-    numbers.push(4).map_err(|_| WantOfMemory)?;
+    let mut numbers: NumberList = one(alloc, 4)?;
     let copy = numbers.copy()?;
-    numbers.append(copy).map_err(|_| WantOfMemory)?;
-    Ok(numbers)
+    match numbers.append(copy) {
+        Ok(()) => Ok(numbers),
+        Err(_) => Err(WantOfMemory),
+    }
 }
 
 #[test]
@@ -202,21 +229,15 @@ fn lists_grow_and_shrink(rt: HostRuntime) -> Result<(), Fail> {
 
 #[test]
 fn texts_are_copied(rt: HostRuntime) -> Result<(), Fail> {
-    let alloc = rt.alloc();
-    let mut texts = TextList::new(alloc);
-    texts
-        .push(Text::copy_of(alloc, "x")?)
-        .map_err(|_| WantOfMemory)?;
-    assert_eq!(rt; texts.copy(alloc)?.len(), 1);
+    let texts: TextList = one(rt.alloc(), Text::copy_of(rt.alloc(), "x")?)?;
+    assert_eq!(rt; texts.copy(rt.alloc())?.len(), 1);
     Ok(())
 }
 
 #[test]
 fn events_are_copied(rt: HostRuntime) -> Result<(), Fail> {
-    let alloc = rt.alloc();
-    let mut events = EventList::new(alloc);
-    events.push(Event::new(alloc)).map_err(|_| WantOfMemory)?;
-    assert_eq!(rt; events.copy(alloc)?.len(), 1);
+    let events: EventList = one(rt.alloc(), Event::new(rt.alloc()))?;
+    assert_eq!(rt; events.copy(rt.alloc())?.len(), 1);
     Ok(())
 }
 
@@ -240,15 +261,18 @@ fn lists_in_order(rt: HostRuntime) -> Result<(), Fail> {
     Ok(())
 }
 
+// Checks that the first of two events is its own copy, and that the second comes after it.
+fn are_in_order(rt: &impl Abort, alloc: Global, first: &Event, second: &Event) -> Result<(), Fail> {
+    assert!(rt; second.compare(first).is_gt());
+    assert!(rt; first.is_same(&first.copy(alloc)?));
+    Ok(())
+}
+
 #[test]
 fn events_in_order(rt: HostRuntime) -> Result<(), Fail> {
-    let alloc = rt.alloc();
-    let path = Path::read(alloc, ".a")?;
-    let one = event_with(alloc, &path, 1)?;
-    let two = event_with(alloc, &path, 2)?;
-    assert!(rt; two.compare(&one).is_gt());
-    assert!(rt; one.is_same(&one.copy(alloc)?));
-    Ok(())
+    let one = event_of_wholes(rt.alloc(), ALONE)?;
+    let two = event_of_wholes(rt.alloc(), &[(".a", 2)])?;
+    are_in_order(&rt, rt.alloc(), &one, &two)
 }
 
 #[test]

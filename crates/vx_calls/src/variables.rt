@@ -1,6 +1,6 @@
 //! The worked examples, and each form at its edges.
 
-use crate::comparing::same;
+use crate::comparing::{joined, numbered, same};
 use std::alloc::Global;
 use std::process::Abort;
 use std::test::Fail;
@@ -23,15 +23,18 @@ fn environment(alloc: Global, pairs: &[(&str, &str)]) -> Result<VariableList, Wa
     Ok(VariableList::from_vec(list))
 }
 
+/// A variable that is missing, and the place of its `$`.
+fn missing(alloc: Global, name: &str, at: u64) -> Result<String, Fail> {
+    let word = joined(alloc, &["missing ", name, " at"])?;
+    numbered(alloc, word.as_str(), at)
+}
+
 /// What the text becomes in an environment, or its fault in words.
 fn said(alloc: Global, text: &str, environment: &VariableList) -> Result<String, Fail> {
     match replace(alloc, text, environment) {
-        Ok(new) => Ok(String::from_str(alloc, new.as_str())?),
-        Err(SubstFault::MissingVariable { name, at }) => {
-            let name = name.as_str();
-            Ok(format!(in alloc; "missing {name} at {at}")?)
-        }
-        Err(SubstFault::WantOfMemory) => Ok(String::from_str(alloc, "no memory")?),
+        Ok(new) => joined(alloc, &[new.as_str()]),
+        Err(SubstFault::MissingVariable { name, at }) => missing(alloc, name.as_str(), at),
+        Err(SubstFault::WantOfMemory) => joined(alloc, &["no memory"]),
     }
 }
 

@@ -166,6 +166,3 @@ fn renumber_all(items: &mut Vec<Finalizer>, first: u64)
         number += 1;
     }
 }
-
-#[cfg(test)]
-mod tests;

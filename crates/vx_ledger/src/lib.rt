@@ -31,6 +31,3 @@ pub use route_refused::RouteRefused;
 pub use routed::Routed;
 pub use short::Short;
 pub use split_refused::SplitRefused;
-
-#[cfg(test)]
-mod tests;

@@ -1,6 +1,6 @@
 use Rattle.std.proofs.Common.{◌≡◌, ◌++◌, arith}
 use Rattle.vx_ledger.proofs.CopyLaws.{copies_of-append}
-use Rattle.vx_ledger.proofs.tests.takes_the_last_copy.Goals as goal
+use Rattle.vx_calls.proofs.ledgers.takes_the_last_copy.Goals as goal
 
 pub spend_all-requires : goal.spend_all-requires
 spend_all-requires g c = λ b p.

@@ -1,7 +1,7 @@
 use Rattle.std.proofs.Common.{◌≡◌, ℕ, ◌+◌, ◌≤◌, length}
 use Rattle.vx_ledger.specs.Copies.{copies_of}
 use Rattle.vx_ledger.specs.Ledger.{live_count}
-use Rattle.vx_ledger.proofs.tests.spend_all.Given as goal
+use Rattle.vx_calls.proofs.ledgers.spend_all.Given as goal
 
 abbrev pub invariant-loop-copy : goal.invariant-loop-copy
 invariant-loop-copy g l =

@@ -2,7 +2,7 @@ use Rattle.std.proofs.Common.{arith, ◌≡◌, ◌+◌}
 use Rattle.vx_ledger.specs.Copies.{copies_of}
 use Rattle.vx_ledger.specs.Routing.{copies_in}
 use Rattle.vx_ledger.proofs.RouteLaws.{copies_of-copies_in_push}
-use Rattle.vx_ledger.proofs.tests.routed.Goals as goal
+use Rattle.vx_calls.proofs.ledgers.routed.Goals as goal
 
 pub spend_all-requires : goal.spend_all-requires
 spend_all-requires g c = λ b p.

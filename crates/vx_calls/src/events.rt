@@ -1,0 +1,34 @@
+//! Events with some values.
+
+use std::alloc::Global;
+use std::process::Abort;
+use std::test::Fail;
+use vx_value::{Event, Path, PutFault, Value};
+
+/// Checks what a put of a value at a path answers.
+pub(crate) fn has_put_answer(
+    rt: &impl Abort,
+    alloc: Global,
+    event: &mut Event,
+    path: &str,
+    value: Value,
+    want: Result<(), PutFault>,
+) -> Result<(), Fail> {
+    let path = Path::read(alloc, path)?;
+    assert_eq!(rt; event.put(&path, value), want);
+    Ok(())
+}
+
+/// Puts a value at a path.
+pub(crate) fn put(alloc: Global, event: &mut Event, path: &str, value: Value) -> Result<(), Fail> {
+    let path = Path::read(alloc, path)?;
+    event.put(&path, value)?;
+    Ok(())
+}
+
+/// An event with a value at a path.
+pub(crate) fn event_with(alloc: Global, path: &str, value: Value) -> Result<Event, Fail> {
+    let mut event = Event::new(alloc);
+    put(alloc, &mut event, path, value)?;
+    Ok(event)
+}
