@@ -5,6 +5,7 @@ mod lost_input;
 mod no_input;
 mod open_line;
 mod parts;
+#[cfg(test)]
 mod same;
 #[cfg(test)]
 mod tests;
@@ -14,5 +15,4 @@ pub use lost_input::failed_take;
 pub use no_input::empty_input;
 pub use open_line::unfinished_line;
 pub use parts::FIRST;
-pub use same::first_difference;
 pub use two_lines::first_run;

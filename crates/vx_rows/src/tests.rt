@@ -1,4 +1,5 @@
-use crate::{FIRST, empty_input, failed_take, first_difference, first_run, unfinished_line};
+use crate::same::first_difference;
+use crate::{FIRST, empty_input, failed_take, first_run, unfinished_line};
 use std::alloc::Global;
 use std::process::Abort;
 use std::sync::Wait;
@@ -71,36 +72,50 @@ fn piece(alloc: Global, bytes: &str) -> Result<StepList, WantOfMemory> {
     Ok(steps)
 }
 
+/// Checks that a run of the first configuration on these steps makes the wanted record.
+fn makes<R: Wait + Abort>(
+    rt: &R,
+    alloc: Global,
+    steps: StepList,
+    wanted: &Record,
+) -> Result<(), Fail> {
+    let made = made(rt, alloc, steps)?;
+    assert_eq!(rt; first_difference(&made, wanted), None);
+    Ok(())
+}
+
 #[test]
 fn copies_two_lines(rt: HostRuntime) -> Result<(), Fail> {
-    let alloc = rt.alloc();
-    let made = made(&rt, alloc, piece(alloc, "a\nb\n")?)?;
-    assert_eq!(rt; first_difference(&made, &first_run(alloc)?), None);
-    Ok(())
+    let wanted = first_run(rt.alloc())?;
+    makes(&rt, rt.alloc(), piece(rt.alloc(), "a\nb\n")?, &wanted)
 }
 
 #[test]
 fn nothing_to_copy(rt: HostRuntime) -> Result<(), Fail> {
-    let alloc = rt.alloc();
-    let made = made(&rt, alloc, StepList::new(alloc))?;
-    assert_eq!(rt; first_difference(&made, &empty_input(alloc)?), None);
-    Ok(())
+    let wanted = empty_input(rt.alloc())?;
+    makes(&rt, rt.alloc(), StepList::new(rt.alloc()), &wanted)
 }
 
 #[test]
 fn unfinished_last_line(rt: HostRuntime) -> Result<(), Fail> {
-    let alloc = rt.alloc();
-    let made = made(&rt, alloc, piece(alloc, "a")?)?;
-    assert_eq!(rt; first_difference(&made, &unfinished_line(alloc)?), None);
-    Ok(())
+    let wanted = unfinished_line(rt.alloc())?;
+    makes(&rt, rt.alloc(), piece(rt.alloc(), "a")?, &wanted)
+}
+
+/// A piece, and a failure behind it.
+fn piece_and_failure(alloc: Global, bytes: &str) -> Result<StepList, WantOfMemory> {
+    let mut steps = piece(alloc, bytes)?;
+    add(&mut steps, Step::Fail)?;
+    Ok(steps)
 }
 
 #[test]
 fn fails_after_one_line(rt: HostRuntime) -> Result<(), Fail> {
-    let alloc = rt.alloc();
-    let mut steps = piece(alloc, "a\n")?;
-    add(&mut steps, Step::Fail)?;
-    let made = made(&rt, alloc, steps)?;
-    assert_eq!(rt; first_difference(&made, &failed_take(alloc)?), None);
-    Ok(())
+    let wanted = failed_take(rt.alloc())?;
+    makes(
+        &rt,
+        rt.alloc(),
+        piece_and_failure(rt.alloc(), "a\n")?,
+        &wanted,
+    )
 }
