@@ -170,12 +170,13 @@ abbrev pub PrefixGrows : Type 0
 PrefixGrows =
     (later earlier : Record) (i : ℕ) → (more : List Birth) × (confirm_prefix (later ++ earlier) i ≡ confirm_prefix earlier i ++ more)
 
--- a line gives one event, which is the event of the line, or none, which is where it is no event's
+-- a line gives an event exactly where that is the event of the line
 abbrev pub LineGives : Type 0
 LineGives =
     (d : Decoding) (settings : Settings) (line : Frame) (fields : List NamedDatum) →
     (line_events d settings line ≡ record { fields = fields } ∷ []) ↔ IsLineEvent d (type_name settings) None line.bytes fields
 
+-- and none exactly where no event is the line's
 abbrev pub LineGivesNone : Type 0
 LineGivesNone =
     (d : Decoding) (settings : Settings) (line : Frame) →
