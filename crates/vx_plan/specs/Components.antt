@@ -1,6 +1,7 @@
 -- What a component is, and what its options mean.
-use Rattle.std.specs.Prelude.{ℕ, ◌+◌, ◌*◌, min, zero, suc, Bool, true, false, Option, Some, None, List, [], ◌∷◌, find, unwrap_or}
+use Rattle.std.specs.Prelude.{ℕ, ◌*◌, Bool, true, false, Option, Some, None, List, [], ◌∷◌, find, unwrap_or}
 use Rattle.vx_value.specs.Texts.{Word, same_text}
+use Rattle.vx_json.specs.Waits.{wait_after}
 use Rattle.vx_plan.specs.Options.{sink_options, line_limit}
 use Rattle.vx_plan.specs.declared.class.Class.{Class}
 use Rattle.vx_plan.specs.declared.class.Class.TheVariants.{Source, Transform, Sink}
@@ -69,15 +70,9 @@ batch_timeout = of_sink 0 (λ (s : SinkSettings). s.batch_timeout_secs * 1000)
 abbrev pub retry_attempts : Settings → ℕ
 retry_attempts = of_sink 0 (λ (s : SinkSettings). s.request_retry_attempts)
 
--- 1, 1, 2, 3, 5 and so on, from the first on
-abbrev pub fibonacci : ℕ → ℕ
-fibonacci zero = 0
-fibonacci (suc zero) = 1
-fibonacci (suc (suc n)) = fibonacci (suc n) + fibonacci n
-
 -- the k-th wait, in milliseconds, between first waits of some seconds and a greatest one
 abbrev pub wait_of : ℕ → SinkSettings → ℕ
-wait_of k s = min s.request_retry_max_duration_secs (s.request_retry_initial_backoff_secs * fibonacci k) * 1000
+wait_of k s = wait_after s.request_retry_initial_backoff_secs s.request_retry_max_duration_secs k * 1000
 
 -- the milliseconds between the k-th failed attempt of a sink batch and the next
 abbrev pub retry_wait : Settings → ℕ → ℕ
