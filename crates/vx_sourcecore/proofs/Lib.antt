@@ -1,0 +1,2 @@
+mod Dues
+pub mod Prefixing
