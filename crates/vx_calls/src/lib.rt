@@ -22,6 +22,8 @@ mod lists;
 #[cfg(test)]
 mod plans;
 #[cfg(test)]
+mod prefixes;
+#[cfg(test)]
 mod probes;
 #[cfg(test)]
 mod records;

@@ -1,9 +1,8 @@
 -- What an instance is asked to confirm was due when it was leased.
-use Rattle.std.proofs.Common.{◌≡◌, ℕ, Bool, true, false, IsTrue, List, [], ◌∷◌, ◌++◌, Option, Some, None, IfSome, refl, sym, ap, subst, ◌∙◌, arith, inl, inr}
-use Rattle.std.specs.Prelude.{◌==◌, ◌&&◌, ◌||◌, ◌≢◌, not, nat_lt, IsSome, IsSomeAnd, if◌then◌else◌, map, take_while, slice_get}
+use Rattle.std.proofs.Common.{◌≡◌, ℕ, Bool, true, false, IsTrue, List, [], ◌∷◌, Option, Some, None, IfSome, refl, sym, ap, subst, ◌∙◌, arith, inl, inr}
+use Rattle.std.specs.Prelude.{◌⊎◌, ◌==◌, ◌&&◌, not, IsSome, IsSomeAnd, if◌then◌else◌, map, take_while, slice_get}
 use Rattle.std.specs.List.{list_any}
 use Rattle.std.proofs.lemmas.Bool.Decides.{nat_tests}
-use Rattle.std.proofs.lemmas.List.Sums.{take_while-cons}
 use Rattle.vx_ends.specs.declared.position.Position.{Position}
 use Rattle.vx_value.specs.Texts.{is_empty}
 use Rattle.vx_plan.specs.declared.class.Class.{Class}
@@ -17,47 +16,28 @@ use Rattle.vx_record.specs.Wirings.{names_differ, begun}
 use Rattle.vx_record.proofs.FirstWiring.{component_of_first}
 use Rattle.vx_plan.specs.Components.{is_source}
 use Rattle.vx_record.specs.Turns.{is_out, at_lease, since_lease, is_confirm_of}
-use Rattle.vx_record.specs.Confirms.{Birth, births, births_in, born_positions, due, is_confirm_due, last_confirm, last_of_each, moved_to, position_of, same_positions, was_delivered}
+use Rattle.vx_record.specs.Confirms.{Birth, births, due, is_confirm_due, last_confirm, last_of_each, position_of, same_positions}
 use Rattle.vx_record.specs.declared.log.Log.{Log}
 use Rattle.vx_record.specs.declared.entry.Entry.{Entry}
-use Rattle.vx_record.specs.declared.entry.Entry.TheVariants.{Lease, Home, Idle, SourceLost, Born, Confirm}
-use Rattle.vx_value.specs.declared.event.Event.{Event}
-use Rattle.vx_hub.specs.declared.facts.Facts.{Facts}
+use Rattle.vx_record.specs.declared.entry.Entry.TheVariants.{Lease, Home, Idle, SourceLost, Confirm}
 use Rattle.vx_hub.specs.declared.hub.Hub.{Hub}
-use Rattle.vx_plan.specs.Acknowledging.{AcknowledgesNothing}
-use Rattle.vx_hub.specs.Asking.{asked, HasTold, HadNoneDue, IsAskedBy, asked_of, to_ask}
+use Rattle.vx_hub.specs.Asking.{asked, HasTold, HadNoneDue}
+use Rattle.vx_hub.specs.declared.progress.Progress.{Progress}
+use Rattle.vx_hub.specs.Notices.{progress_at, SetsOne, IsAskedOf, IsPrefixKnown, judged_by}
+use Rattle.vx_sourcecore.specs.declared.prefix.Due.{Due}
+use Rattle.vx_sourcecore.specs.Prefixes.{IsAskFor}
+use Rattle.vx_sourcecore.proofs.Prefixing.{ask_none, ask_some}
+use Rattle.vx_hub.proofs.Covering.{bears}
+use Rattle.vx_hub.proofs.Prefixing.{this_side, asked_now}
 use Rattle.vx_hub.specs.Confirming.{HasConfirmed, HadNothing}
 use Rattle.vx_hub.specs.Failures.{IsFailureOf}
 use Rattle.vx_hub.specs.Order.{IsOrderly, IsDueOf, IsOfClass, component_in}
-use Rattle.vx_hub.specs.Stands.{IsKnown, IsSound}
-use Rattle.vx_hub.proofs.Silence.{same_test, other_test}
-use Rattle.vx_hub.proofs.StandsLaws.{born_same, asked_on}
-use Rattle.vx_hub.proofs.Naming.{device_known, component_is}
-use Rattle.vx_hub.proofs.Drying.{class_known, taken_none}
-use Rattle.vx_hub.proofs.Dues.{born_more}
+use Rattle.vx_hub.specs.Stands.{IsSound}
+use Rattle.vx_hub.proofs.Silence.{same_test}
+use Rattle.vx_hub.proofs.Naming.{component_is}
 use Rattle.vx_hub.proofs.Ordering.{sound_before, named_apart}
-use Rattle.vx_hub.proofs.Acknowledging.{force_unacknowledged}
 
--- POSITIONS
--- positions are equal where the test says so
-pub positions_equal : (ps qs : List Position) → same_positions ps qs ≡ true → ps ≡ qs
-positions_equal [] [] same = refl
-positions_equal [] (q ∷ qs) same = cc
-positions_equal (p ∷ ps) [] same = cc
-positions_equal (p ∷ ps) (q ∷ qs) same =
-    let first = left_of (p.stream == q.stream) (p.end == q.end) (same_positions ps qs) same in
-    let streams : p.stream ≡ q.stream = grind (arith, nat_tests, first.0) in
-    let ends : p.end ≡ q.end = grind (arith, nat_tests, first.1) in
-    let here : p ≡ q = ap (λ (n : ℕ). record { stream = n; end = p.end }) streams ∙ ap (λ (n : ℕ). record { stream = q.stream; end = n }) ends in
-    ap (λ (x : Position). x ∷ ps) here ∙ ap (λ (xs : List Position). q ∷ xs) (positions_equal ps qs first.2)
-  where
-    left_of : (a b c : Bool) → (a && b && c) ≡ true → (a ≡ true) × (b ≡ true) × (c ≡ true)
-    left_of true true true e = (refl, refl, refl)
-    left_of true true false e = cc
-    left_of true false c e = cc
-    left_of false b c e = cc
-
--- and each is equal to itself
+-- positions are equal to themselves
 pub positions_same : (ps : List Position) → same_positions ps ps ≡ true
 positions_same [] = refl
 positions_same (p ∷ ps) = all_of_three (p.stream == p.stream) (p.end == p.end) (same_positions ps ps) (same_test p.stream) (same_test p.end) (positions_same ps)
@@ -70,130 +50,13 @@ positions_same (p ∷ ps) = all_of_three (p.stream == p.stream) (p.end == p.end)
         go false c y z = cc
     all_of_three false b c x y z = cc
 
--- with one more there are some
-moved_some : (stream end : ℕ) (ps : List Position) → is_empty (moved_to stream end ps) ≡ false
-moved_some stream end [] = refl
-moved_some stream end (p ∷ rest) = go (nat_lt stream p.stream) (stream == p.stream)
-  where
-    go : (a b : Bool) → is_empty (if a then (record { stream = stream; end = end } ∷ p ∷ rest) else (if b then (record { stream = stream; end = end } ∷ rest) else (p ∷ moved_to stream end rest))) ≡ false
-    go true b = refl
-    go false true = refl
-    go false false = refl
-
--- BATCHES THAT DON'T WAIT
-abbrev NoneWait : List Birth → Type 0
-NoneWait [] = Unit {0}
-NoneWait (birth ∷ rest) = (birth.waits ≡ false) × NoneWait rest
-
-waits_both : (xs ys : List Birth) → NoneWait xs → NoneWait ys → NoneWait (xs ++ ys)
-waits_both [] ys a b = b
-waits_both (x ∷ xs) ys a b = (a.0, waits_both xs ys a.1 b)
-
-unwaiting : (h : Record) (i : ℕ) → IsOrderly h → NoneWait (births h i)
-unwaiting [] i order = tt
-unwaiting (Born j b place copies events waits stream end ∷ h) i order =
-    waits_both (births h i) (births_in i (Born j b place copies events waits stream end)) (unwaiting h i order.1) (go (j == i))
-  where
-    go : (t : Bool) → NoneWait (if t then record { batch = b; waits = waits; stream = stream; end = end } ∷ [] else [])
-    go true = (order.0.0.unwaiting, tt)
-    go false = tt
-unwaiting (e ∷ h) i order = waits_both (births h i) [] (unwaiting h i order.1) tt
-
-all_taken : (h : Record) (bs : List Birth) → NoneWait bs → take_while (λ (birth : Birth). not birth.waits || was_delivered h birth.batch) bs ≡ bs
-all_taken h [] none = refl
-all_taken h (birth ∷ rest) none = take_while-cons (λ (x : Birth). not x.waits || was_delivered h x.batch) birth rest ∙ go birth.waits (was_delivered h birth.batch) none.0 (all_taken h rest none.1)
-  where
-    tail : List Birth
-    tail = take_while (λ (x : Birth). not x.waits || was_delivered h x.batch) rest
-
-    go : (w d : Bool) → w ≡ false → tail ≡ rest → (if (not w || d) then birth ∷ tail else []) ≡ birth ∷ rest
-    go true d e is = cc
-    go false d e is = ap (λ (xs : List Birth). birth ∷ xs) is
-
--- what is due is the end of each stream's last batch
-pub due_all : (h : Record) (i : ℕ) → IsOrderly h → due h i ≡ born_positions h i
-due_all h i order = ap (λ (bs : List Birth). last_of_each [] (map position_of bs)) (all_taken h (births h i) (unwaiting h i order))
-
--- a test that fails leaves the other side
-pub other_side : {X : Type 0} (t : Bool) (x y : X) → t ≡ false → (if t then x else y) ≡ y
-other_side true x y e = cc
-other_side false x y e = refl
-
-pub this_side : {X : Type 0} (t : Bool) (x y : X) → t ≡ true → (if t then x else y) ≡ x
-this_side true x y e = refl
-this_side false x y e = cc
-
--- behind a lease the ends of all batches are
-pub asked_now : (h : Record) (i worker now polls : ℕ) → at_lease (Lease i worker now polls ∷ h) i ≡ h
-asked_now h i worker now polls = this_side (i == i) h (at_lease h i) (same_test i)
-
-pub asked_leased : (last : List Position) (h : Record) (i worker now polls : ℕ) → IsAskedBy None last (Lease i worker now polls ∷ h) i
-asked_leased last h i worker now polls = record {
-  none = λ no. sym (born_same h i (Lease i worker now polls) refl) ∙ ap (λ (k : Record). born_positions k i) (sym (asked_now h i worker now polls));
-  was = λ some. absurd (taken_none None refl some);
-  some = λ some. absurd (taken_none None refl some);
-  new = λ some. absurd (taken_none None refl some);
-}
-
--- a lease of another asks for nothing
-pub asked_leased_other : (o : Option (List Position)) (last : List Position) (h : Record) (i j worker now polls : ℕ) → j ≢ i → IsAskedBy o last h j → IsAskedBy o last (Lease i worker now polls ∷ h) j
-asked_leased_other o last h i j worker now polls other k =
-    asked_on o last h j (Lease i worker now polls) refl (ap (λ (k : Record). born_positions k j) (other_side (i == j) h (at_lease h j) (other_test i j other))) k
-
--- a birth moves the ends
-pub asked_born : (o : Option (List Position)) (ends last positions : List Position) (h : Record) (i b place : ℕ) (copies : List ℕ) (events : List Event) (waits : Bool) (stream end : ℕ) →
-    ends ≡ born_positions h i → positions ≡ moved_to stream end ends → IsAskedBy o last h i →
-    IsAskedBy (to_ask positions (asked_of o ends last)) (asked_of o ends last) (Born i b place copies events waits stream end ∷ h) i
-asked_born o ends last positions h i b place copies events waits stream end before moved k = go (same_positions positions known) refl
-  where
-    e : Entry
-    e = Born i b place copies events waits stream end
-
-    known : List Position
-    known = asked_of o ends last
-
-    is : (p : Option (List Position)) → (p ≡ None → born_positions h i ≡ asked h i) → (IsSome p → last ≡ asked h i) → asked_of p ends last ≡ asked h i
-    is None none was = before ∙ none refl
-    is (Some ps) none was = was refl
-
-    known_is : known ≡ asked h i
-    known_is = is o k.none k.was
-
-    after : positions ≡ born_positions (e ∷ h) i
-    after = moved ∙ ap (moved_to stream end) before ∙ born_more h i b place copies events waits stream end
-
-    filled : is_empty positions ≡ false
-    filled = ap is_empty moved ∙ moved_some stream end ends
-
-    go : (t : Bool) → same_positions positions known ≡ t → IsAskedBy (if t then None else Some positions) known (e ∷ h) i
-    go true same = record {
-      none = λ no. sym after ∙ positions_equal positions known same ∙ known_is;
-      was = λ some. absurd (taken_none None refl some);
-      some = λ some. absurd (taken_none None refl some);
-      new = λ some. absurd (taken_none None refl some);
-    }
-    go false same = record {
-      none = λ no. cc;
-      was = λ some. known_is;
-      some = λ some. ap is_empty (sym after) ∙ filled;
-      new = λ some. ap (λ (ps : List Position). same_positions ps (asked h i)) (sym after) ∙ ap (same_positions positions) (sym known_is) ∙ same;
-    }
-
--- what is to be confirmed is what it is
-pub ask_is : (positions last : List Position) (all : List Position) → positions ≡ all → IfSome (to_ask positions last) (λ ps. ps ≡ all)
-ask_is positions last all is = go (same_positions positions last)
-  where
-    go : (t : Bool) → IfSome (if t then None else Some positions) (λ ps. ps ≡ all)
-    go true = tt
-    go false = is
-
 -- AT HOME
 -- what an instance at home was asked for stands in the record
 pub told_home : (h : Record) (i : ℕ) → IsOrderly h → is_out h i ≡ false → HasTold h i
 told_home [] i order home = refl
 told_home (Lease j worker now polls ∷ h) i order home = go (j == i) home (λ at. told_home h i order.1 at)
   where
-    go : (t : Bool) → (if t then true else is_out h i) ≡ false → (is_out h i ≡ false → HasTold h i) → last_confirm h i ≡ born_positions (if t then h else at_lease h i) i
+    go : (t : Bool) → (if t then true else is_out h i) ≡ false → (is_out h i ≡ false → HasTold h i) → last_confirm h i ≡ due (if t then h else at_lease h i) i
     go true at rest = cc
     go false at rest = rest at
 told_home (Home j ∷ h) i order home = go (j == i) refl home (λ at. told_home h i order.1 at)
@@ -220,58 +83,97 @@ last_false true false true z = refl
 last_false false b true z = refl
 last_false a b false z = cc
 
+-- SOURCES
+-- where something is due batches were born, which only a source does
+pub source_due : (h : Record) (i : ℕ) → IsOrderly h → is_empty (due h i) ≡ false → IsOfClass h i Source
+source_due h i order some = go (bears h i order)
+  where
+    go : (births h i ≡ []) ⊎ IsOfClass h i Source → IsOfClass h i Source
+    go (inl none) = let empty : is_empty (due h i) ≡ true = ap (λ (bs : List Birth). is_empty (last_of_each [] (map position_of (take_while (judged_by h).may bs)))) none in cc
+    go (inr source) = source
+
 -- so a confirm is due there where something is to be confirmed
-pub due_some : (h : Record) (i : ℕ) (f : Facts) → IsOrderly h → is_out h i ≡ false → IsKnown f h i → IsSome f.to_confirm → is_confirm_due h i ≡ true
-due_some h i f order home known some =
-    three (device_at h i) (is_empty (due h i)) (same_positions (due h i) (last_confirm h i)) (device_known h i f order known)
-    (ap is_empty (due_all h i order) ∙ known.due.some some)
-    (ap (λ (ps : List Position). same_positions ps (last_confirm h i)) (due_all h i order) ∙ ap (same_positions (born_positions h i)) (told_home h i order home) ∙ known.due.new some)
+pub due_some : (h : Record) (i : ℕ) (p : Progress) → IsOrderly h → is_out h i ≡ false → device_at h i ≡ true → IsPrefixKnown p h i → IsSome p.prefix.due → is_confirm_due h i ≡ true
+due_some h i p order home device known some = go p.prefix.due refl some
+  where
+    go : (o : Option Due) → p.prefix.due ≡ o → IsSome o → is_confirm_due h i ≡ true
+    go None at some = let no : ⊥ = cc in absurd no
+    go (Some found) at some =
+        let ask = ask_some p.prefix found (judged_by h) (births h i) (asked h i) at known.prefix in
+        three (device_at h i) (is_empty (due h i)) (same_positions (due h i) (last_confirm h i)) device ask.1.0
+        (ap (same_positions (due h i)) (told_home h i order home) ∙ ask.1.1)
 
 -- and isn't where nothing is
-pub due_none : (h : Record) (i : ℕ) (f : Facts) → IsOrderly h → is_out h i ≡ false → IsKnown f h i → f.to_confirm ≡ None → is_confirm_due h i ≡ false
-due_none h i f order home known none =
-    let all : due h i ≡ last_confirm h i = due_all h i order ∙ known.due.none none ∙ sym (told_home h i order home) in
+undue : (h : Record) (i : ℕ) → IsOrderly h → is_out h i ≡ false → due h i ≡ asked h i → is_confirm_due h i ≡ false
+undue h i order home same =
+    let all : due h i ≡ last_confirm h i = same ∙ sym (told_home h i order home) in
     last_false (device_at h i) (not (is_empty (due h i))) (same_positions (due h i) (last_confirm h i))
     (ap (λ (ps : List Position). same_positions ps (last_confirm h i)) all ∙ positions_same (last_confirm h i))
 
+pub due_none : (h : Record) (i : ℕ) (p : Progress) → IsOrderly h → is_out h i ≡ false → IsPrefixKnown p h i → p.prefix.due ≡ None → is_confirm_due h i ≡ false
+due_none h i p order home known none = undue h i order home (ask_none p.prefix (judged_by h) (births h i) (asked h i) none known.prefix)
+
+-- LEASES
 -- what is taken along in a lease was due
-pub due_leased : (h : Record) (i worker now polls : ℕ) (f : Facts) → IsOrderly h → is_out h i ≡ false → IsKnown f h i → IfSome f.to_confirm (IsDueOf (Lease i worker now polls ∷ h) i)
-due_leased h i worker now polls f order home known = go f.to_confirm known.to_confirm known.confirms (due_some h i f order home known)
-  where
-    e : Entry
-    e = Lease i worker now polls
-
-    go : (o : Option (List Position)) → IfSome o (λ ps. ps ≡ born_positions h i) → (IsSome o → f.class ≡ Source) → (IsSome o → is_confirm_due h i ≡ true) → IfSome o (IsDueOf (e ∷ h) i)
-    go None all source is = tt
-    go (Some positions) all source is = record {
-      all = all ∙ born_same h i e refl;
-      source = class_known h i f known (source refl);
-      once = ap (list_any (is_confirm_of i)) (this_side (i == i) [] (e ∷ since_lease h i) (same_test i));
-      was_due = subst (λ (k : Record). is_confirm_due k i ≡ true) (sym (asked_now h i worker now polls)) (is refl);
-      all_due = all ∙ sym (due_all h i order) ∙ ap (λ (k : Record). due k i) (sym (asked_now h i worker now polls));
-    }
-
--- and where nothing is taken along, none was
-pub none_leased : (h : Record) (i worker now polls : ℕ) (f : Facts) → IsOrderly h → is_out h i ≡ false → IsKnown f h i → f.to_confirm ≡ None → HadNoneDue (Lease i worker now polls ∷ h) i
-none_leased h i worker now polls f order home known none = record {
-  undue = subst (λ (k : Record). is_confirm_due k i ≡ false) (sym (asked_now h i worker now polls)) (due_none h i f order home known none);
-  told = told_home h i order home ∙ sym (known.due.none none) ∙ ap (λ (k : Record). born_positions k i) (sym (asked_now h i worker now polls));
+pub due_leased : (h : Record) (i worker now polls : ℕ) (o : Option (List Position)) → IsOrderly h → is_out h i ≡ false → device_at h i ≡ true → IsAskFor o (due h i) (asked h i) → IfSome o (IsDueOf (Lease i worker now polls ∷ h) i)
+due_leased h i worker now polls None order home device ask = tt
+due_leased h i worker now polls (Some positions) order home device ask = record {
+  source = source_due h i order ask.1.0;
+  once = ap (list_any (is_confirm_of i)) (this_side (i == i) [] (Lease i worker now polls ∷ since_lease h i) (same_test i));
+  was_due = subst (λ (k : Record). is_confirm_due k i ≡ true) (sym (asked_now h i worker now polls))
+      (three (device_at h i) (is_empty (due h i)) (same_positions (due h i) (last_confirm h i)) device ask.1.0 (ap (same_positions (due h i)) (told_home h i order home) ∙ ask.1.1));
+  all_due = ask.0 ∙ ap (λ (k : Record). due k i) (sym (asked_now h i worker now polls));
 }
 
--- what only a source has isn't there, where none of them has it
+-- and where nothing is taken along, none was
+pub none_leased : (h : Record) (i worker now polls : ℕ) → IsOrderly h → is_out h i ≡ false → due h i ≡ asked h i → HadNoneDue (Lease i worker now polls ∷ h) i
+none_leased h i worker now polls order home same = record {
+  undue = subst (λ (k : Record). is_confirm_due k i ≡ false) (sym (asked_now h i worker now polls)) (undue h i order home same);
+  told = told_home h i order home ∙ sym same ∙ ap (λ (k : Record). due k i) (sym (asked_now h i worker now polls));
+}
+
+-- an instance that is there is known
+pub there_of : (o : Option Progress) (F : Progress → Type 0) → IsSomeAnd o F → IsSome o
+there_of None F f = absurd f
+there_of (Some p) F f = refl
+
+-- what is handed out at a lease is what the instance's prefix had
+pub asked_leased : (progress new : List Progress) (i : ℕ) (h : Record) (o : Option (List Position)) → SetsOne i (IsAskedOf o) progress new → IsSome (progress_at progress i) → IfSome (progress_at progress i) (λ p. IsPrefixKnown p h i) → IsAskFor o (due h i) (asked h i)
+asked_leased progress new i h o set there known = go (progress_at progress i) (progress_at new i) there known set.mine
+  where
+    go : (old now : Option Progress) → IsSome old → IfSome old (λ p. IsPrefixKnown p h i) → IfSome old (λ p. IsSomeAnd now (IsAskedOf o p)) → IsAskFor o (due h i) (asked h i)
+    go None now there known set = let no : ⊥ = cc in absurd no
+    go (Some p) None there known set = absurd set
+    go (Some p) (Some q) there known set = set.due (judged_by h) (births h i) (asked h i) known.prefix
+
+-- nothing is handed out where nothing is to be confirmed
+pub unasked : (progress new : List Progress) (i : ℕ) (o : Option (List Position)) → SetsOne i (IsAskedOf o) progress new → IsSome (progress_at progress i) → IfSome (progress_at progress i) (λ p. p.prefix.due ≡ None) → o ≡ None
+unasked progress new i o set there none = go (progress_at progress i) (progress_at new i) there none set.mine
+  where
+    go : (old now : Option Progress) → IsSome old → IfSome old (λ p. p.prefix.due ≡ None) → IfSome old (λ p. IsSomeAnd now (IsAskedOf o p)) → o ≡ None
+    go None now there none set = let no : ⊥ = cc in absurd no
+    go (Some p) None there none set = absurd set
+    go (Some p) (Some q) there none set = set.none none
+
+-- nor, for what only a source has to do, where none of them has it
 pub none_of : {A : Type 0} (o : Option (List Position)) → (IsSome o → A) → (A → o ≡ None) → o ≡ None
 none_of None is none = refl
 none_of (Some positions) is none = none (is refl)
 
+-- somewhere the batches end that are handed out to be confirmed
+pub asked_source : (h : Record) (i : ℕ) (o : Option (List Position)) → IsOrderly h → IsAskFor o (due h i) (asked h i) → IsSome o → IsOfClass h i Source
+asked_source h i None order ask some = let no : ⊥ = cc in absurd no
+asked_source h i (Some positions) order ask some = source_due h i order ask.1.0
+
 -- A SOURCE
-orderly_first : (plan : Plan) → names_differ plan.components ≡ true → AcknowledgesNothing plan → IsOrderly (begun plan false 0)
-orderly_first plan differ unasked = ((record { begins = record { first = refl; zeroth = refl; all_new = refl }; named = differ; none_acknowledges = unasked }, λ b w. w, λ gone. cc), tt)
+orderly_first : (plan : Plan) → names_differ plan.components ≡ true → IsOrderly (begun plan false 0)
+orderly_first plan differ = ((record { begins = record { first = refl; zeroth = refl; all_new = refl }; named = differ }, λ b w. w, λ gone. cc), tt)
 
 -- an instance runs the component in its place
 runs : (h : Record) (plan : Plan) (i : ℕ) (c : Component) → IsOrderly h → names_differ plan.components ≡ true → in_force h ≡ Some plan → slice_get plan.components i ≡ Some c → component_of h i ≡ Some c
 runs h plan i c order differ force at =
     component_is h plan i c order force at
-    ∙ sym (component_is (begun plan false 0) plan i c (orderly_first plan differ (force_unacknowledged h plan order force)) refl at)
+    ∙ sym (component_is (begun plan false 0) plan i c (orderly_first plan differ) refl at)
     ∙ component_of_first plan false 0 i c differ at
 
 -- so one of that class is a source
@@ -292,19 +194,10 @@ source_is h i order class = go (in_force h) refl class (named_apart h order)
     go (Some plan) force is differ = found plan force differ (slice_get plan.components i) refl is
 
 -- THE HUB
-orderly_at : (h : Record) (i : ℕ) → IsOrderly h → IsOrderly (at_lease h i)
-orderly_at [] i order = tt
-orderly_at (Lease j worker now polls ∷ h) i order = go (j == i) (orderly_at h i order.1)
-  where
-    go : (t : Bool) → IsOrderly (at_lease h i) → IsOrderly (if t then h else at_lease h i)
-    go true rest = order.1
-    go false rest = rest
-orderly_at (e ∷ h) i order = orderly_at h i order.1
-
 -- what was due at the lease is what the instance was asked for
 pub told_confirmed : (h : Record) (i : ℕ) (positions : List Position) (made : Bool) → IsOrderly h → IsDueOf h i positions → HasTold (Confirm i positions made ∷ h) i
 told_confirmed h i positions made order is =
-    this_side (i == i) positions (last_confirm h i) (same_test i) ∙ is.all_due ∙ due_all (at_lease h i) i (orderly_at h i order)
+    this_side (i == i) positions (last_confirm h i) (same_test i) ∙ is.all_due
 
 -- what was told stays so behind an entry
 pub confirmed_noted : {P : Type 0} (d e : Hub P) (entry : Entry) → Noted d.log entry e.log → e.starved ≡ d.starved → ((h : Record) (k : ℕ) → HasTold h k → HasTold (entry ∷ h) k) → (i : ℕ) → HasConfirmed d i → HasConfirmed e i

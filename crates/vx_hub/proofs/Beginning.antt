@@ -1,7 +1,6 @@
 -- Seats come and go at the end of a list.
 use Rattle.std.proofs.Common.{◌≡◌, ℕ, zero, suc, ◌+◌, ◌<◌, ◌≤◌, true, false, List, [], ◌∷◌, ◌++◌, length, Some, IfSome, refl, sym, ap, subst, arith, get_or, ◌∙◌}
 use Rattle.std.specs.Prelude.{remove, ◌^◌, drop, slice_get, Bool, Option, None, IsSome, IsSomeAnd}
-use Rattle.vx_hub.proofs.Drying.{taken_none}
 use Rattle.vx_hub.specs.declared.seat.Seat.{Seat}
 use Rattle.vx_hub.specs.declared.facts.Facts.{Facts}
 use Rattle.vx_hub.specs.declared.row.Row.{Row}
@@ -11,10 +10,17 @@ use Rattle.vx_hub.specs.Rows.{row_at, row_copies, copies_in, port_at, task_port,
 use Rattle.vx_plan.specs.declared.plan.Plan.{Plan}
 use Rattle.vx_plan.specs.declared.component.Component.{Component}
 use Rattle.vx_record.specs.Wirings.{names_differ, begun}
-use Rattle.vx_record.proofs.FirstWiring.{component_of_first, targets_of_first}
+use Rattle.vx_record.proofs.FirstWiring.{component_of_first, targets_of_first, wiring_of_first}
+use Rattle.vx_record.specs.Sourcing.{must_wait}
+use Rattle.vx_record.specs.Installs.{Wiring}
+use Rattle.vx_plan.specs.Targets.{acknowledged}
+use Rattle.vx_value.specs.Texts.{Word}
+use Rattle.vx_sourcecore.specs.Prefixes.{IsPrefixOf, Judgement}
+use Rattle.vx_hub.specs.Beginning.{IsWaitingBy}
+use Rattle.vx_hub.specs.declared.progress.Progress.{Progress}
+use Rattle.vx_hub.specs.Notices.{IsPrefixKnown, judged_by, progress_at}
 use Rattle.vx_hub.specs.declared.parts.Named.{Named}
 use Rattle.vx_hub.specs.Stands.{Stands, IsTold, IsKnown, IsRecorded, HasRooms, facts_at, spec_of, HasFew}
-use Rattle.vx_plan.specs.Acknowledging.{AcknowledgesNothing}
 use Rattle.vx_hub.specs.Beginning.{Begins, HasFirst}
 use Rattle.vx_hub.specs.Order.{IsOrderly}
 use Rattle.vx_hub.proofs.Moments.{least}
@@ -100,6 +106,15 @@ seat_fitted plan i seat is = go (slice_get plan.components i) is
     go : (o : Option Component) → IsSomeAnd o (λ component. IsSeatOf plan component seat) → IsSomeAnd o (λ component. IsFittedTo plan component seat.facts)
     go None is = absurd is
     go (Some component) is = is.fitted
+
+-- its batches wait as its component's do
+pub seat_waits : (plan : Plan) (i : ℕ) (seat : Seat) (p : Progress) → IsSomeAnd (slice_get plan.components i) (λ component. IsSeatOf plan component seat) → p.prefix.waits ≡ seat.waits → ((judged : Judgement) → IsPrefixOf p.prefix judged [] []) →
+    IsSomeAnd (slice_get plan.components i) (IsWaitingBy plan p)
+seat_waits plan i seat p is waits none = go (slice_get plan.components i) is
+  where
+    go : (o : Option Component) → IsSomeAnd o (λ component. IsSeatOf plan component seat) → IsSomeAnd o (IsWaitingBy plan p)
+    go None is = absurd is
+    go (Some component) is = record { waits = waits ∙ is.waits; none = none }
 
 pub copies_more : {P : Type 0} (batch place : ℕ) (rows : List (Row P)) (new : Row P) → copies_in batch place (rows ++ new ∷ []) ≡ copies_in batch place rows + copies_of batch place (row_copies new)
 copies_more batch place [] new = omega arith
@@ -210,22 +225,26 @@ new_known f plan once now i (Some component) is n fit = record {
   taken = n.taken;
   lost = n.lost;
   failed_starts = n.failed_starts;
-  ends = n.ends;
-  to_confirm = subst (λ (o : _). IfSome o (λ positions. positions ≡ [])) (sym n.to_confirm) tt;
   confirm_failed = n.confirm_failed;
   over = n.over;
   class = subst (λ (o : Option Component). IsSomeAnd o (λ component. f.class ≡ component.class)) (sym is) fit.1;
-  confirms = λ some. absurd (taken_none f.to_confirm n.to_confirm some);
   done = λ closed. absurd (never (sym n.closed ∙ closed));
   closed = n.closed;
   retired = n.retired;
   leased = n.leased;
-  due = record {
-    none = λ none. refl;
-    was = λ some. absurd (taken_none f.to_confirm n.to_confirm some);
-    some = λ some. absurd (taken_none f.to_confirm n.to_confirm some);
-    new = λ some. absurd (taken_none f.to_confirm n.to_confirm some);
-  };
+}
+
+-- whether they must by the record of the install alone
+waits_of_first : (plan : Plan) (once : Bool) (now i : ℕ) (component : Component) → slice_get plan.components i ≡ Some component → must_wait (begun plan once now) i ≡ acknowledged plan component.name
+waits_of_first plan once now i component at =
+    ap (λ (o : Option Wiring). elim (elim o as (λ v. Option Plan) [ None ↦ None | Some w ↦ Some w.plan ]) as (λ v. Bool) [ None ↦ false | Some p ↦ acknowledged p (elim o as (λ v. Word) [ None ↦ [] | Some w ↦ w.name ]) ]) (wiring_of_first plan once now i component at)
+
+-- of an instance that begins no batch may be confirmed, and they wait as its plan says
+new_abreast : (p : Progress) (plan : Plan) (once : Bool) (now i : ℕ) (o : Option Component) → slice_get plan.components i ≡ o → IsSomeAnd o (IsWaitingBy plan p) → IsPrefixKnown p (begun plan once now) i
+new_abreast p plan once now i None is w = absurd w
+new_abreast p plan once now i (Some component) is w = record {
+  waits = w.waits ∙ sym (waits_of_first plan once now i component is);
+  prefix = w.none (judged_by (begun plan once now));
 }
 
 -- what follows from two facts on a value
@@ -234,9 +253,9 @@ both_mapped A B C None f a b = tt
 both_mapped A B C (Some x) f a b = f x a b
 
 -- a hub whose instances were all seated stands for the record of their install
-pub begun_stands : {P : Type 0} (told_by : P → Told) (plan : Plan) (hub : Hub P) → Begins told_by plan hub → hub.plan ≡ plan → names_differ plan.components ≡ true → AcknowledgesNothing plan → HasFirst plan hub.log.history → hub.ports.items ≡ [] → length hub.rows.items ≤ hub.ports.room → length hub.rows.items < 2 ^ 32 → HasFew plan → length hub.rows.items ≡ length plan.components →
+pub begun_stands : {P : Type 0} (told_by : P → Told) (plan : Plan) (hub : Hub P) → Begins told_by plan hub → hub.plan ≡ plan → names_differ plan.components ≡ true → HasFirst plan hub.log.history → hub.ports.items ≡ [] → length hub.rows.items ≤ hub.ports.room → length hub.rows.items < 2 ^ 32 → HasFew plan → length hub.rows.items ≡ length plan.components →
     Stands told_by hub [] hub.log.history
-begun_stands told_by plan hub b mine named unasked first none room few small count = record {
+begun_stands told_by plan hub b mine named first none room few small count = record {
   history = refl;
   balanced = λ batch place. let live : live_count batch place hub.batches.open_rows ≡ 0 = ap (live_count batch place) b.batches in omega (arith, b.copies batch place);
   recorded = λ sound. subst (λ (h : Record). IsRecorded told_by hub [] h) (sym first.alone) (record {
@@ -244,7 +263,7 @@ begun_stands told_by plan hub b mine named unasked first none room few small cou
     facts = λ i. both_mapped _ _ _ (facts_at hub.facts.items i) (λ f n fit. new_known f plan first.once first.now i (slice_get plan.components i) refl n fit) (b.facts i) (b.fitted i);
     bytes = b.bytes;
     next = b.next;
-    order = ((record { begins = record { first = refl; zeroth = refl; all_new = refl }; named = named; none_acknowledges = unasked }, λ b w. w, λ gone. cc), tt);
+    order = ((record { begins = record { first = refl; zeroth = refl; all_new = refl }; named = named }, λ b w. w, λ gone. cc), tt);
     said = b.said first.once first.now;
     outs = λ i l none. absurd (home_some (port_at hub.rows.items i) (b.home i l) none);
     noticeless = λ b w. w;
@@ -255,7 +274,7 @@ begun_stands told_by plan hub b mine named unasked first none room few small cou
     installed = ap Some (sym mine);
     places = placed_none hub.rows.items (begun plan first.once first.now) (λ p. refl) b.places;
     bore = λ going i home gone. refl;
-    unnoticed = record { open_are = ap pending_in b.batches; each = λ i l. b.unnoticed i (omega (arith, b.abreast, l)) };
+    unnoticed = record { open_are = ap pending_in b.batches; each = λ i l. b.unnoticed i (omega (arith, b.abreast, l)); prefixes = λ i. some_mapped _ _ (progress_at hub.progress.items i) (λ p w. new_abreast p plan first.once first.now i (slice_get plan.components i) refl w) (b.confirms i) };
     later = λ worker. least hub.latest;
   });
   shut = λ i. some_mapped _ _ (facts_at hub.facts.items i) (λ f n closed. let no : f.closed ≡ false = n.closed in cc) (b.facts i);
@@ -265,7 +284,7 @@ begun_stands told_by plan hub b mine named unasked first none room few small cou
   rooms = subst (λ (p : Plan). HasRooms p hub.rows.items) (sym mine) b.rooms;
   few = subst (λ (p : Plan). HasFew p) (sym mine) small;
   count = count ∙ sym (ap (λ (p : Plan). length p.components) mine);
-  order = subst (λ (h : Record). IsOrderly h) (sym first.alone) ((record { begins = record { first = refl; zeroth = refl; all_new = refl }; named = named; none_acknowledges = unasked }, λ b w. w, λ gone. cc), tt);
+  order = subst (λ (h : Record). IsOrderly h) (sym first.alone) ((record { begins = record { first = refl; zeroth = refl; all_new = refl }; named = named }, λ b w. w, λ gone. cc), tt);
   fed = λ whole. b.fed;
 }
 

@@ -10,15 +10,13 @@ use Rattle.vx_record.specs.Records.{Record}
 use Rattle.vx_record.specs.Wirings.{names_differ, begun}
 use Rattle.vx_record.specs.Installs.{in_force, component_of, source_at, sink_at}
 use Rattle.vx_record.proofs.FirstWiring.{component_of_first}
-use Rattle.vx_plan.specs.Acknowledging.{AcknowledgesNothing}
 use Rattle.vx_hub.specs.Order.{IsOrderly, IsOfClass, component_in}
 use Rattle.vx_hub.proofs.Naming.{component_is}
 use Rattle.vx_hub.proofs.Ordering.{named_apart}
-use Rattle.vx_hub.proofs.Acknowledging.{force_unacknowledged}
 
 -- a record that begins with a plan whose names differ is in order
-begun_orderly : (plan : Plan) → names_differ plan.components ≡ true → AcknowledgesNothing plan → IsOrderly (begun plan false 0)
-begun_orderly plan apart unasked = ((record { begins = record { first = refl; zeroth = refl; all_new = refl }; named = apart; none_acknowledges = unasked }, λ b w. w, λ gone. cc), tt)
+begun_orderly : (plan : Plan) → names_differ plan.components ≡ true → IsOrderly (begun plan false 0)
+begun_orderly plan apart = ((record { begins = record { first = refl; zeroth = refl; all_new = refl }; named = apart }, λ b w. w, λ gone. cc), tt)
 
 -- the names of the plan that is in force differ
 pub names_apart : (h : Record) (plan : Plan) → IsOrderly h → in_force h ≡ Some plan → names_differ plan.components ≡ true
@@ -28,7 +26,7 @@ names_apart h plan order force = subst (λ (p : Option Plan). IfSome p (λ (q : 
 pub component_there : (h : Record) (plan : Plan) (i : ℕ) (c : Component) → IsOrderly h → in_force h ≡ Some plan → slice_get plan.components i ≡ Some c → component_of h i ≡ Some c
 component_there h plan i c order force at =
     let apart = names_apart h plan order force in
-    component_is h plan i c order force at ∙ sym (component_is (begun plan false 0) plan i c (begun_orderly plan apart (force_unacknowledged h plan order force)) refl at) ∙ component_of_first plan false 0 i c apart at
+    component_is h plan i c order force at ∙ sym (component_is (begun plan false 0) plan i c (begun_orderly plan apart) refl at) ∙ component_of_first plan false 0 i c apart at
 
 -- so the component that it runs is of the class of that
 pub runs_class : (h : Record) (i : ℕ) (class : Class) → IsOrderly h → IsOfClass h i class → IsSomeAnd (component_of h i) (λ (c : Component). c.class ≡ class)

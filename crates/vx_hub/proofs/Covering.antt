@@ -15,7 +15,14 @@ use Rattle.vx_record.specs.declared.entry.Entry.TheVariants.{Install, Read, Born
 use Rattle.vx_record.specs.Confirms.{Birth, births, is_noticed}
 use Rattle.vx_record.specs.Owing.{all_noticed}
 use Rattle.vx_hub.specs.declared.facts.Facts.{Facts}
-use Rattle.vx_hub.specs.declared.facts.Progress.{Progress}
+use Rattle.vx_hub.specs.declared.progress.Progress.{Progress}
+use Rattle.std.specs.Prelude.{slice_get}
+use Rattle.vx_hub.specs.Notices.{waits_by, is_due_by}
+use Rattle.vx_hub.specs.Confirming.{HasNoneDue}
+use Rattle.vx_sourcecore.specs.declared.prefix.Due.{Due}
+use Rattle.std.specs.Prelude.{is_some, IsTrue}
+use Rattle.vx_hub.proofs.Prefixing.{progress_is, known_waits}
+use Rattle.vx_record.specs.Sourcing.{must_wait}
 use Rattle.vx_hub.specs.declared.hub.Hub.{Hub}
 use Rattle.vx_hub.specs.Order.{IsOfClass, IsOrderly, IsReadBy}
 use Rattle.vx_hub.specs.Notices.{Pending, pending, without_first, count_of, unnoticed, progress_at, CountsNone}
@@ -125,7 +132,7 @@ read_source (Read j stream took ∷ h) i o read = subst (λ (k : ℕ). IsOfClass
 read_source (e ∷ h) i o read = absurd read
 
 -- only a source bears
-bears : (h : Record) (i : ℕ) → IsOrderly h → (births h i ≡ []) ⊎ IsOfClass h i Source
+pub bears : (h : Record) (i : ℕ) → IsOrderly h → (births h i ≡ []) ⊎ IsOfClass h i Source
 bears [] i o = inl refl
 bears (Install version plan once instances now ∷ h) i o = inl (append-nil (births h i) ∙ ap (λ (k : Record). births k i) o.0.0.begins.first)
 bears (Born j b place copies events waits stream end ∷ h) i o = go (j == i) refl (bears h i o.1)
@@ -141,7 +148,7 @@ bears (e ∷ h) i o = go (bears h i o.1)
     go (inl none) = inl (append-nil (births h i) ∙ none)
     go (inr source) = inr source
 
-class_by : (o : Option Component) (x : Class) → IsSomeAnd o (λ component. x ≡ component.class) → IsSomeAnd o (λ component. component.class ≡ Source) → x ≡ Source
+pub class_by : (o : Option Component) (x : Class) → IsSomeAnd o (λ component. x ≡ component.class) → IsSomeAnd o (λ component. component.class ≡ Source) → x ≡ Source
 class_by None x same is = absurd same
 class_by (Some component) x same is = same ∙ is
 
@@ -218,3 +225,34 @@ counted_read told_by hub i p l at hand s within sound =
 pub counted_past : {P : Type 0} (told_by : P → Told) (hub : Hub P) (i : ℕ) → length hub.progress.items ≤ i → (hand : List Copy) → Stands told_by hub hand hub.log.history →
     i < length hub.rows.items → IsSound hub → 0 ≡ unnoticed hub.log.history i
 counted_past told_by hub i l hand s within sound = absurd (progress_none _ hub.progress.items i l ((s.recorded sound).unnoticed.each i within))
+
+-- whether the batches of an instance must wait, by what the hub knows
+pub hub_waits : {P : Type 0} (told_by : P → Told) (d : Hub P) (hand : List Copy) (i : ℕ) (waits : Bool) → Stands told_by d hand d.log.history → i < length d.rows.items → waits ≡ waits_by (slice_get d.progress.items i) → IsSound d → waits ≡ must_wait d.log.history i
+hub_waits told_by d hand i waits s within is fine =
+    let c = (s.recorded fine).unnoticed in
+    is ∙ ap waits_by (sym (progress_is d.progress.items i)) ∙ known_waits (progress_at d.progress.items i) d.log.history i (unnoticed d.log.history i) (c.each i within) (c.prefixes i)
+
+-- whether something is to be confirmed to an instance, by what the hub knows
+pub none_due : {P : Type 0} (d : Hub P) (i : ℕ) (t : Bool) → t ≡ is_due_by (slice_get d.progress.items i) → t ≡ false → HasNoneDue d i
+none_due d i t is unset = go (progress_at d.progress.items i) (ap is_due_by (progress_is d.progress.items i) ∙ sym is ∙ unset)
+  where
+    due_none : (o : Option Due) → is_some o ≡ false → o ≡ None
+    due_none None unset = refl
+    due_none (Some due) unset = cc
+
+    go : (o : Option Progress) → is_due_by o ≡ false → IfSome o (λ p. p.prefix.due ≡ None)
+    go None unset = tt
+    go (Some p) unset = due_none p.prefix.due unset
+
+pub some_due : {P : Type 0} (d : Hub P) (i : ℕ) (t : Bool) → t ≡ is_due_by (slice_get d.progress.items i) → IsTrue t → IsSomeAnd (progress_at d.progress.items i) (λ p. IsSome p.prefix.due)
+some_due d i t is set = go (progress_at d.progress.items i) (ap is_due_by (progress_is d.progress.items i) ∙ sym is) set
+  where
+    go : (o : Option Progress) → is_due_by o ≡ t → IsTrue t → IsSomeAnd o (λ p. IsSome p.prefix.due)
+    go None at set = let never : IsTrue false = subst IsTrue (sym at) set in cc
+    go (Some p) at set = subst IsTrue (sym at) set
+
+-- what holds of the facts of any instance
+pub facts_each : (F : Facts → Type 0) (fs : List Facts) (i : ℕ) → i < length fs → ((f : Facts) → F f) → IsSomeAnd (facts_at fs i) F
+facts_each F [] i l all = absurd (omega arith)
+facts_each F (f ∷ fs) zero l all = all f
+facts_each F (f ∷ fs) (suc i) l all = facts_each F fs i (omega arith) all

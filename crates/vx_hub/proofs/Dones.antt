@@ -11,12 +11,13 @@ use Rattle.vx_record.specs.Confirms.{is_confirm_due}
 use Rattle.vx_record.specs.Owing.{owes_birth, owes_spends_in, owes, all_noticed, is_source_done, is_worker_done}
 use Rattle.vx_record.specs.Routing.{is_dry, is_sent}
 use Rattle.vx_hub.specs.declared.facts.Facts.{Facts}
-use Rattle.vx_hub.specs.declared.facts.Progress.{Progress}
+use Rattle.vx_hub.specs.declared.progress.Progress.{Progress}
 use Rattle.vx_hub.specs.declared.hub.Hub.{Hub}
 use Rattle.vx_hub.specs.Closures.{IsDone}
 use Rattle.vx_hub.specs.Finishing.{is_dry_by, unnoticed_by, IsSourceFinished, IsFinishedAs, IsFinished, IsFinishedWell, IsDoneNow}
-use Rattle.vx_hub.specs.Notices.{progress_at}
-use Rattle.vx_hub.specs.Stands.{Stands, IsSound, IsAtHome, facts_at}
+use Rattle.vx_hub.specs.Notices.{progress_at, unnoticed, IsPrefixKnown}
+use Rattle.vx_hub.specs.Stands.{Stands, IsRecorded, IsSound, IsAtHome, facts_at}
+use Rattle.vx_record.specs.Turns.{is_out}
 use Rattle.vx_hub.proofs.Asking.{due_none}
 use Rattle.vx_hub.proofs.Ceasing.{gave_up, going_on, unabandoned}
 use Rattle.vx_hub.proofs.Concluding.{both, not_of, dry_so, sent_so, source_so, seen_at, done_sink}
@@ -53,6 +54,17 @@ owes_nothing told_by hub hand i s running going home fine =
     let kept : abandoned h ≡ false = unabandoned h (going_on told_by hub hand s going fine) in
     no_or (owes_birth h i) (owes_spends_in h h i) (owes_no_birth h i (r.bore running i at_home kept)) (owes_none h h i (settled_home h i r.order at_home kept))
 
+-- no confirm is due where nothing is to be confirmed
+prefix_undue : {P : Type 0} (told_by : P → Told) (hub : Hub P) (i : ℕ) → Stands told_by hub [] hub.log.history → IsSound hub → i < length hub.rows.items → is_out hub.log.history i ≡ false → IfSome (progress_at hub.progress.items i) (λ p. p.prefix.due ≡ None) → is_confirm_due hub.log.history i ≡ false
+prefix_undue told_by hub i s fine within home none = go (progress_at hub.progress.items i) (r.unnoticed.each i within) (r.unnoticed.prefixes i) none
+  where
+    r : IsRecorded told_by hub [] hub.log.history
+    r = s.recorded fine
+
+    go : (o : Option Progress) → IsSomeAnd o (λ p. p.unnoticed ≡ unnoticed hub.log.history i) → IfSome o (λ p. IsPrefixKnown p hub.log.history i) → IfSome o (λ p. p.prefix.due ≡ None) → is_confirm_due hub.log.history i ≡ false
+    go None there known none = absurd there
+    go (Some p) there known none = due_none hub.log.history i p r.order home known none
+
 -- a source that has nothing more to do is done
 done_source : {P : Type 0} (told_by : P → Told) (hub : Hub P) (i : ℕ) (f : Facts) → Stands told_by hub [] hub.log.history → hub.fatal ≡ false → hub.abandoned ≡ None → IsAtHome hub i → IsSound hub → facts_at hub.facts.items i ≡ Some f →
     Runs hub.log.history i Source → IsSourceFinished hub i → IsDone hub.log.history i
@@ -64,7 +76,7 @@ done_source told_by hub i f s running going home fine at runs finished =
     let dry : is_dry h i ≡ true = dry_so h i hub.bytes f seen.known source seen.bytes (subst (λ (o : Option Facts). IsSomeAnd o (λ x. is_dry_by hub.bytes x ≡ true)) at finished.dry) in
     let noticed : all_noticed h i ≡ true = noticed_known told_by hub [] i s (omega (arith, within, s.size)) (there_by (facts_at hub.facts.items i) f at)
     (subst (λ (o : Option Facts). IfSome o (λ x. x.class ≡ Source → IfSome (progress_at hub.progress.items i) (λ p. p.unnoticed ≡ 0))) (sym at) (λ is. counts_by hub.progress.items i finished.noticed)) fine in
-    let undue : is_confirm_due h i ≡ false = due_none h i f seen.order (known_at_home told_by hub [] i s home fine) seen.known (subst (λ (o : Option Facts). IsSomeAnd o (λ x. x.to_confirm ≡ None)) at finished.confirmed) in
+    let undue : is_confirm_due h i ≡ false = prefix_undue told_by hub i s fine (omega (arith, within, s.size)) (known_at_home told_by hub [] i s home fine) finished.confirmed in
     ap (λ b. if b then is_source_done h i else is_worker_done h i) source
     ∙ both (is_dry h i && not (owes h i) && is_sent h i && all_noticed h i) (not (is_confirm_due h i))
     (both (is_dry h i && not (owes h i) && is_sent h i) (all_noticed h i)

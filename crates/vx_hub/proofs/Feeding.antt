@@ -26,12 +26,10 @@ use Rattle.vx_record.specs.Routing.{is_dry, is_sent, outlets, routes, all_ports,
 use Rattle.vx_record.proofs.Changes.{same_place_is}
 use Rattle.vx_record.proofs.FirstWiring.{component_of_first}
 use Rattle.vx_hub.specs.declared.facts.Facts.{Facts}
-use Rattle.vx_plan.specs.Acknowledging.{AcknowledgesNothing}
 use Rattle.vx_hub.specs.Order.{IsInOrder, IsOrderly, component_in, readers_at}
 use Rattle.vx_hub.specs.Stands.{IsKnown}
 use Rattle.vx_hub.proofs.Naming.{component_is}
 use Rattle.vx_hub.proofs.Silence.{same_test}
-use Rattle.vx_hub.proofs.Acknowledging.{force_unacknowledged}
 
 -- the names of the components in force differ
 names_so : (h : Record) (plan : Plan) → IsOrderly h → in_force h ≡ Some plan → names_differ plan.components ≡ true
@@ -41,14 +39,14 @@ names_so (Install version made once instances now ∷ h) plan order force =
     subst (λ (p : Plan). names_differ p.components ≡ true) same order.0.0.named
 names_so (e ∷ h) plan order force = names_so h plan order.1 force
 
-begun_orderly : (plan : Plan) → names_differ plan.components ≡ true → AcknowledgesNothing plan → IsOrderly (begun plan false 0)
-begun_orderly plan named unasked = ((record { begins = record { first = refl; zeroth = refl; all_new = refl }; named = named; none_acknowledges = unasked }, λ b w. w, λ gone. cc), tt)
+begun_orderly : (plan : Plan) → names_differ plan.components ≡ true → IsOrderly (begun plan false 0)
+begun_orderly plan named = ((record { begins = record { first = refl; zeroth = refl; all_new = refl }; named = named }, λ b w. w, λ gone. cc), tt)
 
 -- so an instance runs the component in its place
 pub component_so : (h : Record) (plan : Plan) (i : ℕ) (c : Component) → IsOrderly h → in_force h ≡ Some plan → slice_get plan.components i ≡ Some c → component_of h i ≡ Some c
 component_so h plan i c order force at =
     let named = names_so h plan order force in
-    component_is h plan i c order force at ∙ sym (component_is (begun plan false 0) plan i c (begun_orderly plan named (force_unacknowledged h plan order force)) refl at) ∙ component_of_first plan false 0 i c named at
+    component_is h plan i c order force at ∙ sym (component_is (begun plan false 0) plan i c (begun_orderly plan named) refl at) ∙ component_of_first plan false 0 i c named at
 
 -- and that is of the class that is known
 pub record Runs (h : Record) (i : ℕ) (class : Class) : Type 0 where

@@ -6,6 +6,7 @@ pub mod Placing
 pub mod Owning
 mod Finding
 mod Noticing
+mod Prefixing
 mod Counting
 mod Covering
 mod Unnoticed
@@ -19,7 +20,6 @@ pub mod Touching
 pub mod Beginning
 pub mod Remaining
 pub mod Returning
-pub mod Dues
 mod Asking
 mod Drying
 mod Porting
@@ -56,7 +56,6 @@ mod Splitting
 mod Sinking
 mod Dones
 mod Closing
-mod Acknowledging
 mod Readiness
 mod Reasons
 mod Handing

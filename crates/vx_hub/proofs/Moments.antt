@@ -64,7 +64,7 @@ stands_later {P} told_by d hand now l s = record {
         outs = r.outs;
         said = r.said;
         bore = r.bore;
-        unnoticed = record { open_are = r.unnoticed.open_are; each = r.unnoticed.each };
+        unnoticed = record { open_are = r.unnoticed.open_are; each = r.unnoticed.each; prefixes = r.unnoticed.prefixes };
         later = λ worker. let before = r.later worker in omega (arith, l, before);
       };
   shut = s.shut;

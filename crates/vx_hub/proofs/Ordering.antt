@@ -1,5 +1,5 @@
 -- What is proved of an entry, from what the hub knows.
-use Rattle.std.proofs.Common.{◌≡◌, ℕ, zero, suc, ◌+◌, ◌*◌, ◌<◌, ◌≤◌, List, [], ◌∷◌, length, Option, Some, None, refl, sym, ap, subst, ◌∙◌, arith, false}
+use Rattle.std.proofs.Common.{◌≡◌, ℕ, zero, suc, ◌+◌, ◌*◌, ◌<◌, ◌≤◌, List, [], ◌∷◌, length, Option, Some, None, refl, sym, ap, subst, ◌∙◌, arith, Bool, false}
 use Rattle.std.specs.Prelude.{◌^◌, Result, Ok, Err, IfOk, IfErr, OnErr, IsSome}
 use Rattle.std.specs.Bool.{IsFalse}
 use Rattle.std.proofs.lemmas.List.{append-nil}
@@ -46,7 +46,7 @@ use Rattle.vx_hub.specs.Stands.{Stands, IsSound, IsBalanced}
 use Rattle.vx_hub.proofs.Porting.{output_on_first, first_routes}
 use Rattle.vx_hub.proofs.StandsLaws.{unmade}
 use Rattle.vx_hub.proofs.Shrinking.{answered_on, waits_none}
-use Rattle.vx_hub.proofs.Acknowledging.{must_not_wait}
+use Rattle.vx_record.specs.Sourcing.{must_wait}
 
 pub length_numbers : (cs : List Copy) → length (numbers_in cs) ≡ length cs
 length_numbers [] = refl
@@ -71,21 +71,20 @@ named_apart (Install version plan once instances now ∷ h) order = order.0.0.na
 named_apart (e ∷ h) order = named_apart h order.1
 
 -- a batch that the ledger bore is in order
-pub birth_in_order : (h : Record) (i next n batch : ℕ) (copies : List Copy) (events : List Event) (stream end : ℕ) → IsOrderly h → IsReadBy h i → (AreNamedApart h → 0 < length events → IsYield h i events stream end) → next ≡ next_copy h → batch ≡ next → copies ≡ numbered n next next next → length events ≡ n → 0 < n → next + n ≤ 2 ^ 63 →
-    IsBirthOf h i batch (numbers_in copies) events false stream end
-birth_in_order h i next n batch copies events stream end order read yield now first are each some fits =
+pub birth_in_order : (h : Record) (i next n batch : ℕ) (copies : List Copy) (events : List Event) (waits : Bool) (stream end : ℕ) → IsOrderly h → waits ≡ must_wait h i → IsReadBy h i → (AreNamedApart h → 0 < length events → IsYield h i events stream end) → next ≡ next_copy h → batch ≡ next → copies ≡ numbered n next next next → length events ≡ n → 0 < n → next + n ≤ 2 ^ 63 →
+    IsBirthOf h i batch (numbers_in copies) events waits stream end
+birth_in_order h i next n batch copies events waits stream end order must read yield now first are each some fits =
     let counted : numbers_in copies ≡ counting next n = ap numbers_in are ∙ numbers_numbered n next next next in
     let many : length (numbers_in copies) ≡ n = ap length counted ∙ length_counting next n in
     record {
       read = read;
       yield = yield (named_apart h order) (omega (arith, each, some));
-      unwaiting = refl;
       some = omega (arith, many, some);
       one_each = many ∙ sym each;
       next = counted ∙ ap (λ k. counting k n) now ∙ ap (λ m. counting (next_copy h) m) (sym many);
       number = first ∙ now;
       fits = omega (arith, many, now, fits);
-      waiting = sym (must_not_wait h i order);
+      waiting = must;
     }
 
 -- the children that a route made, as an entry has them

@@ -35,7 +35,12 @@ use Rattle.vx_hub.specs.Readiness.{IsReadyFor, HasWork}
 use Rattle.vx_hub.specs.Rows.{row_at, task_parcels}
 use Rattle.vx_hub.specs.Sinks.{IsClosedAt, IsUnclosedAt}
 use Rattle.vx_hub.specs.Stands.{Stands, IsKnown, IsSound, IsSinkAt, IsReadable, IsAtHome, facts_at}
-use Rattle.vx_hub.proofs.Asking.{due_some}
+use Rattle.vx_hub.specs.Notices.{progress_at, IsPrefixKnown}
+use Rattle.vx_hub.specs.declared.progress.Progress.{Progress}
+use Rattle.vx_hub.specs.Order.{IsOfClass, component_in}
+use Rattle.vx_record.specs.Installs.{in_force}
+use Rattle.vx_record.specs.Confirms.{due, last_confirm, same_positions}
+use Rattle.vx_hub.proofs.Asking.{due_some, source_due}
 use Rattle.vx_hub.proofs.Ceasing.{going_on}
 use Rattle.vx_hub.proofs.Feeding.{Runs, runs_known}
 use Rattle.vx_hub.proofs.Flowing.{hub_reads}
@@ -187,6 +192,27 @@ not_transform d i Source done is = cc
 not_transform d i Transform done is = done
 not_transform d i Sink done is = cc
 
+-- what is to be confirmed by what the hub knows is due
+prefix_due : {P : Type 0} (told_by : P → Told) (d : Hub P) (i : ℕ) → Stands told_by d [] d.log.history → IsSound d → is_out d.log.history i ≡ false → device_at d.log.history i ≡ true → IsSomeAnd (progress_at d.progress.items i) (λ p. IsSome p.prefix.due) →
+    (is_confirm_due d.log.history i ≡ true) × (is_empty (due d.log.history i) ≡ false)
+prefix_due told_by d i s fine home device is = go (progress_at d.progress.items i) ((s.recorded fine).unnoticed.prefixes i) is
+  where
+    go : (o : Option Progress) → IfSome o (λ p. IsPrefixKnown p d.log.history i) → IsSomeAnd o (λ p. IsSome p.prefix.due) → (is_confirm_due d.log.history i ≡ true) × (is_empty (due d.log.history i) ≡ false)
+    go None known is = absurd is
+    go (Some p) known is = let now = due_some d.log.history i p (s.recorded fine).order home device known is in (now, some_due (device_at d.log.history i) (is_empty (due d.log.history i)) (same_positions (due d.log.history i) (last_confirm d.log.history i)) now)
+      where
+        some_due : (a b c : Bool) → (a && not b && not c) ≡ true → b ≡ false
+        some_due true true c e = cc
+        some_due true false c e = refl
+        some_due false b c e = cc
+
+class_back : (h : Record) (i : ℕ) (f : Facts) → IsKnown f h i → IsOfClass h i Source → f.class ≡ Source
+class_back h i f known source = go (component_in (in_force h) i) known.class source
+  where
+    go : (o : Option Component) → IsSomeAnd o (λ component. f.class ≡ component.class) → IsSomeAnd o (λ component. component.class ≡ Source) → f.class ≡ Source
+    go None is source = absurd is
+    go (Some component) is source = is ∙ source
+
 -- what an instance has to do by what the hub knows is work in the record
 ready_for : {P : Type 0} (told_by : P → Told) (d : Hub P) (i now : ℕ) (f : Facts) (work : Job) → Stands told_by d [] d.log.history → d.abandoned ≡ None → IsSound d → IsMet d i f →
     (IsFinished d i → is_done d.log.history i ≡ true) → (IsSinkAt d i → IsClosedAt d i now → is_batch_closed d.log.history i now ≡ true) → IsReadyFor d i now work → is_ready d.log.history i now ≡ true
@@ -199,9 +225,10 @@ ready_for told_by d i now f job.Read s going fine met done closed is =
 ready_for told_by d i now f job.Confirm s going fine met done closed is =
     let h = d.log.history in
     let at = seen told_by d i f s fine met in
-    let some : IsSome f.to_confirm = subst (λ (o : Option Facts). IsSomeAnd o (λ x. IsSome x.to_confirm)) met.here is in
-    source_ready h i now (of_class h i f Source at (at.known.confirms some))
-    (on_left (can_read h i now || is_confirm_due h i) (is_close_due h i) (on_right (can_read h i now) (is_confirm_due h i) (due_some h i f (s.recorded fine).order at.home at.known some)))
+    let r = s.recorded fine in
+    let due = prefix_due told_by d i s fine at.home (device_known h i f r.order at.known) is in
+    source_ready h i now (of_class h i f Source at (class_back h i f at.known (source_due h i r.order due.1)))
+    (on_left (can_read h i now || is_confirm_due h i) (is_close_due h i) (on_right (can_read h i now) (is_confirm_due h i) due.0))
 ready_for told_by d i now f job.Collect s going fine met done closed is =
     let h = d.log.history in
     let at = seen told_by d i f s fine met in

@@ -5,7 +5,6 @@ use Rattle.std.proofs.lemmas.Bool.Decides.{nat_tests}
 use Rattle.std.proofs.lemmas.List.Elements.{All-head, All-tail}
 use Rattle.vx_value.specs.Texts.{is_empty}
 use Rattle.vx_ends.specs.Told.{Told}
-use Rattle.vx_ends.specs.declared.position.Position.{Position}
 use Rattle.vx_record.specs.Records.{Record}
 use Rattle.vx_record.specs.declared.entry.Entry.TheVariants.{Lease, Home, Closed, Retired}
 use Rattle.vx_record.specs.Turns.{is_out}
@@ -23,11 +22,9 @@ use Rattle.vx_hub.specs.Places.{IsThere, copies_if, all_numbers}
 use Rattle.vx_hub.specs.Remains.{HasEnds}
 use Rattle.vx_hub.specs.Rows.{row_at, IsBare, IsBareAt, NoneWaits}
 use Rattle.vx_hub.specs.Stands.{Stands, IsKnown, IsGone, IsSound, facts_at}
-use Rattle.vx_hub.proofs.Drying.{closing_on, taken_none}
+use Rattle.vx_hub.proofs.Drying.{closing_on}
 use Rattle.vx_hub.proofs.Naming.{there_known}
 use Rattle.vx_hub.proofs.Silence.{same_test, other_test}
-use Rattle.vx_hub.proofs.StandsLaws.{ends_on, to_confirm_on, asked_on}
-use Rattle.vx_hub.proofs.Asking.{asked_leased, asked_leased_other}
 use Rattle.vx_hub.proofs.Placing.{places_all}
 use Rattle.vx_hub.proofs.Homing.{none_wait}
 use Rattle.vx_hub.proofs.Beginning.{unused_here}
@@ -43,18 +40,14 @@ known_closed f h i done k = record {
   taken = k.taken;
   lost = k.lost;
   failed_starts = k.failed_starts;
-  ends = ends_on f h i (Closed i) refl k.ends;
-  to_confirm = to_confirm_on f h i (Closed i) refl k.to_confirm;
   confirm_failed = k.confirm_failed;
   outlet = k.outlet;
   over = k.over;
   class = k.class;
-  confirms = k.confirms;
   done = λ closed. closing_on h i (Closed i) refl done;
   closed = ap (λ t. t || is_closed h i) (sym (same_test i));
   retired = k.retired;
   leased = k.leased;
-  due = asked_on f.to_confirm f.asked h i (Closed i) refl refl k.due;
 }
 
 pub known_closed_other : (f : Facts) (h : Record) (i j : ℕ) → j ≢ i → IsKnown f h j → IsKnown f (Closed i ∷ h) j
@@ -62,18 +55,14 @@ known_closed_other f h i j other k = record {
   taken = k.taken;
   lost = k.lost;
   failed_starts = k.failed_starts;
-  ends = ends_on f h j (Closed i) refl k.ends;
-  to_confirm = to_confirm_on f h j (Closed i) refl k.to_confirm;
   confirm_failed = k.confirm_failed;
   outlet = k.outlet;
   over = k.over;
   class = k.class;
-  confirms = k.confirms;
   done = λ closed. closing_on h j (Closed i) refl (k.done closed);
   closed = or_other (i == j) (is_closed h j) f.closed (other_test i j other) k.closed;
   retired = k.retired;
   leased = k.leased;
-  due = asked_on f.to_confirm f.asked h j (Closed i) refl refl k.due;
 }
 
 -- the same where one is retired
@@ -82,18 +71,14 @@ known_retired f h i k = record {
   taken = k.taken;
   lost = k.lost;
   failed_starts = k.failed_starts;
-  ends = ends_on f h i (Retired i) refl k.ends;
-  to_confirm = to_confirm_on f h i (Retired i) refl k.to_confirm;
   confirm_failed = k.confirm_failed;
   outlet = k.outlet;
   over = k.over;
   class = k.class;
-  confirms = k.confirms;
   done = λ closed. closing_on h i (Retired i) refl (k.done closed);
   closed = k.closed;
   retired = ap (λ t. t || is_retired h i) (sym (same_test i));
   leased = k.leased;
-  due = asked_on f.to_confirm f.asked h i (Retired i) refl refl k.due;
 }
 
 pub known_retired_other : (f : Facts) (h : Record) (i j : ℕ) → j ≢ i → IsKnown f h j → IsKnown f (Retired i ∷ h) j
@@ -101,61 +86,45 @@ known_retired_other f h i j other k = record {
   taken = k.taken;
   lost = k.lost;
   failed_starts = k.failed_starts;
-  ends = ends_on f h j (Retired i) refl k.ends;
-  to_confirm = to_confirm_on f h j (Retired i) refl k.to_confirm;
   confirm_failed = k.confirm_failed;
   outlet = k.outlet;
   over = k.over;
   class = k.class;
-  confirms = k.confirms;
   done = λ closed. closing_on h j (Retired i) refl (k.done closed);
   closed = k.closed;
   retired = or_other (i == j) (is_retired h j) f.retired (other_test i j other) k.retired;
   leased = k.leased;
-  due = asked_on f.to_confirm f.asked h j (Retired i) refl refl k.due;
 }
 
 -- what is known of an instance behind a lease, or a return, of one
-known_asked : (f : Facts) (h : Record) (i worker now polls : ℕ) → IsKnown f h i → IsKnown (record f { leased = true; to_confirm = None }) (Lease i worker now polls ∷ h) i
-known_asked f h i worker now polls k = record {
+pub known_leased : (f : Facts) (h : Record) (i worker now polls : ℕ) → IsKnown f h i → IsKnown (record f { leased = true }) (Lease i worker now polls ∷ h) i
+known_leased f h i worker now polls k = record {
   taken = k.taken;
   lost = k.lost;
   failed_starts = k.failed_starts;
-  ends = ends_on f h i (Lease i worker now polls) refl k.ends;
-  to_confirm = tt;
   confirm_failed = k.confirm_failed;
   outlet = k.outlet;
   over = k.over;
   class = k.class;
-  confirms = λ some. absurd (taken_none None refl some);
   done = λ closed. closing_on h i (Lease i worker now polls) refl (k.done closed);
   closed = k.closed;
   retired = k.retired;
   leased = sym (ap (λ t. if t then true else is_out h i) (same_test i));
-  due = asked_leased f.asked h i worker now polls;
 }
-
-pub known_leased : (f : Facts) (h : Record) (i worker now polls : ℕ) (rest : Option (List Position)) → rest ≡ None → IsKnown f h i → IsKnown (record f { leased = true; to_confirm = rest }) (Lease i worker now polls ∷ h) i
-known_leased f h i worker now polls rest none k =
-    subst (λ (o : Option (List Position)). IsKnown (record f { leased = true; to_confirm = o }) (Lease i worker now polls ∷ h) i) (sym none) (known_asked f h i worker now polls k)
 
 pub known_leased_other : (f : Facts) (h : Record) (i j worker now polls : ℕ) → j ≢ i → IsKnown f h j → IsKnown f (Lease i worker now polls ∷ h) j
 known_leased_other f h i j worker now polls other k = record {
   taken = k.taken;
   lost = k.lost;
   failed_starts = k.failed_starts;
-  ends = ends_on f h j (Lease i worker now polls) refl k.ends;
-  to_confirm = to_confirm_on f h j (Lease i worker now polls) refl k.to_confirm;
   confirm_failed = k.confirm_failed;
   outlet = k.outlet;
   over = k.over;
   class = k.class;
-  confirms = k.confirms;
   done = λ closed. closing_on h j (Lease i worker now polls) refl (k.done closed);
   closed = k.closed;
   retired = k.retired;
   leased = k.leased ∙ sym (ap (λ t. if t then true else is_out h j) (other_test i j other));
-  due = asked_leased_other f.to_confirm f.asked h i j worker now polls other k.due;
 }
 
 pub known_home : (f : Facts) (h : Record) (i : ℕ) → IsKnown f h i → IsKnown (record f { leased = false }) (Home i ∷ h) i
@@ -163,18 +132,14 @@ known_home f h i k = record {
   taken = k.taken;
   lost = k.lost;
   failed_starts = k.failed_starts;
-  ends = ends_on f h i (Home i) refl k.ends;
-  to_confirm = to_confirm_on f h i (Home i) refl k.to_confirm;
   confirm_failed = k.confirm_failed;
   outlet = k.outlet;
   over = k.over;
   class = k.class;
-  confirms = k.confirms;
   done = λ closed. closing_on h i (Home i) refl (k.done closed);
   closed = k.closed;
   retired = k.retired;
   leased = sym (ap (λ t. if t then false else is_out h i) (same_test i));
-  due = asked_on f.to_confirm f.asked h i (Home i) refl refl k.due;
 }
 
 pub known_home_other : (f : Facts) (h : Record) (i j : ℕ) → j ≢ i → IsKnown f h j → IsKnown f (Home i ∷ h) j
@@ -182,18 +147,14 @@ known_home_other f h i j other k = record {
   taken = k.taken;
   lost = k.lost;
   failed_starts = k.failed_starts;
-  ends = ends_on f h j (Home i) refl k.ends;
-  to_confirm = to_confirm_on f h j (Home i) refl k.to_confirm;
   confirm_failed = k.confirm_failed;
   outlet = k.outlet;
   over = k.over;
   class = k.class;
-  confirms = k.confirms;
   done = λ closed. closing_on h j (Home i) refl (k.done closed);
   closed = k.closed;
   retired = k.retired;
   leased = k.leased ∙ sym (ap (λ t. if t then false else is_out h j) (other_test i j other));
-  due = asked_on f.to_confirm f.asked h j (Home i) refl refl k.due;
 }
 
 place_itself : (p : Place) → same_place p p ≡ true

@@ -1,6 +1,6 @@
 -- The steps by which the hub goes on standing for the record.
 use Rattle.std.proofs.Common.{◌≡◌, inr, ℕ, Bool, true, false, IsTrue, List, [], ◌∷◌, ◌++◌, length, Option, Some, None, IfSome, refl, sym, ap, subst, ◌∙◌, arith}
-use Rattle.std.specs.Prelude.{IsSomeAnd, ◌==◌, ◌≢◌, ◌<◌, ◌≤◌, map, not, if◌then◌else◌}
+use Rattle.std.specs.Prelude.{IsSomeAnd, ◌==◌, ◌≢◌, ◌<◌, ◌≤◌, not, if◌then◌else◌}
 use Rattle.std.proofs.lemmas.Bool.Decides.{nat_tests}
 use Rattle.vx_ends.specs.Told.{Told}
 use Rattle.vx_ledger.specs.Copies.{Copy, copies_of}
@@ -23,13 +23,9 @@ use Rattle.vx_hub.specs.Rows.{buffer_rooms, SameRooms, port_at, IsBareAt, SamePo
 use Rattle.vx_hub.specs.Stands.{Stands, IsTold, IsKnown, AreOut, IsRecorded, IsShut, IsGone, IsBalanced, IsSound, IsQuiet, touched, lost_at, IsMute, facts_at, capped, HasBerths, HasRooms, HasFew, spare_of, cause_of}
 use Rattle.vx_hub.specs.declared.parts.Numbered.{Numbered}
 use Rattle.vx_value.specs.Filled.{Filled}
-use Rattle.std.proofs.lemmas.List.{append-nil}
 use Rattle.vx_record.specs.Installs.{in_force}
 use Rattle.vx_record.specs.Reads.{bytes_of_all}
-use Rattle.vx_ends.specs.declared.position.Position.{Position}
-use Rattle.vx_record.specs.Confirms.{Birth, births, births_in, born_positions, last_of_each, position_of, is_unconfirmed, same_positions}
-use Rattle.vx_value.specs.Texts.{is_empty}
-use Rattle.vx_hub.specs.Asking.{asked, IsAskedBy}
+use Rattle.vx_record.specs.Confirms.{is_unconfirmed}
 use Rattle.vx_record.specs.Copies.{next_copy, makes}
 use Rattle.vx_record.specs.Moving.{IsConserved}
 use Rattle.vx_hub.specs.Places.{IsPlaced}
@@ -47,8 +43,9 @@ use Rattle.vx_hub.proofs.Placing.{conserved}
 use Rattle.vx_hub.proofs.Always.{MayFollow, order_next, order_noted, order_same, fed_noted, fed_same, sound_whole}
 use Rattle.vx_hub.proofs.Noticing.{in_turn, running_still}
 use Rattle.vx_hub.proofs.Owning.{placed_still}
-use Rattle.vx_hub.specs.Notices.{pending, pending_in, IsCounted}
+use Rattle.vx_hub.specs.Notices.{pending, pending_in, progress_at, IsCounted}
 use Rattle.vx_hub.proofs.Counting.{counted_on}
+use Rattle.vx_hub.proofs.Prefixing.{IsPlain, abreast_plain}
 use Rattle.vx_hub.proofs.Ceasing.{comes_going}
 use Rattle.vx_hub.proofs.Silence.{told_silent, silent_mute, other_test}
 use Rattle.vx_hub.proofs.Offspring.{born_on, owes_quiet}
@@ -71,29 +68,6 @@ told_mute told h i e m t = told_silent told h i e (silent_mute h i e m) t
 pub told_quiet : (told : Told) (h : Record) (i : ℕ) (e : Entry) → IsQuiet e → IsTold told h i → IsTold told (e ∷ h) i
 told_quiet told h i e q t = told_mute told h i e (mute_of_quiet e q) t
 
--- where no batch is born, the same positions are the last
-pub born_same : (h : Record) (i : ℕ) (e : Entry) → births_in i e ≡ [] → born_positions h i ≡ born_positions (e ∷ h) i
-born_same h i e none = ap (λ (bs : List Birth). last_of_each [] (map position_of bs)) (sym (ap (λ (more : List Birth). births h i ++ more) none ∙ append-nil (births h i)))
-
--- what is known, behind an entry that bears nothing
-pub ends_on : (f : Facts) (h : Record) (i : ℕ) (e : Entry) → births_in i e ≡ [] → f.ends ≡ born_positions h i → f.ends ≡ born_positions (e ∷ h) i
-ends_on f h i e none k = k ∙ born_same h i e none
-
-pub to_confirm_on : (f : Facts) (h : Record) (i : ℕ) (e : Entry) → births_in i e ≡ [] → IfSome f.to_confirm (λ positions. positions ≡ born_positions h i) →
-    IfSome f.to_confirm (λ positions. positions ≡ born_positions (e ∷ h) i)
-to_confirm_on f h i e none k = subst (λ (ps : List Position). IfSome f.to_confirm (λ positions. positions ≡ ps)) (born_same h i e none) k
-
--- behind an entry that bears nothing, and asks for and confirms nothing
-pub asked_on : (o : Option (List Position)) (last : List Position) (h : Record) (i : ℕ) (e : Entry) → births_in i e ≡ [] → asked (e ∷ h) i ≡ asked h i → IsAskedBy o last h i → IsAskedBy o last (e ∷ h) i
-asked_on o last h i e none same k =
-    let born = born_same h i e none in
-    record {
-      none = λ no. sym born ∙ k.none no ∙ sym same;
-      was = λ yes. k.was yes ∙ sym same;
-      some = λ yes. ap is_empty (sym born) ∙ k.some yes;
-      new = λ yes. ap (λ (ps : List Position). same_positions ps (asked (e ∷ h) i)) (sym born) ∙ ap (same_positions (born_positions h i)) same ∙ k.new yes;
-    }
-
 -- a quiet entry changes nothing of what is known
 pub known_quiet : (f : Facts) (h : Record) (i : ℕ) (e : Entry) → IsQuiet e → IsKnown f h i → IsKnown f (e ∷ h) i
 known_quiet f h i (Install version plan once instances now) q k = absurd q
@@ -111,18 +85,14 @@ known_quiet f h i e q k = record {
   taken = k.taken;
   lost = k.lost;
   failed_starts = k.failed_starts;
-  ends = ends_on f h i e refl k.ends;
-  to_confirm = to_confirm_on f h i e refl k.to_confirm;
   confirm_failed = k.confirm_failed;
   outlet = k.outlet;
   over = k.over;
   class = k.class;
-  confirms = k.confirms;
   done = λ closed. closing_on h i e refl (k.done closed);
   closed = k.closed;
   retired = k.retired;
   leased = k.leased;
-  due = asked_on f.to_confirm f.asked h i e refl refl k.due;
 }
 
 pub bytes_mute : (h : Record) (e : Entry) → IsMute e → bytes_of_all (e ∷ h) ≡ bytes_of_all h
@@ -155,6 +125,7 @@ same_next old new h entry none same next = omega (arith, none, same, next)
 -- what an entry needs that is noted while parcels move
 pub record Passes {P : Type 0} (d e : Hub P) (hand after : List Copy) (entry : Entry) : Type 0 where
   pub quiet : IsQuiet entry
+  pub plain : IsPlain entry
   pub next : d.batches.next ≡ next_copy d.log.history → e.batches.next ≡ next_copy (entry ∷ d.log.history)
   pub order : IsSound d → IsInOrder d.log.history entry
   pub comes : IsSound d → MayStillCome d.log.history entry
@@ -238,7 +209,7 @@ stands_quiet {P} told_by d e hand after entry s balanced facts ports bare rooms 
             installed = force_quiet d.log.history entry quiet ∙ r.installed ∙ ap Some (sym (ap (λ (t : _). t.2) berths));
             places = passes.places fine (conserved (entry ∷ d.log.history) ((passes.order fine, in_turn d.log.history entry r.noticeless, passes.comes fine), r.order)) r.places;
             bore = λ going. born_on d.log.history entry r.order (passes.order fine) (owes_quiet d.log.history entry quiet) (r.bore (sym (ap (λ (t : _). t.3) berths) ∙ going));
-            unnoticed = counted_on d e d.log.history (entry ∷ d.log.history) passes.opened passes.unnoticed size berths r.unnoticed;
+            unnoticed = counted_on d e d.log.history (entry ∷ d.log.history) passes.opened passes.unnoticed (abreast_plain entry passes.plain d.log.history) size berths r.unnoticed;
             later = later_quiet d.log.history entry d.latest e.latest quiet (ap (λ (t : _). t.4) berths) r.later;
           });
       shut = λ i. subst (λ (fs : List Facts). IfSome (facts_at fs i) (IsShut told_by e.rows.items i)) (sym (ap (λ (v : _). v.items) facts))
@@ -310,7 +281,7 @@ stands_moved {P} told_by d e hand after s balanced facts ports bare rooms batche
         installed = r.installed ∙ ap Some (sym (ap (λ (t : _). t.2) berths));
         places = places fine (conserved d.log.history r.order) r.places;
         bore = λ going. r.bore (sym (ap (λ (t : _). t.3) berths) ∙ going);
-        unnoticed = counted_on d e d.log.history d.log.history (ap (λ (l : Ledger). pending_in l.open_rows) batches) refl size berths r.unnoticed;
+        unnoticed = counted_on d e d.log.history d.log.history (ap (λ (l : Ledger). pending_in l.open_rows) batches) refl (λ p i a. a) size berths r.unnoticed;
         later = later_same d.log.history d.latest e.latest (ap (λ (t : _). t.4) berths) r.later;
       });
   shut = λ i. subst (λ (fs : List Facts). IfSome (facts_at fs i) (IsShut told_by e.rows.items i)) (sym (ap (λ (v : _). v.items) facts))
@@ -386,18 +357,14 @@ known_abandoned f h i cause k = record {
   taken = k.taken;
   lost = k.lost;
   failed_starts = k.failed_starts;
-  ends = ends_on f h i (Abandon cause) refl k.ends;
-  to_confirm = to_confirm_on f h i (Abandon cause) refl k.to_confirm;
   confirm_failed = k.confirm_failed;
   outlet = k.outlet;
   over = k.over;
   class = k.class;
-  confirms = k.confirms;
   done = λ closed. closing_on h i (Abandon cause) refl (k.done closed);
   closed = k.closed;
   retired = k.retired;
   leased = k.leased;
-  due = asked_on f.to_confirm f.asked h i (Abandon cause) refl refl k.due;
 }
 
 -- a run is abandoned
@@ -426,7 +393,7 @@ stands_abandoned {P} told_by d log cause s once reason noted = record {
         installed = r.installed;
         places = placed_still d.rows.items [] d.log.history (Abandon cause) tt (conserved d.log.history r.order) r.places;
         bore = λ going i home gone. cc;
-        unnoticed = record { open_are = r.unnoticed.open_are; each = r.unnoticed.each };
+        unnoticed = record { open_are = r.unnoticed.open_are; each = r.unnoticed.each; prefixes = λ i. some_mapped _ _ (progress_at d.progress.items i) (λ p known. abreast_plain (Abandon cause) tt d.log.history p i known) (r.unnoticed.prefixes i) };
         later = r.later;
       });
   shut = s.shut;
@@ -441,6 +408,26 @@ stands_abandoned {P} told_by d log cause s once reason noted = record {
   fed = fed_noted d.log log (Abandon cause) d.starved d.starved noted refl s.fed;
 }
 
+-- what is kept of the batches of each instance may change, where it stays what the record has
+pub stands_counted : {P : Type 0} (told_by : P → Told) (d e : Hub P) (hand : List Copy) → e ≡ record d { progress = e.progress } → Stands told_by d hand d.log.history → (IsCounted d d.log.history → IsCounted e d.log.history) → Stands told_by e hand e.log.history
+stands_counted {P} told_by d e hand same s counted = subst (λ (x : Hub P). Stands told_by x hand x.log.history) (sym same) (record {
+  history = refl;
+  balanced = s.balanced;
+  recorded = λ sound.
+      let r : IsRecorded told_by d hand d.log.history = s.recorded (record { whole = sound.whole; fed = sound.fed }) in
+      let c : IsCounted (record d { progress = e.progress }) d.log.history = subst (λ (x : Hub P). IsCounted x d.log.history) same (counted r.unnoticed) in
+      record { ports = r.ports; facts = r.facts; bytes = r.bytes; next = r.next; order = r.order; unknown = r.unknown; cause = r.cause; installed = r.installed; noticeless = r.noticeless; statuses = r.statuses; ledger = r.ledger; places = r.places; outs = r.outs; said = r.said; bore = r.bore; unnoticed = c; later = r.later };
+  shut = s.shut;
+  gone = s.gone;
+  size = s.size;
+  berths = s.berths;
+  rooms = s.rooms;
+  few = s.few;
+  count = s.count;
+  order = s.order;
+  fed = s.fed;
+})
+
 -- whether the hub goes on says nothing of the record
 pub stands_settled : {P : Type 0} (told_by : P → Told) (d e : Hub P) (hand : List Copy) → e ≡ record d { fatal = e.fatal } → Stands told_by d hand d.log.history → (e.fatal ≡ false → d.fatal ≡ false) → Stands told_by e hand e.log.history
 stands_settled {P} told_by d e hand same s kept = subst (λ (x : Hub P). Stands told_by x hand x.log.history) (sym same) (record {
@@ -448,7 +435,7 @@ stands_settled {P} told_by d e hand same s kept = subst (λ (x : Hub P). Stands 
   balanced = s.balanced;
   recorded = λ sound.
       let r : IsRecorded told_by d hand d.log.history = s.recorded (record { whole = sound.whole; fed = sound.fed }) in
-      record { ports = r.ports; facts = r.facts; bytes = r.bytes; next = r.next; order = r.order; unknown = r.unknown; cause = r.cause; installed = r.installed; noticeless = r.noticeless; statuses = r.statuses; ledger = r.ledger; places = r.places; outs = r.outs; said = r.said; bore = λ going. r.bore (kept going); unnoticed = record { open_are = r.unnoticed.open_are; each = r.unnoticed.each }; later = r.later };
+      record { ports = r.ports; facts = r.facts; bytes = r.bytes; next = r.next; order = r.order; unknown = r.unknown; cause = r.cause; installed = r.installed; noticeless = r.noticeless; statuses = r.statuses; ledger = r.ledger; places = r.places; outs = r.outs; said = r.said; bore = λ going. r.bore (kept going); unnoticed = record { open_are = r.unnoticed.open_are; each = r.unnoticed.each; prefixes = r.unnoticed.prefixes }; later = r.later };
   shut = s.shut;
   gone = s.gone;
   size = s.size;

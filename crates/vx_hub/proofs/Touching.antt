@@ -28,7 +28,7 @@ use Rattle.vx_hub.specs.Works.{IsClosedBy}
 use Rattle.vx_hub.specs.declared.task.Task.{Task}
 use Rattle.vx_hub.specs.Stands.{Stands, IsTold, IsKnown, AreOut, IsRecorded, IsSound, IsShut, IsGone, facts_at, lost_at, spec_at, capped, touched, IsBalanced, IsMute, spare_of, cause_of}
 use Rattle.vx_hub.proofs.RowLaws.{same_length}
-use Rattle.vx_hub.proofs.StandsLaws.{some_mapped, some_all, berths_kept, rooms_kept, ends_on, to_confirm_on, asked_on, told_mute, bytes_mute, force_mute, same_next, unknown_on, unknown_mute, few_kept, count_kept}
+use Rattle.vx_hub.proofs.StandsLaws.{some_mapped, some_all, berths_kept, rooms_kept, told_mute, bytes_mute, force_mute, same_next, unknown_on, unknown_mute, few_kept, count_kept}
 use Rattle.vx_record.specs.Copies.{next_copy, makes}
 use Rattle.vx_record.specs.Moving.{IsStill, IsConserved}
 use Rattle.vx_hub.specs.Places.{IsPlaced, SamePlaces}
@@ -49,8 +49,9 @@ use Rattle.vx_hub.proofs.Placing.{conserved}
 use Rattle.vx_hub.proofs.Always.{order_noted, order_same, fed_noted, fed_same}
 use Rattle.vx_hub.proofs.Noticing.{accounted, in_turn, still_quiet, running_still}
 use Rattle.vx_hub.proofs.Owning.{placed_still, placed_same}
-use Rattle.vx_hub.specs.Notices.{pending_in, IsCounted}
+use Rattle.vx_hub.specs.Notices.{progress_at, pending_in, IsCounted}
 use Rattle.vx_hub.proofs.Counting.{counted_on, pending_touched}
+use Rattle.vx_hub.proofs.Prefixing.{abreast_plain, plain_touched}
 use Rattle.vx_hub.proofs.Silence.{told_silent, silent_other, other_test, same_test}
 use Rattle.vx_hub.specs.Offspring.{OwesNothing}
 use Rattle.vx_hub.proofs.Offspring.{born_on, owes_touched}
@@ -70,18 +71,14 @@ known_other f h i j (Read k stream took) t other s =
       taken = grind (arith, nat_tests, test, s.taken);
       lost = s.lost;
       failed_starts = known_chosen (k == j) 0 (failed_starts h j) f.failed_starts test s.failed_starts;
-      ends = ends_on f h j (Read k stream took) (refl) s.ends;
-      to_confirm = to_confirm_on f h j (Read k stream took) (refl) s.to_confirm;
       confirm_failed = s.confirm_failed;
       outlet = s.outlet;
       over = s.over ∙ sym (unended (k == j) (is_end took) (all_ended h j) test);
       class = s.class;
-      confirms = s.confirms;
       done = λ closed. closing_on h j (Read k stream took) refl (s.done closed);
       closed = s.closed;
       retired = s.retired;
       leased = s.leased;
-      due = asked_on f.to_confirm f.asked h j (Read k stream took) refl refl s.due;
     }
 known_other f h i j (Idle k failed) t other s =
     let k_is : k ≡ i = cc in
@@ -90,18 +87,14 @@ known_other f h i j (Idle k failed) t other s =
       taken = s.taken;
       lost = s.lost;
       failed_starts = known_chosen (k == j) (if failed then failed_starts h j + 1 else 0) (failed_starts h j) f.failed_starts test s.failed_starts;
-      ends = ends_on f h j (Idle k failed) (refl) s.ends;
-      to_confirm = to_confirm_on f h j (Idle k failed) (refl) s.to_confirm;
       confirm_failed = s.confirm_failed;
       outlet = s.outlet;
       over = s.over;
       class = s.class;
-      confirms = s.confirms;
       done = λ closed. closing_on h j (Idle k failed) refl (s.done closed);
       closed = s.closed;
       retired = s.retired;
       leased = s.leased;
-      due = asked_on f.to_confirm f.asked h j (Idle k failed) refl refl s.due;
     }
 known_other f h i j (SourceLost k at failed) t other s =
     let k_is : k ≡ i = cc in
@@ -110,36 +103,28 @@ known_other f h i j (SourceLost k at failed) t other s =
       taken = s.taken;
       lost = known_chosen (k == j) (Some at) (lost_at h j) f.lost test s.lost;
       failed_starts = s.failed_starts;
-      ends = ends_on f h j (SourceLost k at failed) (refl) s.ends;
-      to_confirm = to_confirm_on f h j (SourceLost k at failed) (refl) s.to_confirm;
       confirm_failed = s.confirm_failed;
       outlet = s.outlet;
       over = s.over;
       class = s.class;
-      confirms = s.confirms;
       done = λ closed. closing_on h j (SourceLost k at failed) refl (s.done closed);
       closed = s.closed;
       retired = s.retired;
       leased = s.leased;
-      due = asked_on f.to_confirm f.asked h j (SourceLost k at failed) refl refl s.due;
     }
 known_other f h i j (Attempt k copies bytes reply) t other s =
     record {
       taken = s.taken;
       lost = s.lost;
       failed_starts = s.failed_starts;
-      ends = ends_on f h j (Attempt k copies bytes reply) (refl) s.ends;
-      to_confirm = to_confirm_on f h j (Attempt k copies bytes reply) (refl) s.to_confirm;
       confirm_failed = s.confirm_failed;
       outlet = s.outlet;
       over = s.over;
       class = s.class;
-      confirms = s.confirms;
       done = λ closed. closing_on h j (Attempt k copies bytes reply) refl (s.done closed);
       closed = s.closed;
       retired = s.retired;
       leased = s.leased;
-      due = asked_on f.to_confirm f.asked h j (Attempt k copies bytes reply) refl refl s.due;
     }
 known_other f h i j (Confirm k positions made) t other s =
     let k_is : k ≡ i = cc in
@@ -148,18 +133,14 @@ known_other f h i j (Confirm k positions made) t other s =
       taken = s.taken;
       lost = s.lost;
       failed_starts = s.failed_starts;
-      ends = ends_on f h j (Confirm k positions made) (refl) s.ends;
-      to_confirm = to_confirm_on f h j (Confirm k positions made) (refl) s.to_confirm;
       confirm_failed = known_chosen (k == j) (not made) (is_unconfirmed h j) f.confirm_failed test s.confirm_failed;
       outlet = s.outlet;
       over = s.over;
       class = s.class;
-      confirms = s.confirms;
       done = λ closed. closing_on h j (Confirm k positions made) refl (s.done closed);
       closed = s.closed;
       retired = s.retired;
       leased = s.leased;
-      due = asked_on f.to_confirm f.asked h j (Confirm k positions made) refl refl s.due;
     }
 known_other f h i j (Born k b place copies events waits stream end) t other s =
     let k_is : k ≡ i = cc in
@@ -168,18 +149,14 @@ known_other f h i j (Born k b place copies events waits stream end) t other s =
       taken = s.taken;
       lost = s.lost;
       failed_starts = s.failed_starts;
-      ends = ends_on f h j (Born k b place copies events waits stream end) (sym (known_chosen (k == j) (record { batch = b; waits = waits; stream = stream; end = end } ∷ []) [] [] test refl)) s.ends;
-      to_confirm = to_confirm_on f h j (Born k b place copies events waits stream end) (sym (known_chosen (k == j) (record { batch = b; waits = waits; stream = stream; end = end } ∷ []) [] [] test refl)) s.to_confirm;
       confirm_failed = s.confirm_failed;
       outlet = s.outlet;
       over = s.over;
       class = s.class;
-      confirms = s.confirms;
       done = λ closed. closing_on h j (Born k b place copies events waits stream end) refl (s.done closed);
       closed = s.closed;
       retired = s.retired;
       leased = s.leased;
-      due = asked_on f.to_confirm f.asked h j (Born k b place copies events waits stream end) (sym (known_chosen (k == j) (record { batch = b; waits = waits; stream = stream; end = end } ∷ []) [] [] test refl)) refl s.due;
     }
 known_other f h i j e t other s = cc
 
@@ -294,7 +271,7 @@ stands_touched {P} told_by d e hand entry i f g s out within at written closed r
             places = subst (λ (v : _). IsPlaced v.items hand (entry ∷ d.log.history)) (sym rows)
                 (placed_still d.rows.items hand d.log.history entry still (conserved d.log.history r.order) r.places);
             bore = λ going. born_on d.log.history entry r.order (order fine mine (r.outs i (subst (λ n. i < n) s.size within) none)) (owes_touched d.log.history entry i touch) (r.bore (sym (ap (λ (t : _). t.3) berths) ∙ going));
-            unnoticed = counted_on d e d.log.history (entry ∷ d.log.history) (ap (λ (l : Ledger). pending_in l.open_rows) batches) (pending_touched d.log.history entry i touch still) (ap (λ (v : _). length v.items) rows) berths r.unnoticed;
+            unnoticed = counted_on d e d.log.history (entry ∷ d.log.history) (ap (λ (l : Ledger). pending_in l.open_rows) batches) (pending_touched d.log.history entry i touch still) (abreast_plain entry (plain_touched entry i touch still) d.log.history) (ap (λ (v : _). length v.items) rows) berths r.unnoticed;
             later = later_touched d.log.history entry i d.latest e.latest touch (ap (λ (t : _). t.4) berths) r.later;
           });
       shut = λ j. subst (λ (v : _). IfSome (facts_at e.facts.items j) (IsShut told_by v.items j)) (sym rows)
@@ -419,7 +396,7 @@ stands_brought {P} told_by d e copies port i s unclosed told balanced here ports
             installed = r.installed ∙ ap Some (sym (ap (λ (t : _). t.2) berths));
             places = places fine (conserved d.log.history r.order) r.places;
             bore = λ going. r.bore (sym (ap (λ (t : _). t.3) berths) ∙ going);
-            unnoticed = counted_on d e d.log.history d.log.history (ap (λ (l : Ledger). pending_in l.open_rows) batches) refl size berths r.unnoticed;
+            unnoticed = counted_on d e d.log.history d.log.history (ap (λ (l : Ledger). pending_in l.open_rows) batches) refl (λ p i a. a) size berths r.unnoticed;
             later = later_same d.log.history d.latest e.latest (ap (λ (t : _). t.4) berths) r.later;
           });
       shut = λ k. subst (λ (v : _). IfSome (facts_at v.items k) (IsShut told_by e.rows.items k)) (sym facts)
@@ -557,7 +534,7 @@ stands_shut {P} told_by d e i s home becomes loses ports bare rooms batches fact
             installed = r.installed ∙ ap Some (sym (ap (λ (t : _). t.2) berths));
             places = placed_same d.rows.items e.rows.items [] d.log.history same r.places;
             bore = λ going. r.bore (sym (ap (λ (t : _). t.3) berths) ∙ going);
-            unnoticed = counted_on d e d.log.history d.log.history (ap (λ (l : Ledger). pending_in l.open_rows) batches) refl size berths r.unnoticed;
+            unnoticed = counted_on d e d.log.history d.log.history (ap (λ (l : Ledger). pending_in l.open_rows) batches) refl (λ p i a. a) size berths r.unnoticed;
             later = later_same d.log.history d.latest e.latest (ap (λ (t : _). t.4) berths) r.later;
           });
       shut = λ k. subst (λ (v : _). IfSome (facts_at v.items k) (IsShut told_by e.rows.items k)) (sym facts)
@@ -585,18 +562,14 @@ known_attempt f h i j copies bytes reply k = record {
   taken = k.taken;
   lost = k.lost;
   failed_starts = k.failed_starts;
-  ends = ends_on f h j (Attempt i copies bytes reply) refl k.ends;
-  to_confirm = to_confirm_on f h j (Attempt i copies bytes reply) refl k.to_confirm;
   confirm_failed = k.confirm_failed;
   outlet = k.outlet;
   over = k.over;
   class = k.class;
-  confirms = k.confirms;
   done = λ closed. closing_on h j (Attempt i copies bytes reply) refl (k.done closed);
   closed = k.closed;
   retired = k.retired;
   leased = k.leased;
-  due = asked_on f.to_confirm f.asked h j (Attempt i copies bytes reply) refl refl k.due;
 }
 
 -- an attempt of an instance that is out is told
@@ -630,7 +603,7 @@ stands_attempted {P} told_by d log hand i copies bytes reply s within out names 
             installed = r.installed;
             places = placed_still d.rows.items hand d.log.history e tt (conserved d.log.history r.order) r.places;
             bore = λ going. born_on d.log.history e r.order (names (record { whole = w.0; fed = sound.fed }) (r.outs i within none)) tt (r.bore going);
-            unnoticed = record { open_are = r.unnoticed.open_are; each = r.unnoticed.each };
+            unnoticed = record { open_are = r.unnoticed.open_are; each = r.unnoticed.each; prefixes = λ k. some_mapped _ _ (progress_at d.progress.items k) (λ p known. abreast_plain e tt d.log.history p k known) (r.unnoticed.prefixes k) };
             later = r.later;
           });
       shut = s.shut;
@@ -700,7 +673,7 @@ stands_out {P} told_by d e copies i s unclosed balanced away ports bare rooms ba
             installed = r.installed ∙ ap Some (sym (ap (λ (t : _). t.2) berths));
             places = places (conserved d.log.history r.order) r.places;
             bore = λ going. r.bore (sym (ap (λ (t : _). t.3) berths) ∙ going);
-            unnoticed = counted_on d e d.log.history d.log.history (ap (λ (l : Ledger). pending_in l.open_rows) batches) refl size berths r.unnoticed;
+            unnoticed = counted_on d e d.log.history d.log.history (ap (λ (l : Ledger). pending_in l.open_rows) batches) refl (λ p i a. a) size berths r.unnoticed;
             later = later_same d.log.history d.latest e.latest (ap (λ (t : _). t.4) berths) r.later;
           });
       shut = λ k. subst (λ (v : _). IfSome (facts_at v.items k) (IsShut told_by e.rows.items k)) (sym facts)
@@ -729,3 +702,9 @@ pub routed_as : {P : Type 0} (told_by : P → Told) (d : Hub P) (i : ℕ) (f : F
 routed_as told_by d i f s within at fine =
     first_targets f.outlet (readers_at d.log.history i)
     (facts_has (λ x. IsKnown x d.log.history i) d.facts.items i f (omega (arith, s.size, within)) at ((s.recorded fine).facts i)).outlet
+
+-- the facts of an instance that is there, which may be written back
+pub own_facts : (fs : List Facts) (i : ℕ) → i < length fs → (f : Facts) × (f ≡ get_or fs i f) × (fs ≡ slice_set fs i f)
+own_facts [] i l = absurd (omega arith)
+own_facts (f ∷ fs) zero l = (f, refl, refl)
+own_facts (f ∷ fs) (suc i) l = let later = own_facts fs i (omega arith) in (later.0, later.1, ap (λ (gs : List Facts). f ∷ gs) later.2)

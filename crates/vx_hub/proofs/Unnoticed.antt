@@ -15,13 +15,13 @@ use Rattle.vx_hub.specs.Notices.{Pending, pending, without_first, count_of, coun
 use Rattle.vx_hub.proofs.Noticing.{accounted}
 
 -- all batches, in the order of their births
-abbrev bred : Record → List Pending
+abbrev pub bred : Record → List Pending
 bred [] = []
 bred (Born i b place copies events waits stream end ∷ h) = bred h ++ record { batch = b; instance = i } ∷ []
 bred (e ∷ h) = bred h
 
 -- those of some that have no notice
-abbrev open_of : Record → List Pending → List Pending
+abbrev pub open_of : Record → List Pending → List Pending
 open_of h [] = []
 open_of h (p ∷ ps) = if is_noticed h p.batch then open_of h ps else p ∷ open_of h ps
 
@@ -72,7 +72,7 @@ bred_apart (Born i b place copies events waits stream end ∷ h) o =
 bred_apart (e ∷ h) o = bred_apart h o.1
 
 -- a batch that isn't born has no notice
-noticed_times : (h : Record) (b : ℕ) → times_noticed h b ≡ 0 → is_noticed h b ≡ false
+pub noticed_times : (h : Record) (b : ℕ) → times_noticed h b ≡ 0 → is_noticed h b ≡ false
 noticed_times [] b none = refl
 noticed_times (Notice b' status ∷ h) b none = go (b' == b) none (noticed_times h b)
   where
@@ -121,7 +121,7 @@ open_same h k same (p ∷ ps) =
     ap {B = List Pending} (λ t. if t then open_of k ps else p ∷ open_of k ps) (same p.batch) ∙ ap {B = List Pending} (λ (qs : List Pending). if is_noticed h p.batch then qs else p ∷ qs) (open_same h k same ps)
 
 -- what has no notice is what was born, without what has one
-pending_open : (h : Record) → IsAccounted h → pending h ≡ open_of h (bred h)
+pub pending_open : (h : Record) → IsAccounted h → pending h ≡ open_of h (bred h)
 pending_open [] o = refl
 pending_open (Born i b place copies events waits stream end ∷ h) o =
     let number : b ≡ next_copy h = o.0.accounts.number in

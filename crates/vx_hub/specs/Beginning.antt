@@ -14,6 +14,10 @@ use Rattle.vx_hub.specs.Events.{AreSaid}
 use Rattle.vx_hub.specs.Rows.{copies_in, port_at}
 use Rattle.vx_hub.specs.Stands.{facts_at, spec_of, HasRooms}
 use Rattle.vx_hub.specs.Notices.{progress_at}
+use Rattle.vx_hub.specs.declared.progress.Progress.{Progress}
+use Rattle.vx_plan.specs.declared.component.Component.{Component}
+use Rattle.vx_plan.specs.Targets.{acknowledged}
+use Rattle.vx_sourcecore.specs.Prefixes.{IsPrefixOf, Judgement}
 
 -- the record begins with a plan
 pub record HasFirst (plan : Plan) (h : Record) : Type 0 where
@@ -42,6 +46,11 @@ pub record HasSeats {P : Type 0} (hub : Hub P) (n : ℕ) : Type 0 where
   pub progress : length hub.progress.items + n ≤ vec_capacity hub.progress
   pub rows : length hub.rows.items + n ≤ vec_capacity hub.rows
 
+-- no batch of an instance was born yet, and its batches wait where its component's plan says so
+pub record IsWaitingBy (plan : Plan) (p : Progress) (component : Component) : Type 0 where
+  pub waits : p.prefix.waits ≡ acknowledged plan component.name
+  pub none : (judged : Judgement) → IsPrefixOf p.prefix judged [] []
+
 -- each instance that was seated begins with the port of its component, and sends to that component's readers
 pub record Begins {P : Type 0} (told_by : P → Told) (plan : Plan) (hub : Hub P) : Type 0 where
   pub batches : hub.batches.open_rows ≡ []
@@ -60,4 +69,5 @@ pub record Begins {P : Type 0} (told_by : P → Told) (plan : Plan) (hub : Hub P
   pub rooms : HasRooms plan hub.rows.items
   pub abreast : length hub.progress.items ≡ length hub.rows.items
   pub unnoticed : (i : ℕ) → i < length hub.progress.items → IsSomeAnd (progress_at hub.progress.items i) (λ p. p.unnoticed ≡ 0)
+  pub confirms : (i : ℕ) → IfSome (progress_at hub.progress.items i) (λ p. IsSomeAnd (slice_get plan.components i) (IsWaitingBy plan p))
   pub fed : hub.starved ≡ false

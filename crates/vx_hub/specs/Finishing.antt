@@ -8,7 +8,8 @@ use Rattle.vx_record.specs.Abandoning.{abandoned}
 use Rattle.vx_record.specs.Turns.{at_lease}
 use Rattle.vx_record.specs.Places.Place.{Held}
 use Rattle.vx_hub.specs.declared.facts.Facts.{Facts}
-use Rattle.vx_hub.specs.declared.facts.Progress.{Progress}
+use Rattle.vx_hub.specs.declared.progress.Progress.{Progress}
+use Rattle.vx_hub.specs.Notices.{progress_at}
 use Rattle.vx_hub.specs.declared.row.Row.{Row}
 use Rattle.vx_hub.specs.declared.hub.Hub.{Hub}
 use Rattle.vx_hub.specs.Closures.{IsDone}
@@ -75,7 +76,7 @@ pub record IsSourceFinished {P : Type 0} (hub : Hub P) (i : ℕ) : Type 0 where
   pub dry : IsSomeAnd (facts_at hub.facts.items i) (λ f. is_dry_by hub.bytes f ≡ true)
   pub sent : is_sent_at hub.rows.items i ≡ true
   pub noticed : unnoticed_by (slice_get hub.progress.items i) ≡ 0
-  pub confirmed : IsSomeAnd (facts_at hub.facts.items i) (λ f. f.to_confirm ≡ None)
+  pub confirmed : IfSome (progress_at hub.progress.items i) (λ p. p.prefix.due ≡ None)
 
 -- nothing more comes to a sink, and nothing stands at it
 pub record IsSinkFinished {P : Type 0} (hub : Hub P) (i : ℕ) : Type 0 where

@@ -25,7 +25,6 @@ pub mod Making
 pub mod Beginning
 pub mod Remains
 pub mod Failures
-pub mod Ending
 pub mod Offspring
 pub mod Owed
 pub mod Moments

@@ -2,6 +2,7 @@
 use Rattle.std.specs.Prelude.{◌≡◌, ℕ, false, List, [], ◌∷◌, Option, Some, None, IfSome, slice_get}
 use Rattle.vx_plan.specs.declared.plan.Plan.{Plan}
 use Rattle.vx_plan.specs.Numbers.{reader_numbers}
+use Rattle.vx_plan.specs.Targets.{acknowledged}
 use Rattle.vx_ends.specs.Told.{Told}
 use Rattle.vx_ends.specs.declared.port_spec.PortSpec.{PortSpec}
 use Rattle.vx_plan.specs.declared.component.Component.{Component}
@@ -26,8 +27,6 @@ pub record AreNew (f : Facts) : Type 0 where
   pub over : f.over ≡ false
   pub lost : f.lost ≡ None
   pub failed_starts : f.failed_starts ≡ 0
-  pub ends : f.ends ≡ []
-  pub to_confirm : f.to_confirm ≡ None
   pub confirm_failed : f.confirm_failed ≡ false
   pub closed : f.closed ≡ false
   pub retired : f.retired ≡ false
@@ -70,6 +69,7 @@ IsBegun settings (Sink core) = IsSizedFor settings core
 -- a seat is for a component
 pub record IsSeatOf (plan : Plan) (component : Component) (seat : Seat) : Type 0 where
   pub fitted : IsFittedTo plan component seat.facts
+  pub waits : seat.waits ≡ acknowledged plan component.name
   pub room : seat.buffer.room ≡ room_named plan component.name
   pub role : IsBegun component.settings seat.role
 

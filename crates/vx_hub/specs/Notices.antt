@@ -1,10 +1,16 @@
 -- The batches that have no notice yet, and how many of each instance the hub counts.
-use Rattle.std.specs.Prelude.{◌≡◌, ℕ, zero, suc, ◌+◌, ◌<◌, ◌==◌, ◌≢◌, if◌then◌else◌, List, [], ◌∷◌, ◌++◌, length, Option, Some, None, IfSome, IsSomeAnd}
+use Rattle.std.specs.Prelude.{◌≡◌, ℕ, zero, suc, ◌+◌, ◌-◌, ◌<◌, ◌==◌, ◌≢◌, not, is_some, if◌then◌else◌, Bool, false, List, [], ◌∷◌, ◌++◌, length, Option, Some, None, IfSome, IsSomeAnd, ◌&&◌, ◌||◌, take_while}
+use Rattle.vx_ends.specs.declared.position.Position.{Position}
+use Rattle.vx_status.specs.declared.batch_status.BatchStatus.{BatchStatus}
+use Rattle.vx_sourcecore.specs.declared.ends.Ends.{Ends}
+use Rattle.vx_sourcecore.specs.Prefixes.{birth_at, Judgement, AreApart, IsPrefixOf, IsReadyFor, Tells, GoesOn, IsAskFor, ends_of}
 use Rattle.vx_ledger.specs.declared.open_batch.OpenBatch.{OpenBatch}
-use Rattle.vx_record.specs.Records.{Record}
-use Rattle.vx_record.specs.Confirms.{Birth, is_noticed}
+use Rattle.vx_record.specs.Records.{Record, capped}
+use Rattle.vx_record.specs.Confirms.{Birth, is_noticed, is_delivered, was_delivered, births}
+use Rattle.vx_record.specs.Sourcing.{must_wait}
+use Rattle.vx_hub.specs.Asking.{asked}
 use Rattle.vx_record.specs.declared.entry.Entry.TheVariants.{Born, Notice}
-use Rattle.vx_hub.specs.declared.facts.Progress.{Progress}
+use Rattle.vx_hub.specs.declared.progress.Progress.{Progress}
 use Rattle.vx_hub.specs.declared.hub.Hub.{Hub}
 
 -- a batch that has no notice yet, and the instance that bore it
@@ -49,15 +55,72 @@ progress_at [] i = None
 progress_at (p ∷ ps) zero = Some p
 progress_at (p ∷ ps) (suc i) = progress_at ps i
 
--- what becomes of the counts where that of one instance is set
-pub record SetsOne (i : ℕ) (F : ℕ → ℕ) (old new : List Progress) : Type 0 where
-  pub mine : IfSome (progress_at old i) (λ p. IsSomeAnd (progress_at new i) (λ q. q.unnoticed ≡ F p.unnoticed))
+-- whether the batches of an instance wait, by what the hub knows
+abbrev pub waits_by : Option Progress → Bool
+waits_by None = false
+waits_by (Some p) = p.prefix.waits
+
+-- whether something is to be confirmed to it
+abbrev pub is_due_by : Option Progress → Bool
+is_due_by None = false
+is_due_by (Some p) = is_some p.prefix.due
+
+-- what becomes of what is known of one instance, where that of the others stays
+pub record SetsOne (i : ℕ) (F : Progress → Progress → Type 0) (old new : List Progress) : Type 0 where
+  pub mine : IfSome (progress_at old i) (λ p. IsSomeAnd (progress_at new i) (F p))
+  pub none : progress_at old i ≡ None → progress_at new i ≡ None
   pub others : (j : ℕ) → j ≢ i → progress_at new j ≡ progress_at old j
 
--- the open batches are those that have no notice, and of each instance as many are counted as it bore of them
+-- memory was taken for a batch more
+pub record IsReserved (p q : Progress) : Type 0 where
+  pub unnoticed : q.unnoticed ≡ p.unnoticed
+  pub prefix : GoesOn p.prefix q.prefix
+
+-- there is memory for a batch more of an instance, which ends at a position
+abbrev pub HasPlaceFor : List Progress → ℕ → Position → Ends → Type 0
+HasPlaceFor progress i position ends = IsSomeAnd (progress_at progress i) (λ p. IsReadyFor p.prefix position ends)
+
+-- a batch more has no notice
+pub record IsBornTo (batch : ℕ) (position : Position) (p q : Progress) : Type 0 where
+  pub unnoticed : q.unnoticed ≡ capped (p.unnoticed + 1)
+  pub waits : q.prefix.waits ≡ p.prefix.waits
+  pub prefix : (judged : Judgement) → (bs : List Birth) → (asked : List Position) → judged.may (birth_at p.prefix.waits batch position) ≡ not p.prefix.waits →
+      IsPrefixOf p.prefix judged bs asked → IsPrefixOf q.prefix judged (bs ++ birth_at p.prefix.waits batch position ∷ []) asked
+
+-- a batch has its notice
+pub record IsNoticedTo (batch : ℕ) (status : BatchStatus) (p q : Progress) : Type 0 where
+  pub unnoticed : q.unnoticed ≡ p.unnoticed - 1
+  pub waits : q.prefix.waits ≡ p.prefix.waits
+  pub prefix : (judged : Judgement) → (next : Judgement) → (bs : List Birth) → (asked : List Position) → Tells batch (is_delivered status) judged next → AreApart bs →
+      IsPrefixOf p.prefix judged bs asked → IsPrefixOf q.prefix next bs asked
+
+-- what was to be confirmed was asked for
+pub record IsAskedOf (answer : Option (List Position)) (p q : Progress) : Type 0 where
+  pub unnoticed : q.unnoticed ≡ p.unnoticed
+  pub waits : q.prefix.waits ≡ p.prefix.waits
+  pub none : p.prefix.due ≡ None → answer ≡ None
+  pub asked : (judged : Judgement) → (bs : List Birth) → (asked : List Position) → IsPrefixOf p.prefix judged bs asked → IsPrefixOf q.prefix judged bs (ends_of (take_while judged.may bs))
+  pub due : (judged : Judgement) → (bs : List Birth) → (asked : List Position) → IsPrefixOf p.prefix judged bs asked → IsAskFor answer (ends_of (take_while judged.may bs)) asked
+
+-- whether a batch may be confirmed as soon as those before it are: it needn't wait, or was delivered; and whether it has
+-- another notice, by which it never will, if it has to wait
+abbrev pub judged_by : Record → Judgement
+judged_by h = record {
+  may = λ (birth : Birth). not birth.waits || was_delivered h birth.batch;
+  never = λ (birth : Birth). is_noticed h birth.batch && not (was_delivered h birth.batch);
+}
+
+-- what is known of the batches of an instance that may be confirmed is what the record has
+pub record IsPrefixKnown (p : Progress) (h : Record) (i : ℕ) : Type 0 where
+  pub waits : p.prefix.waits ≡ must_wait h i
+  pub prefix : IsPrefixOf p.prefix (judged_by h) (births h i) (asked h i)
+
+-- the open batches are those that have no notice, of each instance as many are counted as it bore of them, and those are
+-- known that may be confirmed
 pub record IsCounted {P : Type 0} (hub : Hub P) (h : Record) : Type 0 where
   pub open_are : pending_in hub.batches.open_rows ≡ pending h
   pub each : (i : ℕ) → i < length hub.rows.items → IsSomeAnd (progress_at hub.progress.items i) (λ p. p.unnoticed ≡ unnoticed h i)
+  pub prefixes : (i : ℕ) → IfSome (progress_at hub.progress.items i) (λ p. IsPrefixKnown p h i)
 
 -- no batch of an instance is counted
 abbrev pub CountsNone : {P : Type 0} → Hub P → ℕ → Type 0

@@ -34,12 +34,11 @@ use Rattle.vx_plan.specs.declared.class.Class.TheVariants.{Source, Sink}
 use Rattle.vx_plan.specs.declared.component.Component.{Component}
 use Rattle.vx_plan.specs.declared.plan.Plan.{Plan}
 use Rattle.vx_record.specs.Reads.{bytes_taken, bytes_of_all, all_ended}
-use Rattle.vx_record.specs.Confirms.{born_positions, is_unconfirmed, due, is_confirm_due}
+use Rattle.vx_record.specs.Confirms.{is_unconfirmed, due, is_confirm_due}
 use Rattle.vx_record.specs.Sourcing.{failed_starts, IsYield, MayTurn, must_wait}
 use Rattle.vx_record.specs.Spending.{WasAnswered, HadNoTarget, oldest}
 use Rattle.vx_record.specs.SinkBatches.{failures_with, attempts_allowed, attempts_with, is_batch_closed, is_full_batch, is_timed_out, is_last_batch, retry_from}
 use Rattle.vx_record.specs.Owing.{owes_spends_in, owes_birth}
-use Rattle.vx_plan.specs.Acknowledging.{AcknowledgesNothing}
 use Rattle.vx_record.specs.Ready.{is_ready}
 use Rattle.vx_record.specs.Ending.{BirthWants, SplitWants}
 use Rattle.vx_hub.specs.Closures.{IsDone}
@@ -85,10 +84,8 @@ pub record IsTurnOf (h : Record) (j : ℕ) : Type 0 where
   pub source : IsOfClass h j Source
   pub row : MayTurn h j
 
--- what is confirmed to a source is, for each stream, the end of the last batch that it bore; it was due when the source
--- was leased, and wasn't confirmed since
+-- what is confirmed to a source is what was due when the source was leased, and wasn't confirmed since
 pub record IsDueOf (h : Record) (j : ℕ) (positions : List Position) : Type 0 where
-  pub all : positions ≡ born_positions h j
   pub source : IsOfClass h j Source
   pub once : list_any (is_confirm_of j) (since_lease h j) ≡ false
   pub was_due : is_confirm_due (at_lease h j) j ≡ true
@@ -113,13 +110,12 @@ abbrev pub IsReadBy : Record → ℕ → Type 0
 IsReadBy (Read j stream took ∷ h) i = j ≡ i
 IsReadBy h i = ⊥
 
--- a batch stands directly behind a read of its source, and waits where it must by its plan, which is nowhere yet; its
+-- a batch stands directly behind a read of its source, and waits where it must by its plan; its
 -- events are those of the lines that the read completes, and it ends where the last of them ends; it has one copy for each
 -- of its events, with the next numbers, and the number of the first of them
 pub record IsBirthOf (h : Record) (i batch : ℕ) (copies : List ℕ) (events : List Event) (waits : Bool) (stream end : ℕ) : Type 0 where
   pub read : IsReadBy h i
   pub yield : IsYield h i events stream end
-  pub unwaiting : waits ≡ false
   pub some : 0 < length copies
   pub one_each : length copies ≡ length events
   pub next : copies ≡ counting (next_copy h) (length copies)
@@ -163,7 +159,7 @@ pub record IsTakeOf (h : Record) (j s : ℕ) (copies : List ℕ) : Type 0 where
   pub unclosed : sink_at h j ≡ true → is_batch_closed h j (lease_now h j) ≡ false
   pub room : sink_at h j ≡ true → is_full_batch h j ≡ false
 
--- to the port of an instance that is out the end of its last batch of each stream is confirmed, or that fails
+-- to the port of an instance that is out is confirmed what was due, or that fails
 pub record IsConfirmOf (h : Record) (j : ℕ) (positions : List Position) : Type 0 where
   pub out : is_out h j ≡ true
   pub device : device_at h j ≡ true
@@ -296,11 +292,10 @@ pub record IsEndOf (h : Record) (j : ℕ) : Type 0 where
   pub bare : is_bare h j ≡ true
   pub over : IsDone h j ⊎ (abandoned h ≡ true)
 
--- an install begins the record, no two components of its plan have one name, and none of them makes batches wait yet
+-- an install begins the record, and no two components of its plan have one name
 pub record IsInstallOf (h : Record) (version : ℕ) (plan : Plan) (instances : List Instance) : Type 0 where
   pub begins : MayInstall h version plan instances
   pub named : names_differ plan.components ≡ true
-  pub none_acknowledges : AcknowledgesNothing plan
 
 -- what is proved of an entry
 abbrev pub IsInOrder : Record → Entry → Type 0

@@ -4,10 +4,11 @@ use Rattle.vx_hub.specs.declared.hub.Hub.{Hub}
 use Rattle.vx_hub.specs.declared.work.Job.{Job}
 use Rattle.vx_hub.specs.declared.work.Job.TheVariants as job
 use Rattle.vx_hub.specs.Finishing.{IsFinished}
+use Rattle.vx_hub.specs.Notices.{progress_at}
 use Rattle.vx_hub.specs.Readings.{IsReadyToRead}
 use Rattle.vx_hub.specs.Rows.{row_at}
 use Rattle.vx_hub.specs.Sinks.{IsClosedAt, IsUnclosedAt}
-use Rattle.vx_hub.specs.Stands.{IsUnlost, IsSinkAt, facts_at}
+use Rattle.vx_hub.specs.Stands.{IsUnlost, IsSinkAt}
 
 -- a source may be read
 pub record IsToRead {P : Type 0} (hub : Hub P) (i : ℕ) : Type 0 where
@@ -16,7 +17,7 @@ pub record IsToRead {P : Type 0} (hub : Hub P) (i : ℕ) : Type 0 where
 
 -- something is to be confirmed at an instance
 abbrev pub IsToConfirm : {P : Type 0} → Hub P → ℕ → Type 0
-IsToConfirm hub i = IsSomeAnd (facts_at hub.facts.items i) (λ f. IsSome f.to_confirm)
+IsToConfirm hub i = IsSomeAnd (progress_at hub.progress.items i) (λ p. IsSome p.prefix.due)
 
 -- a sink's buffer isn't empty, and what it holds isn't closed at that moment
 pub record IsToCollect {P : Type 0} (hub : Hub P) (i now : ℕ) : Type 0 where

@@ -6,7 +6,7 @@ use Rattle.vx_ledger.specs.Ledger.{Ledger, IsKept, live_count}
 pub use Rattle.vx_record.specs.Records.{capped}
 use Rattle.vx_record.specs.Records.{Record}
 use Rattle.vx_record.specs.Reads.{taken, bytes_taken, bytes_of_all, all_ended, ended_streams}
-use Rattle.vx_record.specs.Confirms.{confirmed, born_positions, is_unconfirmed}
+use Rattle.vx_record.specs.Confirms.{confirmed, is_unconfirmed}
 use Rattle.vx_record.specs.Sourcing.{failed_starts}
 use Rattle.vx_record.specs.Turns.{is_out, worker_now}
 use Rattle.vx_record.specs.PortCounts.{fault_count, refusal_count, idle_count}
@@ -24,14 +24,13 @@ use Rattle.vx_hub.specs.Rows.{copies_in, row_at, port_at, IsBareAt, HasRoom}
 use Rattle.vx_record.specs.Batches.{NoNoticeDue}
 use Rattle.vx_hub.specs.Batching.{AreRunning}
 use Rattle.vx_hub.specs.Offspring.{AreBornAtHome}
-use Rattle.vx_hub.specs.declared.facts.Progress.{Progress}
+use Rattle.vx_hub.specs.declared.progress.Progress.{Progress}
 use Rattle.vx_hub.specs.Notices.{IsCounted, CountsNone}
 use Rattle.vx_hub.specs.Places.{IsPlaced}
 use Rattle.vx_hub.specs.Events.{AreSaid}
 use Rattle.vx_hub.specs.Turns.{NothingLeft}
 pub use Rattle.vx_hub.specs.Order.{lost_at, cause_of, component_in, IsClosing}
 use Rattle.vx_hub.specs.Order.{IsOrderly, IsUnknown, readers_at}
-use Rattle.vx_hub.specs.Asking.{IsAskedBy}
 use Rattle.vx_record.specs.Copies.{next_copy}
 use Rattle.vx_record.specs.Installs.{in_force, is_closed, is_retired}
 use Rattle.vx_ends.specs.declared.port_spec.PortSpec.{PortSpec}
@@ -72,18 +71,14 @@ pub record IsKnown (f : Facts) (h : Record) (i : ℕ) : Type 0 where
   pub taken : f.taken ≡ capped (bytes_taken h i)
   pub lost : f.lost ≡ lost_at h i
   pub failed_starts : f.failed_starts ≡ failed_starts h i
-  pub ends : f.ends ≡ born_positions h i
-  pub to_confirm : IfSome f.to_confirm (λ positions. positions ≡ born_positions h i)
   pub confirm_failed : f.confirm_failed ≡ is_unconfirmed h i
   pub outlet : f.outlet ≡ readers_at h i ∷ []
   pub over : f.over ≡ all_ended h i
   pub class : IsSomeAnd (component_in (in_force h) i) (λ component. f.class ≡ component.class)
-  pub confirms : IsSome f.to_confirm → f.class ≡ Source
   pub done : f.closed ≡ true → IsClosing h i
   pub closed : f.closed ≡ is_closed h i
   pub retired : f.retired ≡ is_retired h i
   pub leased : f.leased ≡ is_out h i
-  pub due : IsAskedBy f.to_confirm f.asked h i
 
 -- whatever is live stands at an instance or in the hand
 abbrev pub IsBalanced : {P : Type 0} → Ledger → List (Row P) → List Copy → Type 0

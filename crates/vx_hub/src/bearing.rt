@@ -6,29 +6,22 @@ ghost use Rattle.vx_record.specs.Places.Place.{Outputs};
 ghost use Rattle.vx_hub.specs.Places.{numbers_at};
 ghost use Rattle.vx_hub.specs.Births.{IsLinedUp, IsNextOut, ArePairedBy};
 ghost use Rattle.vx_hub.specs.Events.{IsSaid};
-ghost use Rattle.vx_hub.specs.Ending.{AreMovedTo};
+ghost use Rattle.vx_hub.specs.Notices.{HasPlaceFor};
 ghost use Rattle.vx_hub.specs.Failures.{HasReason};
 ghost use Rattle.vx_hub.specs.Leases.{IsOpenAt};
 ghost use Rattle.vx_hub.specs.Spending.{HasRead, HasYielded};
 ghost use Rattle.vx_hub.specs.Owed.{HasBorn, HadBorn, HasGiven, HasWanted};
 ghost use Rattle.vx_hub.specs.Rows.{HasOutputRoom};
 
-use crate::due::moved;
-use crate::facts::count_birth;
 use crate::fatal::Fatal;
 use crate::hub::Hub;
 use crate::notes::note_born;
+use crate::progress::{count_birth, prepare, waits};
 use crate::rows::{push_output, reserve_outputs};
-use vx_ends::{Port, Position, PositionList};
+use vx_ends::{Port, Position};
 use vx_ledger::{Finalizers, Parcel};
+use vx_sourcecore::Ends;
 use vx_value::{Event, EventList, WantOfMemory};
-
-/// Where an instance's batches end, twice: to be kept, and to be confirmed.
-#[derive(Drop)]
-pub struct Ends {
-    pub ends: PositionList,
-    pub to_confirm: PositionList,
-}
 
 impl<P: Port> Hub<P> {
     /// Opens a batch of some events, if there is any and the run wasn't given up, and puts each of them out.
@@ -64,7 +57,7 @@ impl<P: Port> Hub<P> {
         if reserve_outputs(&mut self.rows, instance as usize, n).is_err() {
             return Err(Fatal::WantOfMemory);
         }
-        let Ok(ends) = self.ends_with(instance, position) else {
+        let Ok(ends) = self.prepare_birth(instance, position) else {
             return Err(Fatal::WantOfMemory);
         };
         self.bear(instance, events, position, ends)
@@ -87,7 +80,7 @@ impl<P: Port> Hub<P> {
         requires few { length events ≤ 65536 }
         requires room { HasOutputRoom self.old.rows.items instance (length events) }
         requires sent { numbers_at (Outputs instance) self.old.rows.items ≡ [] }
-        requires moved { IsSomeAnd (facts_at self.old.facts.items instance) (AreMovedTo position ends) }
+        requires ready { HasPlaceFor self.old.progress.items instance position ends }
         requires before { HadBorn self.old instance }
         requires given { HasGiven self.old instance events }
         ensures stands { Stands P.told self.new [] self.new.log.history }
@@ -102,19 +95,18 @@ impl<P: Port> Hub<P> {
         self.put_out(instance, events, finalizers)
     }
 
-    /// Where an instance's batches end with one that ends at a position.
-    fn ends_with(&self, instance: u32, position: Position) -> Result<Ends, WantOfMemory>
-        requires { instance < length self.now.facts.items }
-        ensures { IfOk result (λ ends. IsSomeAnd (facts_at self.now.facts.items instance) (AreMovedTo position ends)) }
+    /// Takes the memory for a batch more of an instance, which ends at a position.
+    fn prepare_birth(&mut self, instance: u32, position: Position) -> Result<Ends, WantOfMemory>
+        requires stands { Stands P.told self.old [] self.old.log.history }
+        ensures stands { Stands P.told self.new [] self.new.log.history }
+        ensures rest { self.new ≡ record self.old { progress = self.new.progress } }
+        ensures rows { self.new.rows ≡ self.old.rows }
+        ensures ready { IfOk result (HasPlaceFor self.new.progress.items instance position) }
     {
-        let before = self.facts[instance as usize].ends.as_slice();
-        Ok(Ends {
-            ends: moved(self.alloc, before, position)?,
-            to_confirm: moved(self.alloc, before, position)?,
-        })
+        prepare(&mut self.progress, instance as usize, self.alloc, position)
     }
 
-    /// Opens a batch of some events, notes its birth and that its end is to be confirmed, and counts it.
+    /// Opens a batch of some events, notes its birth, and counts it.
     fn open_batch(
         &mut self,
         instance: u32,
@@ -130,7 +122,7 @@ impl<P: Port> Hub<P> {
         requires some { 0 < length events.now }
         requires few { length events.now ≤ 65536 }
         requires sent { numbers_at (Outputs instance) self.old.rows.items ≡ [] }
-        requires moved { IsSomeAnd (facts_at self.old.facts.items instance) (AreMovedTo position ends) }
+        requires ready { HasPlaceFor self.old.progress.items instance position ends }
         requires before { HadBorn self.old instance }
         requires given { HasGiven self.old instance events.now }
         ensures stands { IfOk result (λ finalizers. Stands P.told self.new finalizers self.new.log.history) }
@@ -151,6 +143,7 @@ impl<P: Port> Hub<P> {
             Ok(born) => born,
             Err(short) => return Err(Fatal::from(short)),
         };
+        let must_wait = waits(self.progress.as_slice(), instance as usize);
         note_born(
             self.alloc,
             &mut self.log,
@@ -158,11 +151,10 @@ impl<P: Port> Hub<P> {
             batch,
             &finalizers,
             events,
+            must_wait,
             position,
         );
-        let facts = &mut self.facts[instance as usize];
-        facts.end_at(ends.ends, ends.to_confirm);
-        count_birth(&mut self.progress, instance as usize);
+        count_birth(&mut self.progress, instance as usize, batch, ends);
         Ok(finalizers)
     }
 

@@ -33,16 +33,7 @@ impl<P: Port> Hub<P> {
         ensures done { IsTrue result → IsSourceFinished self.now i }
         ensures goes_on { result ≡ false → IsSourceFinished self.now i → ⊥ }
     {
-        self.is_dry(i) && self.has_sent(i) && self.unnoticed(i) == 0 && self.is_confirmed(i)
-    }
-
-    /// Whether nothing is to be confirmed to a source.
-    fn is_confirmed(&self, i: usize) -> bool
-        requires { i < length self.now.facts.items }
-        ensures confirmed { IsTrue result → IsSomeAnd (facts_at self.now.facts.items i) (λ f. f.to_confirm ≡ None) }
-        ensures due { result ≡ false → IsSomeAnd (facts_at self.now.facts.items i) (λ f. f.to_confirm ≡ None) → ⊥ }
-    {
-        self.facts[i].to_confirm.is_none()
+        self.is_dry(i) && self.has_sent(i) && self.unnoticed(i) == 0 && !self.must_confirm(i)
     }
 
     /// Whether nothing more comes to a sink, and nothing stands at it.

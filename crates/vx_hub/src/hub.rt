@@ -1,5 +1,6 @@
-use crate::facts::{Facts, Progress};
+use crate::facts::Facts;
 use crate::parts::Numbered;
+use crate::progress::Progress;
 use crate::row::Row;
 use crate::stack::Stack;
 use std::alloc::Global;

@@ -10,7 +10,7 @@ ghost use Rattle.vx_hub.specs.Readings.{IsFlowing, IsReadyToRead, MayRead};
 ghost use Rattle.vx_hub.specs.Readiness.{IsToConfirm, IsReadyFor, HasWork};
 ghost use Rattle.vx_hub.specs.Rows.{CanHold, NoneWaits, port_at, SamePorts};
 ghost use Rattle.vx_hub.specs.Owed.{HasBorn};
-ghost use Rattle.vx_hub.specs.Confirming.{HadNothing, IsConfirmed};
+ghost use Rattle.vx_hub.specs.Confirming.{HadNothing, HasNoneDue, IsConfirmed};
 ghost use Rattle.vx_hub.specs.Notices.{CountsNone, count_unnoticed};
 ghost use Rattle.vx_record.specs.Confirms.{births};
 ghost use Rattle.vx_record.specs.Owing.{all_noticed};
@@ -26,6 +26,7 @@ ghost use Rattle.vx_hub.specs.Places.{numbers_at, copies_at, parcel_lists, Holds
 use crate::finishing::{feeds, takes_no_more};
 use crate::hub::Hub;
 use crate::notes::note_take;
+use crate::progress::{is_due, take_due};
 use crate::rows::{hold, pop_buffer, take_task};
 use crate::task::{Role, SinkCore};
 use crate::work::{Job, Work};
@@ -131,9 +132,8 @@ impl<P: Port> Hub<P> {
             now,
             polls: 0,
         }));
-        let facts = &mut self.facts[instance as usize];
-        facts.leased = true;
-        facts.to_confirm.take()
+        self.facts[instance as usize].leased = true;
+        take_due(&mut self.progress, instance as usize)
     }
 
     /// Hands out the task of an instance at home.
@@ -277,12 +277,13 @@ impl<P: Port> Hub<P> {
     }
 
     /// Whether something is to be confirmed at an instance.
-    fn must_confirm(&self, i: usize) -> bool
+    pub(crate) fn must_confirm(&self, i: usize) -> bool
         requires { i < length self.now.facts.items }
         ensures confirmed { result ≡ false → IsConfirmed self.now i }
+        ensures none { result ≡ false → HasNoneDue self.now i }
         ensures due { IsTrue result → IsToConfirm self.now i }
     {
-        self.facts[i].to_confirm.is_some()
+        is_due(self.progress.as_slice(), i)
     }
 
     /// Whether a source may be read: it isn't dry, and all that it put out is on its way.

@@ -3,7 +3,6 @@
 
 mod bearing;
 mod confirming;
-mod due;
 mod ending;
 mod facts;
 mod fatal;
@@ -15,6 +14,7 @@ mod making;
 mod notes;
 mod numbers;
 mod parts;
+mod progress;
 mod pushing;
 mod reading;
 mod remains;
@@ -31,11 +31,12 @@ mod telling;
 mod work;
 
 pub use confirming::Confirmed;
-pub use facts::{Facts, Progress};
+pub use facts::Facts;
 pub use fatal::Fatal;
 pub use hub::Hub;
 pub use leasing::MOST_BYTES;
 pub use parts::{Named, NamedList, NewRefused, Numbered, NumberedList, Parts};
+pub use progress::Progress;
 pub use remains::Remains;
 pub use row::Row;
 pub use sending::{Attempted, attempt};

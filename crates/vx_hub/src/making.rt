@@ -3,14 +3,14 @@ ghost use Rattle.vx_plan.specs.declared.plan.Plan.{Plan};
 ghost use Rattle.vx_record.specs.Installs.{in_force};
 ghost use Rattle.vx_record.specs.Starting.{first_instances};
 ghost use Rattle.vx_record.specs.Wirings.{names_differ, begun};
-ghost use Rattle.vx_plan.specs.Acknowledging.{AcknowledgesNothing};
 ghost use Rattle.vx_hub.specs.Stands.{Stands, spec_of};
 ghost use Rattle.vx_hub.specs.Beginning.{HasRoomFor, HasSeats, Begins};
 ghost use Rattle.vx_hub.specs.Making.{IsUnused, AreUnused, IsSeatOf, AreFitted, IsUntouched, AreUntouched};
 
-use crate::facts::{Facts, Progress};
+use crate::facts::Facts;
 use crate::hub::Hub;
 use crate::parts::{Named, NewRefused, Numbered, Parts};
+use crate::progress::Progress;
 use crate::row::Row;
 use crate::seat::{Seat, end_seats, seats};
 use crate::stack::Stack;
@@ -20,6 +20,7 @@ use vx_ends::Port;
 use vx_ledger::Batches;
 use vx_plan::Plan;
 use vx_record::{Entry, Instance, InstanceList, Log, Start};
+use vx_sourcecore::Prefix;
 use vx_value::WantOfMemory;
 
 /// What a hub needs memory for beside its instances.
@@ -41,7 +42,6 @@ impl<P: Port> Hub<P> {
         requires few { length parts.plan.components < 2 ^ 32 }
         requires untouched { AreUntouched P.told parts.plan.components parts.ports }
         requires named { names_differ parts.plan.components ≡ true }
-        requires none_acknowledges { AcknowledgesNothing parts.plan }
         ensures stands { IfOk result (λ hub. Stands P.told hub [] hub.log.history) }
         ensures size { IfOk result (λ hub. length hub.rows.items ≡ length parts.plan.components) }
         ensures installed { IfOk result (λ hub. in_force hub.log.history ≡ Some parts.plan) }
@@ -154,7 +154,6 @@ fn seated<P: Port>(
     requires small { length plan.components < 2 ^ 32 }
     requires untouched { AreUntouched P.told plan.components ports.items }
     requires named { names_differ plan.components ≡ true }
-    requires none_acknowledges { AcknowledgesNothing plan }
     requires count { length seats.items ≡ length plan.components }
     ensures stands { Stands P.told result [] result.log.history }
     ensures installed { in_force result.log.history ≡ Some plan }
@@ -211,9 +210,14 @@ impl<P: Port> Hub<P> {
             outputs,
             buffer,
             role,
+            waits,
         } = seat;
+        let prefix = Prefix::new(self.alloc, waits);
         self.facts.push_reserved(facts);
-        self.progress.push_reserved(Progress { unnoticed: 0 });
+        self.progress.push_reserved(Progress {
+            unnoticed: 0,
+            prefix,
+        });
         self.rows.push_reserved(Row {
             outputs,
             waiting: Vec::new(self.alloc),

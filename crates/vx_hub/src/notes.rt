@@ -1,5 +1,4 @@
 // The entries that have lists: each is noted, or the log isn't whole any more.
-ghost use Rattle.std.specs.Prelude.{false};
 ghost use Rattle.vx_hub.specs.Numbers.{numbers_in, noted_of};
 ghost use Rattle.vx_hub.specs.Rows.{role_copies};
 ghost use Rattle.vx_record.specs.Noted.{Noted};
@@ -12,7 +11,7 @@ use vx_ledger::{Child, Finalizers};
 use vx_record::{Entry, Log};
 use vx_value::{Bytes, Event, EventList, NumberList, WantOfMemory};
 
-/// Notes the birth of a batch, which ends at a position of a stream.
+/// Notes the birth of a batch, which ends at a position of a stream, and may have to wait until it is delivered.
 pub(crate) fn note_born(
     alloc: Global,
     log: &mut Log,
@@ -20,9 +19,10 @@ pub(crate) fn note_born(
     batch: u64,
     finalizers: &Finalizers,
     events: &EventList,
+    waits: bool,
     position: Position,
 )
-    ensures { Noted log.old (Entry.Born instance batch batch (numbers_in finalizers.now) events.now false position.stream position.end) log.new }
+    ensures { Noted log.old (Entry.Born instance batch batch (numbers_in finalizers.now) events.now waits position.stream position.end) log.new }
 {
     match (numbers_of(alloc, finalizers), events.copy(alloc)) {
         (Ok(copies), Ok(events)) => log.note(Ok(Entry::Born {
@@ -31,7 +31,7 @@ pub(crate) fn note_born(
             place: batch,
             copies,
             events,
-            waits: false,
+            waits,
             stream: position.stream,
             end: position.end,
         })),

@@ -9,7 +9,6 @@ use crate::source::SourceCore;
 use crate::stack::Stack;
 use crate::task::{Role, SinkCore};
 use std::alloc::Global;
-use vx_ends::PositionList;
 use vx_json::{Codec, Decoding};
 use vx_ledger::{Outlet, Parcel};
 use vx_plan::{Class, Component, Plan, Settings};
@@ -27,6 +26,8 @@ pub struct Seat {
     pub outputs: Stack<Parcel>,
     pub buffer: Queue<Parcel>,
     pub role: Role,
+    /// Whether its batches wait until they are delivered.
+    pub waits: bool,
 }
 
 /// What each component of a plan begins with, in order.
@@ -61,9 +62,6 @@ fn make_seat(alloc: Global, plan: &Plan, component: &Component) -> Result<Seat, 
         over: false,
         lost: None,
         failed_starts: 0,
-        ends: PositionList::new(alloc),
-        to_confirm: None,
-        asked: PositionList::new(alloc),
         confirm_failed: false,
         closed: false,
         retired: false,
@@ -76,6 +74,7 @@ fn make_seat(alloc: Global, plan: &Plan, component: &Component) -> Result<Seat, 
             outputs: Stack::new(alloc),
             buffer,
             role,
+            waits: plan.acknowledged(component.name.as_str()),
         }),
         Err(none) => {
             buffer.end();
@@ -177,6 +176,7 @@ fn end_seat(seat: Seat)
         outputs,
         buffer,
         role,
+        waits: _,
     } = seat;
     outputs.end();
     buffer.end();

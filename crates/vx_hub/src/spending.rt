@@ -6,10 +6,10 @@ ghost use Rattle.vx_record.specs.Noted.{Noted};
 ghost use Rattle.vx_hub.specs.Spending.{MaySpend, ComeFrom};
 ghost use Rattle.vx_hub.specs.Away.{IsArrived};
 ghost use Rattle.vx_hub.specs.Stands.{Stands};
-ghost use Rattle.vx_hub.specs.Notices.{SetsOne};
+ghost use Rattle.vx_hub.specs.Notices.{SetsOne, IsNoticedTo};
 
-use crate::facts::count_notice;
 use crate::hub::Hub;
+use crate::progress::count_notice;
 use vx_ends::Port;
 use vx_ledger::{Finalizer, Notice, Parcel};
 use vx_record::Entry;
@@ -65,16 +65,16 @@ impl<P: Port> Hub<P> {
         }
     }
 
-    /// Notes a notice, and counts it at the source.
+    /// Notes a notice, and tells its source.
     fn tell(&mut self, notice: Notice)
         ensures noted { Noted self.old.log (Entry.Notice notice.batch notice.status) self.new.log }
         ensures rest { self.new ≡ record self.old { log = self.new.log; progress = self.new.progress } }
-        ensures counted { SetsOne notice.instance (λ n. n - 1) self.old.progress.items self.new.progress.items }
+        ensures counted { SetsOne notice.instance (IsNoticedTo notice.batch notice.status) self.old.progress.items self.new.progress.items }
     {
         self.log.note(Ok(Entry::Notice {
             batch: notice.batch,
             status: notice.status,
         }));
-        count_notice(&mut self.progress, notice.instance as usize);
+        count_notice(&mut self.progress, notice);
     }
 }

@@ -4,4 +4,3 @@ pub mod Targets
 pub mod Numbers
 pub mod Ports
 pub mod First
-pub mod Acknowledging

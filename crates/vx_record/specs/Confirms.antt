@@ -68,10 +68,6 @@ position_of birth = record { stream = birth.stream; end = birth.end }
 abbrev pub due : Record → ℕ → List Position
 due h i = last_of_each [] (map position_of (confirm_prefix h i))
 
--- each stream's last position in all of the instance's births; where no batch waits, these are due
-abbrev pub born_positions : Record → ℕ → List Position
-born_positions h i = last_of_each [] (map position_of (births h i))
-
 -- whether the instance's last Confirm failed
 abbrev pub is_unconfirmed : Record → ℕ → Bool
 is_unconfirmed [] i = false

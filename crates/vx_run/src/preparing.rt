@@ -3,7 +3,6 @@ ghost use Rattle.vx_ends.specs.Texts.{IsTextAt};
 ghost use Rattle.vx_ends.specs.Told.{Rose};
 ghost use Rattle.vx_plan.specs.Ports.{port_of};
 ghost use Rattle.vx_record.specs.Wirings.{names_differ};
-ghost use Rattle.vx_plan.specs.Acknowledging.{AcknowledgesNothing};
 ghost use Rattle.vx_hub.specs.Making.{IsUntouched, AreUntouched};
 ghost use Rattle.vx_reading.specs.Reading.{IsReading};
 ghost use Rattle.vx_run.specs.Answers.{IsPlanAt, IsUnready, IsUnread, IsMisread};
@@ -26,7 +25,6 @@ pub(crate) fn prepare<W: World>(
     ensures stands { IfOk result (λ parts. IsPlanAt environment.now (W.texts world.old) file.now parts.plan) }
     ensures few { IfOk result (λ parts. length parts.plan.components < 2 ^ 32) }
     ensures named { IfOk result (λ parts. names_differ parts.plan.components ≡ true) }
-    ensures none_acknowledges { IfOk result (λ parts. AcknowledgesNothing parts.plan) }
     ensures ports { IfOk result (λ parts. length parts.ports ≡ length parts.plan.components) }
     ensures untouched { IfOk result (λ parts. AreUntouched W.Port.told parts.plan.components parts.ports) }
     ensures unready { IfErr result (IsUnready environment.now (W.texts world.old) file.now (W.faults world.old) (W.faults world.new)) }
@@ -53,7 +51,6 @@ pub(crate) fn plan_at<W: World>(
     ensures stands { IfOk result (IsPlanAt environment.now (W.texts world.old) file.now) }
     ensures few { IfOk result (λ plan. length plan.components < 2 ^ 32) }
     ensures named { IfOk result (λ plan. names_differ plan.components ≡ true) }
-    ensures none_acknowledges { IfOk result (λ plan. AcknowledgesNothing plan) }
     ensures unready { IfErr result (IsUnready environment.now (W.texts world.old) file.now (W.faults world.old) (W.faults world.new)) }
     ensures texts { W.texts world.new ≡ W.texts world.old }
 {
@@ -83,7 +80,6 @@ fn plan_of(alloc: Global, bytes: &Bytes, environment: &VariableList) -> Result<P
     ensures read { IfOk result (λ plan. IsReading environment.now bytes.now (Ok plan)) }
     ensures few { IfOk result (λ plan. length plan.components < 2 ^ 32) }
     ensures named { IfOk result (λ plan. names_differ plan.components ≡ true) }
-    ensures none_acknowledges { IfOk result (λ plan. AcknowledgesNothing plan) }
     ensures refused { IfErr result (IsMisread environment.now bytes.now) }
 {
     match read_plan(alloc, bytes.as_slice(), environment) {

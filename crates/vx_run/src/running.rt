@@ -1,7 +1,6 @@
 ghost use Rattle.std.specs.Prelude.{◌≡◌, ◌≢◌, ◌⊎◌, List, ◌<◌, ◌^◌, [], length, true, Some};
 ghost use Rattle.vx_record.specs.Legal.{IsLegal};
 ghost use Rattle.vx_record.specs.Wirings.{names_differ};
-ghost use Rattle.vx_plan.specs.Acknowledging.{AcknowledgesNothing};
 ghost use Rattle.vx_hub.specs.Making.{AreUntouched};
 ghost use Rattle.vx_hub.specs.Order.{IsOrderly};
 ghost use Rattle.vx_hub.specs.Stands.{Stands};
@@ -138,7 +137,6 @@ fn begin<R: Wait, P: Port, C: Clock>(
     requires ports { length parts.ports ≡ length parts.plan.components }
     requires untouched { AreUntouched P.told parts.plan.components parts.ports }
     requires named { names_differ parts.plan.components ≡ true }
-    requires none_acknowledges { AcknowledgesNothing parts.plan }
     ensures judged { IsJudged result.history result.fault }
     ensures told { IsTrueTo P.told result.history result.ports result.fault }
     ensures order { IsOrderly result.history }

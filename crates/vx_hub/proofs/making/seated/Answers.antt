@@ -8,7 +8,9 @@ use Rattle.vx_hub.specs.Rows.{copies_in, row_at, port_at}
 use Rattle.vx_hub.specs.declared.seat.Seat.{Seat}
 use Rattle.vx_hub.specs.declared.parts.Named.{Named}
 use Rattle.vx_hub.specs.Making.{room_at, AreNew, AreUnused, IsFittedTo, AreFitted, IsUntouched, AreUntouched}
-use Rattle.vx_hub.specs.Beginning.{HasSeats, HasFirst}
+use Rattle.vx_hub.specs.Beginning.{HasSeats, HasFirst, IsWaitingBy}
+use Rattle.vx_hub.specs.declared.progress.Progress.{Progress}
+use Rattle.vx_hub.specs.Notices.{progress_at}
 use Rattle.vx_hub.proofs.Beginning.{begun_stands, said_none, front_of, none_at, fitted_first, untouched_first}
 use Rattle.std.proofs.lemmas.Bool.Decides.{nat_tests}
 use Rattle.vx_hub.proofs.making.seated.Goals as goal
@@ -37,6 +39,7 @@ loop-seats-init g c =
         rooms = λ i. subst (λ (rows : List (Row _)). IfSome (row_at rows i) (λ row. row.buffer.room ≡ room_at c.args.plan i)) (sym c.requires.room.rows) tt;
         abreast = ap length c.requires.room.progress ∙ sym none;
         unnoticed = λ i l. absurd (omega (arith, ap length c.requires.room.progress, l));
+        confirms = λ i. subst (λ (ps : List Progress). IfSome (progress_at ps i) (λ p. IsSomeAnd (slice_get c.args.plan.components i) (IsWaitingBy c.args.plan p))) (sym c.requires.room.progress) tt;
         fed = refl;
       };
       unused = c.requires.unused;
@@ -89,4 +92,4 @@ returns-clause-stands g c =
     let inv = c.loop-seats.invariant in
     let none = none_left _ (sym c.is_empty.ensures ∙ c.loop-seats-test.false) in
     let done : length c.loop-seats.hub.rows.items ≡ length c.args.plan.components = omega (arith, inv.size, c.requires.count, none) in
-    begun_stands g.P.Port.told c.args.plan c.loop-seats.hub inv.begins inv.plan c.requires.named c.requires.none_acknowledges inv.first inv.none (omega (arith, inv.size, inv.berths)) (omega (arith, inv.size, c.requires.few)) c.requires.small done
+    begun_stands g.P.Port.told c.args.plan c.loop-seats.hub inv.begins inv.plan c.requires.named inv.first inv.none (omega (arith, inv.size, inv.berths)) (omega (arith, inv.size, c.requires.few)) c.requires.small done

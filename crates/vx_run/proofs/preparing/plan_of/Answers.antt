@@ -10,6 +10,3 @@ returns-in-Ok-clause-few c =
 
 pub returns-in-Ok-clause-named : goal.returns-in-Ok-clause-named
 returns-in-Ok-clause-named c = differ_apart c.in-Ok.plan.components c.in-Ok.ensures.apart
-
-pub returns-in-Ok-clause-none_acknowledges : goal.returns-in-Ok-clause-none_acknowledges
-returns-in-Ok-clause-none_acknowledges c = c.in-Ok.ensures.none_acknowledges

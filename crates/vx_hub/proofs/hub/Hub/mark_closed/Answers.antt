@@ -6,6 +6,7 @@ use Rattle.vx_record.specs.declared.entry.Entry.TheVariants.{Closed}
 use Rattle.vx_hub.proofs.Owning.{placed_still}
 use Rattle.vx_hub.proofs.Noticing.{running_still}
 use Rattle.vx_hub.proofs.Counting.{counted_on}
+use Rattle.vx_hub.proofs.Prefixing.{abreast_plain}
 use Rattle.vx_hub.proofs.Retiring.{known_closed, known_closed_other}
 use Rattle.vx_hub.proofs.Naming.{device_known}
 use Rattle.vx_hub.proofs.Leaving.{returning_noted}
@@ -25,7 +26,7 @@ returns-clause-stands g c =
     (λ retired. (refl, (facts_has (IsGone d.rows.items i) d.facts.items i f within c.index_mut.ensures.value (c.requires.stands.gone i) retired).1))
     (λ fine kept placed. placed_still d.rows.items [] d.log.history (Closed i) tt kept.1 placed)
     (λ b w. w) (λ fine sound. running_still d.log.history (Closed i) d.batches.open_rows tt) (λ ledger. ledger) (λ fine going. tt)
-    (λ fine. counted_on d _ d.log.history (Closed i ∷ d.log.history) refl refl refl refl) (λ worker l. l)
+    (λ fine. counted_on d _ d.log.history (Closed i ∷ d.log.history) refl refl (abreast_plain (Closed i) tt d.log.history) refl refl) (λ worker l. l)
 
 pub returns-clause-returning : goal.returns-clause-returning
 returns-clause-returning g c = returning_noted c.args.self.now _ (Closed c.args.instance) (λ i. refl) c.note.ensures.noted refl (λ h k out. out) (λ h k c. refl) (λ h k told. told)

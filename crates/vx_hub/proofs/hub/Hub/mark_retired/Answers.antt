@@ -6,6 +6,7 @@ use Rattle.vx_record.specs.declared.entry.Entry.TheVariants.{Retired}
 use Rattle.vx_hub.proofs.Owning.{placed_still}
 use Rattle.vx_hub.proofs.Noticing.{running_still}
 use Rattle.vx_hub.proofs.Counting.{counted_on}
+use Rattle.vx_hub.proofs.Prefixing.{abreast_plain}
 use Rattle.vx_hub.proofs.Retiring.{known_retired, known_retired_other, end_in_order}
 use Rattle.vx_hub.proofs.Dones.{over_known}
 use Rattle.vx_hub.proofs.hub.Hub.mark_retired.Goals as goal
@@ -26,7 +27,7 @@ returns-clause-stands g c =
     (λ retired. (closed, c.requires.bare))
     (λ fine kept placed. placed_still d.rows.items [] d.log.history (Retired i) tt kept.1 placed)
     (λ b w. w) (λ fine sound. running_still d.log.history (Retired i) d.batches.open_rows tt) (λ ledger. ledger) (λ fine going. tt)
-    (λ fine. counted_on d _ d.log.history (Retired i ∷ d.log.history) refl refl refl refl) (λ worker l. l)
+    (λ fine. counted_on d _ d.log.history (Retired i ∷ d.log.history) refl refl (abreast_plain (Retired i) tt d.log.history) refl refl) (λ worker l. l)
 
 pub returns-clause-retired : goal.returns-clause-retired
 returns-clause-retired g c = facts_get (λ f. f.retired ≡ true) c.args.self.now.facts.items c.args.instance _ c.requires.within refl

@@ -5,7 +5,6 @@ use Rattle.vx_record.specs.Confirms.{is_unconfirmed}
 use Rattle.vx_record.specs.declared.entry.Entry.TheVariants as entry
 use Rattle.vx_plan.specs.declared.class.Class.TheVariants.{Sink}
 use Rattle.vx_hub.proofs.Drying.{closing_on}
-use Rattle.vx_hub.proofs.StandsLaws.{ends_on, to_confirm_on, asked_on}
 use Rattle.vx_hub.proofs.Naming.{device_known}
 use Rattle.vx_hub.proofs.Silence.{same_test}
 use Rattle.vx_hub.proofs.Touching.{stands_touched, facts_surely, facts_get}
@@ -23,18 +22,14 @@ returns-clause-stands g c hand s =
       taken = known.taken;
       lost = known.lost;
       failed_starts = known.failed_starts;
-      ends = ends_on c.index_mut-facts.result.now c.args.self.now.log.history c.args.instance (entry.Confirm c.args.instance c.args.confirmed.positions c.args.confirmed.made) refl known.ends;
-      to_confirm = to_confirm_on c.index_mut-facts.result.now c.args.self.now.log.history c.args.instance (entry.Confirm c.args.instance c.args.confirmed.positions c.args.confirmed.made) refl known.to_confirm;
       confirm_failed = sym (ap (λ t. if t then not c.args.confirmed.made else is_unconfirmed c.args.self.now.log.history c.args.instance) (same_test c.args.instance));
       outlet = known.outlet;
       over = known.over;
       class = known.class;
-      confirms = known.confirms;
       done = λ closed. closing_on c.args.self.now.log.history c.args.instance (entry.Confirm c.args.instance c.args.confirmed.positions c.args.confirmed.made) refl (known.done closed);
       closed = known.closed;
       retired = known.retired;
       leased = known.leased;
-      due = asked_on c.index_mut-facts.result.now.to_confirm c.index_mut-facts.result.now.asked c.args.self.now.log.history c.args.instance (entry.Confirm c.args.instance c.args.confirmed.positions c.args.confirmed.made) refl refl known.due;
     })
     (λ bytes. bytes)
     refl (λ fine known out. record { out = out; device = device_known c.args.self.now.log.history c.args.instance c.index_mut-facts.result.now (s.recorded fine).order known; due = c.requires.due fine; source = source_is c.args.self.now.log.history c.args.instance (s.recorded fine).order (c.requires.due fine).source })

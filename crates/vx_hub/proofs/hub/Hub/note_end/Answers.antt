@@ -8,7 +8,6 @@ use Rattle.vx_record.specs.Records.{Record}
 use Rattle.vx_hub.specs.Order.{IsReadBy}
 use Rattle.vx_hub.proofs.Drying.{closing_on, ended_here}
 use Rattle.vx_hub.proofs.Flowing.{turn_in_order}
-use Rattle.vx_hub.proofs.StandsLaws.{ends_on, to_confirm_on, asked_on}
 use Rattle.vx_hub.proofs.Silence.{same_test}
 use Rattle.vx_hub.proofs.Touching.{stands_touched, facts_surely, facts_get, no_bytes}
 use Rattle.vx_hub.proofs.hub.Hub.note_end.Goals as goal
@@ -21,18 +20,14 @@ returns-clause-stands g c hand s =
       taken = known.taken ∙ no_bytes (c.args.instance == c.args.instance) (bytes_taken c.args.self.now.log.history c.args.instance) (bytes_of c.args.taken) c.requires.end;
       lost = known.lost;
       failed_starts = sym (ap (λ t. if t then 0 else failed_starts c.args.self.now.log.history c.args.instance) (same_test c.args.instance));
-      ends = ends_on c.index_mut-facts.result.now c.args.self.now.log.history c.args.instance (entry.Read c.args.instance c.args.stream c.args.taken) refl known.ends;
-      to_confirm = to_confirm_on c.index_mut-facts.result.now c.args.self.now.log.history c.args.instance (entry.Read c.args.instance c.args.stream c.args.taken) refl known.to_confirm;
       confirm_failed = known.confirm_failed;
       outlet = known.outlet;
       over = ended_here (c.args.instance == c.args.instance) (is_end c.args.taken) _ (all_ended c.args.self.now.log.history c.args.instance) c.ends_all-facts.result (same_test c.args.instance) c.ends_all-facts.ensures known.over;
       class = known.class;
-      confirms = known.confirms;
       done = λ closed. closing_on c.args.self.now.log.history c.args.instance (entry.Read c.args.instance c.args.stream c.args.taken) refl (known.done closed);
       closed = known.closed;
       retired = known.retired;
       leased = known.leased;
-      due = asked_on c.index_mut-facts.result.now.to_confirm c.index_mut-facts.result.now.asked c.args.self.now.log.history c.args.instance (entry.Read c.args.instance c.args.stream c.args.taken) refl refl known.due;
     })
     (λ bytes. bytes ∙ no_bytes true (bytes_of_all c.args.self.now.log.history) (bytes_of c.args.taken) c.requires.end)
     refl (λ fine known out. turn_in_order c.args.self.now.log.history c.args.instance c.index_mut-facts.result.now (s.recorded fine).order out known (facts_surely IsReadable c.args.self.now.facts.items c.args.instance c.index_mut-facts.result.now c.requires.within c.index_mut-facts.ensures.value c.requires.unlost) (c.requires.turn fine))

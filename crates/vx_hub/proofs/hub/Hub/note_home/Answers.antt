@@ -9,6 +9,7 @@ use Rattle.vx_record.specs.declared.entry.Entry.TheVariants.{Home}
 use Rattle.vx_hub.proofs.Owning.{placed_still}
 use Rattle.vx_hub.proofs.Noticing.{running_still}
 use Rattle.vx_hub.proofs.Counting.{counted_on}
+use Rattle.vx_hub.proofs.Prefixing.{abreast_plain}
 use Rattle.vx_hub.proofs.Ceasing.{left_out, home_on}
 use Rattle.vx_hub.proofs.Silence.{other_test}
 use Rattle.vx_hub.proofs.Retiring.{known_home, known_home_other}
@@ -31,7 +32,7 @@ returns-clause-stands g c =
     (λ fine kept placed. placed_still d.rows.items [] d.log.history (Home i) tt kept.1 placed)
     (λ b w. w) (λ fine sound. running_still d.log.history (Home i) d.batches.open_rows tt) (λ ledger. ledger)
     (λ fine going. c.requires.bore going (record { whole = fine.whole; fed = fine.fed }))
-    (λ fine. counted_on d _ d.log.history (Home i ∷ d.log.history) refl refl refl refl) (λ worker l. l)
+    (λ fine. counted_on d _ d.log.history (Home i ∷ d.log.history) refl refl (abreast_plain (Home i) tt d.log.history) refl refl) (λ worker l. l)
   where
     not_none : {P : Type 0} (o : Option P) → o ≡ None → IsSome o → ⊥
     not_none None none some = cc

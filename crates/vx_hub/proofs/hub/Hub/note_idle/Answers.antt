@@ -5,7 +5,6 @@ use Rattle.vx_record.specs.Sourcing.{failed_starts}
 use Rattle.vx_record.specs.declared.entry.Entry.TheVariants as entry
 use Rattle.vx_hub.proofs.Drying.{closing_on}
 use Rattle.vx_hub.proofs.Flowing.{turn_in_order}
-use Rattle.vx_hub.proofs.StandsLaws.{ends_on, to_confirm_on, asked_on}
 use Rattle.vx_hub.proofs.Naming.{device_known}
 use Rattle.vx_hub.proofs.Silence.{same_test}
 use Rattle.vx_hub.proofs.Touching.{stands_touched, facts_surely, facts_get}
@@ -19,18 +18,14 @@ returns-clause-stands g c hand s =
       taken = known.taken;
       lost = known.lost;
       failed_starts = c.starts_after-facts.ensures ∙ ap (λ n. if c.args.start_failed then n + 1 else 0) known.failed_starts ∙ sym (ap (λ t. if t then (if c.args.start_failed then failed_starts c.args.self.now.log.history c.args.instance + 1 else 0) else failed_starts c.args.self.now.log.history c.args.instance) (same_test c.args.instance));
-      ends = ends_on c.index_mut-facts.result.now c.args.self.now.log.history c.args.instance (entry.Idle c.args.instance c.args.start_failed) refl known.ends;
-      to_confirm = to_confirm_on c.index_mut-facts.result.now c.args.self.now.log.history c.args.instance (entry.Idle c.args.instance c.args.start_failed) refl known.to_confirm;
       confirm_failed = known.confirm_failed;
       outlet = known.outlet;
       over = known.over;
       class = known.class;
-      confirms = known.confirms;
       done = λ closed. closing_on c.args.self.now.log.history c.args.instance (entry.Idle c.args.instance c.args.start_failed) refl (known.done closed);
       closed = known.closed;
       retired = known.retired;
       leased = known.leased;
-      due = asked_on c.index_mut-facts.result.now.to_confirm c.index_mut-facts.result.now.asked c.args.self.now.log.history c.args.instance (entry.Idle c.args.instance c.args.start_failed) refl refl known.due;
     })
     (λ bytes. bytes)
     refl (λ fine known out. record { turn = turn_in_order c.args.self.now.log.history c.args.instance c.index_mut-facts.result.now (s.recorded fine).order out known (facts_surely IsReadable c.args.self.now.facts.items c.args.instance c.index_mut-facts.result.now c.requires.within c.index_mut-facts.ensures.value c.requires.unlost) (c.requires.turn fine); device = device_known c.args.self.now.log.history c.args.instance c.index_mut-facts.result.now (s.recorded fine).order known; few = λ failed. subst (λ n. n < 4) known.failed_starts (facts_surely (λ f. f.failed_starts < 4) c.args.self.now.facts.items c.args.instance c.index_mut-facts.result.now c.requires.within c.index_mut-facts.ensures.value (c.requires.few failed)) })

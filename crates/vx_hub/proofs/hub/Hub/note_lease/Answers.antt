@@ -1,16 +1,25 @@
-use Rattle.std.proofs.Common.{[], refl, false, ◌≡◌, ◌<◌, sym, subst, length, Option, IfSome, arith, true, ap, ◌∷◌, None, ◌∙◌}
+use Rattle.std.proofs.Common.{[], refl, false, ◌≡◌, ◌<◌, sym, subst, length, Option, IfSome, arith, true, ap, ◌∷◌, ◌∙◌}
 use Rattle.vx_hub.specs.Stands.{IsReadable, IsShut, IsGone, IsKnown, facts_at, IsSound}
 use Rattle.vx_record.specs.Records.{Record}
 use Rattle.vx_record.specs.declared.entry.Entry.TheVariants.{Lease}
 use Rattle.vx_plan.specs.declared.class.Class.TheVariants.{Source, Sink}
 use Rattle.vx_hub.specs.Order.{IsDueOf}
 use Rattle.vx_hub.specs.Asking.{HadNoneDue}
-use Rattle.vx_hub.proofs.Asking.{due_leased, none_leased, none_of}
+use Rattle.vx_hub.proofs.Asking.{due_leased, none_leased, none_of, asked_leased, asked_source, unasked, there_of}
+use Rattle.vx_hub.proofs.Naming.{device_known}
+use Rattle.vx_hub.proofs.Covering.{class_by}
+use Rattle.vx_hub.specs.Confirming.{HasNoneDue}
+use Rattle.vx_hub.specs.Notices.{progress_at}
+use Rattle.vx_hub.specs.Asking.{asked}
+use Rattle.vx_hub.specs.Order.{component_in}
+use Rattle.vx_record.specs.Installs.{in_force}
+use Rattle.vx_record.specs.Confirms.{due}
+use Rattle.vx_sourcecore.specs.Prefixes.{IsAskFor}
 use Rattle.vx_hub.proofs.StandsLaws.{same_next}
 use Rattle.vx_hub.proofs.Touching.{stands_marked, facts_surely, facts_get, facts_has}
 use Rattle.vx_hub.proofs.Owning.{placed_still}
 use Rattle.vx_hub.proofs.Noticing.{running_still}
-use Rattle.vx_hub.proofs.Counting.{counted_on}
+use Rattle.vx_hub.proofs.Counting.{counted_leased}
 use Rattle.vx_hub.proofs.Ceasing.{hub_comes, leased_on, going_on, unabandoned}
 use Rattle.vx_hub.proofs.Retiring.{known_leased, known_leased_other}
 use Rattle.vx_hub.proofs.Settling.{unclosed_unretired, known_at_home}
@@ -39,28 +48,28 @@ returns-clause-stands g c =
     let s = c.requires.stands in
     let h = d.log.history in
     let i = c.args.instance in
-    let f = c.index_mut-facts.result.now in
+    let f = c.index_mut.result.now in
     let e = Lease i c.args.worker c.args.now 0 in
     let within : i < length d.facts.items = omega (arith, c.requires.stands.size, c.requires.open.within) in
-    stands_marked g.P.Port.told d _ [] [] _ i f _ s within c.index_mut-facts.ensures.value
+    stands_marked g.P.Port.told d _ [] [] _ i f _ s within c.index_mut.ensures.value
     refl refl refl s.balanced refl refl c.note.ensures.noted tt (same_next d.batches d.batches h e refl refl)
     (λ fine. unclosed_unretired h f i c.args.worker c.args.now
-    (λ retired. (facts_has (IsGone d.rows.items i) d.facts.items i f within c.index_mut-facts.ensures.value (s.gone i) retired).0)
-    (facts_surely (λ x. x.closed ≡ false) d.facts.items i f within c.index_mut-facts.ensures.value c.requires.open.unclosed)
-    (facts_surely (λ x. x.leased ≡ false) d.facts.items i f within c.index_mut-facts.ensures.value c.requires.unleased)
-    (facts_has (λ x. IsKnown x h i) d.facts.items i f within c.index_mut-facts.ensures.value ((s.recorded fine).facts i)) (s.recorded fine).order
+    (λ retired. (facts_has (IsGone d.rows.items i) d.facts.items i f within c.index_mut.ensures.value (s.gone i) retired).0)
+    (facts_surely (λ x. x.closed ≡ false) d.facts.items i f within c.index_mut.ensures.value c.requires.open.unclosed)
+    (facts_surely (λ x. x.leased ≡ false) d.facts.items i f within c.index_mut.ensures.value c.requires.unleased)
+    (facts_has (λ x. IsKnown x h i) d.facts.items i f within c.index_mut.ensures.value ((s.recorded fine).facts i)) (s.recorded fine).order
     (unabandoned h (going_on g.P.Port.told d [] s c.requires.going fine))
     (owes_no_birth h i ((s.recorded fine).bore c.requires.running i (known_at_home g.P.Port.told d [] i s c.requires.unleased fine) (unabandoned h (going_on g.P.Port.told d [] s c.requires.going fine))))
     (let l = (s.recorded fine).later c.args.worker in omega (arith, l, c.requires.moment))
     (ready_known g.P.Port.told d i c.args.now s c.requires.going fine c.requires.open c.requires.unleased (λ finished. done_known g.P.Port.told d i s c.requires.running c.requires.going c.requires.unleased finished fine) (λ sink closed. closed_known g.P.Port.told d i c.args.now s fine c.requires.going sink c.requires.unleased closed) c.requires.ready))
     (hub_comes g.P.Port.told d [] e s c.requires.going) (λ k none out. leased_on (i == k) (is_out h k) out) refl
-    (λ fine known. known_leased f h i c.args.worker c.args.now 0 _ c.take.ensures.after known)
+    (λ fine known. known_leased f h i c.args.worker c.args.now 0 known)
     (λ x k other known. known_leased_other x h i k c.args.worker c.args.now 0 other known)
-    (facts_has (IsShut g.P.Port.told d.rows.items i) d.facts.items i f within c.index_mut-facts.ensures.value (s.shut i))
-    (facts_has (IsGone d.rows.items i) d.facts.items i f within c.index_mut-facts.ensures.value (s.gone i))
+    (facts_has (IsShut g.P.Port.told d.rows.items i) d.facts.items i f within c.index_mut.ensures.value (s.shut i))
+    (facts_has (IsGone d.rows.items i) d.facts.items i f within c.index_mut.ensures.value (s.gone i))
     (λ fine kept placed. placed_still d.rows.items [] h e tt kept.1 placed)
     (λ b w. w) (λ fine sound. running_still h e d.batches.open_rows tt) (λ ledger. ledger)
-    (λ fine going. tt) (λ fine. counted_on d _ h (e ∷ h) refl refl refl refl)
+    (λ fine going. tt) (λ fine. counted_leased d _ h i c.args.worker c.args.now 0 c.take_due.result refl refl c.take_due.ensures.asked)
     (λ worker l. later_leased h i c.args.worker c.args.now 0 worker d.latest c.requires.moment l)
 
 pub returns-clause-open : goal.returns-clause-open
@@ -69,51 +78,60 @@ returns-clause-open g c =
     record {
       within = c.requires.open.within;
       unclosed = facts_get (λ f. f.closed ≡ false) c.args.self.now.facts.items c.args.instance _ within
-          (facts_surely (λ f. f.closed ≡ false) c.args.self.now.facts.items c.args.instance c.index_mut-facts.result.now within c.index_mut-facts.ensures.value c.requires.open.unclosed);
+          (facts_surely (λ f. f.closed ≡ false) c.args.self.now.facts.items c.args.instance c.index_mut.result.now within c.index_mut.ensures.value c.requires.open.unclosed);
     }
 
 pub returns-clause-due : goal.returns-clause-due
 returns-clause-due g c sound =
-    let within : c.args.instance < length c.args.self.now.facts.items = omega (arith, c.requires.stands.size, c.requires.open.within) in
-    let h = c.args.self.now.log.history in
+    let d = c.args.self.now in
+    let i = c.args.instance in
+    let within : i < length d.facts.items = omega (arith, c.requires.stands.size, c.requires.open.within) in
+    let h = d.log.history in
     let w = c.note.ensures.noted.whole sound.whole in
     let r = c.requires.stands.recorded (record { whole = w.0; fed = sound.fed }) in
-    let mine : IsKnown c.index_mut-facts.result.now h c.args.instance =
-    facts_has (λ f. IsKnown f h c.args.instance) c.args.self.now.facts.items c.args.instance c.index_mut-facts.result.now within c.index_mut-facts.ensures.value (r.facts c.args.instance) in
-    subst (λ (o : Option _). IfSome o (IsDueOf c.note.new.self.history c.args.instance)) (sym c.take.ensures.value)
-    (subst (λ (k : Record). IfSome c.index_mut-facts.result.now.to_confirm (IsDueOf k c.args.instance)) (sym w.1)
-    (due_leased h c.args.instance c.args.worker c.args.now 0 c.index_mut-facts.result.now r.order
-    (sym mine.leased ∙ facts_surely (λ f. f.leased ≡ false) c.args.self.now.facts.items c.args.instance c.index_mut-facts.result.now within c.index_mut-facts.ensures.value c.requires.unleased) mine))
+    let mine : IsKnown c.index_mut.result.now h i = facts_has (λ f. IsKnown f h i) d.facts.items i c.index_mut.result.now within c.index_mut.ensures.value (r.facts i) in
+    let ask = asked_leased d.progress.items c.take_due.new.progress.items i h c.take_due.result c.take_due.ensures.asked (there_of (progress_at d.progress.items i) _ (r.unnoticed.each i c.requires.open.within)) (r.unnoticed.prefixes i) in
+    subst (λ (k : Record). IfSome c.take_due.result (IsDueOf k i)) (sym w.1)
+    (due_leased h i c.args.worker c.args.now 0 c.take_due.result r.order
+    (sym mine.leased ∙ facts_surely (λ f. f.leased ≡ false) d.facts.items i c.index_mut.result.now within c.index_mut.ensures.value c.requires.unleased)
+    (device_known h i c.index_mut.result.now r.order mine) ask)
 
 pub returns-clause-nothing : goal.returns-clause-nothing
 returns-clause-nothing g c none sound =
-    let within : c.args.instance < length c.args.self.now.facts.items = omega (arith, c.requires.stands.size, c.requires.open.within) in
-    let h = c.args.self.now.log.history in
+    let d = c.args.self.now in
+    let i = c.args.instance in
+    let within : i < length d.facts.items = omega (arith, c.requires.stands.size, c.requires.open.within) in
+    let h = d.log.history in
     let w = c.note.ensures.noted.whole sound.whole in
     let r = c.requires.stands.recorded (record { whole = w.0; fed = sound.fed }) in
-    let mine : IsKnown c.index_mut-facts.result.now h c.args.instance =
-    facts_has (λ f. IsKnown f h c.args.instance) c.args.self.now.facts.items c.args.instance c.index_mut-facts.result.now within c.index_mut-facts.ensures.value (r.facts c.args.instance) in
-    subst (λ (k : Record). HadNoneDue k c.args.instance) (sym w.1)
-    (none_leased h c.args.instance c.args.worker c.args.now 0 c.index_mut-facts.result.now r.order
-    (sym mine.leased ∙ facts_surely (λ f. f.leased ≡ false) c.args.self.now.facts.items c.args.instance c.index_mut-facts.result.now within c.index_mut-facts.ensures.value c.requires.unleased) mine
-    (sym c.take.ensures.value ∙ none))
+    let mine : IsKnown c.index_mut.result.now h i = facts_has (λ f. IsKnown f h i) d.facts.items i c.index_mut.result.now within c.index_mut.ensures.value (r.facts i) in
+    let ask = asked_leased d.progress.items c.take_due.new.progress.items i h c.take_due.result c.take_due.ensures.asked (there_of (progress_at d.progress.items i) _ (r.unnoticed.each i c.requires.open.within)) (r.unnoticed.prefixes i) in
+    subst (λ (k : Record). HadNoneDue k i) (sym w.1)
+    (none_leased h i c.args.worker c.args.now 0 r.order
+    (sym mine.leased ∙ facts_surely (λ f. f.leased ≡ false) d.facts.items i c.index_mut.result.now within c.index_mut.ensures.value c.requires.unleased)
+    (subst (λ (o : Option _). IsAskFor o (due h i) (asked h i)) none ask))
 
 pub returns-clause-confirmed : goal.returns-clause-confirmed
 returns-clause-confirmed g c none sound =
-    let within : c.args.instance < length c.args.self.now.facts.items = omega (arith, c.requires.stands.size, c.requires.open.within) in
-    let h = c.args.self.now.log.history in
+    let d = c.args.self.now in
+    let i = c.args.instance in
+    let within : i < length d.facts.items = omega (arith, c.requires.stands.size, c.requires.open.within) in
+    let h = d.log.history in
     let w = c.note.ensures.noted.whole sound.whole in
     let r = c.requires.stands.recorded (record { whole = w.0; fed = sound.fed }) in
-    let mine : IsKnown c.index_mut-facts.result.now h c.args.instance =
-    facts_has (λ f. IsKnown f h c.args.instance) c.args.self.now.facts.items c.args.instance c.index_mut-facts.result.now within c.index_mut-facts.ensures.value (r.facts c.args.instance) in
-    c.take.ensures.value ∙ none_of c.index_mut-facts.result.now.to_confirm mine.confirms
-    (facts_surely (λ f. f.class ≡ Source → f.to_confirm ≡ None) c.args.self.now.facts.items c.args.instance c.index_mut-facts.result.now within c.index_mut-facts.ensures.value none)
+    let f = c.index_mut.result.now in
+    let mine : IsKnown f h i = facts_has (λ x. IsKnown x h i) d.facts.items i f within c.index_mut.ensures.value (r.facts i) in
+    let there = there_of (progress_at d.progress.items i) _ (r.unnoticed.each i c.requires.open.within) in
+    let ask = asked_leased d.progress.items c.take_due.new.progress.items i h c.take_due.result c.take_due.ensures.asked there (r.unnoticed.prefixes i) in
+    none_of c.take_due.result (asked_source h i c.take_due.result r.order ask)
+    (λ source. unasked d.progress.items c.take_due.new.progress.items i c.take_due.result c.take_due.ensures.asked there
+    (facts_surely (λ x. x.class ≡ Source → HasNoneDue d i) d.facts.items i f within c.index_mut.ensures.value none (class_by (component_in (in_force h) i) f.class mine.class source)))
 
 pub returns-clause-unlost : goal.returns-clause-unlost
 returns-clause-unlost g c unlost =
     let within : c.args.instance < length c.args.self.now.facts.items = omega (arith, c.requires.stands.size, c.requires.open.within) in
     facts_get IsReadable c.args.self.now.facts.items c.args.instance _ within
-    (facts_surely IsReadable c.args.self.now.facts.items c.args.instance c.index_mut-facts.result.now within c.index_mut-facts.ensures.value unlost)
+    (facts_surely IsReadable c.args.self.now.facts.items c.args.instance c.index_mut.result.now within c.index_mut.ensures.value unlost)
 
 pub returns-clause-away : goal.returns-clause-away
 returns-clause-away g c sound =
@@ -132,7 +150,7 @@ pub returns-clause-sink : goal.returns-clause-sink
 returns-clause-sink g c sink =
     let within : c.args.instance < length c.args.self.now.facts.items = omega (arith, c.requires.stands.size, c.requires.open.within) in
     facts_get (λ f. f.class ≡ Sink) c.args.self.now.facts.items c.args.instance _ within
-    (facts_surely (λ f. f.class ≡ Sink) c.args.self.now.facts.items c.args.instance c.index_mut-facts.result.now within c.index_mut-facts.ensures.value sink)
+    (facts_surely (λ f. f.class ≡ Sink) c.args.self.now.facts.items c.args.instance c.index_mut.result.now within c.index_mut.ensures.value sink)
 
 pub returns-clause-untaken : goal.returns-clause-untaken
 returns-clause-untaken g c sound =

@@ -4,7 +4,6 @@ use Rattle.vx_hub.specs.Stands.{IsReadable, lost_at}
 use Rattle.vx_record.specs.declared.entry.Entry.TheVariants as entry
 use Rattle.vx_hub.proofs.Drying.{closing_on}
 use Rattle.vx_hub.proofs.Flowing.{turn_in_order}
-use Rattle.vx_hub.proofs.StandsLaws.{ends_on, to_confirm_on, asked_on}
 use Rattle.vx_hub.proofs.Naming.{device_known}
 use Rattle.vx_hub.proofs.Silence.{same_test}
 use Rattle.vx_hub.proofs.Touching.{stands_touched, facts_surely, facts_get}
@@ -18,18 +17,14 @@ returns-clause-stands g c hand s =
       taken = known.taken;
       lost = ap (λ t. if t then Some c.index_mut-facts.result.now.taken else lost_at c.args.self.now.log.history c.args.instance) (sym (same_test c.args.instance));
       failed_starts = known.failed_starts;
-      ends = ends_on c.index_mut-facts.result.now c.args.self.now.log.history c.args.instance (entry.SourceLost c.args.instance c.index_mut-facts.result.now.taken c.args.start_failed) refl known.ends;
-      to_confirm = to_confirm_on c.index_mut-facts.result.now c.args.self.now.log.history c.args.instance (entry.SourceLost c.args.instance c.index_mut-facts.result.now.taken c.args.start_failed) refl known.to_confirm;
       confirm_failed = known.confirm_failed;
       outlet = known.outlet;
       over = known.over;
       class = known.class;
-      confirms = known.confirms;
       done = λ closed. closing_on c.args.self.now.log.history c.args.instance (entry.SourceLost c.args.instance c.index_mut-facts.result.now.taken c.args.start_failed) refl (known.done closed);
       closed = known.closed;
       retired = known.retired;
       leased = known.leased;
-      due = asked_on c.index_mut-facts.result.now.to_confirm c.index_mut-facts.result.now.asked c.args.self.now.log.history c.args.instance (entry.SourceLost c.args.instance c.index_mut-facts.result.now.taken c.args.start_failed) refl refl known.due;
     })
     (λ bytes. bytes)
     refl (λ fine known out. record { first = turn_in_order c.args.self.now.log.history c.args.instance c.index_mut-facts.result.now (s.recorded fine).order out known (facts_surely IsReadable c.args.self.now.facts.items c.args.instance c.index_mut-facts.result.now c.requires.within c.index_mut-facts.ensures.value c.requires.unlost) (c.requires.turn fine); device = device_known c.args.self.now.log.history c.args.instance c.index_mut-facts.result.now (s.recorded fine).order known; after = known.taken; many = λ failed. subst (λ n. 4 ≤ n) known.failed_starts (facts_surely (λ f. 4 ≤ f.failed_starts) c.args.self.now.facts.items c.args.instance c.index_mut-facts.result.now c.requires.within c.index_mut-facts.ensures.value (c.requires.many failed)) })

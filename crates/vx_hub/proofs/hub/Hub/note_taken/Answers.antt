@@ -9,7 +9,6 @@ use Rattle.vx_record.specs.Records.{Record}
 use Rattle.vx_hub.specs.Order.{IsReadBy}
 use Rattle.vx_hub.proofs.Drying.{closing_on, not_ended}
 use Rattle.vx_hub.proofs.Flowing.{turn_in_order}
-use Rattle.vx_hub.proofs.StandsLaws.{ends_on, to_confirm_on, asked_on}
 use Rattle.vx_hub.proofs.Silence.{same_test}
 use Rattle.vx_hub.proofs.Touching.{stands_touched, facts_surely, facts_get, capped_on, capped_mine}
 use Rattle.vx_hub.proofs.hub.Hub.note_taken.Goals as goal
@@ -22,18 +21,14 @@ returns-clause-stands g c hand s =
       taken = c.saturating_add-facts.ensures ∙ ap (λ n. min (c.index_mut-facts.result.now.taken + n) (2 ^ 64 - 1)) c.len-n.ensures ∙ capped_mine c.args.instance c.index_mut-facts.result.now.taken _ (length c.args.bytes) known.taken;
       lost = known.lost;
       failed_starts = sym (ap (λ t. if t then 0 else failed_starts c.args.self.now.log.history c.args.instance) (same_test c.args.instance));
-      ends = ends_on c.index_mut-facts.result.now c.args.self.now.log.history c.args.instance (entry.Read c.args.instance c.args.stream (taken.Bytes c.args.bytes)) refl known.ends;
-      to_confirm = to_confirm_on c.index_mut-facts.result.now c.args.self.now.log.history c.args.instance (entry.Read c.args.instance c.args.stream (taken.Bytes c.args.bytes)) refl known.to_confirm;
       confirm_failed = known.confirm_failed;
       outlet = known.outlet;
       over = known.over ∙ sym (not_ended (c.args.instance == c.args.instance) (all_ended c.args.self.now.log.history c.args.instance));
       class = known.class;
-      confirms = known.confirms;
       done = λ closed. closing_on c.args.self.now.log.history c.args.instance (entry.Read c.args.instance c.args.stream (taken.Bytes c.args.bytes)) refl (known.done closed);
       closed = known.closed;
       retired = known.retired;
       leased = known.leased;
-      due = asked_on c.index_mut-facts.result.now.to_confirm c.index_mut-facts.result.now.asked c.args.self.now.log.history c.args.instance (entry.Read c.args.instance c.args.stream (taken.Bytes c.args.bytes)) refl refl known.due;
     })
     (λ bytes. c.saturating_add-self.ensures ∙ ap (λ n. min (c.args.self.now.bytes + n) (2 ^ 64 - 1)) c.len-n.ensures ∙ capped_on c.args.self.now.bytes _ (length c.args.bytes) _ bytes)
     refl (λ fine known out. turn_in_order c.args.self.now.log.history c.args.instance c.index_mut-facts.result.now (s.recorded fine).order out known (facts_surely IsReadable c.args.self.now.facts.items c.args.instance c.index_mut-facts.result.now c.requires.within c.index_mut-facts.ensures.value c.requires.unlost) (c.requires.turn fine))

@@ -1,15 +1,12 @@
-use Rattle.std.proofs.Common.{refl, false, ◌≡◌, ◌<◌, ◌∙◌, [], ap, sym, length, arith, subst, ℕ, List, ◌++◌, ◌∷◌}
-use Rattle.vx_record.specs.Confirms.{moved_to, born_positions}
+use Rattle.std.proofs.Common.{refl, ◌≡◌, ◌<◌, ◌∙◌, [], ap, sym, length, arith, subst, ℕ, List, ◌++◌, ◌∷◌}
 use Rattle.vx_hub.specs.Numbers.{numbers_in}
-use Rattle.vx_hub.specs.Stands.{IsShut, IsGone, IsKnown, IsSound}
-use Rattle.vx_hub.specs.declared.facts.Facts.{Facts}
-use Rattle.vx_hub.specs.Asking.{asked_of}
-use Rattle.vx_hub.proofs.Asking.{asked_born, ask_is}
-use Rattle.vx_hub.specs.Ending.{AreMovedTo}
-use Rattle.vx_hub.proofs.Drying.{closing_on, read_class}
-use Rattle.vx_hub.proofs.Dues.{born_more}
+use Rattle.vx_hub.specs.Stands.{IsShut, IsGone, IsSound}
+use Rattle.vx_hub.proofs.Drying.{closing_on}
+use Rattle.vx_hub.proofs.Covering.{hub_waits}
+use Rattle.vx_hub.specs.Notices.{waits_by}
+use Rattle.std.specs.Prelude.{slice_get}
 use Rattle.vx_hub.proofs.Ordering.{birth_in_order, length_numbers}
-use Rattle.vx_hub.proofs.Touching.{stands_marked, known_other, facts_surely, facts_get, facts_has, length_numbered}
+use Rattle.vx_hub.proofs.Touching.{stands_marked, own_facts, known_other, facts_has, length_numbered}
 use Rattle.vx_record.specs.Records.{Record}
 use Rattle.vx_record.specs.Lists.{outputs}
 use Rattle.vx_record.specs.Moving.{singles}
@@ -41,64 +38,48 @@ returns-clause-stands g c =
     let copies = c.in-Ok.born.1 in
     let within : c.args.instance < length c.args.self.now.facts.items = omega (arith, s.size, c.requires.open.within) in
     let many : length copies ≡ c.len-n.result = ap length c.in-Ok.ensures.copies ∙ length_numbered c.len-n.result next next next in
-    let moves : AreMovedTo c.args.position c.args.ends c.index_mut-facts.result.now =
-    facts_surely (AreMovedTo c.args.position c.args.ends) c.args.self.now.facts.items c.args.instance c.index_mut-facts.result.now within c.index_mut-facts.ensures.value c.requires.moved in
-    let more = born_more h c.args.instance c.in-Ok.born.0 c.in-Ok.born.0 (numbers_in copies) c.args.events.now false c.args.position.stream c.args.position.end in
-    let was = c.index_mut-facts.result.now in
-    let e = Born c.args.instance c.in-Ok.born.0 c.in-Ok.born.0 (numbers_in copies) c.args.events.now false c.args.position.stream c.args.position.end in
-    stands_marked g.P.Port.told c.args.self.now _ [] copies _ c.args.instance c.index_mut-facts.result.now _ s within c.index_mut-facts.ensures.value
-    refl refl refl (λ batch place. omega (arith, s.balanced batch place, c.in-Ok.ensures.exchange batch place)) refl refl c.note_born.ensures tt
+    let own = own_facts c.args.self.now.facts.items c.args.instance within in
+    let e = Born c.args.instance c.in-Ok.born.0 c.in-Ok.born.0 (numbers_in copies) c.args.events.now c.waits-must_wait.result c.args.position.stream c.args.position.end in
+    stands_marked g.P.Port.told c.args.self.now _ [] copies _ c.args.instance own.0 own.0 s within own.1 own.2
+    refl refl (λ batch place. omega (arith, s.balanced batch place, c.in-Ok.ensures.exchange batch place)) refl refl c.note_born.ensures tt
     (λ now. omega (arith, now, c.in-Ok.ensures.next, length_numbers copies, many))
-    (λ fine. birth_in_order h c.args.instance next c.len-n.result c.in-Ok.born.0 copies c.args.events.now c.args.position.stream c.args.position.end (s.recorded fine).order (c.requires.read fine) (c.requires.yields fine) (s.recorded fine).next c.in-Ok.ensures.number c.in-Ok.ensures.copies (sym c.len-n.ensures)
+    (λ fine. birth_in_order h c.args.instance next c.len-n.result c.in-Ok.born.0 copies c.args.events.now c.waits-must_wait.result c.args.position.stream c.args.position.end (s.recorded fine).order (hub_waits g.P.Port.told c.args.self.now [] c.args.instance c.waits-must_wait.result c.requires.stands c.requires.open.within (c.waits-must_wait.ensures ∙ ap (λ ps. waits_by (slice_get ps c.args.instance)) c.as_slice.ensures.value) fine) (c.requires.read fine) (c.requires.yields fine) (s.recorded fine).next c.in-Ok.ensures.number c.in-Ok.ensures.copies (sym c.len-n.ensures)
     (omega (arith, c.requires.some, c.len-n.ensures)) (omega (arith, c.born.ensures.kept.numbers, c.in-Ok.ensures.next)))
-    (hub_comes g.P.Port.told c.args.self.now [] (Born c.args.instance c.in-Ok.born.0 c.in-Ok.born.0 (numbers_in copies) c.args.events.now false c.args.position.stream c.args.position.end) s c.requires.going)
+    (hub_comes g.P.Port.told c.args.self.now [] (Born c.args.instance c.in-Ok.born.0 c.in-Ok.born.0 (numbers_in copies) c.args.events.now c.waits-must_wait.result c.args.position.stream c.args.position.end) s c.requires.going)
     (λ k none out. out) refl
-    (λ fine known. subst (λ (x : Facts). IsKnown x (e ∷ h) c.args.instance) (sym c.end_at.ensures) (record {
+    (λ fine known. record {
       taken = known.taken;
       lost = known.lost;
       failed_starts = known.failed_starts;
-      ends = moves.ends ∙ ap (λ ps. moved_to c.args.position.stream c.args.position.end ps) known.ends ∙ more;
-      to_confirm = ask_is c.args.ends.to_confirm (asked_of was.to_confirm was.ends was.asked) (born_positions (e ∷ h) c.args.instance) (moves.to_confirm ∙ ap (λ ps. moved_to c.args.position.stream c.args.position.end ps) known.ends ∙ more);
       confirm_failed = known.confirm_failed;
       outlet = known.outlet;
       over = known.over;
       class = known.class;
-      confirms = λ some. read_class h c.args.instance was (s.recorded (record { whole = fine.whole; fed = fine.fed })).order (c.requires.read (record { whole = fine.whole; fed = fine.fed })) known;
       done = λ closed. closing_on h c.args.instance e refl (known.done closed);
       closed = known.closed;
       retired = known.retired;
       leased = known.leased;
-      due = asked_born was.to_confirm was.ends was.asked c.args.ends.to_confirm h c.args.instance c.in-Ok.born.0 c.in-Ok.born.0 (numbers_in copies) c.args.events.now false c.args.position.stream c.args.position.end known.ends moves.to_confirm known.due;
-    }))
+    })
     (λ x k other known. known_other x h c.args.instance k _ refl other known)
-    (subst (λ (x : Facts). IsShut g.P.Port.told c.args.self.now.rows.items c.args.instance x) (sym c.end_at.ensures) (facts_has (IsShut g.P.Port.told c.args.self.now.rows.items c.args.instance) c.args.self.now.facts.items c.args.instance was within c.index_mut-facts.ensures.value (s.shut c.args.instance)))
-    (subst (λ (x : Facts). IsGone c.args.self.now.rows.items c.args.instance x) (sym c.end_at.ensures) (facts_has (IsGone c.args.self.now.rows.items c.args.instance) c.args.self.now.facts.items c.args.instance was within c.index_mut-facts.ensures.value (s.gone c.args.instance)))
-    (λ fine kept placed. placed_born c.args.self.now.rows.items h c.args.instance c.in-Ok.born.0 c.in-Ok.born.0 copies c.args.events.now false c.args.position.stream c.args.position.end c.len-n.result
+    (facts_has (IsShut g.P.Port.told c.args.self.now.rows.items c.args.instance) c.args.self.now.facts.items c.args.instance own.0 within own.1 (s.shut c.args.instance))
+    (facts_has (IsGone c.args.self.now.rows.items c.args.instance) c.args.self.now.facts.items c.args.instance own.0 within own.1 (s.gone c.args.instance))
+    (λ fine kept placed. placed_born c.args.self.now.rows.items h c.args.instance c.in-Ok.born.0 c.in-Ok.born.0 copies c.args.events.now c.waits-must_wait.result c.args.position.stream c.args.position.end c.len-n.result
     (c.in-Ok.ensures.copies ∙ ap (λ k. numbered c.len-n.result k k k) (sym c.in-Ok.ensures.number)) (c.in-Ok.ensures.number ∙ (s.recorded fine).next)
     (omega (arith, many, length_numbers copies)) kept placed)
     (λ b w. w)
-    (λ fine sound running. subst (λ (rs : List OpenBatch). AreRunning (Born c.args.instance c.in-Ok.born.0 c.in-Ok.born.0 (numbers_in copies) c.args.events.now false c.args.position.stream c.args.position.end ∷ h) rs) (sym c.in-Ok.ensures.rows)
-    (running_more (Born c.args.instance c.in-Ok.born.0 c.in-Ok.born.0 (numbers_in copies) c.args.events.now false c.args.position.stream c.args.position.end ∷ h) c.args.self.now.batches.open_rows _
-    (running_on h (Born c.args.instance c.in-Ok.born.0 c.in-Ok.born.0 (numbers_in copies) c.args.events.now false c.args.position.stream c.args.position.end ∷ h) c.args.self.now.batches.open_rows (λ b. refl) running)
+    (λ fine sound running. subst (λ (rs : List OpenBatch). AreRunning (Born c.args.instance c.in-Ok.born.0 c.in-Ok.born.0 (numbers_in copies) c.args.events.now c.waits-must_wait.result c.args.position.stream c.args.position.end ∷ h) rs) (sym c.in-Ok.ensures.rows)
+    (running_more (Born c.args.instance c.in-Ok.born.0 c.in-Ok.born.0 (numbers_in copies) c.args.events.now c.waits-must_wait.result c.args.position.stream c.args.position.end ∷ h) c.args.self.now.batches.open_rows _
+    (running_on h (Born c.args.instance c.in-Ok.born.0 c.in-Ok.born.0 (numbers_in copies) c.args.events.now c.waits-must_wait.result c.args.position.stream c.args.position.end ∷ h) c.args.self.now.batches.open_rows (λ b. refl) running)
     (born_status h next sound (omega (arith, (s.recorded fine).next)))))
     (λ ledger. c.in-Ok.ensures.kept) (λ fine going. tt)
-    (λ fine counted. counted_born c.args.self.now _ h c.args.instance c.in-Ok.born.0 c.in-Ok.born.0 (numbers_in copies) c.args.events.now false c.args.position.stream c.args.position.end _
-    (s.recorded fine).order (omega (arith, (s.recorded fine).next, c.born.ensures.kept.numbers, c.in-Ok.ensures.next)) c.in-Ok.ensures.rows (sym c.in-Ok.ensures.number) refl refl c.count_birth.ensures counted)
+    (λ fine counted. counted_born c.args.self.now _ h c.args.instance c.in-Ok.born.0 c.in-Ok.born.0 (numbers_in copies) c.args.events.now c.waits-must_wait.result c.args.position.stream c.args.position.end _
+    (s.recorded fine).order (omega (arith, (s.recorded fine).next, c.born.ensures.kept.numbers, c.in-Ok.ensures.next)) c.in-Ok.ensures.rows (sym c.in-Ok.ensures.number) refl (c.in-Ok.ensures.number ∙ (s.recorded fine).next) (hub_waits g.P.Port.told c.args.self.now [] c.args.instance c.waits-must_wait.result c.requires.stands c.requires.open.within (c.waits-must_wait.ensures ∙ ap (λ ps. waits_by (slice_get ps c.args.instance)) c.as_slice.ensures.value) fine) refl (c.count_birth.ensures c.args.position c.requires.ready) counted)
     (λ worker l. l)
 
 pub returns-clause-each : goal.returns-clause-each
 returns-clause-each g c =
     let next = c.args.self.now.batches.next in
     omega (arith, ap length c.in-Ok.ensures.copies, length_numbered c.len-n.result next next next, c.len-n.ensures)
-
-pub returns-clause-open : goal.returns-clause-open
-returns-clause-open g c =
-    let within : c.args.instance < length c.args.self.now.facts.items = omega (arith, c.requires.stands.size, c.requires.open.within) in
-    record {
-      within = c.requires.open.within;
-      unclosed = facts_get (λ f. f.closed ≡ false) c.args.self.now.facts.items c.args.instance _ within
-          (ap (λ (x : Facts). x.closed) c.end_at.ensures ∙ facts_surely (λ f. f.closed ≡ false) c.args.self.now.facts.items c.args.instance c.index_mut-facts.result.now within c.index_mut-facts.ensures.value c.requires.open.unclosed);
-    }
 
 pub returns-clause-lined : goal.returns-clause-lined
 returns-clause-lined g c sound =
@@ -109,13 +90,13 @@ returns-clause-lined g c sound =
     let copies = c.in-Ok.born.1 in
     let w = c.note_born.ensures.whole sound.whole in
     let fine : IsSound d = record { whole = w.0; fed = sound.fed } in
-    let order = birth_in_order h c.args.instance next c.len-n.result c.in-Ok.born.0 copies c.args.events.now c.args.position.stream c.args.position.end (s.recorded fine).order (c.requires.read fine) (c.requires.yields fine) (s.recorded fine).next c.in-Ok.ensures.number c.in-Ok.ensures.copies (sym c.len-n.ensures)
+    let order = birth_in_order h c.args.instance next c.len-n.result c.in-Ok.born.0 copies c.args.events.now c.waits-must_wait.result c.args.position.stream c.args.position.end (s.recorded fine).order (hub_waits g.P.Port.told c.args.self.now [] c.args.instance c.waits-must_wait.result c.requires.stands c.requires.open.within (c.waits-must_wait.ensures ∙ ap (λ ps. waits_by (slice_get ps c.args.instance)) c.as_slice.ensures.value) fine) (c.requires.read fine) (c.requires.yields fine) (s.recorded fine).next c.in-Ok.ensures.number c.in-Ok.ensures.copies (sym c.len-n.ensures)
     (omega (arith, c.requires.some, c.len-n.ensures)) (omega (arith, c.born.ensures.kept.numbers, c.in-Ok.ensures.next)) in
     subst (λ (k : Record). (done : List ℕ) × (outputs k c.args.instance ≡ singles (numbers_in copies ++ done))) (sym w.1)
-    (lined_born d.rows.items h c.args.instance c.in-Ok.born.0 c.in-Ok.born.0 (numbers_in copies) c.args.events.now false c.args.position.stream c.args.position.end (order.next, conserved h (s.recorded fine).order) (s.recorded fine).places.standing c.requires.sent)
+    (lined_born d.rows.items h c.args.instance c.in-Ok.born.0 c.in-Ok.born.0 (numbers_in copies) c.args.events.now c.waits-must_wait.result c.args.position.stream c.args.position.end (order.next, conserved h (s.recorded fine).order) (s.recorded fine).places.standing c.requires.sent)
 
 pub returns-clause-returning : goal.returns-clause-returning
-returns-clause-returning g c = returning_noted c.args.self.now _ (Born c.args.instance c.in-Ok.born.0 c.in-Ok.born.0 (numbers_in c.in-Ok.born.1) c.args.events.now false c.args.position.stream c.args.position.end) (λ i. refl) c.note_born.ensures refl (λ h k out. out) (λ h k c. refl) (λ h k told. told)
+returns-clause-returning g c = returning_noted c.args.self.now _ (Born c.args.instance c.in-Ok.born.0 c.in-Ok.born.0 (numbers_in c.in-Ok.born.1) c.args.events.now c.waits-must_wait.result c.args.position.stream c.args.position.end) (λ i. refl) c.note_born.ensures refl (λ h k out. out) (λ h k c. refl) (λ h k told. told)
 
 pub returns-clause-paired : goal.returns-clause-paired
 returns-clause-paired g c sound =
@@ -128,12 +109,12 @@ returns-clause-paired g c sound =
     let fine : IsSound d = record { whole = w.0; fed = sound.fed } in
     let many : length copies ≡ c.len-n.result = ap length c.in-Ok.ensures.copies ∙ length_numbered c.len-n.result next next next in
     subst (λ (k : Record). ArePaired k c.args.events.now copies) (sym w.1)
-    (paired_born h c.args.instance c.in-Ok.born.0 c.in-Ok.born.0 (numbers_in copies) c.args.events.now copies false c.args.position.stream c.args.position.end c.len-n.result next c.in-Ok.ensures.copies c.len-n.ensures (s.recorded fine).next
+    (paired_born h c.args.instance c.in-Ok.born.0 c.in-Ok.born.0 (numbers_in copies) c.args.events.now copies c.waits-must_wait.result c.args.position.stream c.args.position.end c.len-n.result next c.in-Ok.ensures.copies c.len-n.ensures (s.recorded fine).next
     (omega (arith, (s.recorded fine).next, length_numbers copies, many)))
 
 pub returns-clause-bore : goal.returns-clause-bore
 returns-clause-bore g c =
-    born_batch g.P.Port.told c.args.self.now _ c.args.instance c.in-Ok.born.0 c.in-Ok.born.0 (numbers_in c.in-Ok.born.1) c.args.events.now false c.args.position.stream c.args.position.end c.requires.stands c.requires.read c.requires.before c.requires.given c.requires.some c.note_born.ensures refl
+    born_batch g.P.Port.told c.args.self.now _ c.args.instance c.in-Ok.born.0 c.in-Ok.born.0 (numbers_in c.in-Ok.born.1) c.args.events.now c.waits-must_wait.result c.args.position.stream c.args.position.end c.requires.stands c.requires.read c.requires.before c.requires.given c.requires.some c.note_born.ensures refl
 
 pub returns-in-Err-clause-wants : goal.returns-in-Err-clause-wants
 returns-in-Err-clause-wants g c sound =

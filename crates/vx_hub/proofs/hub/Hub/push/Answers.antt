@@ -31,6 +31,7 @@ returns-clause-stands g c =
     (c.push_buffer.ensures.same_rooms ∙ c.take_child-target.ensures.same_rooms) c.note_push.ensures
     (record {
       quiet = tt;
+      plain = tt;
       next = same_next d.batches d.batches d.log.history (Push c.args.instance c.take_child-target.result.target 0 (numbers_in copies)) refl refl;
       order = λ fine. record {
         home = known_at_home g.P.Port.told d [] c.args.instance s c.requires.home fine;

@@ -8,17 +8,19 @@ use Rattle.std.specs.Prelude.{slice_get, IsSome, IsSomeAnd, ℕ, ◌<◌, length
 use Rattle.vx_hub.specs.Stands.{facts_at, spec_of, HasRooms}
 use Rattle.vx_hub.specs.Rows.{parcel_copies, child_copies, copies_in, port_at}
 use Rattle.vx_hub.proofs.Parcels.{row_counts}
-use Rattle.vx_hub.proofs.Beginning.{ports_more, said_more, home_more, facts_more, fitted_more_at, rooms_more, seat_room, seat_fitted, copies_more, role_counts, role_begun, seat_role, places_more, unused_here}
+use Rattle.vx_hub.proofs.Beginning.{ports_more, said_more, home_more, facts_more, fitted_more_at, rooms_more, seat_room, seat_fitted, copies_more, role_counts, role_begun, seat_role, places_more, unused_here, seat_waits}
 use Rattle.vx_hub.specs.Places.{copies_at}
-use Rattle.vx_hub.specs.declared.facts.Progress.{Progress}
+use Rattle.vx_hub.specs.declared.progress.Progress.{Progress}
+use Rattle.vx_hub.specs.Beginning.{IsWaitingBy}
 use Rattle.vx_hub.specs.Notices.{progress_at}
-use Rattle.vx_hub.proofs.Counting.{progress_more}
+use Rattle.vx_hub.proofs.Counting.{progress_more, waits_more}
 use Rattle.vx_hub.specs.Events.{AreSaid}
 use Rattle.vx_hub.proofs.hub.Hub.seat.Goals as goal
 
 pub returns-clause-begins : goal.returns-clause-begins
 returns-clause-begins g c plan begins untouched fitted =
     let row : Row _ = record { outputs = c.args.seat.outputs; waiting = c.new.result; buffer = c.args.seat.buffer; task = Some (record { port = c.args.port; role = c.args.seat.role }) } in
+    let progress : Progress = record { unnoticed = 0; prefix = c.new-prefix.result } in
     record {
       batches = begins.batches;
       next = begins.next;
@@ -55,6 +57,10 @@ returns-clause-begins g c plan begins untouched fitted =
           (rooms_more (λ k n. n ≡ room_at plan k) c.args.self.now.rows.items row begins.rooms (seat_room plan (length c.args.self.now.rows.items) c.args.seat fitted));
       abreast = omega (arith, c.push_reserved-2.ensures.len, c.push_reserved-3.ensures.len, begins.abreast);
       unnoticed = λ i l. subst (λ (ps : List Progress). IsSomeAnd (progress_at ps i) (λ p. p.unnoticed ≡ 0)) (sym c.push_reserved-2.ensures.items)
-          (progress_more c.args.self.now.progress.items (record { unnoticed = 0 }) begins.unnoticed refl i (subst (λ (ps : List Progress). i < length ps) c.push_reserved-2.ensures.items l));
+          (progress_more c.args.self.now.progress.items progress begins.unnoticed refl i (subst (λ (ps : List Progress). i < length ps) c.push_reserved-2.ensures.items l));
+      confirms = λ i. subst (λ (ps : List Progress). IfSome (progress_at ps i) (λ p. IsSomeAnd (slice_get plan.components i) (IsWaitingBy plan p))) (sym c.push_reserved-2.ensures.items)
+          (waits_more (λ k p. IsSomeAnd (slice_get plan.components k) (IsWaitingBy plan p)) c.args.self.now.progress.items progress begins.confirms
+          (subst (λ (n : ℕ). IsSomeAnd (slice_get plan.components n) (IsWaitingBy plan progress)) (sym begins.abreast)
+          (seat_waits plan (length c.args.self.now.rows.items) c.args.seat progress fitted c.new-prefix.ensures.waits c.new-prefix.ensures.none)) i);
       fed = begins.fed;
     }

@@ -34,6 +34,7 @@ returns-in_default-clause-stands g c rest s =
     refl (λ i. refl) (bare_stays d.facts.items d.rows.items) refl c.note.ensures.noted
     (record {
       quiet = tt;
+      plain = tt;
       next = same_next d.batches c.spend-notice.new.self h (Spent c.args.instance n c.args.outcome) refl c.spend-notice.ensures.next;
       order = order;
       comes = comes;
@@ -76,7 +77,7 @@ returns-in-Some-clause-stands g c rest s =
     spent_statuses h c.args.instance n c.args.outcome f d.batches _ c.number-copy.ensures (last_mine h rest f r.places.owned) r.ledger r.statuses c.spend-notice.ensures.rows)
     c.spend-notice.ensures.kept refl refl refl
     (λ fine counted. let r = s.recorded fine in
-    counted_noticed d _ h c.args.instance n c.args.outcome f.batch c.in-Some.notice c.in-Some.notice.status
+    counted_noticed d _ h c.args.instance n c.args.outcome f.batch c.in-Some.notice c.in-Some.notice.status r.order
     (taken_off h c.args.outcome f d.batches c.spend-notice.new.self.open_rows c.in-Some.notice (last_mine h rest f r.places.owned) r.ledger c.spend-notice.ensures.rows (sym c.spend-notice.ensures.notice ∙ c.in-Some.is)) refl c.tell.ensures.counted counted))
 
 pub returns-in_default-clause-cause : goal.returns-in_default-clause-cause

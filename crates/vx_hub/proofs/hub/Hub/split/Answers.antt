@@ -57,6 +57,7 @@ returns-in-Ok-Children-clause-stands g c =
     (c.put_children.ensures.same_rooms ∙ c.pop_output.ensures.same_rooms) noted
     (record {
       quiet = tt;
+      plain = tt;
       next = split_next d.log.history d.batches.next c.route.new.batches.next targets parcel cs are more;
       order = λ fine. split_in_order d.log.history c.args.instance d.batches.next targets parcel cs (s.recorded fine).order
           (known_at_home g.P.Port.told d [] c.args.instance s c.requires.home fine)

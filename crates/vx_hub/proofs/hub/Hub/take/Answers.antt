@@ -60,6 +60,7 @@ returns-clause-stands g c =
     (c.hold.ensures.same_rooms ∙ c.pop_buffer.ensures.same_rooms) c.note_take.ensures
     (record {
       quiet = tt;
+      plain = tt;
       next = same_next c.args.self.now.batches c.args.self.now.batches c.args.self.now.log.history (Take c.args.instance 0 (numbers_in c.in-Some.parcel.finalizers)) refl refl;
       order = order;
       said = λ fine said.
