@@ -14,6 +14,7 @@ use Rattle.vx_value.specs.Texts.{Word, same_text}
 use Rattle.vx_value.proofs.Order.{told_less, told_same, less_not_same'}
 use Rattle.vx_plan.specs.declared.class.Class.{Class}
 use Rattle.vx_plan.specs.declared.class.Class.TheVariants.{Source, Transform, Sink}
+use Rattle.vx_plan.specs.declared.global.Global.{Global as Options}
 use Rattle.vx_plan.specs.declared.plan.Plan.{Plan}
 use Rattle.vx_reading.specs.declared.finding.Finding.{Finding}
 use Rattle.vx_reading.specs.declared.kind.Kind.{Kind}
@@ -22,7 +23,7 @@ use Rattle.vx_reading.specs.Components.{Part, part_in, parts_in, parts, section,
 use Rattle.vx_reading.specs.Findings.{findings, global_findings, count_findings, all_section_findings, part_finding, part_findings}
 use Rattle.vx_reading.specs.Judging.{Pair, pairs_of, pairs_in, is_table}
 use Rattle.vx_reading.specs.Names.{AreApart, names_of, part_names, pair_names, AreApartByClass}
-use Rattle.vx_reading.specs.Plans.{component, component_of}
+use Rattle.vx_reading.specs.Plans.{component, component_of, global_of}
 use Rattle.vx_reading.specs.Reading.{IsPlanOf, IsJudged}
 use Rattle.vx_reading.proofs.Few.{none_left, none_right}
 
@@ -164,27 +165,29 @@ parts_apart root apart none =
     subst AreApart (sym (map_joined (λ (p : Part). p.name) s (t ++ k) ∙ ap (λ (rest : List Word). part_names s ++ rest) (map_joined (λ (p : Part). p.name) t k))) whole
 
 -- a component has the name of its part
-kept_all : (P : Word → Type 0) (all : List Part) → AllByRecursion P (part_names all) → AllByRecursion P (names_of (flat_map component_of all))
-kept_all P [] each = tt
-kept_all P (part ∷ rest) each = go (kind_of part) (kept_all P rest each.1)
+kept_all : (P : Word → Type 0) (whole : Options) (all : List Part) → AllByRecursion P (part_names all) → AllByRecursion P (names_of (flat_map (component_of whole) all))
+kept_all P whole [] each = tt
+kept_all P whole (part ∷ rest) each = go (kind_of part) (kept_all P whole rest each.1)
   where
-    go : (o : Option Kind) → AllByRecursion P (names_of (flat_map component_of rest)) → AllByRecursion P (names_of ((elim o [ None ↦ [] | Some kind ↦ component part kind ∷ [] ]) ++ flat_map component_of rest))
+    go : (o : Option Kind) → AllByRecursion P (names_of (flat_map (component_of whole) rest)) →
+        AllByRecursion P (names_of ((elim o [ None ↦ [] | Some kind ↦ component whole part kind ∷ [] ]) ++ flat_map (component_of whole) rest))
     go None later = later
     go (Some kind) later = (each.0, later)
 
-kept_apart : (all : List Part) → AreApart (part_names all) → AreApart (names_of (flat_map component_of all))
-kept_apart [] apart = tt
-kept_apart (part ∷ rest) apart = go (kind_of part) (kept_apart rest apart.1)
+kept_apart : (whole : Options) (all : List Part) → AreApart (part_names all) → AreApart (names_of (flat_map (component_of whole) all))
+kept_apart whole [] apart = tt
+kept_apart whole (part ∷ rest) apart = go (kind_of part) (kept_apart whole rest apart.1)
   where
-    go : (o : Option Kind) → AreApart (names_of (flat_map component_of rest)) → AreApart (names_of ((elim o [ None ↦ [] | Some kind ↦ component part kind ∷ [] ]) ++ flat_map component_of rest))
+    go : (o : Option Kind) → AreApart (names_of (flat_map (component_of whole) rest)) →
+        AreApart (names_of ((elim o [ None ↦ [] | Some kind ↦ component whole part kind ∷ [] ]) ++ flat_map (component_of whole) rest))
     go None later = later
-    go (Some kind) later = (kept_all (λ (other : Word). same_text other part.name ≡ false) rest apart.0, later)
+    go (Some kind) later = (kept_all (λ (other : Word). same_text other part.name ≡ false) whole rest apart.0, later)
 
 -- a plan that is answered of a document has components with different names
 pub judged_apart : (root : Data) (answer : Result Plan PlanFault) → AreApartByClass root → IsJudged root answer → IfOk answer (λ (plan : Plan). AreApart (names_of plan.components))
 judged_apart root (Ok plan) apart judged =
     let of : IsPlanOf root plan = judged in
-    subst (λ (p : Plan). AreApart (names_of p.components)) (sym of.same) (kept_apart (parts root) (parts_apart root apart of.faultless))
+    subst (λ (p : Plan). AreApart (names_of p.components)) (sym of.same) (kept_apart (global_of root) (parts root) (parts_apart root apart of.faultless))
 judged_apart root (Err fault) apart judged = tt
 
 -- the components of a table that is there have the names of its members

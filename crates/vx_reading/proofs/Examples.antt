@@ -1,14 +1,18 @@
 -- Closed texts, and what the definitions say of them.
-use Rattle.std.proofs.Common.{◌≡◌, true, List, [], ◌∷◌, Some, None, codes, refl}
+use Rattle.std.proofs.Common.{◌≡◌, pos, Bool, true, false, List, [], ◌∷◌, ◌++◌, Some, None, map, codes, refl}
 use Rattle.vx_value.specs.declared.variable.Variable.{Variable}
+use Rattle.vx_value.specs.Texts.{Word}
 use Rattle.toml.proofs.OnLiterals.{toml_on_literals}
-use Rattle.toml.specs.Data.{string, array, table, item, no_items, Members, member, no_members}
+use Rattle.toml.specs.Data.{Data, string, integer, boolean, array, table, item, no_items, Members, member, no_members}
 use Rattle.toml.specs.Parse.{parse_document}
 use Rattle.vx_subst.specs.Pieces.{Bare, pieces_after, piece_of, form_of, bare, braced, with_default, behind}
 use Rattle.vx_subst.specs.Replaced.{replaced, first_lacking, becomes, lacks, text_of, lacking}
+use Rattle.vx_plan.specs.Components.{acknowledges}
 use Rattle.vx_plan.specs.First.{first_configuration, first_plan}
-use Rattle.vx_reading.specs.Findings.{findings, found, precedes}
-use Rattle.vx_reading.specs.declared.trouble.Trouble.TheVariants.{UnknownKind, UnknownOption, MissingOption}
+use Rattle.vx_reading.specs.Findings.{findings, found, whole, precedes}
+use Rattle.vx_reading.specs.declared.finding.Finding.{Finding}
+use Rattle.vx_reading.specs.declared.trouble.Trouble.{Trouble}
+use Rattle.vx_reading.specs.declared.trouble.Trouble.TheVariants.{UnknownKind, UnknownOption, MissingOption, BadValue}
 use Rattle.vx_reading.specs.Plans.{plan_of}
 
 -- the document of the first configuration
@@ -72,3 +76,64 @@ whole_first = refl
 kind_first : precedes (found (record { section = 3; name = codes "z" }) (codes "sinks.z.type") UnknownKind)
     (found (record { section = 0; name = [] }) (codes "a") UnknownOption) ≡ true
 kind_first = refl
+
+-- a document that says something of acknowledgements, for the whole and at its one sink
+abbrev saying : Data → Data → Data
+saying all one =
+    table (member (codes "acknowledgements") all
+    (member (codes "sinks") (table (member (codes "out") (table
+    (member (codes "acknowledgements") one
+    (member (codes "encoding") (table (member (codes "codec") (string (codes "text")) no_members))
+    (member (codes "type") (string (codes "console")) no_members)))) no_members)) no_members))
+
+-- a table with one option
+abbrev one_option : Word → Data → Data
+one_option name value = table (member name value no_members)
+
+-- the spelling in a table of its own
+spelled_as_table : parse_document (codes "[sinks.out.acknowledgements]\nenabled = true\n")
+    ≡ Some (member (codes "sinks") (one_option (codes "out") (one_option (codes "acknowledgements") (one_option (codes "enabled") (boolean true)))) no_members)
+unfolding toml_on_literals
+spelled_as_table = refl
+
+-- a document without faults: whether sinks acknowledge that don't say otherwise, and whether each sink does
+abbrev Acknowledges : Data → Bool → List Bool → Type 0
+Acknowledges root all each =
+    (findings root ≡ []) × ((plan_of root).global.acknowledgements ≡ all) × (map acknowledges (plan_of root).components ≡ each)
+
+-- a sink says no where the whole says yes, and the other way round, in either spelling
+sink_says_no : Acknowledges (saying (boolean true) (boolean false)) true (false ∷ [])
+sink_says_no = (refl, refl, refl)
+
+sink_says_yes : Acknowledges (saying (one_option (codes "enabled") (boolean false)) (one_option (codes "enabled") (boolean true))) false (true ∷ [])
+sink_says_yes = (refl, refl, refl)
+
+-- a sink that doesn't say goes by the whole
+sink_says_nothing : Acknowledges (saying (boolean true) (table no_members)) true (true ∷ [])
+sink_says_nothing = (refl, refl, refl)
+
+-- where the whole doesn't say either, it doesn't acknowledge
+nothing_is_said : Acknowledges (saying (table no_members) (table no_members)) false (false ∷ [])
+nothing_is_said = (refl, refl, refl)
+
+-- the faults of two values, for the whole and at the sink, whose paths end alike
+abbrev both_found : Word → Trouble → List Finding
+both_found path trouble =
+    found whole path trouble ∷ found (record { section = 3; name = codes "out" }) (codes "sinks.out." ++ path) trouble ∷ []
+
+no_truths : findings (saying (integer (pos 1)) (string (codes "yes"))) ≡ both_found (codes "acknowledgements") BadValue
+no_truths = refl
+
+unknown_names : findings (saying (one_option (codes "on") (boolean true)) (one_option (codes "on") (boolean true)))
+    ≡ both_found (codes "acknowledgements.on") UnknownOption
+unknown_names = refl
+
+none_enabled : findings (saying (one_option (codes "enabled") (integer (pos 1))) (one_option (codes "enabled") (table no_members)))
+    ≡ both_found (codes "acknowledgements.enabled") BadValue
+none_enabled = refl
+
+-- a source has no such option
+source_says : findings (one_option (codes "sources") (one_option (codes "in")
+    (table (member (codes "acknowledgements") (boolean true) (member (codes "type") (string (codes "stdin")) no_members)))))
+    ≡ found (record { section = 1; name = codes "in" }) (codes "sources.in.acknowledgements") UnknownOption ∷ []
+source_says = refl

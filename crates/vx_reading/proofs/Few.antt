@@ -7,28 +7,29 @@ use Rattle.vx_value.specs.declared.variable.Variable.{Variable}
 use Rattle.vx_value.specs.Texts.{Word}
 use Rattle.toml.specs.Data.{Data}
 use Rattle.vx_plan.specs.declared.component.Component.{Component}
+use Rattle.vx_plan.specs.declared.global.Global.{Global}
 use Rattle.vx_plan.specs.declared.plan.Plan.{Plan}
 use Rattle.vx_reading.specs.declared.finding.Finding.{Finding}
 use Rattle.vx_reading.specs.declared.kind.Kind.{Kind}
 use Rattle.vx_reading.specs.Components.{Part, parts, kind_of}
 use Rattle.vx_reading.specs.Findings.{findings, global_findings, count_findings, most_parts}
-use Rattle.vx_reading.specs.Plans.{component, component_of}
+use Rattle.vx_reading.specs.Plans.{component, component_of, global_of}
 use Rattle.vx_reading.specs.Reading.{IsReading, IsPlanOf}
 
 -- a part is at most one component
-one_component : (part : Part) (kind : Option Kind) → length {A = Component} (elim kind [ None ↦ [] | Some k ↦ component part k ∷ [] ]) ≤ 1
-one_component part None = omega arith
-one_component part (Some k) = omega arith
+one_component : (global : Global) (part : Part) (kind : Option Kind) → length {A = Component} (elim kind [ None ↦ [] | Some k ↦ component global part k ∷ [] ]) ≤ 1
+one_component global part None = omega arith
+one_component global part (Some k) = omega arith
 
 length_joined : {X : Type 0} (xs ys : List X) → length (xs ++ ys) ≡ length xs + length ys
 length_joined [] ys = omega arith
 length_joined (x ∷ xs) ys = omega (arith, length_joined xs ys)
 
 -- so there are no more components than parts
-no_more : (all : List Part) → length (flat_map component_of all) ≤ length all
-no_more [] = omega arith
-no_more (part ∷ rest) =
-    omega (arith, one_component part (kind_of part), no_more rest, length_joined (component_of part) (flat_map component_of rest))
+no_more : (global : Global) (all : List Part) → length (flat_map (component_of global) all) ≤ length all
+no_more global [] = omega arith
+no_more global (part ∷ rest) =
+    omega (arith, one_component global part (kind_of part), no_more global rest, length_joined (component_of global part) (flat_map (component_of global) rest))
 
 -- what is joined to nothing is nothing
 pub none_left : {X : Type 0} (xs ys : List X) → xs ++ ys ≡ [] → xs ≡ []
@@ -53,6 +54,7 @@ few_parts root none =
 pub few_components : (environment : List Variable) (bytes : Word) (plan : Plan) → IsReading environment bytes (Ok plan) → length plan.components ≤ 256
 few_components environment bytes plan (inl read) =
     let of : IsPlanOf read.1.root plan = read.1.judged in
-    let few : length (flat_map component_of (parts read.1.root)) ≤ 256 = omega (arith, no_more (parts read.1.root), few_parts read.1.root of.faultless) in
+    let global = global_of read.1.root in
+    let few : length (flat_map (component_of global) (parts read.1.root)) ≤ 256 = omega (arith, no_more global (parts read.1.root), few_parts read.1.root of.faultless) in
     subst (λ (p : Plan). length p.components ≤ 256) (sym of.same) few
 few_components environment bytes plan (inr none) = let e = none.1 in cc

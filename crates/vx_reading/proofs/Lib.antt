@@ -6,4 +6,3 @@ pub mod Examples
 pub mod FirstRead
 pub mod Few
 pub mod Apart
-pub mod Acknowledging

@@ -2,10 +2,10 @@
 use Rattle.std.specs.Prelude.{ℕ, ℤ, pos, negsuc, Bool, false, true, not, ◌&&◌, Option, Some, None, option_and_then, List, [], ◌∷◌, length, map, find, if◌then◌else◌, nat_lt, nat_le}
 use Rattle.std.specs.List.{list_any, flat_map}
 use Rattle.vx_value.specs.Texts.{Word, same_text}
-use Rattle.toml.specs.Data.{Data, Items, no_items, item, Members, no_members, member, as_table, as_array, as_str, as_integer}
+use Rattle.toml.specs.Data.{Data, Items, no_items, item, Members, no_members, member, as_table, as_array, as_str, as_integer, as_bool}
 use Rattle.vx_reading.specs.declared.trouble.Trouble.{Trouble}
 use Rattle.vx_reading.specs.declared.trouble.Trouble.TheVariants.{UnknownOption, BadValue, TooMany}
-use Rattle.vx_reading.specs.Options.{Place, Alone, Within, Shape, AnyText, OneOf, Texts, Whole, Row, same_place}
+use Rattle.vx_reading.specs.Options.{Place, Alone, Within, Either, Shape, Truth, AnyText, OneOf, Texts, Whole, Row, covers}
 
 -- a name and the value under it
 pub record Pair : Type 0 where
@@ -34,6 +34,7 @@ pub record Given : Type 0 where
 abbrev pub is_within : Word → Place → Bool
 is_within group (Alone name) = false
 is_within group (Within other name) = same_text other group
+is_within group (Either other name) = same_text other group
 
 abbrev pub is_group : List Row → Word → Bool
 is_group rows group = list_any (λ (r : Row). is_within group r.place) rows
@@ -52,14 +53,18 @@ given_by rows p = if is_group rows p.name && is_table p.value then map (within p
 abbrev pub given : List Row → List Pair → List Given
 given rows pairs = flat_map (given_by rows) pairs
 
--- whether something is given at a place
+-- whether the option of a place is given
 abbrev pub is_given : Place → List Given → Bool
-is_given place all = list_any (λ (g : Given). same_place g.place place) all
+is_given place all = list_any (λ (g : Given). covers place g.place) all
 
 -- the items of a list, in order
 abbrev pub items_in : Items → List Data
 items_in no_items = []
 items_in (item first rest) = first ∷ items_in rest
+
+-- whether a value is a truth
+abbrev pub is_truth : Data → Bool
+is_truth value = elim (as_bool value) [ None ↦ false | Some truth ↦ true ]
 
 -- whether a value is a text
 abbrev pub is_text : Data → Bool
@@ -86,14 +91,15 @@ whole_in least most value = option_and_then (between least most) (as_integer val
 
 -- what is wrong with a value, by what it has to be
 abbrev pub fits : Shape → Data → Option Trouble
+fits Truth value = if is_truth value then None else Some BadValue
 fits AnyText value = if is_text value then None else Some BadValue
 fits (OneOf texts) value = if is_one_of texts value then None else Some BadValue
 fits (Texts most) value = elim (as_array value) [ None ↦ Some BadValue | Some items ↦ fits_texts most (items_in items) ]
 fits (Whole least most) value = elim (whole_in least most value) [ None ↦ Some BadValue | Some n ↦ None ]
 
--- the row of a place
+-- the row of what is given at a place
 abbrev pub row_at : List Row → Place → Option Row
-row_at rows place = find (λ (r : Row). same_place r.place place) rows
+row_at rows place = find (λ (r : Row). covers r.place place) rows
 
 -- what is wrong with an option that is given: it has no row, or the value isn't what the row says
 abbrev pub judged : List Row → Given → Option Trouble

@@ -6,14 +6,17 @@ use Rattle.vx_plan.specs.declared.class.Class.TheVariants.{Source, Transform, Si
 use Rattle.vx_reading.specs.declared.kind.Kind.{Kind}
 use Rattle.vx_reading.specs.declared.kind.Kind.TheVariants.{Stdin, Console}
 
--- where an option stands in a table: by itself, or in a table of its own, whose name comes first
+-- where an option stands in a table: by itself; in a table of its own, whose name comes first; or in either way, by itself
+-- under the first name, or in a table of that name under the second
 pub data Place : Type 0 where
   Alone : Word → Place
   Within : Word → Word → Place
+  Either : Word → Word → Place
 
--- what a value has to be: a text, one of some texts, a list of texts, at most so many, or a whole number between two, both
--- among them
+-- what a value has to be: a truth, a text, one of some texts, a list of texts, at most so many, or a whole number between
+-- two, both among them
 pub data Shape : Type 0 where
+  Truth : Shape
   AnyText : Shape
   OneOf : List Word → Shape
   Texts : ℕ → Shape
@@ -29,20 +32,27 @@ pub record Row : Type 0 where
 abbrev pub dot : ℕ
 dot = 46
 
--- the names of a place, joined by a dot
+-- the names of a place, joined by a dot; of an option that stands in either way, the name that it has by itself
 abbrev pub place_path : Place → Word
 place_path (Alone name) = name
 place_path (Within group name) = group ++ dot ∷ name
+place_path (Either group name) = group
 
--- whether two places are the same
-abbrev pub same_place : Place → Place → Bool
-same_place (Alone a) (Alone b) = same_text a b
-same_place (Within g a) (Within h b) = same_text g h && same_text a b
-same_place _ _ = false
+-- whether the option of a place is the one that is given at another, where it stands by itself or in a table
+abbrev pub covers : Place → Place → Bool
+covers (Alone a) (Alone b) = same_text a b
+covers (Within g a) (Within h b) = same_text g h && same_text a b
+covers (Either g a) (Alone b) = same_text g b
+covers (Either g a) (Within h b) = same_text g h && same_text a b
+covers _ _ = false
+
+-- whether sinks acknowledge: an option of the whole and of every sink
+abbrev pub acknowledgements_row : Row
+acknowledgements_row = record { place = Either (codes "acknowledgements") (codes "enabled"); shape = Truth; required = false }
 
 -- the options of the whole configuration
 abbrev pub global_rows : List Row
-global_rows = record { place = Alone (codes "data_dir"); shape = AnyText; required = false } ∷ []
+global_rows = record { place = Alone (codes "data_dir"); shape = AnyText; required = false } ∷ acknowledgements_row ∷ []
 
 -- an option of every component
 abbrev pub type_row : Row
@@ -75,7 +85,7 @@ decoding_row = record { place = Within (codes "decoding") (codes "codec"); shape
 -- the options of each type
 abbrev pub rows_of : Kind → List Row
 rows_of Stdin = type_row ∷ length_row ∷ decoding_row ∷ []
-rows_of Console = type_row ∷ inputs_row ∷ target_row ∷ codec_row ∷ []
+rows_of Console = type_row ∷ inputs_row ∷ target_row ∷ codec_row ∷ acknowledgements_row ∷ []
 
 -- the types, each with the table in which it stands and its name
 abbrev pub kinds : List Kind

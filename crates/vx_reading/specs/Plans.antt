@@ -1,8 +1,8 @@
 -- The plan of a document without faults.
-use Rattle.std.specs.Prelude.{ℕ, Option, Some, None, option_and_then, unwrap_or, List, [], ◌∷◌, map, codes, if◌then◌else◌, false, ◌^◌, ◌-◌}
+use Rattle.std.specs.Prelude.{ℕ, Bool, Option, Some, None, option_and_then, unwrap_or, List, [], ◌∷◌, map, codes, if◌then◌else◌, false, ◌^◌, ◌-◌}
 use Rattle.std.specs.List.{flat_map}
 use Rattle.vx_value.specs.Texts.{Word, same_text}
-use Rattle.toml.specs.Data.{Data, Items, get, as_str, as_array}
+use Rattle.toml.specs.Data.{Data, Items, get, as_str, as_array, as_bool}
 use Rattle.vx_graph.specs.declared.node.Class as graph_class
 use Rattle.vx_graph.specs.declared.node.Class.TheVariants as graph
 use Rattle.vx_graph.specs.declared.node.Node.{Node}
@@ -41,9 +41,28 @@ text_at name value = option_and_then as_str (get name value)
 abbrev pub text_within : Word → Word → Data → Option Word
 text_within group name value = option_and_then (text_at name) (get group value)
 
--- the options of the whole
+-- the truth under a name of a table
+abbrev pub truth_at : Word → Data → Option Bool
+truth_at name value = option_and_then as_bool (get name value)
+
+-- the truth that a value is, or that a table has under a name
+abbrev pub truth_in : Word → Data → Option Bool
+truth_in name value = elim (as_bool value) [ None ↦ truth_at name value | Some truth ↦ Some truth ]
+
+-- the truth under a name of a table, or under another in a table that stands there
+abbrev pub truth_either : Word → Word → Data → Option Bool
+truth_either group name value = option_and_then (truth_in name) (get group value)
+
+-- whether sinks acknowledge: as a table says, and otherwise as is said elsewhere
+abbrev pub acknowledgements_of : Bool → Data → Bool
+acknowledgements_of otherwise value = unwrap_or (truth_either (codes "acknowledgements") (codes "enabled") value) otherwise
+
+-- the options of the whole: sinks don't acknowledge where it doesn't say
 abbrev pub global_of : Data → Global
-global_of root = record { data_dir = text_or (codes "/var/lib/vector/") (text_at (codes "data_dir") root); acknowledgements = false }
+global_of root = record {
+  data_dir = text_or (codes "/var/lib/vector/") (text_at (codes "data_dir") root);
+  acknowledgements = acknowledgements_of false root;
+}
 
 -- the texts among some values
 abbrev pub text_of : Data → List Word
@@ -88,23 +107,28 @@ sink_defaults = record {
   request_retry_max_duration_secs = 30;
 }
 
+-- the options that every sink has: it acknowledges as the whole says where it doesn't say itself
+abbrev pub sink_of : Global → Data → SinkSettings
+sink_of global value = record sink_defaults { acknowledgements = acknowledgements_of global.acknowledgements value }
+
 -- the settings of a component of a type
-abbrev pub settings_of : Data → Kind → Settings
-settings_of value Stdin =
+abbrev pub settings_of : Global → Data → Kind → Settings
+settings_of global value Stdin =
     settings.Stdin (length_of value) (decoding_named (text_within (codes "decoding") (codes "codec") value))
-settings_of value Console =
-    settings.Console (target_named (text_at (codes "target") value)) (codec_named (text_within (codes "encoding") (codes "codec") value)) sink_defaults
+settings_of global value Console =
+    settings.Console (target_named (text_at (codes "target") value)) (codec_named (text_within (codes "encoding") (codes "codec") value)) (sink_of global value)
 
 -- the component of a type
-abbrev pub component : Part → Kind → Component
-component part kind = record { name = part.name; class = part.class; inputs = inputs_of part.value; settings = settings_of part.value kind }
+abbrev pub component : Global → Part → Kind → Component
+component global part kind =
+    record { name = part.name; class = part.class; inputs = inputs_of part.value; settings = settings_of global part.value kind }
 
-abbrev pub component_of : Part → List Component
-component_of part = elim (kind_of part) [ None ↦ [] | Some kind ↦ component part kind ∷ [] ]
+abbrev pub component_of : Global → Part → List Component
+component_of global part = elim (kind_of part) [ None ↦ [] | Some kind ↦ component global part kind ∷ [] ]
 
 -- what a document stands for
 abbrev pub plan_of : Data → Plan
-plan_of root = record { global = global_of root; components = flat_map component_of (parts root) }
+plan_of root = record { global = global_of root; components = flat_map (component_of (global_of root)) (parts root) }
 
 -- the class of a component in the graph
 abbrev pub node_class : Class → graph_class.Class

@@ -13,13 +13,15 @@ use Rattle.vx_reading.specs.declared.shape.Shape.TheVariants as shapes
 use Rattle.vx_reading.specs.Components.{Part}
 use Rattle.vx_reading.specs.Findings.{Owner}
 use Rattle.vx_reading.specs.Judging.{Given, Pair}
-use Rattle.vx_reading.specs.Options.{Place, Alone, Within, Shape, AnyText, OneOf, Texts, Whole, Row}
+use Rattle.vx_reading.specs.Options.{Place, Alone, Within, Either, Shape, Truth, AnyText, OneOf, Texts, Whole, Row}
 
 abbrev pub place_view : place.Place → Place
 place_view (places.Alone name) = Alone name.now
 place_view (places.Within group name) = Within group.now name.now
+place_view (places.Either group name) = Either group.now name.now
 
 abbrev pub shape_view : shape.Shape → Shape
+shape_view shapes.Truth = Truth
 shape_view shapes.AnyText = AnyText
 shape_view (shapes.OneOf texts) = OneOf (map (λ t. t.now) texts.now)
 shape_view (shapes.Texts most) = Texts most

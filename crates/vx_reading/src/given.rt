@@ -1,7 +1,7 @@
 ghost use Rattle.std.specs.Prelude.{◌≡◌, ◌++◌, ◌∷◌, [], IfOk, OnOk, map};
 ghost use Rattle.toml.specs.View.{view};
 ghost use Rattle.vx_reading.specs.Judging.{is_group, is_table, given_by, given, is_given, is_within, within};
-ghost use Rattle.vx_reading.specs.Options.{same_place};
+ghost use Rattle.vx_reading.specs.Options.{covers};
 ghost use Rattle.vx_reading.specs.Views.{place_view, rows_view, pair_view, pairs_view, givens_view};
 
 use crate::pair::{Pair, pairs_in};
@@ -19,18 +19,23 @@ pub(crate) struct Given<'a> {
     pub value: &'a Value,
 }
 
-/// Whether two places are the same.
-pub(crate) fn same_place(a: Place<'_>, b: Place<'_>) -> bool
-    ensures { result ≡ same_place (place_view a.entry) (place_view b.entry) }
+/// Whether the option of a place is the one that is given at another, where it stands by itself or in a table.
+pub(crate) fn covers(option: Place<'_>, given: Place<'_>) -> bool
+    ensures { result ≡ covers (place_view option.entry) (place_view given.entry) }
 {
-    match a {
-        Place::Alone(a) => match b {
+    match option {
+        Place::Alone(a) => match given {
             Place::Alone(b) => same_text(a, b),
-            Place::Within(_, _) => false,
+            Place::Within(_, _) | Place::Either(_, _) => false,
         },
-        Place::Within(g, a) => match b {
-            Place::Alone(_) => false,
+        Place::Within(g, a) => match given {
             Place::Within(h, b) => same_text(g, h) && same_text(a, b),
+            Place::Alone(_) | Place::Either(_, _) => false,
+        },
+        Place::Either(g, a) => match given {
+            Place::Alone(b) => same_text(g, b),
+            Place::Within(h, b) => same_text(g, h) && same_text(a, b),
+            Place::Either(_, _) => false,
         },
     }
 }
@@ -41,7 +46,7 @@ fn is_within(group: &str, place: Place<'_>) -> bool
 {
     match place {
         Place::Alone(_) => false,
-        Place::Within(other, _) => same_text(other, group),
+        Place::Within(other, _) | Place::Either(other, _) => same_text(other, group),
     }
 }
 
@@ -134,12 +139,12 @@ pub(crate) fn given_in<'a>(
     Ok(all)
 }
 
-/// Whether something is given at a place.
+/// Whether the option of a place is given.
 pub(crate) fn is_given(place: Place<'_>, all: &[Given<'_>]) -> bool
     ensures { result ≡ is_given (place_view place.entry) (givens_view all.now) }
 {
     for given in all {
-        if same_place(given.place, place) {
+        if covers(place, given.place) {
             return true;
         }
     }

@@ -3,16 +3,23 @@ ghost use Rattle.std.specs.Option.{option_map};
 ghost use Rattle.std.specs.List.{list_any};
 ghost use Rattle.toml.specs.View.{view, items_view};
 ghost use Rattle.vx_value.specs.Texts.{same_text};
-ghost use Rattle.vx_reading.specs.Judging.{fits, fits_texts, judged, items_in, is_text, is_one_of, between, whole_in, row_at};
+ghost use Rattle.vx_reading.specs.Judging.{fits, fits_texts, judged, items_in, is_truth, is_text, is_one_of, between, whole_in, row_at};
 ghost use Rattle.vx_reading.specs.Views.{shape_view, rows_view, row_view, place_view, given_view};
 
-use crate::given::{Given, same_place};
+use crate::given::{Given, covers};
 use crate::place::Place;
 use crate::row::Row;
 use crate::shape::Shape;
 use crate::texts::same_text;
 use crate::trouble::Trouble;
 use toml::Value;
+
+/// Whether a value is a truth.
+fn is_truth(value: &Value) -> bool
+    ensures { result ≡ is_truth (view value.now) }
+{
+    value.as_bool().is_some()
+}
 
 /// Whether a value is a text.
 fn is_text(value: &Value) -> bool
@@ -96,6 +103,7 @@ fn fits(shape: Shape, value: &Value) -> Option<Trouble>
     ensures { result ≡ fits (shape_view shape) (view value.now) }
 {
     match shape {
+        Shape::Truth if is_truth(value) => None,
         Shape::AnyText if is_text(value) => None,
         Shape::OneOf(texts) if is_one_of(texts, value) => None,
         Shape::Texts(most) => match value.as_array() {
@@ -110,12 +118,12 @@ fn fits(shape: Shape, value: &Value) -> Option<Trouble>
     }
 }
 
-/// The row of a place.
+/// The row of what is given at a place.
 fn row_at<'a>(rows: &'a [Row], place: Place<'_>) -> Option<&'a Row>
     ensures { option_map (λ r. row_view r.now) result ≡ row_at (rows_view rows.now) (place_view place.entry) }
 {
     for row in rows {
-        if same_place(row.place, place) {
+        if covers(row.place, place) {
             return Some(row);
         }
     }

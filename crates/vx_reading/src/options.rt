@@ -14,12 +14,22 @@ use vx_plan::Class;
 /// How many inputs a component may have.
 const MOST_INPUTS: usize = 256;
 
-/// The options of the whole configuration.
-static GLOBAL_ROWS: [Row; 1] = [Row {
-    place: Place::Alone("data_dir"),
-    shape: Shape::AnyText,
+/// Whether sinks acknowledge: an option of the whole and of every sink.
+const ACKNOWLEDGEMENTS_ROW: Row = Row {
+    place: Place::Either("acknowledgements", "enabled"),
+    shape: Shape::Truth,
     required: false,
-}];
+};
+
+/// The options of the whole configuration.
+static GLOBAL_ROWS: [Row; 2] = [
+    Row {
+        place: Place::Alone("data_dir"),
+        shape: Shape::AnyText,
+        required: false,
+    },
+    ACKNOWLEDGEMENTS_ROW,
+];
 
 /// An option of every component.
 const TYPE_ROW: Row = Row {
@@ -47,7 +57,7 @@ static STDIN_ROWS: [Row; 3] = [
 ];
 
 /// The options of a sink that writes to standard output or standard error.
-static CONSOLE_ROWS: [Row; 4] = [
+static CONSOLE_ROWS: [Row; 5] = [
     TYPE_ROW,
     Row {
         place: Place::Alone("inputs"),
@@ -64,6 +74,7 @@ static CONSOLE_ROWS: [Row; 4] = [
         shape: Shape::OneOf(&["text", "json"]),
         required: true,
     },
+    ACKNOWLEDGEMENTS_ROW,
 ];
 
 /// The options of the whole configuration.

@@ -4,7 +4,7 @@ ghost use Rattle.std.specs.List.{flat_map};
 ghost use Rattle.toml.specs.View.{view, items_view};
 ghost use Rattle.vx_reading.specs.Judging.{items_in};
 ghost use Rattle.vx_reading.specs.Components.{parts};
-ghost use Rattle.vx_reading.specs.Plans.{text_at, text_within, global_of, text_of, inputs_of, target_named, length_of, decoding_named, codec_named, sink_defaults, settings_of, component, component_of, plan_of};
+ghost use Rattle.vx_reading.specs.Plans.{text_at, text_within, truth_at, truth_in, truth_either, acknowledgements_of, global_of, text_of, inputs_of, target_named, length_of, decoding_named, codec_named, sink_defaults, sink_of, settings_of, component, component_of, plan_of};
 ghost use Rattle.vx_reading.specs.Views.{part_view, parts_view};
 
 use crate::judging::whole_in;
@@ -46,7 +46,47 @@ fn text_within<'a>(group: &str, name: &str, table: &'a Value) -> Option<&'a str>
     }
 }
 
-/// The options of the whole.
+/// The truth under a name of a table.
+fn truth_at(name: &str, table: &Value) -> Option<bool>
+    ensures { result ≡ truth_at name.now (view table.now) }
+{
+    match table.get(name) {
+        Some(value) => value.as_bool(),
+        None => None,
+    }
+}
+
+/// The truth that a value is, or that a table has under a name.
+fn truth_in(name: &str, value: &Value) -> Option<bool>
+    ensures { result ≡ truth_in name.now (view value.now) }
+{
+    match value.as_bool() {
+        Some(truth) => Some(truth),
+        None => truth_at(name, value),
+    }
+}
+
+/// The truth under a name of a table, or under another in a table that stands there.
+fn truth_either(group: &str, name: &str, table: &Value) -> Option<bool>
+    ensures { result ≡ truth_either group.now name.now (view table.now) }
+{
+    match table.get(group) {
+        Some(value) => truth_in(name, value),
+        None => None,
+    }
+}
+
+/// Whether sinks acknowledge: as a table says, and otherwise as is said elsewhere.
+fn acknowledgements_of(otherwise: bool, table: &Value) -> bool
+    ensures { result ≡ acknowledgements_of otherwise (view table.now) }
+{
+    match truth_either("acknowledgements", "enabled", table) {
+        Some(truth) => truth,
+        None => otherwise,
+    }
+}
+
+/// The options of the whole: sinks don't acknowledge where it doesn't say.
 fn global_of(alloc: Allocator, root: &Value) -> Result<Global, WantOfMemory>
     ensures { IfOk result (λ global. global ≡ global_of (view root.now)) }
 {
@@ -56,7 +96,7 @@ fn global_of(alloc: Allocator, root: &Value) -> Result<Global, WantOfMemory>
     };
     Ok(Global {
         data_dir,
-        acknowledgements: false,
+        acknowledgements: acknowledgements_of(false, root),
     })
 }
 
@@ -161,9 +201,24 @@ fn sink_defaults(alloc: Allocator) -> Result<SinkSettings, WantOfMemory>
     })
 }
 
+/// The options that every sink has: it acknowledges as the whole says where it doesn't say itself.
+fn sink_of(alloc: Allocator, global: &Global, table: &Value) -> Result<SinkSettings, WantOfMemory>
+    ensures { IfOk result (λ sink. sink ≡ sink_of global.now (view table.now)) }
+{
+    Ok(SinkSettings {
+        acknowledgements: acknowledgements_of(global.acknowledgements, table),
+        ..sink_defaults(alloc)?
+    })
+}
+
 /// The settings of a component of a type.
-fn settings_of(alloc: Allocator, table: &Value, kind: Kind) -> Result<Settings, WantOfMemory>
-    ensures { IfOk result (λ settings. settings ≡ settings_of (view table.now) kind) }
+fn settings_of(
+    alloc: Allocator,
+    global: &Global,
+    table: &Value,
+    kind: Kind,
+) -> Result<Settings, WantOfMemory>
+    ensures { IfOk result (λ settings. settings ≡ settings_of global.now (view table.now) kind) }
 {
     match kind {
         Kind::Stdin => Ok(Settings::Stdin {
@@ -173,20 +228,25 @@ fn settings_of(alloc: Allocator, table: &Value, kind: Kind) -> Result<Settings, 
         Kind::Console => Ok(Settings::Console {
             target: target_named(text_at("target", table)),
             encoding_codec: codec_named(text_within("encoding", "codec", table)),
-            sink: sink_defaults(alloc)?,
+            sink: sink_of(alloc, global, table)?,
         }),
     }
 }
 
 /// The component of a type.
-fn make_component(alloc: Allocator, part: Part<'_>, kind: Kind) -> Result<Component, WantOfMemory>
-    ensures { IfOk result (λ made. made ≡ component (part_view part.entry) kind) }
+fn make_component(
+    alloc: Allocator,
+    global: &Global,
+    part: Part<'_>,
+    kind: Kind,
+) -> Result<Component, WantOfMemory>
+    ensures { IfOk result (λ made. made ≡ component global.now (part_view part.entry) kind) }
 {
     Ok(Component {
         name: Text::copy_of(alloc, part.name)?,
         class: part.class,
         inputs: inputs_of(alloc, part.value)?,
-        settings: settings_of(alloc, part.value, kind)?,
+        settings: settings_of(alloc, global, part.value, kind)?,
     })
 }
 
@@ -194,14 +254,15 @@ fn make_component(alloc: Allocator, part: Part<'_>, kind: Kind) -> Result<Compon
 fn push_component(
     alloc: Allocator,
     components: &mut ComponentList,
+    global: &Global,
     part: Part<'_>,
 ) -> Result<(), WantOfMemory>
-    ensures { OnOk result (components.new ≡ components.old ++ component_of (part_view part.entry)) }
+    ensures { OnOk result (components.new ≡ components.old ++ component_of global.now (part_view part.entry)) }
 {
     let Some(kind) = kind_of(part) else {
         return Ok(());
     };
-    match components.push(make_component(alloc, part, kind)?) {
+    match components.push(make_component(alloc, global, part, kind)?) {
         Ok(()) => Ok(()),
         Err(_) => Err(WantOfMemory),
     }
@@ -216,12 +277,10 @@ pub(crate) fn plan_of(
     requires { parts_view all.now ≡ parts (view root.now) }
     ensures { IfOk result (λ plan. plan ≡ plan_of (view root.now)) }
 {
+    let global = global_of(alloc, root)?;
     let mut components = ComponentList::new(alloc);
     for part in all {
-        push_component(alloc, &mut components, *part)?;
+        push_component(alloc, &mut components, &global, *part)?;
     }
-    Ok(Plan {
-        global: global_of(alloc, root)?,
-        components,
-    })
+    Ok(Plan { global, components })
 }

@@ -1,6 +1,8 @@
 /// What the value of an option has to be.
 #[derive(Clone, Copy)]
 pub(crate) enum Shape {
+    /// A truth: `true` or `false`.
+    Truth,
     /// A text.
     AnyText,
     /// One of some texts.

@@ -7,4 +7,4 @@ use Rattle.vx_reading.proofs.plans.plan_of.Given as goal
 -- what is left to add makes the list whole
 abbrev pub invariant-loop-part : goal.invariant-loop-part
 invariant-loop-part l =
-    l.components ++ flat_map component_of (parts_view (drop l.part-index l.all)) ≡ flat_map component_of (parts_view l.all)
+    l.components ++ flat_map (component_of l.global) (parts_view (drop l.part-index l.all)) ≡ flat_map (component_of l.global) (parts_view l.all)

@@ -1,10 +1,6 @@
 use Rattle.toml.specs.View.{view}
-use Rattle.vx_reading.proofs.Acknowledging.{judged_acknowledging}
 use Rattle.vx_reading.proofs.Apart.{judged_apart}
 use Rattle.vx_reading.proofs.reading.read_root.Goals as goal
 
 pub returns-clause-apart : goal.returns-clause-apart
 returns-clause-apart c = judged_apart (view c.args.root.now) c.read_parts.result c.in_ok-all.ensures.apart c.read_parts.ensures
-
-pub returns-clause-none_acknowledges : goal.returns-clause-none_acknowledges
-returns-clause-none_acknowledges c = judged_acknowledging (view c.args.root.now) c.read_parts.result c.read_parts.ensures
