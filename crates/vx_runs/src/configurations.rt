@@ -1,12 +1,14 @@
 //! Each fault with its path, which of two comes first, and what TOML lets a user write.
 
+use crate::fixtures::environment;
+use crate::runs::FIRST;
 use std::alloc::Global;
 use std::process::Abort;
 use std::test::Fail;
 use vx_cli::{Fault, fault_text};
 use vx_plan::{Codec, ConsoleTarget, Decoding, Plan, Settings};
 use vx_reading::{PlanFault, read_plan};
-use vx_value::{Bytes, Text, TextList, Variable, VariableList, WantOfMemory};
+use vx_value::{Bytes, TextList, VariableList};
 
 /// The source that most texts begin with.
 const SOURCE: &str = "[sources.in]\ntype = \"stdin\"\n";
@@ -99,6 +101,66 @@ fn have_answers(
     Ok(())
 }
 
+/// What is said of acknowledgements, of the whole and of the sink, and whether the plan has them there and there.
+const ACKNOWLEDGING: &[(&str, &str, bool, bool)] = &[
+    ("", "", false, false),
+    ("acknowledgements = true\n", "", true, true),
+    (
+        "acknowledgements = true\n",
+        "acknowledgements = false\n",
+        true,
+        false,
+    ),
+    ("", "acknowledgements = true\n", false, true),
+    (
+        "acknowledgements.enabled = true\n",
+        "acknowledgements.enabled = false\n",
+        true,
+        false,
+    ),
+    (
+        "[acknowledgements]\nenabled = false\n",
+        "[sinks.out.acknowledgements]\nenabled = true\n",
+        false,
+        true,
+    ),
+    (
+        "[acknowledgements]\nenabled = true\n",
+        "[sinks.out.acknowledgements]\n",
+        true,
+        true,
+    ),
+    (
+        "[acknowledgements]\n",
+        "acknowledgements = { enabled = true }\n",
+        false,
+        true,
+    ),
+];
+
+/// Checks whether a plan has acknowledgements for the whole, and whether the batches of its source wait.
+fn acknowledges(
+    rt: &impl Abort,
+    alloc: Global,
+    whole: &str,
+    own: &str,
+    wanted: (bool, bool),
+) -> Result<(), Fail> {
+    let text = format!(in alloc; "{whole}{SOURCE}{SINK}{own}")?;
+    let plan = plan(alloc, text.as_str())?;
+    assert!(rt; (plan.global.acknowledgements, plan.acknowledged("in")) == wanted);
+    Ok(())
+}
+
+/// What a sink says of acknowledgements counts, and what is said of the whole where it says nothing.
+#[test]
+fn batches_wait_for_sinks_that_acknowledge(rt: HostRuntime) -> Result<(), Fail> {
+    for (whole, own, global, waits) in ACKNOWLEDGING {
+        acknowledges(&rt, rt.alloc(), *whole, *own, (*global, *waits))?;
+    }
+    Ok(())
+}
+
 /// The plan of a text that is one.
 fn plan(alloc: Global, text: &str) -> Result<Plan, Fail> {
     match read_plan(alloc, text.as_bytes(), &VariableList::new(alloc)) {
@@ -107,23 +169,31 @@ fn plan(alloc: Global, text: &str) -> Result<Plan, Fail> {
     }
 }
 
+/// How long the lines of the source may be, and how they are read.
+fn lines_of(plan: &Plan) -> Option<(u32, Decoding)> {
+    let settings = &plan.component("in")?.settings;
+    Some((settings.line_limit()?, settings.decoding()?))
+}
+
+/// The codec of the sink.
+fn codec_of(plan: &Plan) -> Option<Codec> {
+    plan.component("out")?.settings.encoding()
+}
+
 /// Checks the lines of the source.
 fn has_lines(rt: &impl Abort, plan: &Plan, limit: u32, decoding: Decoding) {
-    match plan.component("in") {
-        Some(source) => {
-            assert_eq!(rt; source.settings.line_limit(), Some(limit));
-            assert_eq!(rt; source.settings.decoding(), Some(decoding));
-        }
-        None => assert!(rt; false, "no source"),
-    }
+    assert_eq!(rt; lines_of(plan), Some((limit, decoding)));
 }
 
 /// Checks the codec of the sink.
 fn has_codec(rt: &impl Abort, plan: &Plan, codec: Codec) {
-    match plan.component("out") {
-        Some(sink) => assert_eq!(rt; sink.settings.encoding(), Some(codec)),
-        None => assert!(rt; false, "no sink"),
-    }
+    assert_eq!(rt; codec_of(plan), Some(codec));
+}
+
+/// Checks the lines of the source, and the codec of the sink.
+fn has_codecs(rt: &impl Abort, plan: &Plan, limit: u32, decoding: Decoding, codec: Codec) {
+    has_lines(rt, plan, limit, decoding);
+    has_codec(rt, plan, codec);
 }
 
 /// Checks who reads the source.
@@ -133,27 +203,42 @@ fn has_readers(rt: &impl Abort, alloc: Global, plan: &Plan, want: &str) -> Resul
     Ok(())
 }
 
-#[test]
-fn the_first_configuration(rt: HostRuntime) -> Result<(), Fail> {
-    let text = "[sources.in]\ntype = \"stdin\"\n\n\
-        [sinks.out]\ntype = \"console\"\ninputs = [\"in\"]\nencoding.codec = \"text\"\n";
-    let plan = plan(rt.alloc(), text)?;
-    assert_eq!(rt; plan.global.data_dir.as_str(), "/var/lib/vector/");
-    assert!(rt; !plan.global.acknowledgements);
-    assert_eq!(rt; plan.components.len(), 2);
-    has_lines(&rt, &plan, 102_400, Decoding::Bytes);
-    has_codec(&rt, &plan, Codec::Text);
-    has_readers(&rt, rt.alloc(), &plan, "out")
+/// Adds a name and a blank.
+fn add_name(names: &mut String, name: &str) -> Result<(), Fail> {
+    names.push_str(name)?;
+    names.push_str(" ")?;
+    Ok(())
 }
 
 /// The names of a plan's components, each followed by a blank.
 fn names_of(alloc: Global, plan: &Plan) -> Result<String, Fail> {
     let mut names = String::new(alloc);
     for component in plan.components.as_slice() {
-        names.push_str(component.name.as_str())?;
-        names.push_str(" ")?;
+        add_name(&mut names, component.name.as_str())?;
     }
     Ok(names)
+}
+
+/// Checks the options of a whole plan and the names of its components. No batch waits.
+fn has_whole(
+    rt: &impl Abort,
+    alloc: Global,
+    plan: &Plan,
+    data_dir: &str,
+    names: &str,
+) -> Result<(), Fail> {
+    assert_eq!(rt; plan.global.data_dir.as_str(), data_dir);
+    assert!(rt; !plan.global.acknowledgements);
+    assert_eq!(rt; names_of(alloc, plan)?.as_str(), names);
+    Ok(())
+}
+
+#[test]
+fn the_first_configuration(rt: HostRuntime) -> Result<(), Fail> {
+    let plan = plan(rt.alloc(), FIRST)?;
+    has_whole(&rt, rt.alloc(), &plan, "/var/lib/vector/", "in out ")?;
+    has_codecs(&rt, &plan, 102_400, Decoding::Bytes, Codec::Text);
+    has_readers(&rt, rt.alloc(), &plan, "out")
 }
 
 /// The target of a console.
@@ -164,15 +249,16 @@ fn target_of(plan: &Plan, name: &str) -> Option<ConsoleTarget> {
     }
 }
 
+/// A configuration with a directory and two sinks, not in the order of their names.
+const TWO_SINKS: &str = "data_dir = \"state\"\n[sinks.b]\ntype = \"console\"\ntarget = \"stderr\"\n\
+    encoding.codec = \"text\"\ninputs = [\"i*\", \"in\"]\n[sinks.B]\ntype = \"console\"\n\
+    target = \"stdout\"\nencoding.codec = \"text\"\ninputs = [\"in\"]\n[sources.in]\ntype = \"stdin\"\n";
+
 #[test]
 fn what_a_plan_has(rt: HostRuntime) -> Result<(), Fail> {
-    let text = "data_dir = \"state\"\n[sinks.b]\ntype = \"console\"\ntarget = \"stderr\"\n\
-        encoding.codec = \"text\"\ninputs = [\"i*\", \"in\"]\n[sinks.B]\ntype = \"console\"\n\
-        target = \"stdout\"\nencoding.codec = \"text\"\ninputs = [\"in\"]\n[sources.in]\ntype = \"stdin\"\n";
-    let plan = plan(rt.alloc(), text)?;
-    assert_eq!(rt; plan.global.data_dir.as_str(), "state");
+    let plan = plan(rt.alloc(), TWO_SINKS)?;
+    has_whole(&rt, rt.alloc(), &plan, "state", "in B b ")?;
     assert_eq!(rt; target_of(&plan, "b"), Some(ConsoleTarget::Stderr));
-    assert_eq!(rt; names_of(rt.alloc(), &plan)?.as_str(), "in B b ");
     has_readers(&rt, rt.alloc(), &plan, "B, b")
 }
 
@@ -189,10 +275,36 @@ const WHOLE: &[(&str, &str)] = &[
     ),
     ("a = 1\n", "unknown option a"),
     ("a.b = 1\n", "unknown option a"),
+    ("acknowledgements = true\n", "no sources"),
+    ("[acknowledgements]\n", "no sources"),
+    ("acknowledgements.enabled = false\n", "no sources"),
+    ("acknowledgements = 1\n", "bad value at acknowledgements"),
     (
-        "acknowledgements = true\n",
-        "unknown option acknowledgements",
+        "acknowledgements = \"true\"\n",
+        "bad value at acknowledgements",
     ),
+    ("[[acknowledgements]]\n", "bad value at acknowledgements"),
+    (
+        "acknowledgements.on = true\n",
+        "unknown option acknowledgements.on",
+    ),
+    (
+        "acknowledgements.enabled = 1\n",
+        "bad value at acknowledgements.enabled",
+    ),
+    (
+        "acknowledgements.enabled.x = true\n",
+        "bad value at acknowledgements.enabled",
+    ),
+    (
+        "acknowledgements = true\nacknowledgements.enabled = true\n",
+        "not a TOML document",
+    ),
+    (
+        "acknowledgements.x = 1\nacknowledgements.enabled = 1\n",
+        "unknown option acknowledgements.x",
+    ),
+    ("acknowledgement = true\n", "unknown option acknowledgement"),
     ("data_dir = 1\n", "bad value at data_dir"),
     ("data_dir = 1.5\n", "bad value at data_dir"),
     ("data_dir = 1979-05-27\n", "bad value at data_dir"),
@@ -321,6 +433,38 @@ const SINK_OPTIONS: &[(&str, &str)] = &[
     ),
     ("encoding.codec = \"text\"", "accepted"),
     ("encoding.codec = \"json\"", "accepted"),
+    (
+        "encoding.codec = \"text\"\nacknowledgements = true",
+        "accepted",
+    ),
+    (
+        "encoding.codec = \"text\"\nacknowledgements = \"yes\"",
+        "bad value at sinks.out.acknowledgements",
+    ),
+    (
+        "encoding.codec = \"text\"\nacknowledgements = []",
+        "bad value at sinks.out.acknowledgements",
+    ),
+    (
+        "encoding.codec = \"text\"\nacknowledgements.on = true",
+        "unknown option sinks.out.acknowledgements.on",
+    ),
+    (
+        "encoding.codec = \"text\"\nacknowledgements.enabled = 1",
+        "bad value at sinks.out.acknowledgements.enabled",
+    ),
+    (
+        "encoding.codec = \"text\"\nacknowledgements = { enabled = true, x = 1 }",
+        "unknown option sinks.out.acknowledgements.x",
+    ),
+    (
+        "encoding.codec = \"text\"\n[sinks.out.acknowledgements]",
+        "accepted",
+    ),
+    (
+        "encoding.codec = \"text\"\n[sinks.out.acknowledgements]\nenabled = true",
+        "accepted",
+    ),
 ];
 
 #[test]
@@ -333,8 +477,7 @@ fn lines_and_codecs_as_written(rt: HostRuntime) -> Result<(), Fail> {
     let text = "[sources.in]\ntype = \"stdin\"\nmax_length = 16777216\ndecoding.codec = \"json\"\n\
         [sinks.out]\ntype = \"console\"\ninputs = [\"in\"]\nencoding.codec = \"json\"\n";
     let plan = plan(rt.alloc(), text)?;
-    has_lines(&rt, &plan, 16_777_216, Decoding::Json);
-    has_codec(&rt, &plan, Codec::Json);
+    has_codecs(&rt, &plan, 16_777_216, Decoding::Json, Codec::Json);
     Ok(())
 }
 
@@ -369,6 +512,14 @@ const SOURCE_OPTIONS: &[(&str, &str)] = &[
     ("decoding = \"json\"", "unknown option sources.in.decoding"),
     ("[sources.in.decoding]", "accepted"),
     ("decoding.codec = \"bytes\"", "accepted"),
+    (
+        "acknowledgements = true",
+        "unknown option sources.in.acknowledgements",
+    ),
+    (
+        "acknowledgements.enabled = true",
+        "unknown option sources.in.acknowledgements",
+    ),
 ];
 
 #[test]
@@ -393,7 +544,7 @@ fn plan_with(alloc: Global, options: &str) -> Result<Plan, Fail> {
 fn a_table_of_one_option_in_each_form(rt: HostRuntime) -> Result<(), Fail> {
     for options in FORMS {
         let plan = plan_with(rt.alloc(), *options)?;
-        has_lines(&rt, &plan, 102_400, Decoding::Json);
+        has_codecs(&rt, &plan, 102_400, Decoding::Json, Codec::Text);
     }
     Ok(())
 }
@@ -493,22 +644,11 @@ fn what_toml_lets_a_user_write(rt: HostRuntime) -> Result<(), Fail> {
     have_answers(&rt, rt.alloc(), "", TOML, "")
 }
 
-/// An environment of one variable.
-fn one_variable(alloc: Global, name: &str, value: &str) -> Result<VariableList, WantOfMemory> {
-    let mut environment = VariableList::new(alloc);
-    let name = Text::copy_of(alloc, name)?;
-    let value = Text::copy_of(alloc, value)?;
-    environment
-        .push(Variable { name, value })
-        .map_err(|_| WantOfMemory)?;
-    Ok(environment)
-}
-
 #[test]
 fn variables_are_put_in(rt: HostRuntime) -> Result<(), Fail> {
     let text = "[sources.in]\ntype = \"stdin\"\n\
         [sinks.out]\ntype = \"${KIND:-console}\"\ninputs = [\"in\"]\nencoding.codec = \"$CODEC\"\n";
-    let environment = one_variable(rt.alloc(), "CODEC", "bytes")?;
+    let environment = environment(rt.alloc(), &[("CODEC", "bytes")])?;
     let answer = said_within(rt.alloc(), text.as_bytes(), &environment)?;
     let want = "bad value at sinks.out.encoding.codec";
     assert_eq!(rt; reason(answer.as_str()), want);

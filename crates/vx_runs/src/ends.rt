@@ -1,42 +1,21 @@
-use crate::runs::{FIRST, acts, given, one_piece, run, staged, words};
+//! Runs whose ends fail, refuse or take less than they are given.
+
+use crate::fixtures::Play;
+use crate::runs::{EMPTY, Run, ran, runs};
 use std::alloc::Global;
 use std::process::Abort;
 use std::sync::Wait;
 use std::test::Fail;
-use vx_ends::{Act, MemoryWorld};
+use vx_ends::Act;
 use vx_record::{Entry, Record};
 use vx_status::BatchStatus;
-use vx_value::WantOfMemory;
 
-/// A world whose `in` gives the line `ab`, and whose ends meet their other calls with these acts.
-fn acting(alloc: Global, source: &[Act], sink: &[Act]) -> Result<MemoryWorld, WantOfMemory> {
-    staged(
-        alloc,
-        FIRST,
-        one_piece(alloc, "ab\n")?,
-        acts(alloc, source)?,
-        acts(alloc, sink)?,
-    )
-}
-
-/// Copies the line `ab` between ends that meet their calls with these acts. Checks the status, what is printed, and
-/// what `out` was given, and hands out the record.
-fn meets<R: Wait + Abort>(
-    rt: &R,
-    alloc: Global,
-    source: &[Act],
-    sink: &[Act],
-    status: u8,
-    printed: &str,
-    wanted: &str,
-) -> Result<Record, WantOfMemory> {
-    let world = acting(alloc, source, sink)?;
-    let words = words(alloc, "first.toml")?;
-    let ended = run(rt, alloc, &words, world, status, printed);
-    assert_eq!(rt; ended.ports.len(), 2);
-    assert!(rt; given(&ended, 1) == wanted.as_bytes());
-    Ok(ended.history)
-}
+/// The line `ab`, between ends that pass.
+const LINE: Run = Run {
+    steps: &[Play::Piece(0, "ab\n")],
+    given: &["", "ab\n"],
+    ..EMPTY
+};
 
 /// The status of the last notice in a record.
 fn last_notice(history: &Record) -> Option<BatchStatus> {
@@ -49,68 +28,97 @@ fn last_notice(history: &Record) -> Option<BatchStatus> {
     last
 }
 
-#[test]
-fn five_failed_starts_lose_the_source(rt: HostRuntime) -> Result<(), Fail> {
-    let alloc = rt.alloc();
-    let source = [Act::Fail, Act::Fail, Act::Fail, Act::Fail, Act::Fail];
-    let printed = "vector: source in failed after 0 bytes\n";
-    meets(&rt, alloc, &source, &[], 69, printed, "")?;
+/// Does a run, and checks what must come of it, the status of its last notice too.
+fn notes<R: Wait + Abort>(
+    rt: &R,
+    alloc: Global,
+    run: &Run,
+    status: BatchStatus,
+) -> Result<(), Fail> {
+    let ended = ran(rt, alloc, run)?;
+    assert!(rt; last_notice(&ended.history) == Some(status));
     Ok(())
 }
+
+/// A source that doesn't start.
+const NEVER_STARTED: Run = Run {
+    source: &[Act::Fail, Act::Fail, Act::Fail, Act::Fail, Act::Fail],
+    status: 69,
+    printed: "vector: source in failed after 0 bytes\n",
+    given: &["", ""],
+    ..LINE
+};
+
+#[test]
+fn five_failed_starts_lose_the_source(rt: HostRuntime) -> Result<(), Fail> {
+    runs(&rt, rt.alloc(), &NEVER_STARTED)
+}
+
+/// A source that starts at the fifth time.
+const STARTED_AT_LAST: Run = Run {
+    source: &[Act::Fail, Act::Fail, Act::Fail, Act::Fail],
+    ..LINE
+};
 
 #[test]
 fn four_failed_starts_are_tried_again(rt: HostRuntime) -> Result<(), Fail> {
-    let alloc = rt.alloc();
-    let source = [Act::Fail, Act::Fail, Act::Fail, Act::Fail];
-    meets(&rt, alloc, &source, &[], 0, "", "ab\n")?;
-    Ok(())
+    runs(&rt, rt.alloc(), &STARTED_AT_LAST)
 }
+
+/// A source that starts at the second time.
+const STARTED_SOON: Run = Run {
+    source: &[Act::Fail],
+    ..LINE
+};
 
 #[test]
 fn one_failed_start_is_tried_again(rt: HostRuntime) -> Result<(), Fail> {
-    let alloc = rt.alloc();
-    meets(&rt, alloc, &[Act::Fail], &[], 0, "", "ab\n")?;
-    Ok(())
+    runs(&rt, rt.alloc(), &STARTED_SOON)
 }
+
+/// A source whose confirm fails.
+const UNCONFIRMED: Run = Run {
+    source: &[Act::Pass, Act::Fail],
+    status: 74,
+    printed: "vector: source in could not be confirmed\n",
+    ..LINE
+};
 
 #[test]
 fn a_failed_confirm_is_told(rt: HostRuntime) -> Result<(), Fail> {
-    let alloc = rt.alloc();
-    let printed = "vector: source in could not be confirmed\n";
-    meets(
-        &rt,
-        alloc,
-        &[Act::Pass, Act::Fail],
-        &[],
-        74,
-        printed,
-        "ab\n",
-    )?;
-    Ok(())
+    runs(&rt, rt.alloc(), &UNCONFIRMED)
 }
+
+/// A sink that fails when it is given the line.
+const NOT_GIVEN: Run = Run {
+    acts: &[Act::Pass, Act::Fail],
+    given: &["", ""],
+    ..LINE
+};
 
 #[test]
 fn a_failed_give_is_an_error_of_its_batch(rt: HostRuntime) -> Result<(), Fail> {
-    let alloc = rt.alloc();
-    let history = meets(&rt, alloc, &[], &[Act::Pass, Act::Fail], 0, "", "")?;
-    assert!(rt; last_notice(&history) == Some(BatchStatus::Errored));
-    Ok(())
+    notes(&rt, rt.alloc(), &NOT_GIVEN, BatchStatus::Errored)
 }
+
+/// A sink that fails when it is to finish.
+const NOT_FINISHED: Run = Run {
+    acts: &[Act::Pass, Act::Pass, Act::Fail],
+    ..LINE
+};
 
 #[test]
 fn a_failed_finish_is_an_error_of_its_batch(rt: HostRuntime) -> Result<(), Fail> {
-    let alloc = rt.alloc();
-    let sink = [Act::Pass, Act::Pass, Act::Fail];
-    let history = meets(&rt, alloc, &[], &sink, 0, "", "ab\n")?;
-    assert!(rt; last_notice(&history) == Some(BatchStatus::Errored));
-    Ok(())
+    notes(&rt, rt.alloc(), &NOT_FINISHED, BatchStatus::Errored)
 }
+
+/// A sink that takes a byte, and another, and then the rest.
+const IN_PARTS: Run = Run {
+    acts: &[Act::Pass, Act::Part(1), Act::Part(1)],
+    ..LINE
+};
 
 #[test]
 fn a_partial_give_goes_on(rt: HostRuntime) -> Result<(), Fail> {
-    let alloc = rt.alloc();
-    let sink = [Act::Pass, Act::Part(1), Act::Part(1)];
-    let history = meets(&rt, alloc, &[], &sink, 0, "", "ab\n")?;
-    assert!(rt; last_notice(&history) == Some(BatchStatus::Delivered));
-    Ok(())
+    notes(&rt, rt.alloc(), &IN_PARTS, BatchStatus::Delivered)
 }

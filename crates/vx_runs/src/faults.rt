@@ -1,146 +1,281 @@
+//! What is printed of each fault, and the status of each.
+
+use crate::fixtures::texts;
 use std::alloc::Global;
 use std::process::Abort;
 use std::test::Fail;
 use vx_cli::{Fault, fault_text};
 use vx_graph::GraphFault;
 use vx_reading::PlanFault;
-use vx_value::{Bytes, Text, TextList, WantOfMemory};
+use vx_value::{Bytes, Text, WantOfMemory};
 
-fn words_of(alloc: Global, words: &[&str]) -> Result<TextList, WantOfMemory> {
-    let mut list = TextList::new(alloc);
-    for word in words {
-        list.push(Text::copy_of(alloc, *word)?)
-            .map_err(|_| WantOfMemory)?;
+/// A fault, as a table has it.
+enum Told {
+    Usage,
+    ConfigRead(&'static str),
+    Refused(Refusal),
+    Numbers(u64, u64),
+    TooLong,
+    SourceFailed(&'static str, u64),
+    ConfirmFailed(&'static str),
+    PrintFailed,
+    WantOfMemory,
+}
+
+/// Why a configuration isn't accepted, as a table has it.
+enum Refusal {
+    MissingVariable(&'static str, u64),
+    NotToml,
+    UnknownKind(&'static str),
+    UnknownOption(&'static str),
+    MissingOption(&'static str),
+    BadValue(&'static str),
+    TooMany(&'static str, u64, u64),
+    NoSources,
+    NoSinks,
+    NoInputs(&'static str),
+    UnknownInput(&'static str, &'static str),
+    Cycle(&'static [&'static str]),
+    WantOfMemory,
+}
+
+/// The fault of a component with an input that means nothing.
+fn unknown_input(alloc: Global, name: &str, input: &str) -> Result<PlanFault, WantOfMemory> {
+    let name = Text::copy_of(alloc, name)?;
+    let input = Text::copy_of(alloc, input)?;
+    Ok(PlanFault::Graph(GraphFault::UnknownInput { name, input }))
+}
+
+/// The fault of a configuration that isn't accepted.
+fn plan_fault(alloc: Global, told: &Refusal) -> Result<PlanFault, WantOfMemory> {
+    match told {
+        Refusal::MissingVariable(name, at) => {
+            let name = Text::copy_of(alloc, *name)?;
+            Ok(PlanFault::MissingVariable { name, at: *at })
+        }
+        Refusal::NotToml => Ok(PlanFault::NotToml),
+        Refusal::UnknownKind(path) => {
+            let path = Text::copy_of(alloc, *path)?;
+            Ok(PlanFault::UnknownKind { path })
+        }
+        Refusal::UnknownOption(path) => {
+            let path = Text::copy_of(alloc, *path)?;
+            Ok(PlanFault::UnknownOption { path })
+        }
+        Refusal::MissingOption(path) => {
+            let path = Text::copy_of(alloc, *path)?;
+            Ok(PlanFault::MissingOption { path })
+        }
+        Refusal::BadValue(path) => {
+            let path = Text::copy_of(alloc, *path)?;
+            Ok(PlanFault::BadValue { path })
+        }
+        Refusal::TooMany(path, found, limit) => {
+            let path = Text::copy_of(alloc, *path)?;
+            Ok(PlanFault::TooMany {
+                path,
+                found: *found,
+                limit: *limit,
+            })
+        }
+        Refusal::NoSources => Ok(PlanFault::Graph(GraphFault::NoSources)),
+        Refusal::NoSinks => Ok(PlanFault::Graph(GraphFault::NoSinks)),
+        Refusal::NoInputs(name) => {
+            let name = Text::copy_of(alloc, *name)?;
+            Ok(PlanFault::Graph(GraphFault::NoInputs(name)))
+        }
+        Refusal::UnknownInput(name, input) => unknown_input(alloc, *name, *input),
+        Refusal::Cycle(names) => {
+            let names = texts(alloc, *names)?;
+            Ok(PlanFault::Graph(GraphFault::Cycle(names)))
+        }
+        Refusal::WantOfMemory => Ok(PlanFault::WantOfMemory),
     }
-    Ok(list)
+}
+
+/// The fault that a table has.
+fn fault_of(alloc: Global, told: &Told) -> Result<Fault, WantOfMemory> {
+    match told {
+        Told::Usage => Ok(Fault::Usage),
+        Told::ConfigRead(path) => {
+            let path = Text::copy_of(alloc, *path)?;
+            Ok(Fault::ConfigRead { path })
+        }
+        Told::Refused(told) => Ok(Fault::ConfigRefused(plan_fault(alloc, told)?)),
+        Told::Numbers(next, wanted) => Ok(Fault::Numbers {
+            next: *next,
+            wanted: *wanted,
+        }),
+        Told::TooLong => Ok(Fault::TooLong),
+        Told::SourceFailed(name, at) => {
+            let name = Text::copy_of(alloc, *name)?;
+            Ok(Fault::SourceFailed { name, at: *at })
+        }
+        Told::ConfirmFailed(name) => {
+            let name = Text::copy_of(alloc, *name)?;
+            Ok(Fault::ConfirmFailed { name })
+        }
+        Told::PrintFailed => Ok(Fault::PrintFailed),
+        Told::WantOfMemory => Ok(Fault::WantOfMemory),
+    }
 }
 
 /// Checks what is printed of a fault, behind what is there.
-fn prints(rt: &impl Abort, alloc: Global, fault: Fault, wanted: &str) -> Result<(), WantOfMemory> {
+fn prints(rt: &impl Abort, alloc: Global, fault: &Fault, wanted: &str) -> Result<(), WantOfMemory> {
     let mut out = Bytes::copy_of(alloc, b"> ")?;
-    fault_text(alloc, &fault, &mut out)?;
+    fault_text(alloc, fault, &mut out)?;
     assert_eq!(rt; out.as_slice(), wanted.as_bytes());
     Ok(())
 }
 
-#[test]
-fn faults_say_what_happened(rt: HostRuntime) -> Result<(), Fail> {
-    let alloc = rt.alloc();
-    let usage =
-        "> vector: usage: vector --config FILE [options]\nvector: usage: vector validate FILE\n";
-    prints(&rt, alloc, Fault::Usage, usage)?;
-    let used_up = "> vector: copy numbers are used up: next 9223372036854775807, wanted 20\n";
-    let numbers = Fault::Numbers {
-        next: 9223372036854775807,
-        wanted: 20,
-    };
-    prints(&rt, alloc, numbers, used_up)?;
-    let too_long = "> vector: too many bytes in one run\n";
-    prints(&rt, alloc, Fault::TooLong, too_long)?;
-    prints(&rt, alloc, Fault::PrintFailed, "> ")?;
-    prints(&rt, alloc, Fault::WantOfMemory, "> ")?;
+/// Checks what is printed of each fault.
+fn print_all(rt: &impl Abort, alloc: Global, cases: &[(Told, &str)]) -> Result<(), Fail> {
+    for (told, wanted) in cases {
+        let fault = fault_of(alloc, told)?;
+        prints(rt, alloc, &fault, *wanted)?;
+    }
     Ok(())
 }
+
+/// Faults that name nothing.
+const HAPPENED: &[(Told, &str)] = &[
+    (
+        Told::Usage,
+        "> vector: usage: vector --config FILE [options]\nvector: usage: vector validate FILE\n",
+    ),
+    (
+        Told::Numbers(9223372036854775807, 20),
+        "> vector: copy numbers are used up: next 9223372036854775807, wanted 20\n",
+    ),
+    (Told::TooLong, "> vector: too many bytes in one run\n"),
+    (Told::PrintFailed, "> "),
+    (Told::WantOfMemory, "> "),
+];
+
+#[test]
+fn faults_say_what_happened(rt: HostRuntime) -> Result<(), Fail> {
+    print_all(&rt, rt.alloc(), HAPPENED)
+}
+
+/// Faults that name a file or a source.
+const NAMING: &[(Told, &str)] = &[
+    (
+        Told::ConfigRead("no.toml"),
+        "> vector: cannot read no.toml\n",
+    ),
+    (
+        Told::SourceFailed("in", 2),
+        "> vector: source in failed after 2 bytes\n",
+    ),
+    (
+        Told::ConfirmFailed("in"),
+        "> vector: source in could not be confirmed\n",
+    ),
+];
 
 #[test]
 fn faults_name_files_and_sources(rt: HostRuntime) -> Result<(), Fail> {
-    let alloc = rt.alloc();
-    let path = Text::copy_of(alloc, "no.toml")?;
-    let unread = "> vector: cannot read no.toml\n";
-    prints(&rt, alloc, Fault::ConfigRead { path }, unread)?;
-    let name = Text::copy_of(alloc, "in")?;
-    let failed = "> vector: source in failed after 2 bytes\n";
-    prints(&rt, alloc, Fault::SourceFailed { name, at: 2 }, failed)?;
-    let name = Text::copy_of(alloc, "in")?;
-    let unconfirmed = "> vector: source in could not be confirmed\n";
-    prints(&rt, alloc, Fault::ConfirmFailed { name }, unconfirmed)?;
-    Ok(())
+    print_all(&rt, rt.alloc(), NAMING)
 }
 
 /// Checks what is printed of a configuration that isn't accepted.
-fn refused(rt: &impl Abort, alloc: Global, fault: PlanFault, reason: &str) -> Result<(), Fail> {
+fn refuses(rt: &impl Abort, alloc: Global, told: &Refusal, reason: &str) -> Result<(), Fail> {
+    let fault = Fault::ConfigRefused(plan_fault(alloc, told)?);
     let wanted = format!(in alloc; "> vector: configuration refused: {reason}\n")?;
-    prints(rt, alloc, Fault::ConfigRefused(fault), wanted.as_str())?;
+    prints(rt, alloc, &fault, wanted.as_str())?;
     Ok(())
 }
 
+/// Checks what is printed of each configuration that isn't accepted.
+fn refuse_all(rt: &impl Abort, alloc: Global, cases: &[(Refusal, &str)]) -> Result<(), Fail> {
+    for (told, reason) in cases {
+        refuses(rt, alloc, told, *reason)?;
+    }
+    Ok(())
+}
+
+/// Faults of a whole text.
+const WHOLE: &[(Refusal, &str)] = &[
+    (
+        Refusal::MissingVariable("NOPE", 21),
+        "missing variable NOPE at 21",
+    ),
+    (Refusal::NotToml, "not a TOML document"),
+    (
+        Refusal::TooMany("sources", 257, 256),
+        "too many at sources: 257, limit 256",
+    ),
+];
+
 #[test]
 fn plan_faults_say_where(rt: HostRuntime) -> Result<(), Fail> {
-    let alloc = rt.alloc();
-    let name = Text::copy_of(alloc, "NOPE")?;
-    let missing = PlanFault::MissingVariable { name, at: 21 };
-    refused(&rt, alloc, missing, "missing variable NOPE at 21")?;
-    refused(&rt, alloc, PlanFault::NotToml, "not a TOML document")?;
-    let path = Text::copy_of(alloc, "sources")?;
-    let many = PlanFault::TooMany {
-        path,
-        found: 257,
-        limit: 256,
-    };
-    refused(&rt, alloc, many, "too many at sources: 257, limit 256")
+    refuse_all(&rt, rt.alloc(), WHOLE)
 }
+
+/// Faults of options.
+const OPTIONS: &[(Refusal, &str)] = &[
+    (
+        Refusal::UnknownKind("sinks.out.type"),
+        "unknown kind at sinks.out.type",
+    ),
+    (
+        Refusal::UnknownOption("sinks.out.x"),
+        "unknown option sinks.out.x",
+    ),
+    (
+        Refusal::MissingOption("sinks.out.type"),
+        "missing option sinks.out.type",
+    ),
+    (Refusal::BadValue("data_dir"), "bad value at data_dir"),
+];
 
 #[test]
 fn plan_faults_name_options(rt: HostRuntime) -> Result<(), Fail> {
-    let alloc = rt.alloc();
-    let path = Text::copy_of(alloc, "sinks.out.type")?;
-    let kind = PlanFault::UnknownKind { path };
-    refused(&rt, alloc, kind, "unknown kind at sinks.out.type")?;
-    let path = Text::copy_of(alloc, "sinks.out.x")?;
-    let unknown = PlanFault::UnknownOption { path };
-    refused(&rt, alloc, unknown, "unknown option sinks.out.x")?;
-    let path = Text::copy_of(alloc, "sinks.out.type")?;
-    let missing = PlanFault::MissingOption { path };
-    refused(&rt, alloc, missing, "missing option sinks.out.type")?;
-    let path = Text::copy_of(alloc, "data_dir")?;
-    refused(
-        &rt,
-        alloc,
-        PlanFault::BadValue { path },
-        "bad value at data_dir",
-    )
+    refuse_all(&rt, rt.alloc(), OPTIONS)
 }
 
-/// Checks what is printed of components that make no graph.
-fn no_graph(rt: &impl Abort, alloc: Global, fault: GraphFault, reason: &str) -> Result<(), Fail> {
-    refused(rt, alloc, PlanFault::Graph(fault), reason)
-}
+/// Faults of components that make no graph.
+const GRAPHS: &[(Refusal, &str)] = &[
+    (Refusal::NoSources, "no sources"),
+    (Refusal::NoSinks, "no sinks"),
+    (Refusal::NoInputs("out"), "no inputs of component out"),
+    (
+        Refusal::UnknownInput("out", "nope"),
+        "unknown input nope of component out",
+    ),
+    (Refusal::Cycle(&["x", "y"]), "cycle x, y"),
+];
 
 #[test]
 fn graph_faults_name_components(rt: HostRuntime) -> Result<(), Fail> {
-    let alloc = rt.alloc();
-    no_graph(&rt, alloc, GraphFault::NoSources, "no sources")?;
-    no_graph(&rt, alloc, GraphFault::NoSinks, "no sinks")?;
-    let none = GraphFault::NoInputs(Text::copy_of(alloc, "out")?);
-    no_graph(&rt, alloc, none, "no inputs of component out")?;
-    let name = Text::copy_of(alloc, "out")?;
-    let input = Text::copy_of(alloc, "nope")?;
-    let unknown = GraphFault::UnknownInput { name, input };
-    no_graph(&rt, alloc, unknown, "unknown input nope of component out")?;
-    let cycle = GraphFault::Cycle(words_of(alloc, &["x", "y"])?);
-    no_graph(&rt, alloc, cycle, "cycle x, y")
+    refuse_all(&rt, rt.alloc(), GRAPHS)
 }
 
 /// Checks the status of a fault.
-fn has_status(rt: &impl Abort, fault: Fault, status: u8) {
+fn has_status(rt: &impl Abort, alloc: Global, told: &Told, status: u8) -> Result<(), Fail> {
+    let fault = fault_of(alloc, told)?;
     assert_eq!(rt; fault.status(), status);
+    Ok(())
 }
+
+/// The status of each fault.
+const STATUSES: &[(Told, u8)] = &[
+    (Told::Usage, 64),
+    (Told::Numbers(1, 2), 70),
+    (Told::WantOfMemory, 71),
+    (Told::Refused(Refusal::WantOfMemory), 71),
+    (Told::TooLong, 74),
+    (Told::PrintFailed, 74),
+    (Told::Refused(Refusal::NotToml), 78),
+    (Told::SourceFailed("in", 2), 69),
+    (Told::ConfigRead("no.toml"), 74),
+    (Told::ConfirmFailed("in"), 74),
+];
 
 #[test]
 fn statuses_are_those_of_sysexits(rt: HostRuntime) -> Result<(), Fail> {
-    let alloc = rt.alloc();
-    has_status(&rt, Fault::Usage, 64);
-    has_status(&rt, Fault::Numbers { next: 1, wanted: 2 }, 70);
-    has_status(&rt, Fault::WantOfMemory, 71);
-    has_status(&rt, Fault::ConfigRefused(PlanFault::WantOfMemory), 71);
-    has_status(&rt, Fault::TooLong, 74);
-    has_status(&rt, Fault::PrintFailed, 74);
-    has_status(&rt, Fault::ConfigRefused(PlanFault::NotToml), 78);
-    let name = Text::copy_of(alloc, "in")?;
-    has_status(&rt, Fault::SourceFailed { name, at: 2 }, 69);
-    let path = Text::copy_of(alloc, "no.toml")?;
-    has_status(&rt, Fault::ConfigRead { path }, 74);
-    let name = Text::copy_of(alloc, "in")?;
-    has_status(&rt, Fault::ConfirmFailed { name }, 74);
+    for (told, status) in STATUSES {
+        has_status(&rt, rt.alloc(), told, *status)?;
+    }
     Ok(())
 }

@@ -2,6 +2,8 @@
 #![tactic(auto)]
 
 #[cfg(test)]
+mod acknowledging;
+#[cfg(test)]
 mod callers;
 #[cfg(test)]
 mod configurations;
@@ -9,6 +11,8 @@ mod configurations;
 mod ends;
 #[cfg(test)]
 mod faults;
+#[cfg(test)]
+mod fixtures;
 #[cfg(test)]
 mod json_runs;
 #[cfg(test)]

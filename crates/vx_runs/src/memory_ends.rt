@@ -1,242 +1,328 @@
+//! The ends in memory, call by call.
+
 use crate::callers::{attempt, give_all, take_once};
+use crate::fixtures::{Play, acts, add, config, script, steps};
 use std::alloc::Global;
 use std::process::Abort;
 use std::test::Fail;
 use vx_ends::{
-    Act, ActList, Clock, Config, ConfigList, Failed, Form, MemoryClock, MemoryPort, MemoryPrinter,
-    MemoryWorld, Port, PortSpec, Position, PositionList, Printer, Scripted, ScriptedList, Step,
-    StepList, Took, Trouble, World,
+    Act, Clock, ConfigList, Failed, Form, MemoryClock, MemoryPort, MemoryPrinter, MemoryWorld,
+    Port, PortSpec, Position, PositionList, Printer, ScriptedList, Took, Trouble, World,
 };
 use vx_value::{Bytes, Text, WantOfMemory};
 
-fn piece(alloc: Global, stream: u64, bytes: &[u8]) -> Result<Step, WantOfMemory> {
-    Ok(Step::Bytes {
-        stream,
-        bytes: Bytes::copy_of(alloc, bytes)?,
-    })
+/// A call of a port and what has to come of it, or what the port has to tell.
+enum Call {
+    /// It starts.
+    Start(Result<(), Trouble>),
+    /// It is asked for at most three bytes, and these come.
+    Take(Result<Took, Trouble>, &'static str),
+    /// It is given these bytes.
+    Give(&'static str, Result<u32, Trouble>),
+    /// It finishes.
+    Finish(Result<(), Trouble>),
+    /// One position is confirmed.
+    Confirm(Result<(), Trouble>),
+    /// It closes.
+    Close,
+    /// It is given these bytes, until a give fails.
+    GiveAll(&'static str, (usize, bool)),
+    /// It starts, is given these bytes, and finishes.
+    Attempt(&'static str, Result<(), Trouble>),
+    /// All that it was given.
+    HasGiven(&'static str),
+    /// How many positions were confirmed.
+    HasConfirmed(usize),
 }
 
-fn add<T: Drop>(list: &mut vx_value::ItemList<T>, item: T) -> Result<(), WantOfMemory> {
-    match list.push(item) {
-        Ok(()) => Ok(()),
-        Err(_) => Err(WantOfMemory),
+/// A port with its script, and its calls one after the other.
+struct Calls {
+    steps: &'static [Play],
+    acts: &'static [Act],
+    calls: &'static [Call],
+}
+
+/// A port with a script.
+fn port(alloc: Global, some: &[Play], acting: &[Act]) -> Result<MemoryPort, WantOfMemory> {
+    let steps = steps(alloc, some)?;
+    let acts = acts(alloc, acting)?;
+    Ok(MemoryPort::new(alloc, steps, acts))
+}
+
+/// The bytes that a take brought into this room.
+fn brought(room: &[u8], answer: Result<Took, Trouble>) -> &[u8] {
+    match answer {
+        Ok(Took::Bytes { stream: _, n }) => room.get(..n as usize).unwrap_or(room),
+        _ => b"",
     }
 }
 
-fn acts(alloc: Global, some: &[Act]) -> Result<ActList, WantOfMemory> {
-    let mut list = ActList::new(alloc);
-    for act in some {
-        add(&mut list, *act)?;
-    }
+/// Whether one take with a room of three bytes has that answer, and brings these bytes.
+fn takes(port: &mut MemoryPort, want: Result<Took, Trouble>, bytes: &[u8]) -> bool {
+    let mut room = [0u8; 3];
+    let answer = port.take(&mut room);
+    answer == want && brought(&room, answer) == bytes
+}
+
+/// Whether a give of these bytes, one at least, has that answer.
+fn gives(port: &mut MemoryPort, bytes: &[u8], want: Result<u32, Trouble>) -> bool {
+    !bytes.is_empty() && port.give(bytes) == want
+}
+
+/// A list of one position.
+fn one_position(alloc: Global) -> Result<PositionList, WantOfMemory> {
+    let mut list = PositionList::new(alloc);
+    add(&mut list, Position { stream: 4, end: 9 })?;
     Ok(list)
 }
 
-// One take with a room of three bytes, and what it brought.
-fn takes(rt: &impl Abort, port: &mut MemoryPort, want: Result<Took, Trouble>, bytes: &[u8]) {
-    let mut room = [0u8; 3];
-    let answer = port.take(&mut room);
-    assert_eq!(rt; answer, want);
-    if let Ok(Took::Bytes { stream: _, n }) = answer {
-        assert!(rt; &room[..n as usize] == bytes);
+/// Does one call, and tells whether what has to come of it came.
+fn is_met(port: &mut MemoryPort, positions: &PositionList, call: &Call) -> bool {
+    match call {
+        Call::Start(want) => port.start() == *want,
+        Call::Take(want, bytes) => takes(port, *want, bytes.as_bytes()),
+        Call::Give(bytes, want) => gives(port, bytes.as_bytes(), *want),
+        Call::Finish(want) => port.finish() == *want,
+        Call::Confirm(want) => port.confirm(positions) == *want,
+        Call::Close => {
+            port.close();
+            true
+        }
+        Call::GiveAll(bytes, want) => give_all(port, bytes.as_bytes()) == *want,
+        Call::Attempt(bytes, want) => attempt(port, bytes.as_bytes()) == *want,
+        Call::HasGiven(want) => port.given() == want.as_bytes(),
+        Call::HasConfirmed(want) => port.confirmed().len() == *want,
     }
 }
 
-// Takes twice.
-fn takes_both(
-    rt: &impl Abort,
-    port: &mut MemoryPort,
-    first: Result<Took, Trouble>,
-    second: Result<Took, Trouble>,
-) {
-    takes(rt, port, first, b"");
-    takes(rt, port, second, b"");
+/// Makes a port, and does its calls one after the other.
+fn serves(rt: &impl Abort, alloc: Global, of: &Calls) -> Result<(), Fail> {
+    let positions = one_position(alloc)?;
+    let mut port = port(alloc, of.steps, of.acts)?;
+    for call in of.calls {
+        assert!(rt; is_met(&mut port, &positions, call));
+    }
+    Ok(())
 }
 
-// A port with two steps, and no acts.
-fn of_two(alloc: Global, first: Step, second: Step) -> Result<MemoryPort, WantOfMemory> {
-    let mut steps = StepList::new(alloc);
-    add(&mut steps, first)?;
-    add(&mut steps, second)?;
-    Ok(MemoryPort::new(alloc, steps, ActList::new(alloc)))
-}
+/// A piece is taken in parts, and then nothing comes, and the end of all.
+const IN_PARTS: Calls = Calls {
+    steps: &[Play::Piece(7, "abcde"), Play::Idle],
+    acts: &[],
+    calls: &[
+        Call::Take(Ok(Took::Bytes { stream: 7, n: 3 }), "abc"),
+        Call::Take(Ok(Took::Bytes { stream: 7, n: 2 }), "de"),
+        Call::Take(Ok(Took::Idle), ""),
+        Call::Take(Ok(Took::AllEnded), ""),
+    ],
+};
 
 #[test]
 fn gives_a_step_in_parts(rt: HostRuntime) -> Result<(), Fail> {
-    let first = piece(rt.alloc(), 7, b"abcde")?;
-    let mut port = of_two(rt.alloc(), first, Step::Idle)?;
-    takes(&rt, &mut port, Ok(Took::Bytes { stream: 7, n: 3 }), b"abc");
-    takes(&rt, &mut port, Ok(Took::Bytes { stream: 7, n: 2 }), b"de");
-    takes_both(&rt, &mut port, Ok(Took::Idle), Ok(Took::AllEnded));
-    Ok(())
+    serves(&rt, rt.alloc(), &IN_PARTS)
 }
+
+const ENDED_STREAM: Calls = Calls {
+    steps: &[Play::StreamEnded(7), Play::Piece(7, "x")],
+    acts: &[],
+    calls: &[
+        Call::Take(Ok(Took::StreamEnded { stream: 7 }), ""),
+        Call::Take(Ok(Took::AllEnded), ""),
+    ],
+};
 
 #[test]
 fn passes_over_an_ended_stream(rt: HostRuntime) -> Result<(), Fail> {
-    let behind = piece(rt.alloc(), 7, b"x")?;
-    let mut port = of_two(rt.alloc(), Step::StreamEnded(7), behind)?;
-    takes_both(
-        &rt,
-        &mut port,
-        Ok(Took::StreamEnded { stream: 7 }),
-        Ok(Took::AllEnded),
-    );
-    Ok(())
+    serves(&rt, rt.alloc(), &ENDED_STREAM)
 }
+
+const BEHIND_THE_END: Calls = Calls {
+    steps: &[Play::AllEnded, Play::Fail],
+    acts: &[],
+    calls: &[
+        Call::Take(Ok(Took::AllEnded), ""),
+        Call::Take(Ok(Took::AllEnded), ""),
+    ],
+};
 
 #[test]
 fn passes_over_what_is_behind_the_end(rt: HostRuntime) -> Result<(), Fail> {
-    let mut port = of_two(rt.alloc(), Step::AllEnded, Step::Fail)?;
-    takes_both(&rt, &mut port, Ok(Took::AllEnded), Ok(Took::AllEnded));
-    Ok(())
+    serves(&rt, rt.alloc(), &BEHIND_THE_END)
 }
+
+const NO_BYTES: Calls = Calls {
+    steps: &[Play::Piece(7, ""), Play::Fail],
+    acts: &[],
+    calls: &[
+        Call::Take(Err(Trouble::Failed), ""),
+        Call::Take(Ok(Took::AllEnded), ""),
+    ],
+};
 
 #[test]
 fn passes_over_no_bytes(rt: HostRuntime) -> Result<(), Fail> {
-    let empty = piece(rt.alloc(), 7, b"")?;
-    let mut port = of_two(rt.alloc(), empty, Step::Fail)?;
-    takes_both(&rt, &mut port, Err(Trouble::Failed), Ok(Took::AllEnded));
-    Ok(())
+    serves(&rt, rt.alloc(), &NO_BYTES)
 }
 
-fn starts(rt: &impl Abort, port: &mut MemoryPort, want: Result<(), Trouble>) {
-    assert_eq!(rt; port.start(), want);
-}
-
-fn gives(rt: &impl Abort, port: &mut MemoryPort, bytes: &[u8], want: Result<u32, Trouble>) {
-    assert!(rt; !bytes.is_empty());
-    assert_eq!(rt; port.give(bytes), want);
-}
-
-fn finishes(rt: &impl Abort, port: &mut MemoryPort, want: Result<(), Trouble>) {
-    assert_eq!(rt; port.finish(), want);
-}
-
-fn confirms(
-    rt: &impl Abort,
-    port: &mut MemoryPort,
-    positions: &PositionList,
-    want: Result<(), Trouble>,
-) {
-    assert_eq!(rt; port.confirm(positions), want);
-}
-
-fn closes(port: &mut MemoryPort) {
-    port.close();
-}
-
-fn has_given(rt: &impl Abort, port: &MemoryPort, want: &[u8]) {
-    assert!(rt; port.given() == want);
-}
-
-fn has_confirmed(rt: &impl Abort, port: &MemoryPort, want: usize) {
-    assert_eq!(rt; port.confirmed().len(), want);
-}
-
-// A port with two acts, and no steps.
-fn acting(alloc: Global, first: Act, second: Act) -> Result<MemoryPort, WantOfMemory> {
-    Ok(MemoryPort::new(alloc, StepList::new(alloc), acts(alloc, &[first, second])?))
-}
+const STARTS: Calls = Calls {
+    steps: &[],
+    acts: &[Act::Fail, Act::Refuse],
+    calls: &[
+        Call::Start(Err(Trouble::Failed)),
+        Call::Start(Ok(())),
+        Call::Close,
+        Call::Start(Ok(())),
+    ],
+};
 
 #[test]
 fn starts_by_its_acts(rt: HostRuntime) -> Result<(), Fail> {
-    let mut port = acting(rt.alloc(), Act::Fail, Act::Refuse)?;
-    starts(&rt, &mut port, Err(Trouble::Failed));
-    starts(&rt, &mut port, Ok(()));
-    closes(&mut port);
-    starts(&rt, &mut port, Ok(()));
-    Ok(())
+    serves(&rt, rt.alloc(), &STARTS)
 }
+
+const GIVES: Calls = Calls {
+    steps: &[],
+    acts: &[Act::Part(0), Act::Part(2)],
+    calls: &[
+        Call::Give("abc", Ok(1)),
+        Call::Give("bcd", Ok(2)),
+        Call::Give("xyz", Ok(3)),
+        Call::HasGiven("abcxyz"),
+    ],
+};
+
+const FAILING_GIVES: Calls = Calls {
+    steps: &[],
+    acts: &[Act::Fail, Act::Refuse],
+    calls: &[
+        Call::Give("d", Err(Trouble::Failed)),
+        Call::Give("d", Err(Trouble::Refused)),
+    ],
+};
 
 #[test]
 fn gives_by_its_acts(rt: HostRuntime) -> Result<(), Fail> {
-    let mut port = acting(rt.alloc(), Act::Part(0), Act::Part(2))?;
-    gives(&rt, &mut port, b"abc", Ok(1));
-    gives(&rt, &mut port, b"bcd", Ok(2));
-    gives(&rt, &mut port, b"xyz", Ok(3));
-    has_given(&rt, &port, b"abcxyz");
-    let mut failing = acting(rt.alloc(), Act::Fail, Act::Refuse)?;
-    gives(&rt, &mut failing, b"d", Err(Trouble::Failed));
-    gives(&rt, &mut failing, b"d", Err(Trouble::Refused));
-    Ok(())
+    serves(&rt, rt.alloc(), &GIVES)?;
+    serves(&rt, rt.alloc(), &FAILING_GIVES)
 }
+
+const FINISHES: Calls = Calls {
+    steps: &[],
+    acts: &[Act::Refuse, Act::Fail],
+    calls: &[
+        Call::Finish(Err(Trouble::Refused)),
+        Call::Finish(Err(Trouble::Failed)),
+        Call::Finish(Ok(())),
+    ],
+};
 
 #[test]
 fn finishes_by_its_acts(rt: HostRuntime) -> Result<(), Fail> {
-    let mut port = acting(rt.alloc(), Act::Refuse, Act::Fail)?;
-    finishes(&rt, &mut port, Err(Trouble::Refused));
-    finishes(&rt, &mut port, Err(Trouble::Failed));
-    finishes(&rt, &mut port, Ok(()));
-    Ok(())
+    serves(&rt, rt.alloc(), &FINISHES)
 }
+
+const CONFIRMS: Calls = Calls {
+    steps: &[],
+    acts: &[Act::Refuse, Act::Fail],
+    calls: &[
+        Call::Confirm(Ok(())),
+        Call::Confirm(Err(Trouble::Failed)),
+        Call::HasConfirmed(1),
+    ],
+};
 
 #[test]
 fn confirms_by_its_acts(rt: HostRuntime) -> Result<(), Fail> {
-    let mut positions = PositionList::new(rt.alloc());
-    add(&mut positions, Position { stream: 4, end: 9 })?;
-    let mut port = acting(rt.alloc(), Act::Refuse, Act::Fail)?;
-    confirms(&rt, &mut port, &positions, Ok(()));
-    confirms(&rt, &mut port, &positions, Err(Trouble::Failed));
-    has_confirmed(&rt, &port, 1);
+    serves(&rt, rt.alloc(), &CONFIRMS)
+}
+
+const ATTEMPTS: Calls = Calls {
+    steps: &[],
+    acts: &[Act::Part(2), Act::Fail],
+    calls: &[
+        Call::GiveAll("given", (2, false)),
+        Call::Attempt("more", Ok(())),
+        Call::HasGiven("gimore"),
+    ],
+};
+
+#[test]
+fn serves_attempts_by_its_clauses(rt: HostRuntime) -> Result<(), Fail> {
+    serves(&rt, rt.alloc(), &ATTEMPTS)
+}
+
+fn takes_into(rt: &impl Abort, port: &mut MemoryPort, out: &mut Bytes, want: Option<u64>) {
+    let mut room = [0u8; 8];
+    assert_eq!(rt; take_once(port, &mut room, out), Ok(want));
+}
+
+#[test]
+fn serves_takes_by_its_clauses(rt: HostRuntime) -> Result<(), Fail> {
+    let mut port = port(rt.alloc(), &[Play::Piece(2, "take"), Play::Idle], &[])?;
+    let mut out = Bytes::new(rt.alloc());
+    takes_into(&rt, &mut port, &mut out, Some(2));
+    takes_into(&rt, &mut port, &mut out, None);
+    assert!(rt; out.as_slice() == b"take".as_slice());
     Ok(())
 }
 
-fn config(alloc: Global, path: &str, bytes: &str) -> Result<Config, WantOfMemory> {
-    Ok(Config {
-        path: Text::copy_of(alloc, path)?,
-        bytes: Bytes::copy_of(alloc, bytes.as_bytes())?,
-    })
+/// Two texts.
+fn configs(alloc: Global) -> Result<ConfigList, WantOfMemory> {
+    let mut list = ConfigList::new(alloc);
+    add(&mut list, config(alloc, "a", "one")?)?;
+    add(&mut list, config(alloc, "b", "two")?)?;
+    Ok(list)
 }
 
-fn script(alloc: Global, name: &str, step: Step, act: Act) -> Result<Scripted, WantOfMemory> {
-    let mut steps = StepList::new(alloc);
-    add(&mut steps, step)?;
-    Ok(Scripted {
-        name: Text::copy_of(alloc, name)?,
-        steps,
-        acts: acts(alloc, &[act])?,
-    })
+/// The scripts of two ports, each of one step and one act.
+fn scripts(alloc: Global) -> Result<ScriptedList, WantOfMemory> {
+    let out = script(alloc, "out", steps(alloc, &[Play::Idle])?, &[Act::Fail])?;
+    let source = script(alloc, "in", steps(alloc, &[Play::Fail])?, &[Act::Pass])?;
+    let mut list = ScriptedList::new(alloc);
+    add(&mut list, out)?;
+    add(&mut list, source)?;
+    Ok(list)
 }
 
+/// A world with two texts, and the scripts of two ports.
 fn world(alloc: Global) -> Result<MemoryWorld, WantOfMemory> {
-    let mut configs = ConfigList::new(alloc);
-    add(&mut configs, config(alloc, "a", "one")?)?;
-    add(&mut configs, config(alloc, "b", "two")?)?;
-    let mut scripts = ScriptedList::new(alloc);
-    add(&mut scripts, script(alloc, "out", Step::Idle, Act::Fail)?)?;
-    add(&mut scripts, script(alloc, "in", Step::Fail, Act::Pass)?)?;
+    let configs = configs(alloc)?;
+    let scripts = scripts(alloc)?;
     Ok(MemoryWorld::new(alloc, configs, scripts))
 }
 
-fn tells(rt: &impl Abort, world: &mut MemoryWorld, path: &str, want: &[u8]) {
-    let text = world.config(path).expect(rt, "a text");
-    assert!(rt; text.as_slice() == want);
+/// Checks the text that a world has at a path, if any.
+fn tells(rt: &impl Abort, world: &mut MemoryWorld, path: &str, want: Option<&str>) {
+    match world.config(path) {
+        Ok(text) => assert!(rt; text.as_slice() == want.unwrap_or("no text").as_bytes()),
+        Err(_) => assert!(rt; want.is_none()),
+    }
 }
 
-fn lacks(rt: &impl Abort, world: &mut MemoryWorld, path: &str) {
-    assert!(rt; world.config(path).is_err());
-}
+/// The texts of the world, and one that isn't there.
+const TEXTS: &[(&str, Option<&str>)] = &[("b", Some("two")), ("a", Some("one")), ("c", None)];
 
 #[test]
 fn gives_texts(rt: HostRuntime) -> Result<(), Fail> {
     let mut world = world(rt.alloc())?;
-    tells(&rt, &mut world, "b", b"two");
-    tells(&rt, &mut world, "a", b"one");
-    lacks(&rt, &mut world, "c");
+    for (path, want) in TEXTS {
+        tells(&rt, &mut world, *path, *want);
+    }
     Ok(())
 }
 
+/// Checks what a new port takes.
 fn plays(rt: &impl Abort, world: &mut MemoryWorld, spec: &PortSpec, want: Result<Took, Trouble>) {
     let mut port = world.port(spec).expect(rt, "a port");
-    takes(rt, &mut port, want, b"");
+    assert!(rt; takes(&mut port, want, b""));
 }
 
 #[test]
 fn makes_ports(rt: HostRuntime) -> Result<(), Fail> {
     let mut world = world(rt.alloc())?;
-    let spec = PortSpec {
-        name: Text::copy_of(rt.alloc(), "in")?,
-        form: Form::Stdin,
-    };
+    let name = Text::copy_of(rt.alloc(), "in")?;
+    let form = Form::Stdin;
+    let spec = PortSpec { name, form };
     plays(&rt, &mut world, &spec, Err(Trouble::Failed));
     plays(&rt, &mut world, &spec, Ok(Took::AllEnded));
     Ok(())
@@ -256,56 +342,38 @@ fn rests_until_later_moments(rt: HostRuntime) {
     assert_eq!(rt; shared_now(&clock), 5);
 }
 
-fn prints(rt: &impl Abort, printer: &mut MemoryPrinter, bytes: &[u8], want: Result<(), Failed>) {
-    assert_eq!(rt; printer.print(bytes), want);
+/// Prints a text, and checks the answer.
+fn prints(rt: &impl Abort, printer: &mut MemoryPrinter, text: &str, want: Result<(), Failed>) {
+    assert_eq!(rt; printer.print(text.as_bytes()), want);
 }
 
-fn shows(rt: &impl Abort, printer: &MemoryPrinter, want: &[u8]) {
-    assert!(rt; printer.printed() == want);
+/// Prints some texts by a printer that fails from a print on, and checks each answer and what is printed.
+fn print_all(
+    rt: &impl Abort,
+    alloc: Global,
+    fail_from: Option<u64>,
+    texts: &[(&str, Result<(), Failed>)],
+    printed: &str,
+) {
+    let mut printer = MemoryPrinter::new(alloc, fail_from);
+    for (text, want) in texts {
+        prints(rt, &mut printer, *text, *want);
+    }
+    assert!(rt; printer.printed() == printed.as_bytes());
 }
+
+/// The prints of a printer that takes one.
+const ONE_PRINT: &[(&str, Result<(), Failed>)] = &[
+    ("a", Ok(())),
+    ("b", Err(Failed)),
+    ("c", Err(Failed)),
+];
+
+/// The prints of a printer that takes all.
+const STEADY_PRINTS: &[(&str, Result<(), Failed>)] = &[("ab", Ok(())), ("c", Ok(()))];
 
 #[test]
 fn fails_from_a_print_on(rt: HostRuntime) {
-    let mut printer = MemoryPrinter::new(rt.alloc(), Some(1));
-    prints(&rt, &mut printer, b"a", Ok(()));
-    prints(&rt, &mut printer, b"b", Err(Failed));
-    prints(&rt, &mut printer, b"c", Err(Failed));
-    shows(&rt, &printer, b"a");
-    let mut steady = MemoryPrinter::new(rt.alloc(), None);
-    prints(&rt, &mut steady, b"ab", Ok(()));
-    prints(&rt, &mut steady, b"c", Ok(()));
-    shows(&rt, &steady, b"abc");
-}
-
-fn gives_all(rt: &impl Abort, port: &mut MemoryPort) {
-    assert_eq!(rt; give_all(port, b"given"), (2, false));
-}
-
-fn attempts(rt: &impl Abort, port: &mut MemoryPort) {
-    assert_eq!(rt; attempt(port, b"more"), Ok(()));
-}
-
-#[test]
-fn serves_attempts_by_its_clauses(rt: HostRuntime) -> Result<(), Fail> {
-    let mut port = acting(rt.alloc(), Act::Part(2), Act::Fail)?;
-    gives_all(&rt, &mut port);
-    attempts(&rt, &mut port);
-    has_given(&rt, &port, b"gimore");
-    Ok(())
-}
-
-fn takes_into(rt: &impl Abort, port: &mut MemoryPort, out: &mut Bytes, want: Option<u64>) {
-    let mut room = [0u8; 8];
-    assert_eq!(rt; take_once(port, &mut room, out), Ok(want));
-}
-
-#[test]
-fn serves_takes_by_its_clauses(rt: HostRuntime) -> Result<(), Fail> {
-    let first = piece(rt.alloc(), 2, b"take")?;
-    let mut port = of_two(rt.alloc(), first, Step::Idle)?;
-    let mut out = Bytes::new(rt.alloc());
-    takes_into(&rt, &mut port, &mut out, Some(2));
-    takes_into(&rt, &mut port, &mut out, None);
-    assert!(rt; out.as_slice() == b"take".as_slice());
-    Ok(())
+    print_all(&rt, rt.alloc(), Some(1), ONE_PRINT, "a");
+    print_all(&rt, rt.alloc(), None, STEADY_PRINTS, "abc");
 }

@@ -1,13 +1,15 @@
-use crate::runs::{acts, add, given, one_piece, played, run, run_within, script, words, world};
+//! Runs of other configurations than the first one.
+
+use crate::fixtures::Play;
+use crate::runs::{EMPTY, Run, ran, runs};
 use std::alloc::Global;
 use std::process::Abort;
 use std::sync::Wait;
 use std::test::Fail;
-use vx_ends::{Act, ActList, MemoryWorld, ScriptedList, StepList};
+use vx_ends::{Act, MemoryWorld};
 use vx_record::{Entry, Record};
 use vx_run::Ended;
 use vx_status::BatchStatus;
-use vx_value::{Text, Variable, VariableList, WantOfMemory};
 
 /// A source, and two consoles that read it: one by its name, and one on standard error by a pattern.
 pub(crate) const TWO_SINKS: &str = "[sources.in]
@@ -36,46 +38,69 @@ fn notices(history: &Record, wanted: BatchStatus) -> u64 {
     found
 }
 
-/// Scripts in which `in` gives a piece, and `s1` meets its calls with these acts.
-fn scripts(alloc: Global, piece: &str, some: &[Act]) -> Result<ScriptedList, WantOfMemory> {
-    let mut scripts = ScriptedList::new(alloc);
-    let source = script(alloc, "in", one_piece(alloc, piece)?, ActList::new(alloc))?;
-    add(&mut scripts, source)?;
-    let sink = script(alloc, "s1", StepList::new(alloc), acts(alloc, some)?)?;
-    add(&mut scripts, sink)?;
-    Ok(scripts)
+/// Checks how many notices tell that a batch was delivered, and that one was rejected.
+fn noted(rt: &impl Abort, ended: &Ended<MemoryWorld>, delivered: u64, rejected: u64) {
+    assert_eq!(rt; notices(&ended.history, BatchStatus::Delivered), delivered);
+    assert_eq!(rt; notices(&ended.history, BatchStatus::Rejected), rejected);
 }
 
-/// A run to two consoles, of which the first meets its calls with these acts.
-fn to_two<R: Wait + Abort>(
-    rt: &R,
-    alloc: Global,
-    piece: &str,
-    some: &[Act],
-) -> Result<Ended<MemoryWorld>, WantOfMemory> {
-    let world = played(alloc, TWO_SINKS, scripts(alloc, piece, some)?)?;
-    Ok(run(rt, alloc, &words(alloc, "first.toml")?, world, 0, ""))
-}
+/// Two lines for two consoles.
+const TO_TWO: Run = Run {
+    text: TWO_SINKS,
+    steps: &[Play::Piece(0, "a\nb\n")],
+    sink: "s1",
+    given: &["", "a\nb\n", "a\nb\n"],
+    ..EMPTY
+};
 
 #[test]
 fn two_consoles_are_given_every_line(rt: HostRuntime) -> Result<(), Fail> {
-    let ended = to_two(&rt, rt.alloc(), "a\nb\n", &[])?;
-    assert_eq!(rt; ended.ports.len(), 3);
-    assert!(rt; given(&ended, 1) == "a\nb\n".as_bytes());
-    assert!(rt; given(&ended, 2) == "a\nb\n".as_bytes());
-    assert_eq!(rt; notices(&ended.history, BatchStatus::Delivered), 1);
+    let ended = ran(&rt, rt.alloc(), &TO_TWO)?;
+    noted(&rt, &ended, 1, 0);
     Ok(())
+}
+
+/// The same, with acknowledgements.
+const TWO_ACKNOWLEDGED: &str = "[sources.in]
+type = \"stdin\"
+
+[sinks.s1]
+type = \"console\"
+inputs = [\"in\"]
+encoding.codec = \"text\"
+acknowledgements = true
+
+[sinks.s2]
+type = \"console\"
+target = \"stderr\"
+inputs = [\"i*\"]
+encoding.codec = \"text\"
+acknowledgements = true
+";
+
+/// A line that the first of two consoles refuses when it is to finish.
+const REFUSED_BY_ONE: Run = Run {
+    text: TWO_ACKNOWLEDGED,
+    steps: &[Play::Piece(0, "a\n")],
+    sink: "s1",
+    acts: &[Act::Pass, Act::Pass, Act::Refuse],
+    given: &["", "a\n", "a\n"],
+    ..EMPTY
+};
+
+/// Checks how many events of a source were refused, and what was confirmed to it.
+fn counted(rt: &impl Abort, ended: &Ended<MemoryWorld>, rejected: u64, confirmed: u64) {
+    match ended.tallies.get(0) {
+        Some(source) => assert_eq!(rt; (source.rejected, source.confirmed), (rejected, confirmed)),
+        None => assert!(rt; false),
+    }
 }
 
 #[test]
 fn refused_by_one_of_two_sinks(rt: HostRuntime) -> Result<(), Fail> {
-    let acts = [Act::Pass, Act::Pass, Act::Refuse];
-    let ended = to_two(&rt, rt.alloc(), "a\n", &acts)?;
-    assert!(rt; given(&ended, 2) == "a\n".as_bytes());
-    let source = ended.tallies.get(0).ok_or("a source")?;
-    assert_eq!(rt; (source.rejected, source.confirmed), (1, 2));
-    assert_eq!(rt; notices(&ended.history, BatchStatus::Rejected), 1);
-    assert_eq!(rt; notices(&ended.history, BatchStatus::Delivered), 0);
+    let ended = ran(&rt, rt.alloc(), &REFUSED_BY_ONE)?;
+    counted(&rt, &ended, 1, 0);
+    noted(&rt, &ended, 0, 1);
     Ok(())
 }
 
@@ -83,57 +108,40 @@ fn refused_by_one_of_two_sinks(rt: HostRuntime) -> Result<(), Fail> {
 const WITH_VARIABLES: &str =
     "[sources.in]\ntype = \"$KIND\"\n[sinks.out]\ntype = \"console\"\ninputs = [\"${NOBODY:-in}\"]\nencoding.codec = \"text\"\n";
 
-/// An environment in which the other one has a value.
-fn environment(alloc: Global) -> Result<VariableList, WantOfMemory> {
-    let mut environment = VariableList::new(alloc);
-    let kind = Variable {
-        name: Text::copy_of(alloc, "KIND")?,
-        value: Text::copy_of(alloc, "stdin")?,
-    };
-    add(&mut environment, kind)?;
-    Ok(environment)
-}
+/// A line, in an environment where the other one has a value.
+const IN_AN_ENVIRONMENT: Run = Run {
+    text: WITH_VARIABLES,
+    variables: &[("KIND", "stdin")],
+    steps: &[Play::Piece(0, "a\n")],
+    given: &["", "a\n"],
+    ..EMPTY
+};
 
-/// A run of that configuration in that environment.
-fn run_with_variables<R: Wait + Abort>(
-    rt: &R,
-    alloc: Global,
-) -> Result<Ended<MemoryWorld>, WantOfMemory> {
-    let words = words(alloc, "first.toml")?;
-    let environment = environment(alloc)?;
-    let world = world(alloc, WITH_VARIABLES, one_piece(alloc, "a\n")?)?;
-    Ok(run_within(rt, alloc, &words, &environment, world, 0, ""))
-}
-
-/// Checks that a configuration is refused where the environment has no variables.
-fn is_refused<R: Wait + Abort>(
-    rt: &R,
-    alloc: Global,
-    text: &str,
-    printed: &str,
-) -> Result<(), WantOfMemory> {
-    let world = world(alloc, text, StepList::new(alloc))?;
-    let ended = run(rt, alloc, &words(alloc, "first.toml")?, world, 78, printed);
-    assert!(rt; ended.ports.is_empty());
-    Ok(())
-}
+/// The same configuration, in an environment without variables.
+const IN_NO_ENVIRONMENT: Run = Run {
+    text: WITH_VARIABLES,
+    status: 78,
+    printed: "vector: configuration refused: missing variable KIND at 21\n",
+    given: &[],
+    ..EMPTY
+};
 
 #[test]
 fn variables_have_values_in_the_environment(rt: HostRuntime) -> Result<(), Fail> {
-    let ended = run_with_variables(&rt, rt.alloc())?;
-    assert!(rt; given(&ended, 1) == "a\n".as_bytes());
-    let printed = "vector: configuration refused: missing variable KIND at 21\n";
-    is_refused(&rt, rt.alloc(), WITH_VARIABLES, printed)?;
-    Ok(())
+    runs(&rt, rt.alloc(), &IN_AN_ENVIRONMENT)?;
+    runs(&rt, rt.alloc(), &IN_NO_ENVIRONMENT)
 }
 
 /// A configuration with a sink of a type that there isn't.
-const UNKNOWN_KIND: &str =
-    "[sources.in]\ntype = \"stdin\"\n[sinks.out]\ntype = \"kafka\"\ninputs = [\"in\"]\n";
+const UNKNOWN_KIND: Run = Run {
+    text: "[sources.in]\ntype = \"stdin\"\n[sinks.out]\ntype = \"kafka\"\ninputs = [\"in\"]\n",
+    status: 78,
+    printed: "vector: configuration refused: unknown kind at sinks.out.type\n",
+    given: &[],
+    ..EMPTY
+};
 
 #[test]
 fn an_unknown_kind_is_refused(rt: HostRuntime) -> Result<(), Fail> {
-    let printed = "vector: configuration refused: unknown kind at sinks.out.type\n";
-    is_refused(&rt, rt.alloc(), UNKNOWN_KIND, printed)?;
-    Ok(())
+    runs(&rt, rt.alloc(), &UNKNOWN_KIND)
 }

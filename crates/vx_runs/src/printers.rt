@@ -1,15 +1,18 @@
+//! What is answered where nothing can be printed to standard error.
+
 ghost use Rattle.std.specs.Prelude.{[], Some};
 
-use crate::runs::{FIRST, add, one_piece, run_onto, two_words, words, world};
+use crate::fixtures::{Play, steps};
+use crate::runs::{EMPTY, Run, called};
 use std::alloc::Global;
 use std::process::Abort;
 use std::sync::Wait;
 use std::test::Fail;
-use vx_ends::{Failed, MemoryPrinter, Printer, Step, StepList};
+use vx_ends::{Failed, Printer};
 use vx_graph::GraphFault;
 use vx_reading::PlanFault;
 use vx_run::Fault;
-use vx_value::{TextList, VariableList};
+use vx_value::WantOfMemory;
 
 /// A printer that fails at each print, and counts that.
 #[derive(Drop)]
@@ -28,61 +31,72 @@ impl Printer for FailingPrinter {
     }
 }
 
-/// Does what those words ask for, where the file has that text and no print to standard error succeeds. Checks the
-/// status and that one print failed, and answers the fault.
+/// Does a run in which no print to standard error succeeds. Checks what must come of it and that one print failed, and
+/// answers the fault.
 fn untold<R: Wait + Abort>(
     rt: &R,
     alloc: Global,
-    words: &TextList,
-    text: &str,
-    steps: StepList,
-    status: u8,
-) -> Result<Option<Fault>, Fail> {
-    let environment = VariableList::new(alloc);
-    let world = world(alloc, text, steps)?;
-    let mut out = MemoryPrinter::new(alloc, None);
+    run: &Run,
+) -> Result<Option<Fault>, WantOfMemory> {
     let mut err = FailingPrinter { faults: 0 };
-    let ended = run_onto(rt, alloc, words, &environment, world, &mut out, &mut err);
-    assert_eq!(rt; ended.status, status);
+    let ended = called(rt, alloc, run, steps(alloc, run.steps)?, &mut err)?;
     assert_eq!(rt; err.faults, 1);
-    assert!(rt; out.printed().is_empty());
     Ok(ended.fault)
 }
 
+/// A source that fails behind a line.
+const LOST: Run = Run {
+    steps: &[Play::Piece(0, "a\n"), Play::Fail],
+    status: 69,
+    ..EMPTY
+};
+
 #[test]
 fn a_lost_source_keeps_its_status_untold(rt: HostRuntime) -> Result<(), Fail> {
-    let alloc = rt.alloc();
-    let mut steps = one_piece(alloc, "a\n")?;
-    add(&mut steps, Step::Fail)?;
-    let fault = untold(&rt, alloc, &words(alloc, "first.toml")?, FIRST, steps, 69)?;
+    let fault = untold(&rt, rt.alloc(), &LOST)?;
     assert!(rt; matches!(fault, Some(Fault::SourceFailed { name: _, at: 2 })));
     Ok(())
 }
 
+/// Words that name a file that isn't there.
+const NO_SUCH_FILE: Run = Run {
+    words: &["--config", "second.toml"],
+    status: 74,
+    ..EMPTY
+};
+
 #[test]
 fn a_missing_file_keeps_its_status_untold(rt: HostRuntime) -> Result<(), Fail> {
-    let alloc = rt.alloc();
-    let steps = StepList::new(alloc);
-    let fault = untold(&rt, alloc, &words(alloc, "second.toml")?, FIRST, steps, 74)?;
+    let fault = untold(&rt, rt.alloc(), &NO_SUCH_FILE)?;
     assert!(rt; matches!(fault, Some(Fault::ConfigRead { path: _ })));
     Ok(())
 }
 
+/// No words.
+const NO_WORDS: Run = Run {
+    words: &[],
+    status: 64,
+    ..EMPTY
+};
+
 #[test]
 fn other_words_keep_their_status_untold(rt: HostRuntime) -> Result<(), Fail> {
-    let alloc = rt.alloc();
-    let steps = StepList::new(alloc);
-    let fault = untold(&rt, alloc, &TextList::new(alloc), FIRST, steps, 64)?;
+    let fault = untold(&rt, rt.alloc(), &NO_WORDS)?;
     assert!(rt; matches!(fault, Some(Fault::Usage)));
     Ok(())
 }
 
+/// A configuration without components, to be judged.
+const NO_SOURCES: Run = Run {
+    words: &["validate", "first.toml"],
+    text: "",
+    status: 78,
+    ..EMPTY
+};
+
 #[test]
 fn a_refusal_keeps_its_status_untold(rt: HostRuntime) -> Result<(), Fail> {
-    let alloc = rt.alloc();
-    let words = two_words(alloc, "validate", "first.toml")?;
-    let steps = StepList::new(alloc);
-    let fault = untold(&rt, alloc, &words, "", steps, 78)?;
+    let fault = untold(&rt, rt.alloc(), &NO_SOURCES)?;
     assert!(rt;
         matches!(
             fault,

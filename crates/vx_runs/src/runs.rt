@@ -1,13 +1,15 @@
+//! Whole runs between ends in memory.
+
+use crate::fixtures::{Play, add, config, environment, script, steps, texts};
 use std::alloc::Global;
 use std::process::Abort;
 use std::sync::Wait;
 use std::test::Fail;
 use vx_ends::{
-    Act, ActList, Config, ConfigList, MemoryClock, MemoryPrinter, MemoryWorld, Printer, Scripted,
-    ScriptedList, Step, StepList,
+    Act, ConfigList, MemoryClock, MemoryPrinter, MemoryWorld, Printer, ScriptedList, StepList,
 };
 use vx_run::{Ended, vector};
-use vx_value::{Bytes, ItemList, Text, TextList, VariableList, WantOfMemory};
+use vx_value::WantOfMemory;
 
 /// The first configuration.
 pub(crate) const FIRST: &str = "[sources.in]
@@ -19,94 +21,113 @@ inputs = [\"in\"]
 encoding.codec = \"text\"
 ";
 
-pub(crate) fn add<T: Drop>(list: &mut ItemList<T>, item: T) -> Result<(), WantOfMemory> {
-    list.push(item).map_err(|_| WantOfMemory)
+/// A call of the program between ends in memory, and what must come of it.
+#[derive(Drop)]
+pub(crate) struct Run {
+    /// The program's words.
+    pub(crate) words: &'static [&'static str],
+    /// The variables of its environment.
+    pub(crate) variables: &'static [(&'static str, &'static str)],
+    /// The text at `first.toml`.
+    pub(crate) text: &'static str,
+    /// What `in` answers to takes.
+    pub(crate) steps: &'static [Play],
+    /// How `in` meets its other calls.
+    pub(crate) source: &'static [Act],
+    /// The name of a sink.
+    pub(crate) sink: &'static str,
+    /// How that sink meets its calls.
+    pub(crate) acts: &'static [Act],
+    /// The print to standard output from which on each one fails, if any.
+    pub(crate) mute_from: Option<u64>,
+    /// The exit status.
+    pub(crate) status: u8,
+    /// What is printed to standard error.
+    pub(crate) printed: &'static str,
+    /// What is printed to standard output.
+    pub(crate) shown: &'static str,
+    /// What each port was given, that of `in` being the first. Where nothing is run, there is none.
+    pub(crate) given: &'static [&'static str],
 }
 
-pub(crate) fn words(alloc: Global, file: &str) -> Result<TextList, WantOfMemory> {
-    two_words(alloc, "--config", file)
-}
+/// A run of the first configuration whose input is empty.
+pub(crate) const EMPTY: Run = Run {
+    words: &["--config", "first.toml"],
+    variables: &[],
+    text: FIRST,
+    steps: &[],
+    source: &[],
+    sink: "out",
+    acts: &[],
+    mute_from: None,
+    status: 0,
+    printed: "",
+    shown: "",
+    given: &["", ""],
+};
 
-pub(crate) fn two_words(
-    alloc: Global,
-    first: &str,
-    second: &str,
-) -> Result<TextList, WantOfMemory> {
-    let mut words = TextList::new(alloc);
-    add(&mut words, Text::copy_of(alloc, first)?)?;
-    add(&mut words, Text::copy_of(alloc, second)?)?;
-    Ok(words)
-}
-
-/// A step that gives these bytes.
-pub(crate) fn piece(alloc: Global, bytes: &[u8]) -> Result<Step, WantOfMemory> {
-    Ok(Step::Bytes {
-        stream: 0,
-        bytes: Bytes::copy_of(alloc, bytes)?,
-    })
-}
-
-/// Some acts.
-pub(crate) fn acts(alloc: Global, some: &[Act]) -> Result<ActList, WantOfMemory> {
-    let mut list = ActList::new(alloc);
-    for act in some {
-        add(&mut list, *act)?;
-    }
+/// The scripts of `in`, which plays these steps, and of the sink.
+fn scripts(alloc: Global, run: &Run, steps: StepList) -> Result<ScriptedList, WantOfMemory> {
+    let mut list = ScriptedList::new(alloc);
+    add(&mut list, script(alloc, "in", steps, run.source)?)?;
+    let sink = script(alloc, run.sink, StepList::new(alloc), run.acts)?;
+    add(&mut list, sink)?;
     Ok(list)
 }
 
-/// A world with that text at `first.toml`, whose `in` plays these steps.
-pub(crate) fn world(
-    alloc: Global,
-    text: &str,
-    steps: StepList,
-) -> Result<MemoryWorld, WantOfMemory> {
-    staged(alloc, text, steps, ActList::new(alloc), ActList::new(alloc))
+/// That text at `first.toml`.
+fn configs(alloc: Global, text: &str) -> Result<ConfigList, WantOfMemory> {
+    let mut list = ConfigList::new(alloc);
+    add(&mut list, config(alloc, "first.toml", text)?)?;
+    Ok(list)
 }
 
-/// The same, whose `in` and `out` meet the other calls with these acts.
-pub(crate) fn staged(
-    alloc: Global,
-    text: &str,
-    steps: StepList,
-    source: ActList,
-    sink: ActList,
-) -> Result<MemoryWorld, WantOfMemory> {
-    let mut scripts = ScriptedList::new(alloc);
-    add(&mut scripts, script(alloc, "in", steps, source)?)?;
-    add(
-        &mut scripts,
-        script(alloc, "out", StepList::new(alloc), sink)?,
-    )?;
-    played(alloc, text, scripts)
-}
-
-/// A world with that text at `first.toml`, whose ports play these scripts.
-pub(crate) fn played(
-    alloc: Global,
-    text: &str,
-    scripts: ScriptedList,
-) -> Result<MemoryWorld, WantOfMemory> {
-    let mut configs = ConfigList::new(alloc);
-    let config = Config {
-        path: Text::copy_of(alloc, "first.toml")?,
-        bytes: Bytes::copy_of(alloc, text.as_bytes())?,
-    };
-    add(&mut configs, config)?;
+/// The world of a run, whose `in` plays these steps.
+fn world(alloc: Global, run: &Run, steps: StepList) -> Result<MemoryWorld, WantOfMemory> {
+    let configs = configs(alloc, run.text)?;
+    let scripts = scripts(alloc, run, steps)?;
     Ok(MemoryWorld::new(alloc, configs, scripts))
 }
 
-pub(crate) fn script(
+/// Calls the program in the world of a run, whose `in` plays these steps, and checks the status and what is shown.
+pub(crate) fn called<R: Wait + Abort, P: Printer>(
+    rt: &R,
     alloc: Global,
-    name: &str,
+    run: &Run,
     steps: StepList,
-    acts: ActList,
-) -> Result<Scripted, WantOfMemory> {
-    Ok(Scripted {
-        name: Text::copy_of(alloc, name)?,
-        steps,
-        acts,
-    })
+    err: &mut P,
+) -> Result<Ended<MemoryWorld>, WantOfMemory> {
+    let words = texts(alloc, run.words)?;
+    let environment = environment(alloc, run.variables)?;
+    let world = world(alloc, run, steps)?;
+    let mut out = MemoryPrinter::new(alloc, run.mute_from);
+    let clock = MemoryClock::new();
+    let ended = vector(
+        rt,
+        alloc,
+        &words,
+        &environment,
+        world,
+        &clock,
+        &mut out,
+        err,
+    );
+    assert_eq!(rt; ended.status, run.status);
+    assert!(rt; out.printed() == run.shown.as_bytes());
+    Ok(ended)
+}
+
+/// The same, and checks what is printed on standard error.
+pub(crate) fn played<R: Wait + Abort>(
+    rt: &R,
+    alloc: Global,
+    run: &Run,
+    steps: StepList,
+) -> Result<Ended<MemoryWorld>, WantOfMemory> {
+    let mut err = MemoryPrinter::new(alloc, None);
+    let ended = called(rt, alloc, run, steps, &mut err)?;
+    assert!(rt; err.printed() == run.printed.as_bytes());
+    Ok(ended)
 }
 
 /// What the port of an instance was given.
@@ -117,168 +138,136 @@ pub(crate) fn given(ended: &Ended<MemoryWorld>, instance: usize) -> &[u8] {
     }
 }
 
-/// Runs those words in that world, and checks the status and what is printed on standard error.
-pub(crate) fn run<R: Wait + Abort>(
-    rt: &R,
-    alloc: Global,
-    words: &TextList,
-    world: MemoryWorld,
-    status: u8,
-    printed: &str,
-) -> Ended<MemoryWorld> {
-    let environment = VariableList::new(alloc);
-    run_within(rt, alloc, words, &environment, world, status, printed)
+/// Checks how many ports there are, and what each was given. Where there is none, nothing is in the record.
+fn were_given(rt: &impl Abort, ended: &Ended<MemoryWorld>, wanted: &[&str]) {
+    assert_eq!(rt; ended.ports.len(), wanted.len());
+    for i in 0..wanted.len() {
+        assert!(rt; given(ended, i) == wanted[i].as_bytes());
+    }
+    assert!(rt; !wanted.is_empty() || ended.history.is_empty());
 }
 
-/// The same with variables of an environment.
-pub(crate) fn run_within<R: Wait + Abort>(
+/// Does a run whose `in` plays these steps, and checks all that must come of it.
+pub(crate) fn ran_on<R: Wait + Abort>(
     rt: &R,
     alloc: Global,
-    words: &TextList,
-    environment: &VariableList,
-    world: MemoryWorld,
-    status: u8,
-    printed: &str,
-) -> Ended<MemoryWorld> {
-    let mut out = MemoryPrinter::new(alloc, None);
-    let mut err = MemoryPrinter::new(alloc, None);
-    let ended = run_onto(rt, alloc, words, environment, world, &mut out, &mut err);
-    assert_eq!(rt; ended.status, status);
-    assert!(rt; err.printed() == printed.as_bytes());
-    assert!(rt; out.printed().is_empty());
-    ended
+    run: &Run,
+    steps: StepList,
+) -> Result<Ended<MemoryWorld>, WantOfMemory> {
+    let ended = played(rt, alloc, run, steps)?;
+    were_given(rt, &ended, run.given);
+    Ok(ended)
 }
 
-/// Runs those words in that world, and prints to these printers.
-pub(crate) fn run_onto<R: Wait + Abort, P: Printer>(
-    rt: &R,
-    alloc: Global,
-    words: &TextList,
-    environment: &VariableList,
-    world: MemoryWorld,
-    out: &mut MemoryPrinter,
-    err: &mut P,
-) -> Ended<MemoryWorld> {
-    let clock = MemoryClock::new();
-    vector(rt, alloc, words, environment, world, &clock, out, err)
-}
-
-/// Runs a configuration on these steps, and checks that this ends well.
+/// Does a run, and checks all that must come of it.
 pub(crate) fn ran<R: Wait + Abort>(
     rt: &R,
     alloc: Global,
-    text: &str,
-    steps: StepList,
+    run: &Run,
 ) -> Result<Ended<MemoryWorld>, WantOfMemory> {
-    let world = world(alloc, text, steps)?;
-    let words = words(alloc, "first.toml")?;
-    Ok(run(rt, alloc, &words, world, 0, ""))
+    ran_on(rt, alloc, run, steps(alloc, run.steps)?)
 }
 
-/// Runs the first configuration on these steps, and checks what `out` was given.
-fn copies<R: Wait + Abort>(
-    rt: &R,
-    alloc: Global,
-    steps: StepList,
-    status: u8,
-    printed: &str,
-    wanted: &str,
-) -> Result<(), WantOfMemory> {
-    let world = world(alloc, FIRST, steps)?;
-    let words = words(alloc, "first.toml")?;
-    let ended = run(rt, alloc, &words, world, status, printed);
-    assert_eq!(rt; ended.ports.len(), 2);
-    assert!(rt; given(&ended, 1) == wanted.as_bytes());
+/// The same, of a run of which nothing else is to be checked.
+pub(crate) fn runs<R: Wait + Abort>(rt: &R, alloc: Global, run: &Run) -> Result<(), Fail> {
+    ran(rt, alloc, run)?;
     Ok(())
 }
 
-/// The steps of a source that gives one piece.
-pub(crate) fn one_piece(alloc: Global, bytes: &str) -> Result<StepList, WantOfMemory> {
-    let mut steps = StepList::new(alloc);
-    add(&mut steps, piece(alloc, bytes.as_bytes())?)?;
-    Ok(steps)
-}
-
-/// The steps of a source that gives a piece, and fails.
-fn failing(alloc: Global, bytes: &str) -> Result<StepList, WantOfMemory> {
-    let mut steps = one_piece(alloc, bytes)?;
-    add(&mut steps, Step::Fail)?;
-    Ok(steps)
-}
+/// Two lines in one piece.
+pub(crate) const TWO_LINES: Run = Run {
+    steps: &[Play::Piece(0, "a\nb\n")],
+    given: &["", "a\nb\n"],
+    ..EMPTY
+};
 
 #[test]
 fn copies_two_lines(rt: HostRuntime) -> Result<(), Fail> {
-    let steps = one_piece(rt.alloc(), "a\nb\n")?;
-    copies(&rt, rt.alloc(), steps, 0, "", "a\nb\n")?;
-    Ok(())
+    runs(&rt, rt.alloc(), &TWO_LINES)
 }
 
 #[test]
 fn empty_input(rt: HostRuntime) -> Result<(), Fail> {
-    copies(&rt, rt.alloc(), StepList::new(rt.alloc()), 0, "", "")?;
-    Ok(())
+    runs(&rt, rt.alloc(), &EMPTY)
 }
+
+/// A line without a line feed.
+pub(crate) const OPEN_LINE: Run = Run {
+    steps: &[Play::Piece(0, "a")],
+    given: &["", "a\n"],
+    ..EMPTY
+};
 
 #[test]
 fn unfinished_last_line(rt: HostRuntime) -> Result<(), Fail> {
-    let steps = one_piece(rt.alloc(), "a")?;
-    copies(&rt, rt.alloc(), steps, 0, "", "a\n")?;
-    Ok(())
+    runs(&rt, rt.alloc(), &OPEN_LINE)
 }
+
+/// A source that fails before it gives anything.
+const LOST_AT_ONCE: Run = Run {
+    steps: &[Play::Fail],
+    status: 69,
+    printed: "vector: source in failed after 0 bytes\n",
+    ..EMPTY
+};
 
 #[test]
 fn fails_before_the_first_line(rt: HostRuntime) -> Result<(), Fail> {
-    let mut steps = StepList::new(rt.alloc());
-    add(&mut steps, Step::Fail)?;
-    let printed = "vector: source in failed after 0 bytes\n";
-    copies(&rt, rt.alloc(), steps, 69, printed, "")?;
-    Ok(())
+    runs(&rt, rt.alloc(), &LOST_AT_ONCE)
 }
+
+/// A source that fails behind a line, before another.
+const LOST_AFTER_ONE: Run = Run {
+    steps: &[Play::Piece(0, "a\n"), Play::Fail, Play::Piece(0, "b\n")],
+    status: 69,
+    printed: "vector: source in failed after 2 bytes\n",
+    given: &["", "a\n"],
+    ..EMPTY
+};
 
 #[test]
 fn fails_after_one_line(rt: HostRuntime) -> Result<(), Fail> {
-    let mut steps = failing(rt.alloc(), "a\n")?;
-    add(&mut steps, piece(rt.alloc(), b"b\n")?)?;
-    let printed = "vector: source in failed after 2 bytes\n";
-    copies(&rt, rt.alloc(), steps, 69, printed, "a\n")?;
-    Ok(())
+    runs(&rt, rt.alloc(), &LOST_AFTER_ONE)
 }
+
+/// A source that fails behind two lines.
+const LOST_AFTER_TWO: Run = Run {
+    steps: &[Play::Piece(0, "a\nb\n"), Play::Fail],
+    status: 69,
+    printed: "vector: source in failed after 4 bytes\n",
+    given: &["", "a\nb\n"],
+    ..EMPTY
+};
 
 #[test]
 fn fails_after_two_lines(rt: HostRuntime) -> Result<(), Fail> {
-    let steps = failing(rt.alloc(), "a\nb\n")?;
-    let printed = "vector: source in failed after 4 bytes\n";
-    copies(&rt, rt.alloc(), steps, 69, printed, "a\nb\n")?;
-    Ok(())
+    runs(&rt, rt.alloc(), &LOST_AFTER_TWO)
 }
 
-/// Checks that with those words nothing is run.
-fn runs_nothing<R: Wait + Abort>(
-    rt: &R,
-    alloc: Global,
-    words: &TextList,
-    status: u8,
-    printed: &str,
-) -> Result<(), WantOfMemory> {
-    let world = world(alloc, FIRST, StepList::new(alloc))?;
-    let ended = run(rt, alloc, words, world, status, printed);
-    assert!(rt; ended.ports.is_empty());
-    Ok(())
-}
+/// Words that name a file that isn't there.
+const NO_SUCH_FILE: Run = Run {
+    words: &["--config", "second.toml"],
+    status: 74,
+    printed: "vector: cannot read second.toml\n",
+    given: &[],
+    ..EMPTY
+};
 
 #[test]
 fn finds_no_such_file(rt: HostRuntime) -> Result<(), Fail> {
-    let words = words(rt.alloc(), "second.toml")?;
-    let printed = "vector: cannot read second.toml\n";
-    runs_nothing(&rt, rt.alloc(), &words, 74, printed)?;
-    Ok(())
+    runs(&rt, rt.alloc(), &NO_SUCH_FILE)
 }
+
+/// No words.
+const NO_WORDS: Run = Run {
+    words: &[],
+    status: 64,
+    printed: "vector: usage: vector --config FILE [options]\nvector: usage: vector validate FILE\n",
+    given: &[],
+    ..EMPTY
+};
 
 #[test]
 fn says_how_it_is_called(rt: HostRuntime) -> Result<(), Fail> {
-    let words = TextList::new(rt.alloc());
-    let printed =
-        "vector: usage: vector --config FILE [options]\nvector: usage: vector validate FILE\n";
-    runs_nothing(&rt, rt.alloc(), &words, 64, printed)?;
-    Ok(())
+    runs(&rt, rt.alloc(), &NO_WORDS)
 }

@@ -1,49 +1,35 @@
+//! Judgements of configurations, and what is printed of them.
+
+use crate::fixtures::add;
 use crate::plans::TWO_SINKS;
-use crate::runs::{FIRST, add, run_onto, two_words, world};
+use crate::runs::{EMPTY, Run, ran, runs};
 use std::alloc::Global;
-use std::process::Abort;
-use std::sync::Wait;
 use std::test::Fail;
-use vx_ends::{MemoryPrinter, MemoryWorld, StepList};
 use vx_plan::{Component, ComponentList, Plan, first_plan};
-use vx_run::{Ended, Fault, valid_text};
-use vx_value::{Text, VariableList, WantOfMemory};
+use vx_run::{Fault, valid_text};
+use vx_value::{Text, WantOfMemory};
 
-/// Judges a text, and checks the status and what is printed. Nothing is run.
-fn judged<R: Wait + Abort>(
-    rt: &R,
-    alloc: Global,
-    text: &str,
-    out: &mut MemoryPrinter,
-    status: u8,
-    printed: &str,
-) -> Result<Ended<MemoryWorld>, Fail> {
-    let words = two_words(alloc, "validate", "first.toml")?;
-    let environment = VariableList::new(alloc);
-    let world = world(alloc, text, StepList::new(alloc))?;
-    let mut err = MemoryPrinter::new(alloc, None);
-    let ended = run_onto(rt, alloc, &words, &environment, world, out, &mut err);
-    assert_eq!(rt; ended.status, status);
-    assert!(rt; err.printed() == printed.as_bytes());
-    assert!(rt; ended.ports.is_empty());
-    assert!(rt; ended.history.is_empty());
-    Ok(ended)
-}
+/// A configuration of two sinks.
+const TWO: Run = Run {
+    words: &["validate", "first.toml"],
+    text: TWO_SINKS,
+    shown: "valid: 1 sources, 0 transforms, 2 sinks\n",
+    given: &[],
+    ..EMPTY
+};
 
-/// Checks what is printed of a text that stands for a plan.
-fn is_valid<R: Wait + Abort>(rt: &R, alloc: Global, text: &str, counts: &str) -> Result<(), Fail> {
-    let mut out = MemoryPrinter::new(alloc, None);
-    judged(rt, alloc, text, &mut out, 0, "")?;
-    assert!(rt; out.printed() == counts.as_bytes());
-    Ok(())
-}
+/// The first configuration.
+const ONE: Run = Run {
+    words: &["validate", "first.toml"],
+    shown: "valid: 1 sources, 0 transforms, 1 sinks\n",
+    given: &[],
+    ..EMPTY
+};
 
 #[test]
 fn validate_counts(rt: HostRuntime) -> Result<(), Fail> {
-    let two = "valid: 1 sources, 0 transforms, 2 sinks\n";
-    is_valid(&rt, rt.alloc(), TWO_SINKS, two)?;
-    let one = "valid: 1 sources, 0 transforms, 1 sinks\n";
-    is_valid(&rt, rt.alloc(), FIRST, one)
+    runs(&rt, rt.alloc(), &TWO)?;
+    runs(&rt, rt.alloc(), &ONE)
 }
 
 /// The same component under another name.
@@ -77,21 +63,34 @@ fn each_class_has_its_own_count(rt: HostRuntime) -> Result<(), Fail> {
     Ok(())
 }
 
+/// A configuration without components.
+const NO_SOURCES: Run = Run {
+    words: &["validate", "first.toml"],
+    text: "",
+    status: 78,
+    printed: "vector: configuration refused: no sources\n",
+    given: &[],
+    ..EMPTY
+};
+
 #[test]
 fn validate_prints_a_refusal_elsewhere(rt: HostRuntime) -> Result<(), Fail> {
-    let alloc = rt.alloc();
-    let mut out = MemoryPrinter::new(alloc, None);
-    let printed = "vector: configuration refused: no sources\n";
-    judged(&rt, alloc, "", &mut out, 78, printed)?;
-    assert!(rt; out.printed().is_empty());
-    Ok(())
+    runs(&rt, rt.alloc(), &NO_SOURCES)
 }
+
+/// A configuration that may stand, where nothing can be printed to standard output.
+const UNPRINTED: Run = Run {
+    words: &["validate", "first.toml"],
+    text: TWO_SINKS,
+    mute_from: Some(0),
+    status: 74,
+    given: &[],
+    ..EMPTY
+};
 
 #[test]
 fn validate_tells_that_it_could_not_print(rt: HostRuntime) -> Result<(), Fail> {
-    let alloc = rt.alloc();
-    let mut out = MemoryPrinter::new(alloc, Some(0));
-    let ended = judged(&rt, alloc, TWO_SINKS, &mut out, 74, "")?;
+    let ended = ran(&rt, rt.alloc(), &UNPRINTED)?;
     assert!(rt; matches!(ended.fault, Some(Fault::PrintFailed)));
     Ok(())
 }

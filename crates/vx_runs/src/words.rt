@@ -1,18 +1,14 @@
 //! The words of each command, at their edges.
 
+use crate::fixtures::texts;
 use std::alloc::Global;
 use std::process::Abort;
 use std::test::Fail;
 use vx_cli::{CliFault, Command, read_words};
-use vx_value::{Text, TextList};
 
 /// What some words are: the command and its file, or the fault.
 fn said(alloc: Global, words: &[&str]) -> Result<String, Fail> {
-    let mut list = Vec::new(alloc);
-    for word in words {
-        list.push(Text::copy_of(alloc, *word)?)?;
-    }
-    match read_words(alloc, &TextList::from_vec(list)) {
+    match read_words(alloc, &texts(alloc, words)?) {
         Ok(Command::Run { config }) => {
             let file = config.as_str();
             Ok(format!(in alloc; "run {file}")?)
