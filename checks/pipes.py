@@ -18,6 +18,7 @@ PROGRAM = str(TOP / "vector")
 FIRST = str(TOP / "examples" / "first.toml")
 TWO = str(TOP / "examples" / "two_consoles.toml")
 JSON = str(TOP / "examples" / "json_lines.toml")
+ACKNOWLEDGED = str(TOP / "examples" / "acknowledged.toml")
 USAGE = b"vector: usage: vector --config FILE [options]\nvector: usage: vector validate FILE\n"
 LONGEST = 102_400
 PATIENCE = 120
@@ -35,6 +36,8 @@ REFUSED = [
     (SOURCE + SINK + b"batch.max_events = 2\n", "unknown option sinks.out.batch"),
     (SOURCE + b'[sinks.out]\ntype = "console"\ninputs = ["in"]\n', "missing option sinks.out.encoding.codec"),
     (b"data_dir = 1.5\n" + SOURCE + SINK, "bad value at data_dir"),
+    (b"acknowledgements = 1\n" + SOURCE + SINK, "bad value at acknowledgements"),
+    (SOURCE + SINK + b"acknowledgements.on = true\n", "unknown option sinks.out.acknowledgements.on"),
     (SOURCE + b'[sources.too]\ntype = "stdin"\n' + SINK, "bad value at sources.too.type"),
     (SINK, "no sources"),
     (SOURCE, "no sinks"),
@@ -223,6 +226,18 @@ def consoles():
         check("255 consoles", (seen[0], sorted(seen[1].split()), seen[2]) == (0, [b"a"] * 255 + [b"b"] * 255, b""), seen[0])
 
 
+def acknowledged():
+    """Batches that wait until they are delivered: what is written is as without that, and the run ends."""
+    seen = run(b"a\nb\n", ["--config", ACKNOWLEDGED])
+    check("acknowledged", seen == (0, b"a\nb\n", b"a\nb\n"), seen)
+    lines = b"".join(b"%d\n" % i for i in range(100_000))
+    seen = run(lines, ["--config", ACKNOWLEDGED])
+    check("acknowledged, many lines", seen == (0, lines, lines), seen[0])
+    with open("/dev/full", "wb") as full:
+        ran = subprocess.run([PROGRAM, "--config", ACKNOWLEDGED], input=b"a\nb\n", stdout=full, stderr=subprocess.PIPE, timeout=PATIENCE)
+    check("acknowledged, the first console full", (ran.returncode, ran.stderr) == (0, b"a\nb\n"), (ran.returncode, ran.stderr))
+
+
 def written(fields):
     """The line of an event: its fields by the bytes of their names, without blanks."""
     return json.dumps(fields, sort_keys=True, ensure_ascii=False, separators=(",", ":")).encode() + b"\n"
@@ -302,7 +317,7 @@ def main():
     if not built():
         print("0 passed, 1 failed")
         return 1
-    for part in [refusals, consoles, judgements, json_lines, inputs, bytes_of_all_kinds, lines_as_they_come, a_reader_that_leaves, ends_that_fail, many_lines]:
+    for part in [refusals, consoles, acknowledged, judgements, json_lines, inputs, bytes_of_all_kinds, lines_as_they_come, a_reader_that_leaves, ends_that_fail, many_lines]:
         part()
     failed = results.count(False)
     print(f"{results.count(True)} passed, {failed} failed")
