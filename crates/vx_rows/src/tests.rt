@@ -1,5 +1,4 @@
 use crate::same::first_difference;
-use crate::{FIRST, empty_input, failed_take, first_run, unfinished_line};
 use std::alloc::Global;
 use std::process::Abort;
 use std::sync::Wait;
@@ -8,6 +7,7 @@ use vx_ends::{
     ActList, Config, ConfigList, MemoryClock, MemoryPrinter, MemoryWorld, Scripted, ScriptedList,
     Step, StepList,
 };
+use vx_examples::built::{FIRST, empty_input, failed_take, first_run, unfinished_line};
 use vx_record::Record;
 use vx_run::{Ended, vector};
 use vx_value::{Bytes, ItemList, Text, TextList, VariableList, WantOfMemory};

@@ -1,52 +1,37 @@
 ghost use Rattle.std.specs.Prelude.{◌≡◌, IfOk, OnOk};
 ghost use Rattle.vx_examples.specs.FirstRun.{after1};
-ghost use Rattle.vx_examples.specs.UnfinishedLine.{after4, after8, after10, after16, after20, after23, run};
+ghost use Rattle.vx_examples.specs.FailedTake.{after5, after7, after13, after17, run};
 
-use crate::parts::{child, close, confirm, event_a, home, installed, lease, one};
-use crate::two_lines::{delivered, push, write};
+use super::parts::{child, close, confirm, event_a, home, installed, lease, one};
+use super::two_lines::{delivered, push, write};
 use std::alloc::Global;
 use vx_record::{Entry, Record, Taken};
 use vx_value::{Bytes, WantOfMemory};
 
-/// The record of a run on `a` without a line feed.
-pub fn unfinished_line(alloc: Global) -> Result<Record, WantOfMemory>
+/// The record of a run whose input fails behind `a` and a line feed.
+pub fn failed_take(alloc: Global) -> Result<Record, WantOfMemory>
     ensures { IfOk result (λ log. log ≡ run) }
 {
     let mut log = installed(alloc)?;
     read(alloc, &mut log)?;
-    end(alloc, &mut log)?;
     send(alloc, &mut log)?;
     finish(alloc, &mut log)?;
+    lose(alloc, &mut log)?;
     close(&mut log, 1)?;
-    confirmed(alloc, &mut log)?;
     close(&mut log, 0)?;
     Ok(log)
 }
 
-/// The source reads one byte.
+/// The source reads a line.
 fn read(alloc: Global, log: &mut Record) -> Result<(), WantOfMemory>
     requires { log.old ≡ after1 }
-    ensures { OnOk result (log.new ≡ after4) }
+    ensures { OnOk result (log.new ≡ after5) }
 {
     lease(log, 0)?;
     log.push(Entry::Read {
         instance: 0,
         stream: 0,
-        taken: Taken::Bytes(Bytes::copy_of(alloc, b"a")?),
-    })?;
-    home(log, 0)
-}
-
-/// The end of the input ends the line.
-fn end(alloc: Global, log: &mut Record) -> Result<(), WantOfMemory>
-    requires { log.old ≡ after4 }
-    ensures { OnOk result (log.new ≡ after8) }
-{
-    lease(log, 0)?;
-    log.push(Entry::Read {
-        instance: 0,
-        stream: 0,
-        taken: Taken::AllEnded,
+        taken: Taken::Bytes(Bytes::copy_of(alloc, b"a\n")?),
     })?;
     log.push(Entry::Born {
         instance: 0,
@@ -56,15 +41,15 @@ fn end(alloc: Global, log: &mut Record) -> Result<(), WantOfMemory>
         events: one(alloc, event_a(alloc)?)?,
         waits: false,
         stream: 0,
-        end: 1,
+        end: 2,
     })?;
     home(log, 0)
 }
 
 /// The event is split, and its child enters the sink's buffer.
 fn send(alloc: Global, log: &mut Record) -> Result<(), WantOfMemory>
-    requires { log.old ≡ after8 }
-    ensures { OnOk result (log.new ≡ after10) }
+    requires { log.old ≡ after5 }
+    ensures { OnOk result (log.new ≡ after7) }
 {
     log.push(Entry::Split {
         instance: 0,
@@ -78,20 +63,25 @@ fn send(alloc: Global, log: &mut Record) -> Result<(), WantOfMemory>
 
 /// The sink writes the line.
 fn finish(alloc: Global, log: &mut Record) -> Result<(), WantOfMemory>
-    requires { log.old ≡ after10 }
-    ensures { OnOk result (log.new ≡ after16) }
+    requires { log.old ≡ after7 }
+    ensures { OnOk result (log.new ≡ after13) }
 {
     write(alloc, log, 1, b"a\n")?;
     delivered(log)?;
     home(log, 1)
 }
 
-/// The batch is confirmed.
-fn confirmed(alloc: Global, log: &mut Record) -> Result<(), WantOfMemory>
-    requires { log.old ≡ after20 }
-    ensures { OnOk result (log.new ≡ after23) }
+/// The source confirms its batch, and is lost at its next take.
+fn lose(alloc: Global, log: &mut Record) -> Result<(), WantOfMemory>
+    requires { log.old ≡ after13 }
+    ensures { OnOk result (log.new ≡ after17) }
 {
     lease(log, 0)?;
-    confirm(alloc, log, 1)?;
+    confirm(alloc, log, 2)?;
+    log.push(Entry::SourceLost {
+        instance: 0,
+        at: 2,
+        start_failed: false,
+    })?;
     home(log, 0)
 }

@@ -1,7 +1,7 @@
 ghost use Rattle.std.specs.Prelude.{◌≡◌, ◌∷◌, [], IfOk, OnOk};
 ghost use Rattle.vx_examples.specs.FirstRun.{after1, after5, after9, after14, after20, after24, first_run as wanted};
 
-use crate::parts::{child, close, confirm, event_a, event_b, home, installed, lease, one, two};
+use super::parts::{child, close, confirm, event_a, event_b, home, installed, lease, one, two};
 use std::alloc::Global;
 use vx_ends::Reply;
 use vx_record::{Entry, Record, Taken};

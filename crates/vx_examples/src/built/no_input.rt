@@ -1,7 +1,7 @@
 ghost use Rattle.std.specs.Prelude.{◌≡◌, IfOk};
 ghost use Rattle.vx_examples.specs.EmptyInput.{run};
 
-use crate::parts::{close, home, installed, lease};
+use super::parts::{close, home, installed, lease};
 use std::alloc::Global;
 use vx_record::{Entry, Record, Taken};
 use vx_value::WantOfMemory;
