@@ -13,56 +13,12 @@ import sys
 import tempfile
 from pathlib import Path
 
-TOP = Path(__file__).resolve().parent.parent
-PROGRAM = str(TOP / "vector")
-FIRST = str(TOP / "examples" / "first.toml")
+from running import FIRST, PATIENCE, PROGRAM, TOP, check, go_through, run
+
 TWO = str(TOP / "examples" / "two_consoles.toml")
 JSON = str(TOP / "examples" / "json_lines.toml")
 ACKNOWLEDGED = str(TOP / "examples" / "acknowledged.toml")
-USAGE = b"vector: usage: vector --config FILE [options]\nvector: usage: vector validate FILE\n"
 LONGEST = 102_400
-PATIENCE = 120
-
-SOURCE = b'[sources.in]\ntype = "stdin"\n'
-SINK = b'[sinks.out]\ntype = "console"\ninputs = ["in"]\nencoding.codec = "text"\n'
-
-# texts that aren't accepted, and why
-REFUSED = [
-    (b'[sources.in]\ntype = "$NOPE_NOPE"\n', "missing variable NOPE_NOPE at 21"),
-    (b"[sources.in\n", "not a TOML document"),
-    (SOURCE + SINK + b"# \xff\n", "not a TOML document"),
-    (SOURCE + b'[sinks.out]\ntype = "kafka"\n', "unknown kind at sinks.out.type"),
-    (b"data = 1\n" + SOURCE + SINK, "unknown option data"),
-    (SOURCE + SINK + b"batch.max_events = 2\n", "unknown option sinks.out.batch"),
-    (SOURCE + b'[sinks.out]\ntype = "console"\ninputs = ["in"]\n', "missing option sinks.out.encoding.codec"),
-    (b"data_dir = 1.5\n" + SOURCE + SINK, "bad value at data_dir"),
-    (b"acknowledgements = 1\n" + SOURCE + SINK, "bad value at acknowledgements"),
-    (SOURCE + SINK + b"acknowledgements.on = true\n", "unknown option sinks.out.acknowledgements.on"),
-    (SOURCE + b'[sources.too]\ntype = "stdin"\n' + SINK, "bad value at sources.too.type"),
-    (SINK, "no sources"),
-    (SOURCE, "no sinks"),
-    (SOURCE + b'[sinks.out]\ntype = "console"\nencoding.codec = "text"\n', "no inputs of component out"),
-    (SOURCE + SINK.replace(b'"in"', b'"on"'), "unknown input on of component out"),
-    (SOURCE + b"".join(SINK.replace(b"out", b"o%d" % i) for i in range(256)), "too many at sources: 257, limit 256"),
-]
-
-results = []
-
-
-def check(name, held, seen):
-    """Notes and prints whether a check held."""
-    results.append(held)
-    print(f"ok      {name}" if held else f"FAILED  {name}: {seen}", flush=True)
-
-
-def run(given, words=("--config", FIRST), cwd=None, variables=None):
-    """The status, the output and the errors of one run on that input, with these variables beside those of this process."""
-    environment = {**os.environb, **(variables or {})}
-    try:
-        ran = subprocess.run([PROGRAM, *words], input=given, capture_output=True, timeout=PATIENCE, cwd=cwd, env=environment)
-    except subprocess.TimeoutExpired:
-        return "it did not end", b"", b""
-    return ran.returncode, ran.stdout, ran.stderr
 
 
 def lines_of(given):
@@ -179,32 +135,6 @@ def ends_that_fail():
         check("a run after one that was killed", seen == (b"a\n", [], (0, b"b\n", b"")), seen)
 
 
-def refusals():
-    """Words, files and configurations that aren't accepted, with their texts and statuses."""
-    for words in [
-        [], ["--config"], ["--config", FIRST, "more"], ["-x"], ["--konfig", FIRST], [b"--config", b"\xff"],
-        ["-c", FIRST, "-c", FIRST], ["--config", "--config"], ["--help"], ["-V"],
-        ["validate"], ["validate", FIRST, FIRST], ["validate", "--config", FIRST], ["--config", FIRST, "validate"],
-    ]:
-        seen = run(b"a\n", words)
-        check(f"words {[str(word)[-20:] for word in words]}", seen == (64, b"", USAGE), seen)
-    for words in [["-c", FIRST], [f"-c{FIRST}"], [f"--config={FIRST}"]]:
-        seen = run(b"a\n", words)
-        check(f"words {[word[:10] for word in words]}", seen == (0, b"a\n", b""), seen)
-    with tempfile.TemporaryDirectory() as folder:
-        seen = run(b"a\n", ["--config", "none.toml"], cwd=folder)
-        check("no such file", seen == (74, b"", b"vector: cannot read none.toml\n"), seen)
-        seen = run(b"a\n", ["--config", folder])
-        check("a folder as a file", seen == (74, b"", b"vector: cannot read %s\n" % folder.encode()), seen)
-        for text, why in REFUSED:
-            (Path(folder) / "other.toml").write_bytes(text)
-            seen = run(b"a\n", ["--config", "other.toml"], cwd=folder)
-            check(f"refused: {why}", seen == (78, b"", f"vector: configuration refused: {why}\n".encode()), seen)
-        (Path(folder) / "first.toml").write_bytes(Path(FIRST).read_bytes())
-        seen = run(b"a\nb\n", ["--config", "first.toml"], cwd=folder)
-        check("a file beside the caller", seen == (0, b"a\nb\n", b""), seen)
-
-
 def consoles():
     """Several sinks that read one source, and variables of the environment."""
     seen = run(b"a\nb\n", ["--config", TWO])
@@ -305,24 +235,5 @@ def judgements():
     check("a judgement onto a closed output", (ran.returncode, ran.stderr) == (74, b""), (ran.returncode, ran.stderr[:200]))
 
 
-def built():
-    """Has the program built where it has to be, however long that takes, and says whether it stands."""
-    ran = subprocess.run([PROGRAM], stdin=subprocess.DEVNULL, capture_output=True)
-    if ran.returncode != 64:
-        sys.stdout.buffer.write(ran.stderr)
-    return ran.returncode == 64
-
-
-def main():
-    if not built():
-        print("0 passed, 1 failed")
-        return 1
-    for part in [refusals, consoles, acknowledged, judgements, json_lines, inputs, bytes_of_all_kinds, lines_as_they_come, a_reader_that_leaves, ends_that_fail, many_lines]:
-        part()
-    failed = results.count(False)
-    print(f"{results.count(True)} passed, {failed} failed")
-    return 1 if failed else 0
-
-
 if __name__ == "__main__":
-    sys.exit(main())
+    sys.exit(go_through([consoles, acknowledged, judgements, json_lines, inputs, bytes_of_all_kinds, lines_as_they_come, a_reader_that_leaves, ends_that_fail, many_lines]))

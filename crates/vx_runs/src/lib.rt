@@ -1,4 +1,4 @@
-//! The ends in memory, the words of the program, configurations, and whole runs between ends in memory.
+//! The ends in memory, what configurations ask for, and whole runs between ends in memory.
 #![tactic(auto)]
 
 #[cfg(test)]
@@ -27,5 +27,3 @@ mod runs;
 mod tallies;
 #[cfg(test)]
 mod validates;
-#[cfg(test)]
-mod words;

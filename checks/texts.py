@@ -1,0 +1,285 @@
+#!/usr/bin/env python3
+"""Has the built program read words and configurations, and looks at what it says of each.
+
+It prints a line for each check, and ends with 'N passed, M failed'. The status is 1 where one failed.
+"""
+
+import sys
+import tempfile
+from pathlib import Path
+
+from running import FIRST, USAGE, check, go_through, run
+
+SOURCE = '[sources.in]\ntype = "stdin"\n'
+SINK = '[sinks.out]\ntype = "console"\ninputs = ["in"]\nencoding.codec = "text"\n'
+BEFORE_OPTIONS = SOURCE + '[sinks.out]\ntype = "console"\ninputs = ["in"]\n'
+BEFORE_INPUTS = SOURCE + '[sinks.out]\ntype = "console"\nencoding.codec = "text"\n'
+
+# In each table a text stands beside why it isn't accepted, or None where it is.
+
+# faults of the whole, or of the kind of a table
+WHOLE = [
+    ("", "no sources"),
+    (SOURCE, "no sinks"),
+    (SINK, "no sources"),
+    ("a", "not a TOML document"),
+    ("a = 1\na = 2\n", "not a TOML document"),
+    ('[sources.in]\ntype = "$NOPE"\n', "missing variable NOPE at 21"),
+    ("a = 1\n", "unknown option a"),
+    ("a.b = 1\n", "unknown option a"),
+    ("acknowledgements = true\n", "no sources"),
+    ("[acknowledgements]\n", "no sources"),
+    ("acknowledgements.enabled = false\n", "no sources"),
+    ("acknowledgements = 1\n", "bad value at acknowledgements"),
+    ('acknowledgements = "true"\n', "bad value at acknowledgements"),
+    ("[[acknowledgements]]\n", "bad value at acknowledgements"),
+    ("acknowledgements.on = true\n", "unknown option acknowledgements.on"),
+    ("acknowledgements.enabled = 1\n", "bad value at acknowledgements.enabled"),
+    ("acknowledgements.enabled.x = true\n", "bad value at acknowledgements.enabled"),
+    ("acknowledgements = true\nacknowledgements.enabled = true\n", "not a TOML document"),
+    ("acknowledgements.x = 1\nacknowledgements.enabled = 1\n", "unknown option acknowledgements.x"),
+    ("acknowledgement = true\n", "unknown option acknowledgement"),
+    ("data_dir = 1\n", "bad value at data_dir"),
+    ("data_dir = 1.5\n", "bad value at data_dir"),
+    ("data_dir = 1979-05-27\n", "bad value at data_dir"),
+    ('data_dir.a = "b"\n', "bad value at data_dir"),
+    ("sources = 1\n", "bad value at sources"),
+    ("[[transforms]]\n", "bad value at transforms"),
+    ("sinks = [1]\n", "bad value at sinks"),
+    ("sources.k = 1\n", "bad value at sources.k"),
+    ("transforms.k = []\n", "bad value at transforms.k"),
+    ('[[sources.in]]\ntype = "stdin"\n', "bad value at sources.in"),
+]
+
+# faults of a component between the source and the sink
+COMPONENTS = [
+    ('[sources.k]\ntype = "kafka"\n', "unknown kind at sources.k.type"),
+    ('[sources.k]\ntype = "console"\n', "unknown kind at sources.k.type"),
+    ('[transforms.k]\ntype = "filter"\nx = 1\n', "unknown kind at transforms.k.type"),
+    ("[sources.k]\n", "missing option sources.k.type"),
+    ("[sources.k]\nx = 1\n", "missing option sources.k.type"),
+    ("[sources.k]\ntype = 1\nx = 1\n", "bad value at sources.k.type"),
+    ("[sources.k]\ntype = 1.5\n", "bad value at sources.k.type"),
+    ("[sources.in.x]\n", "unknown option sources.in.x"),
+    ("[sources]\nk = 1\n", "bad value at sources.k"),
+    ('[sources.zz]\ntype = "stdin"\n', "bad value at sources.zz.type"),
+    ('[sources.a]\ntype = "stdin"\n', "bad value at sources.in.type"),
+    ('[sources."a b"]\ntype = "stdin"\n', "bad value at sources.a b"),
+    ('[sources.""]\ntype = "stdin"\n', "bad value at sources."),
+    ('[sinks.in]\ntype = "console"\nencoding.codec = "text"\n', "bad value at sinks.in"),
+    ('[transforms.out]\ntype = "filter"\n', "unknown kind at transforms.out.type"),
+    ("[sources.in]\n", "not a TOML document"),
+    ("inputs = []\n", "unknown option sources.in.inputs"),
+    ("min_length = 3\n", "unknown option sources.in.min_length"),
+]
+
+# options of the sink
+SINK_OPTIONS = [
+    ("", "missing option sinks.out.encoding.codec"),
+    ('encoding = "text"', "unknown option sinks.out.encoding"),
+    ("[sinks.out.encoding]", "missing option sinks.out.encoding.codec"),
+    ('encoding.codec = "bytes"', "bad value at sinks.out.encoding.codec"),
+    ("encoding.codec = 1.0", "bad value at sinks.out.encoding.codec"),
+    ("encoding.codec = 07:32:00", "bad value at sinks.out.encoding.codec"),
+    ("encoding.codec.x = 1", "bad value at sinks.out.encoding.codec"),
+    ('encoding = { codec = "text", x = 1 }', "unknown option sinks.out.encoding.x"),
+    ('"encoding.codec" = "text"', "unknown option sinks.out.encoding.codec"),
+    ('encoding.codec = "text"\ntarget = "file"', "bad value at sinks.out.target"),
+    ('encoding.codec = "text"\ntarget = true', "bad value at sinks.out.target"),
+    ('encoding.codec = "text"\ntarget = inf', "bad value at sinks.out.target"),
+    ('encoding.codec = "text"\nbuffer.max_events = 1', "unknown option sinks.out.buffer"),
+    ('encoding.codec = "text"', None),
+    ('encoding.codec = "json"', None),
+    ('encoding.codec = "text"\nacknowledgements = true', None),
+    ('encoding.codec = "text"\nacknowledgements = "yes"', "bad value at sinks.out.acknowledgements"),
+    ('encoding.codec = "text"\nacknowledgements = []', "bad value at sinks.out.acknowledgements"),
+    ('encoding.codec = "text"\nacknowledgements.on = true', "unknown option sinks.out.acknowledgements.on"),
+    ('encoding.codec = "text"\nacknowledgements.enabled = 1', "bad value at sinks.out.acknowledgements.enabled"),
+    ('encoding.codec = "text"\nacknowledgements = { enabled = true, x = 1 }', "unknown option sinks.out.acknowledgements.x"),
+    ('encoding.codec = "text"\n[sinks.out.acknowledgements]', None),
+    ('encoding.codec = "text"\n[sinks.out.acknowledgements]\nenabled = true', None),
+]
+
+# options of the source
+SOURCE_OPTIONS = [
+    ("max_length = 0", "bad value at sources.in.max_length"),
+    ("max_length = 16777217", "bad value at sources.in.max_length"),
+    ("max_length = -1", "bad value at sources.in.max_length"),
+    ("max_length = 4294967297", "bad value at sources.in.max_length"),
+    ("max_length = 1.0", "bad value at sources.in.max_length"),
+    ('max_length = "1"', "bad value at sources.in.max_length"),
+    ("max_length = 1", None),
+    ("max_length = 16777216", None),
+    ('decoding.codec = "text"', "bad value at sources.in.decoding.codec"),
+    ('decoding.codec = ["json"]', "bad value at sources.in.decoding.codec"),
+    ('decoding = { codec = "json", x = 1 }', "unknown option sources.in.decoding.x"),
+    ('decoding = "json"', "unknown option sources.in.decoding"),
+    ("[sources.in.decoding]", None),
+    ('decoding.codec = "bytes"', None),
+    ("acknowledgements = true", "unknown option sources.in.acknowledgements"),
+    ("acknowledgements.enabled = true", "unknown option sources.in.acknowledgements"),
+]
+
+# inputs of the sink
+INPUTS = [
+    ("", "no inputs of component out"),
+    ("inputs = []", "no inputs of component out"),
+    ('inputs = "in"', "bad value at sinks.out.inputs"),
+    ('inputs = ["in", 1]', "bad value at sinks.out.inputs"),
+    ('inputs = ["in", 1979-05-27]', "bad value at sinks.out.inputs"),
+    ('inputs = ["out"]', "unknown input out of component out"),
+    ('inputs = ["in", "in"]', None),
+    ('inputs = ["i*"]', None),
+]
+
+# texts with two faults, and that which is told: by kind, by table and name, by path
+TWO_FAULTS = [
+    ('x = [\ny = "$NOPE"\n', "missing variable NOPE at 11"),
+    ('x = [\n[sources.k]\ntype = "kafka"\n', "not a TOML document"),
+    ('a = 1\n[sinks.k]\ntype = "kafka"\n', "unknown kind at sinks.k.type"),
+    ('[sources.k]\n[sinks.z]\ntype = "console"\nx = 1\n', "unknown option sinks.z.x"),
+    ("data_dir = 1\n[sinks.z]\n", "missing option sinks.z.type"),
+    ("[sinks.z]\ntype = 1\n", "bad value at sinks.z.type"),
+    ('a = 1\n[sources.k]\ntype = "stdin"\nA = 1\n', "unknown option a"),
+    ("[sinks.a]\n[sources.b]\n", "missing option sources.b.type"),
+    ("[sinks.b]\ntype = 1\n[transforms.c]\ntype = 1\n", "bad value at transforms.c.type"),
+    ("[sinks.b]\n[sinks.B]\n[sinks.a]\n", "missing option sinks.B.type"),
+    ("[sinks.ab]\n[sinks.a-b]\n[sinks.a]\n", "missing option sinks.a.type"),
+    ("b = 1\na = 1\nB = 1\n", "unknown option B"),
+    ('[sinks.k]\ntype = "console"\nencoding.x = 1\nencoding-x = 1\n', "unknown option sinks.k.encoding-x"),
+    ('[sinks."a b"]\ntype = 1\n', "bad value at sinks.a b"),
+]
+
+# a source and a sink in other forms of TOML
+FORMS = [
+    ('sources.in.type = "stdin"\nsinks.out.type = \'console\'\nsinks.out.inputs = ["in"]\nsinks.out.encoding.codec = "text"\n', None),
+    ('sources = { in = { type = "stdin" } }\nsinks = { out = { type = "console", inputs = ["in"], encoding = { codec = "text" } } }\n', None),
+    ('# a comment\r\n[sources.in] # another\r\ntype = "stdin"\r\n\r\n[sinks.out]\r\ntype = "console"\r\ninputs = [ # and one\r\n  "in",\r\n]\r\nencoding.codec = "text"\r\n', None),
+    ('[sources.in]\ntype = """\nstdin"""\n[sinks.out.encoding]\ncodec = "te\\u0078t"\n[sinks.out]\ninputs = ["in"]\ntype = "console"\n', None),
+]
+
+# a source with a name of 64 bytes, and one with a name of 65
+NAMES = [
+    ('[sources.abcdefghijklmnopqrstuvwxyzABCDEFGHIJKLMNOPQRSTUVWXYZ0123456789_-]\ntype = "stdin"\n', "no sinks"),
+    ('[sources.abcdefghijklmnopqrstuvwxyzABCDEFGHIJKLMNOPQRSTUVWXYZ0123456789_-x]\ntype = "stdin"\n', "bad value at sources.abcdefghijklmnopqrstuvwxyzABCDEFGHIJKLMNOPQRSTUVWXYZ0123456789_-x"),
+]
+
+# words that run the file of that name
+RUNNING = [
+    (["-c", "f"], "f"),
+    (["-cf"], "f"),
+    (["-c=f"], "f"),
+    (["-c==f"], "=f"),
+    (["-c-f"], "-f"),
+    (["--config", "f"], "f"),
+    (["--config=f"], "f"),
+    (["--config==f"], "=f"),
+    (["--config=--config"], "--config"),
+    (["--config", "-"], "-"),
+    (["--config", "validate"], "validate"),
+    (["-c", "f", "--"], "f"),
+]
+
+# words that judge the file of that name
+JUDGING = [
+    (["validate", "f"], "f"),
+    (["validate", "-"], "-"),
+    (["validate", "validate"], "validate"),
+    (["validate", "--", "f"], "f"),
+    (["validate", "--", "--config"], "--config"),
+    (["validate", "--", "--"], "--"),
+    (["validate", "f", "--"], "f"),
+]
+
+# words that name a file without a name
+NAMELESS = [["--config", ""], ["--config="], ["-c", ""], ["-c="], ["validate", ""]]
+
+# words that are no command
+NO_COMMAND = [
+    [], [""], ["--"], ["f"], ["-c"], ["--config"], ["-x"], ["-C", "f"], ["-h"], ["-V"], ["--help"], ["--version"], ["help"],
+    ["-c", "f", "-c", "f"], ["--config", "f", "--config", "g"], ["-cf", "--config=g"], ["-c", "f", "more"],
+    ["-c", "f", "validate", "g"], ["-c", "f", "--", "g"], ["-c", "f", "--help"], ["--", "-c", "f"], ["-c", "-f"],
+    ["--confg", "f"], ["--conf", "f"], ["--config", "--config"], ["--config", "--", "f"], [b"--config", b"\xff"],
+    ["validate"], ["validate", "--"], ["validate", "f", "g"], ["validate", "--config", "f"], ["validate", "--config=f"],
+    ["validate", "--help"], ["validate", "-f"], ["Validate", "f"],
+]
+
+
+def words():
+    """Words with their files, and words that are no command."""
+    for table, wanted in [(RUNNING, b"x\n"), (JUDGING, b"valid: 1 sources, 0 transforms, 1 sinks\n")]:
+        for some, name in table:
+            with tempfile.TemporaryDirectory() as folder:
+                (Path(folder) / name).write_text(SOURCE + SINK)
+                seen = run(b"x\n", some, cwd=folder)
+            check(f"words {some}", seen == (0, wanted, b""), seen)
+    with tempfile.TemporaryDirectory() as folder:
+        for name in ["f", "g", "-f", "--config"]:
+            (Path(folder) / name).write_text(SOURCE + SINK)
+        for some in NAMELESS:
+            seen = run(b"x\n", some, cwd=folder)
+            check(f"words {some}", seen == (74, b"", b"vector: cannot read \n"), seen)
+        for some in NO_COMMAND:
+            seen = run(b"x\n", some, cwd=folder)
+            check(f"words {some}", seen == (64, b"", USAGE), seen)
+
+
+def files():
+    """Files that aren't there, and one beside the caller."""
+    with tempfile.TemporaryDirectory() as folder:
+        seen = run(b"a\n", ["--config", "none.toml"], cwd=folder)
+        check("no such file", seen == (74, b"", b"vector: cannot read none.toml\n"), seen)
+        seen = run(b"a\n", ["--config", folder])
+        check("a folder as a file", seen == (74, b"", b"vector: cannot read %s\n" % folder.encode()), seen)
+        (Path(folder) / "first.toml").write_bytes(Path(FIRST).read_bytes())
+        seen = run(b"a\nb\n", ["--config", "first.toml"], cwd=folder)
+        check("a file beside the caller", seen == (0, b"a\nb\n", b""), seen)
+
+
+def judged(folder, text, why, variables=None):
+    """Checks that a configuration isn't accepted, and why, or that it is, both where it is judged and where it is run."""
+    (Path(folder) / "other.toml").write_bytes(text if isinstance(text, bytes) else text.encode())
+    refused = (78, b"", f"vector: configuration refused: {why}\n".encode())
+    seen = run(b"", ["validate", "other.toml"], cwd=folder, variables=variables)
+    held = seen == refused if why else (seen[0], seen[1][:7], seen[2]) == (0, b"valid: ", b"")
+    check(f"judged {text[:300]!r}: {why}", held, seen)
+    seen = run(b"", ["--config", "other.toml"], cwd=folder, variables=variables)
+    check(f"run {text[:300]!r}: {why}", seen == (refused if why else (0, b"", b"")), seen)
+
+
+def configurations():
+    """Configurations, each with why it isn't accepted, or accepted."""
+    tables = [
+        ("", WHOLE, ""), (SOURCE, COMPONENTS, "\n" + SINK), (BEFORE_OPTIONS, SINK_OPTIONS, "\n"), (SOURCE, SOURCE_OPTIONS, "\n" + SINK),
+        (BEFORE_INPUTS, INPUTS, "\n"), ("", TWO_FAULTS, ""), ("", FORMS, ""), ("", NAMES, ""),
+    ]
+    with tempfile.TemporaryDirectory() as folder:
+        for front, table, back in tables:
+            for text, why in table:
+                judged(folder, front + text + back, why)
+        judged(folder, b'a = "\xff"\n', "not a TOML document")
+        asking = SOURCE + SINK.replace("console", "${VECTOR_KIND:-console}").replace('"text"', '"$VECTOR_CODEC"')
+        judged(folder, asking, "bad value at sinks.out.encoding.codec", {b"VECTOR_CODEC": b"bytes"})
+        judged(folder, asking, None, {b"VECTOR_CODEC": b"json"})
+
+
+def forms_of_one_option():
+    """A table of one option in each form that it may have: lines are read as JSON by each."""
+    for options in ['decoding.codec = "json"', 'decoding = { codec = "json" }', '[sources.in.decoding]\ncodec = "json"']:
+        with tempfile.TemporaryDirectory() as folder:
+            (Path(folder) / "other.toml").write_text(SOURCE + options + "\n" + SINK)
+            seen = run(b'{"message":"m"}\nn\n', ["--config", "other.toml"], cwd=folder)
+        check(f"as {options!r}", seen == (0, b"m\n", b""), seen)
+
+
+def as_many_as_may_be():
+    """As many components and inputs as may be, and one more."""
+    with tempfile.TemporaryDirectory() as folder:
+        for count, why in [(255, None), (256, "too many at sources: 257, limit 256")]:
+            judged(folder, SOURCE + "".join(SINK.replace("out", f"k{i}") for i in range(count)), why)
+        for count, why in [(256, None), (257, "too many at sinks.out.inputs: 257, limit 256")]:
+            judged(folder, SOURCE + SINK.replace('["in"]', "[" + '"in", ' * count + "]"), why)
+
+
+if __name__ == "__main__":
+    sys.exit(go_through([words, files, configurations, forms_of_one_option, as_many_as_may_be]))
