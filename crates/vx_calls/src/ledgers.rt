@@ -196,20 +196,6 @@ fn has_route<R: Abort>(
 }
 
 #[test]
-fn takes_the_last_copy(rt: HostRuntime) -> Result<(), Fail> {
-    let mut batches = Batches::new(rt.alloc())?;
-    let (_, mut copies) = batches.born(0, 2)?;
-    let Ok(Some(last)) = copies.take_last(rt.alloc()) else {
-        panic!(rt; "two copies");
-    };
-    let mut told = Vec::new(rt.alloc());
-    spend_all(&rt, &mut told, &mut batches, last);
-    spend_all(&rt, &mut told, &mut batches, copies);
-    assert_eq!(rt; told.as_slice(), [1, 0].as_slice());
-    Ok(())
-}
-
-#[test]
 fn routes(rt: HostRuntime) -> Result<(), Fail> {
     let mut outlet = Outlet::new(rt.alloc(), 2)?;
     has_route(&rt, rt.alloc(), &outlet, 0b11, &[1, 0])?;

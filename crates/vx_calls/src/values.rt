@@ -251,16 +251,6 @@ fn values_in_order(rt: HostRuntime) -> Result<(), Fail> {
     Ok(())
 }
 
-#[test]
-fn lists_in_order(rt: HostRuntime) -> Result<(), Fail> {
-    let alloc = rt.alloc();
-    let empty = nested(alloc, 1)?;
-    let longer = nested(alloc, 2)?;
-    assert!(rt; empty.compare(&longer).is_lt());
-    assert!(rt; longer.is_same(&longer.copy(alloc)?));
-    Ok(())
-}
-
 // Checks that the first of two events is its own copy, and that the second comes after it.
 fn are_in_order(rt: &impl Abort, alloc: Global, first: &Event, second: &Event) -> Result<(), Fail> {
     assert!(rt; second.compare(first).is_gt());
