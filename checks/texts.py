@@ -23,6 +23,7 @@ WHOLE = [
     (SOURCE, "no sinks"),
     (SINK, "no sources"),
     ("a", "not a TOML document"),
+    ("[sources.in\n", "not a TOML document"),
     ("a = 1\na = 2\n", "not a TOML document"),
     ('[sources.in]\ntype = "$NOPE"\n', "missing variable NOPE at 21"),
     ("a = 1\n", "unknown option a"),
@@ -56,6 +57,7 @@ COMPONENTS = [
     ('[sources.k]\ntype = "kafka"\n', "unknown kind at sources.k.type"),
     ('[sources.k]\ntype = "console"\n', "unknown kind at sources.k.type"),
     ('[transforms.k]\ntype = "filter"\nx = 1\n', "unknown kind at transforms.k.type"),
+    ('[sinks.k]\ntype = "kafka"\n', "unknown kind at sinks.k.type"),
     ("[sources.k]\n", "missing option sources.k.type"),
     ("[sources.k]\nx = 1\n", "missing option sources.k.type"),
     ("[sources.k]\ntype = 1\nx = 1\n", "bad value at sources.k.type"),
@@ -88,6 +90,7 @@ SINK_OPTIONS = [
     ('encoding.codec = "text"\ntarget = true', "bad value at sinks.out.target"),
     ('encoding.codec = "text"\ntarget = inf', "bad value at sinks.out.target"),
     ('encoding.codec = "text"\nbuffer.max_events = 1', "unknown option sinks.out.buffer"),
+    ('encoding.codec = "text"\nbatch.max_events = 2', "unknown option sinks.out.batch"),
     ('encoding.codec = "text"', None),
     ('encoding.codec = "json"', None),
     ('encoding.codec = "text"\nacknowledgements = true', None),
@@ -198,8 +201,8 @@ NAMELESS = [["--config", ""], ["--config="], ["-c", ""], ["-c="], ["validate", "
 NO_COMMAND = [
     [], [""], ["--"], ["f"], ["-c"], ["--config"], ["-x"], ["-C", "f"], ["-h"], ["-V"], ["--help"], ["--version"], ["help"],
     ["-c", "f", "-c", "f"], ["--config", "f", "--config", "g"], ["-cf", "--config=g"], ["-c", "f", "more"],
-    ["-c", "f", "validate", "g"], ["-c", "f", "--", "g"], ["-c", "f", "--help"], ["--", "-c", "f"], ["-c", "-f"],
-    ["--confg", "f"], ["--conf", "f"], ["--config", "--config"], ["--config", "--", "f"], [b"--config", b"\xff"],
+    ["--config", "f", "more"], ["--config", "f", "validate"], ["-c", "f", "validate", "g"], ["-c", "f", "--", "g"], ["-c", "f", "--help"], ["--", "-c", "f"], ["-c", "-f"],
+    ["--confg", "f"], ["--konfig", "f"], ["--conf", "f"], ["--config", "--config"], ["--config", "--", "f"], [b"--config", b"\xff"],
     ["validate"], ["validate", "--"], ["validate", "f", "g"], ["validate", "--config", "f"], ["validate", "--config=f"],
     ["validate", "--help"], ["validate", "-f"], ["Validate", "f"],
 ]
@@ -258,6 +261,7 @@ def configurations():
             for text, why in table:
                 judged(folder, front + text + back, why)
         judged(folder, b'a = "\xff"\n', "not a TOML document")
+        judged(folder, (SOURCE + SINK).encode() + b"# \xff\n", "not a TOML document")
         asking = SOURCE + SINK.replace("console", "${VECTOR_KIND:-console}").replace('"text"', '"$VECTOR_CODEC"')
         judged(folder, asking, "bad value at sinks.out.encoding.codec", {b"VECTOR_CODEC": b"bytes"})
         judged(folder, asking, None, {b"VECTOR_CODEC": b"json"})

@@ -50,3 +50,11 @@ fn components_that_make_a_cycle(rt: HostRuntime) -> Result<(), Fail> {
     prints(&rt, rt.alloc(), &fault, text, 78)?;
     Ok(())
 }
+
+#[test]
+fn a_want_of_memory(rt: HostRuntime) -> Result<(), Fail> {
+    prints(&rt, rt.alloc(), &Fault::WantOfMemory, "> ", 71)?;
+    let fault = Fault::ConfigRefused(PlanFault::WantOfMemory);
+    prints(&rt, rt.alloc(), &fault, "> ", 71)?;
+    Ok(())
+}
