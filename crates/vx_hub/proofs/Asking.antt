@@ -1,20 +1,14 @@
 -- What an instance is asked to confirm was due when it was leased.
 use Rattle.std.proofs.Common.{◌≡◌, ℕ, Bool, true, false, IsTrue, List, [], ◌∷◌, Option, Some, None, IfSome, refl, sym, ap, subst, ◌∙◌, arith, inl, inr}
-use Rattle.std.specs.Prelude.{◌⊎◌, ◌==◌, ◌&&◌, not, IsSome, IsSomeAnd, if◌then◌else◌, map, take_while, slice_get}
+use Rattle.std.specs.Prelude.{◌⊎◌, ◌==◌, ◌&&◌, not, IsSome, IsSomeAnd, if◌then◌else◌, map, take_while}
 use Rattle.std.specs.List.{list_any}
 use Rattle.std.proofs.lemmas.Bool.Decides.{nat_tests}
 use Rattle.vx_ends.specs.declared.position.Position.{Position}
 use Rattle.vx_value.specs.Texts.{is_empty}
-use Rattle.vx_plan.specs.declared.class.Class.{Class}
-use Rattle.vx_plan.specs.declared.class.Class.TheVariants.{Source, Transform, Sink}
-use Rattle.vx_plan.specs.declared.component.Component.{Component}
-use Rattle.vx_plan.specs.declared.plan.Plan.{Plan}
+use Rattle.vx_plan.specs.declared.class.Class.TheVariants.{Source}
 use Rattle.vx_record.specs.Records.{Record}
 use Rattle.vx_record.specs.Noted.{Noted}
-use Rattle.vx_record.specs.Installs.{in_force, device_at, component_of, source_at}
-use Rattle.vx_record.specs.Wirings.{names_differ, begun}
-use Rattle.vx_record.proofs.FirstWiring.{component_of_first}
-use Rattle.vx_plan.specs.Components.{is_source}
+use Rattle.vx_record.specs.Installs.{device_at}
 use Rattle.vx_record.specs.Turns.{is_out, at_lease, since_lease, is_confirm_of}
 use Rattle.vx_record.specs.Confirms.{Birth, births, due, is_confirm_due, last_confirm, last_of_each, position_of, same_positions}
 use Rattle.vx_record.specs.declared.log.Log.{Log}
@@ -29,13 +23,13 @@ use Rattle.vx_sourcecore.specs.Prefixes.{IsAskFor}
 use Rattle.vx_sourcecore.proofs.Prefixing.{ask_none, ask_some}
 use Rattle.vx_hub.proofs.Covering.{bears}
 use Rattle.vx_hub.proofs.Prefixing.{this_side, asked_now}
-use Rattle.vx_hub.specs.Confirming.{HasConfirmed, HadNothing}
+use Rattle.vx_hub.specs.Confirming.{HasConfirmed}
 use Rattle.vx_hub.specs.Failures.{IsFailureOf}
-use Rattle.vx_hub.specs.Order.{IsOrderly, IsDueOf, IsOfClass, component_in}
+use Rattle.vx_hub.specs.Order.{IsLegalWithReturns, IsDueOf, IsOfClass}
 use Rattle.vx_hub.specs.Stands.{IsSound}
 use Rattle.vx_hub.proofs.Silence.{same_test}
-use Rattle.vx_hub.proofs.Naming.{component_is}
-use Rattle.vx_hub.proofs.Ordering.{sound_before, named_apart}
+use Rattle.vx_hub.proofs.Ordering.{sound_before}
+use Rattle.vx_hub.proofs.Allowed.{earlier}
 
 -- positions are equal to themselves
 pub positions_same : (ps : List Position) → same_positions ps ps ≡ true
@@ -52,24 +46,24 @@ positions_same (p ∷ ps) = all_of_three (p.stream == p.stream) (p.end == p.end)
 
 -- AT HOME
 -- what an instance at home was asked for stands in the record
-pub told_home : (h : Record) (i : ℕ) → IsOrderly h → is_out h i ≡ false → HasTold h i
+pub told_home : (h : Record) (i : ℕ) → IsLegalWithReturns h → is_out h i ≡ false → HasTold h i
 told_home [] i order home = refl
-told_home (Lease j worker now polls ∷ h) i order home = go (j == i) home (λ at. told_home h i order.1 at)
+told_home (Lease j worker now polls ∷ h) i order home = go (j == i) home (λ at. told_home h i (earlier _ _ order) at)
   where
     go : (t : Bool) → (if t then true else is_out h i) ≡ false → (is_out h i ≡ false → HasTold h i) → last_confirm h i ≡ due (if t then h else at_lease h i) i
     go true at rest = cc
     go false at rest = rest at
-told_home (Home j ∷ h) i order home = go (j == i) refl home (λ at. told_home h i order.1 at)
+told_home (Home j ∷ h) i order home = go (j == i) refl home (λ at. told_home h i (earlier _ _ order) at)
   where
     go : (t : Bool) → (j == i) ≡ t → (if t then false else is_out h i) ≡ false → (is_out h i ≡ false → HasTold h i) → HasTold h i
-    go true e at rest = let same : j ≡ i = grind (arith, nat_tests) in subst (λ (k : ℕ). HasTold h k) same order.0.0.told
+    go true e at rest = let same : j ≡ i = grind (arith, nat_tests) in subst (λ (k : ℕ). HasTold h k) same order.returned.0.told
     go false e at rest = rest at
-told_home (Confirm j positions made ∷ h) i order home = go (j == i) refl (told_home h i order.1 home)
+told_home (Confirm j positions made ∷ h) i order home = go (j == i) refl (told_home h i (earlier _ _ order) home)
   where
     go : (t : Bool) → (j == i) ≡ t → HasTold h i → (if t then positions else last_confirm h i) ≡ asked h i
-    go true e rest = let same : j ≡ i = grind (arith, nat_tests) in let out : is_out h i ≡ true = subst (λ (k : ℕ). is_out h k ≡ true) same order.0.0.out in cc
+    go true e rest = let same : j ≡ i = grind (arith, nat_tests) in let out : is_out h i ≡ true = subst (λ (k : ℕ). is_out h k ≡ true) same order.legal.0.row.out in cc
     go false e rest = rest
-told_home (e ∷ h) i order home = told_home h i order.1 home
+told_home (e ∷ h) i order home = told_home h i (earlier _ _ order) home
 
 three : (a b c : Bool) → a ≡ true → b ≡ false → c ≡ false → (a && not b && not c) ≡ true
 three true true c x y z = cc
@@ -85,7 +79,7 @@ last_false a b false z = cc
 
 -- SOURCES
 -- where something is due batches were born, which only a source does
-pub source_due : (h : Record) (i : ℕ) → IsOrderly h → is_empty (due h i) ≡ false → IsOfClass h i Source
+pub source_due : (h : Record) (i : ℕ) → IsLegalWithReturns h → is_empty (due h i) ≡ false → IsOfClass h i Source
 source_due h i order some = go (bears h i order)
   where
     go : (births h i ≡ []) ⊎ IsOfClass h i Source → IsOfClass h i Source
@@ -93,7 +87,7 @@ source_due h i order some = go (bears h i order)
     go (inr source) = source
 
 -- so a confirm is due there where something is to be confirmed
-pub due_some : (h : Record) (i : ℕ) (p : Progress) → IsOrderly h → is_out h i ≡ false → device_at h i ≡ true → IsPrefixKnown p h i → IsSome p.prefix.due → is_confirm_due h i ≡ true
+pub due_some : (h : Record) (i : ℕ) (p : Progress) → IsLegalWithReturns h → is_out h i ≡ false → device_at h i ≡ true → IsPrefixKnown p h i → IsSome p.prefix.due → is_confirm_due h i ≡ true
 due_some h i p order home device known some = go p.prefix.due refl some
   where
     go : (o : Option Due) → p.prefix.due ≡ o → IsSome o → is_confirm_due h i ≡ true
@@ -104,18 +98,18 @@ due_some h i p order home device known some = go p.prefix.due refl some
         (ap (same_positions (due h i)) (told_home h i order home) ∙ ask.1.1)
 
 -- and isn't where nothing is
-undue : (h : Record) (i : ℕ) → IsOrderly h → is_out h i ≡ false → due h i ≡ asked h i → is_confirm_due h i ≡ false
+undue : (h : Record) (i : ℕ) → IsLegalWithReturns h → is_out h i ≡ false → due h i ≡ asked h i → is_confirm_due h i ≡ false
 undue h i order home same =
     let all : due h i ≡ last_confirm h i = same ∙ sym (told_home h i order home) in
     last_false (device_at h i) (not (is_empty (due h i))) (same_positions (due h i) (last_confirm h i))
     (ap (λ (ps : List Position). same_positions ps (last_confirm h i)) all ∙ positions_same (last_confirm h i))
 
-pub due_none : (h : Record) (i : ℕ) (p : Progress) → IsOrderly h → is_out h i ≡ false → IsPrefixKnown p h i → p.prefix.due ≡ None → is_confirm_due h i ≡ false
+pub due_none : (h : Record) (i : ℕ) (p : Progress) → IsLegalWithReturns h → is_out h i ≡ false → IsPrefixKnown p h i → p.prefix.due ≡ None → is_confirm_due h i ≡ false
 due_none h i p order home known none = undue h i order home (ask_none p.prefix (judged_by h) (births h i) (asked h i) none known.prefix)
 
 -- LEASES
 -- what is taken along in a lease was due
-pub due_leased : (h : Record) (i worker now polls : ℕ) (o : Option (List Position)) → IsOrderly h → is_out h i ≡ false → device_at h i ≡ true → IsAskFor o (due h i) (asked h i) → IfSome o (IsDueOf (Lease i worker now polls ∷ h) i)
+pub due_leased : (h : Record) (i worker now polls : ℕ) (o : Option (List Position)) → IsLegalWithReturns h → is_out h i ≡ false → device_at h i ≡ true → IsAskFor o (due h i) (asked h i) → IfSome o (IsDueOf (Lease i worker now polls ∷ h) i)
 due_leased h i worker now polls None order home device ask = tt
 due_leased h i worker now polls (Some positions) order home device ask = record {
   source = source_due h i order ask.1.0;
@@ -126,7 +120,7 @@ due_leased h i worker now polls (Some positions) order home device ask = record 
 }
 
 -- and where nothing is taken along, none was
-pub none_leased : (h : Record) (i worker now polls : ℕ) → IsOrderly h → is_out h i ≡ false → due h i ≡ asked h i → HadNoneDue (Lease i worker now polls ∷ h) i
+pub none_leased : (h : Record) (i worker now polls : ℕ) → IsLegalWithReturns h → is_out h i ≡ false → due h i ≡ asked h i → HadNoneDue (Lease i worker now polls ∷ h) i
 none_leased h i worker now polls order home same = record {
   undue = subst (λ (k : Record). is_confirm_due k i ≡ false) (sym (asked_now h i worker now polls)) (undue h i order home same);
   told = told_home h i order home ∙ sym same ∙ ap (λ (k : Record). due k i) (sym (asked_now h i worker now polls));
@@ -161,41 +155,13 @@ none_of None is none = refl
 none_of (Some positions) is none = none (is refl)
 
 -- somewhere the batches end that are handed out to be confirmed
-pub asked_source : (h : Record) (i : ℕ) (o : Option (List Position)) → IsOrderly h → IsAskFor o (due h i) (asked h i) → IsSome o → IsOfClass h i Source
+pub asked_source : (h : Record) (i : ℕ) (o : Option (List Position)) → IsLegalWithReturns h → IsAskFor o (due h i) (asked h i) → IsSome o → IsOfClass h i Source
 asked_source h i None order ask some = let no : ⊥ = cc in absurd no
 asked_source h i (Some positions) order ask some = source_due h i order ask.1.0
 
--- A SOURCE
-orderly_first : (plan : Plan) → names_differ plan.components ≡ true → IsOrderly (begun plan false 0)
-orderly_first plan differ = ((record { begins = record { first = refl; zeroth = refl; all_new = refl }; named = differ }, λ b w. w, λ gone. cc), tt)
-
--- an instance runs the component in its place
-runs : (h : Record) (plan : Plan) (i : ℕ) (c : Component) → IsOrderly h → names_differ plan.components ≡ true → in_force h ≡ Some plan → slice_get plan.components i ≡ Some c → component_of h i ≡ Some c
-runs h plan i c order differ force at =
-    component_is h plan i c order force at
-    ∙ sym (component_is (begun plan false 0) plan i c (orderly_first plan differ) refl at)
-    ∙ component_of_first plan false 0 i c differ at
-
--- so one of that class is a source
-pub source_is : (h : Record) (i : ℕ) → IsOrderly h → IsOfClass h i Source → source_at h i ≡ true
-source_is h i order class = go (in_force h) refl class (named_apart h order)
-  where
-    of_class : (c : Class) → c ≡ Source → (elim c [ Source ↦ true | Transform ↦ false | Sink ↦ false ]) ≡ true
-    of_class Source is = refl
-    of_class Transform is = cc
-    of_class Sink is = cc
-
-    found : (plan : Plan) → in_force h ≡ Some plan → names_differ plan.components ≡ true → (o : Option Component) → slice_get plan.components i ≡ o → IsSomeAnd o (λ component. component.class ≡ Source) → source_at h i ≡ true
-    found plan force differ None at is = absurd is
-    found plan force differ (Some c) at is = ap (λ (o : Option Component). elim o [ None ↦ false | Some x ↦ is_source x ]) (runs h plan i c order differ force at) ∙ of_class c.class is
-
-    go : (p : Option Plan) → in_force h ≡ p → IsSomeAnd (component_in p i) (λ component. component.class ≡ Source) → IfSome p (λ plan. names_differ plan.components ≡ true) → source_at h i ≡ true
-    go None force is differ = absurd is
-    go (Some plan) force is differ = found plan force differ (slice_get plan.components i) refl is
-
 -- THE HUB
 -- what was due at the lease is what the instance was asked for
-pub told_confirmed : (h : Record) (i : ℕ) (positions : List Position) (made : Bool) → IsOrderly h → IsDueOf h i positions → HasTold (Confirm i positions made ∷ h) i
+pub told_confirmed : (h : Record) (i : ℕ) (positions : List Position) (made : Bool) → IsLegalWithReturns h → IsDueOf h i positions → HasTold (Confirm i positions made ∷ h) i
 told_confirmed h i positions made order is =
     this_side (i == i) positions (last_confirm h i) (same_test i) ∙ is.all_due
 
@@ -207,15 +173,6 @@ confirmed_noted d e entry noted starved stays i told sound =
 pub confirmed_same : {P : Type 0} (d e : Hub P) → e.log ≡ d.log → e.starved ≡ d.starved → (i : ℕ) → HasConfirmed d i → HasConfirmed e i
 confirmed_same d e log starved i told sound =
     subst (λ (l : Log). HasTold l.history i) (sym log) (told (record { whole = subst (λ (l : Log). IsTrue l.whole) log sound.whole; fed = sym starved ∙ sound.fed }))
-
--- and a lease without a confirm stays one
-pub nothing_noted : {P : Type 0} (d e : Hub P) (entry : Entry) → Noted d.log entry e.log → e.starved ≡ d.starved → ((h : Record) (k : ℕ) → HadNoneDue h k → HadNoneDue (entry ∷ h) k) → (i : ℕ) → HadNothing d i → HadNothing e i
-nothing_noted d e entry noted starved stays i had sound =
-    subst (λ (h : Record). HadNoneDue h i) (sym (noted.whole sound.whole).1) (stays d.log.history i (had (sound_before d e entry noted starved sound)))
-
-pub nothing_same : {P : Type 0} (d e : Hub P) → e.log ≡ d.log → e.starved ≡ d.starved → (i : ℕ) → HadNothing d i → HadNothing e i
-nothing_same d e log starved i had sound =
-    subst (λ (l : Log). HadNoneDue l.history i) (sym log) (had (record { whole = subst (λ (l : Log). IsTrue l.whole) log sound.whole; fed = sym starved ∙ sound.fed }))
 
 pub confirmed_failed : {P : Type 0} (d e : Hub P) (i : ℕ) (at_start : Bool) → IsFailureOf i at_start d.log e.log → e.starved ≡ d.starved → HasConfirmed d i → HasConfirmed e i
 confirmed_failed d e i at_start (inl idle) starved told = confirmed_noted d e (Idle i true) idle.1 starved (λ h k had. had) i told

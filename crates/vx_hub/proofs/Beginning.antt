@@ -22,7 +22,7 @@ use Rattle.vx_hub.specs.Notices.{IsPrefixKnown, judged_by, progress_at}
 use Rattle.vx_hub.specs.declared.parts.Named.{Named}
 use Rattle.vx_hub.specs.Stands.{Stands, IsTold, IsKnown, IsRecorded, HasRooms, facts_at, spec_of, HasFew}
 use Rattle.vx_hub.specs.Beginning.{Begins, HasFirst}
-use Rattle.vx_hub.specs.Order.{IsOrderly}
+use Rattle.vx_hub.specs.Order.{IsLegalWithReturns}
 use Rattle.vx_hub.proofs.Moments.{least}
 use Rattle.vx_hub.specs.declared.hub.Hub.{Hub}
 use Rattle.vx_hub.specs.Collecting.{IsSince}
@@ -43,6 +43,7 @@ use Rattle.vx_hub.specs.Events.{IsSaid, Each, EachChild, IsSaidAt, AreSaid}
 use Rattle.vx_hub.specs.Abreast.{IsMadeFor, IsAbreast, HasCome, HasComeHome}
 use Rattle.vx_hub.proofs.StandsLaws.{some_mapped}
 use Rattle.vx_hub.specs.Notices.{pending_in}
+use Rattle.vx_hub.proofs.Runners.{begun_orderly}
 
 pub unused_more : (seats : List Seat) (seat : Seat) → AreUnused seats → IsUnused seat → AreUnused (seats ++ seat ∷ [])
 unused_more [] seat a u = (u, tt)
@@ -55,13 +56,6 @@ unused_front (s ∷ seats) seat a = (a.0, unused_front seats seat a.1)
 pub unused_last : (seats : List Seat) (seat : Seat) → AreUnused (seats ++ seat ∷ []) → IsUnused seat
 unused_last [] seat a = a.0
 unused_last (s ∷ seats) seat a = unused_last seats seat a.1
-
--- what holds of each row holds with one more
-pub rows_more : {P : Type 0} (F : Row P → Type 0) (rows : List (Row P)) (new : Row P) → ((i : ℕ) → IfSome (row_at rows i) F) → F new → (i : ℕ) → IfSome (row_at (rows ++ new ∷ []) i) F
-rows_more F [] new all f zero = f
-rows_more F [] new all f (suc i) = tt
-rows_more F (r ∷ rows) new all f zero = all zero
-rows_more F (r ∷ rows) new all f (suc i) = rows_more F rows new (λ j. all (suc j)) f i
 
 pub facts_more : (F : Facts → Type 0) (fs : List Facts) (new : Facts) → ((i : ℕ) → IfSome (facts_at fs i) F) → F new → (i : ℕ) → IfSome (facts_at (fs ++ new ∷ []) i) F
 facts_more F [] new all f zero = f
@@ -263,7 +257,7 @@ begun_stands told_by plan hub b mine named first none room few small count = rec
     facts = λ i. both_mapped _ _ _ (facts_at hub.facts.items i) (λ f n fit. new_known f plan first.once first.now i (slice_get plan.components i) refl n fit) (b.facts i) (b.fitted i);
     bytes = b.bytes;
     next = b.next;
-    order = ((record { begins = record { first = refl; zeroth = refl; all_new = refl }; named = named }, λ b w. w, λ gone. cc), tt);
+    order = begun_orderly plan first.once first.now named;
     said = b.said first.once first.now;
     outs = λ i l none. absurd (home_some (port_at hub.rows.items i) (b.home i l) none);
     noticeless = λ b w. w;
@@ -284,7 +278,7 @@ begun_stands told_by plan hub b mine named first none room few small count = rec
   rooms = subst (λ (p : Plan). HasRooms p hub.rows.items) (sym mine) b.rooms;
   few = subst (λ (p : Plan). HasFew p) (sym mine) small;
   count = count ∙ sym (ap (λ (p : Plan). length p.components) mine);
-  order = subst (λ (h : Record). IsOrderly h) (sym first.alone) ((record { begins = record { first = refl; zeroth = refl; all_new = refl }; named = named }, λ b w. w, λ gone. cc), tt);
+  order = subst (λ (h : Record). IsLegalWithReturns h) (sym first.alone) (begun_orderly plan first.once first.now named);
   fed = λ whole. b.fed;
 }
 

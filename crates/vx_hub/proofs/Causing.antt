@@ -1,5 +1,5 @@
 -- What is spent has the cause of its outcome.
-use Rattle.std.proofs.Common.{◌≡◌, ℕ, ◌+◌, ◌<◌, ◌≤◌, Bool, true, false, List, [], ◌∷◌, ◌++◌, length, Option, Some, None, refl, sym, ap, subst, ◌∙◌, arith, inl, inr}
+use Rattle.std.proofs.Common.{◌≡◌, ℕ, ◌+◌, ◌<◌, ◌≤◌, Bool, true, false, List, [], ◌∷◌, ◌++◌, length, Some, refl, sym, ap, subst, ◌∙◌, arith, inl, inr}
 use Rattle.std.specs.Prelude.{if◌then◌else◌, nat_lt, ◌==◌, map, ◌&&◌}
 use Rattle.std.proofs.lemmas.Bool.Decides.{nat_tests}
 use Rattle.std.proofs.lemmas.Bool.{cases_lt}
@@ -7,7 +7,6 @@ use Rattle.vx_ends.specs.declared.trouble.Reply.{Reply}
 use Rattle.vx_ends.specs.declared.trouble.Reply.TheVariants as reply
 use Rattle.vx_status.specs.declared.outcome.Outcome.{Outcome}
 use Rattle.vx_status.specs.declared.outcome.Outcome.TheVariants.{Delivered, Attempts, Refusal, Abandoned, NoConsumer, Filtered, NewestDropped}
-use Rattle.vx_plan.specs.declared.component.Component.{Component}
 use Rattle.vx_record.specs.Records.{Record}
 use Rattle.vx_record.specs.declared.child.Child.{Child}
 use Rattle.vx_record.specs.declared.entry.Entry.TheVariants.{Born, Split, Push, Take, Attempt}
@@ -15,19 +14,20 @@ use Rattle.vx_record.specs.Copies.{count, joined, contains, next_copy}
 use Rattle.vx_record.specs.Places.{Place, Put, Kind, kind, same_place, puts, one_each, all_puts, left, owner}
 use Rattle.vx_record.specs.Places.Place.{Outputs, Waiting, Held}
 use Rattle.vx_record.specs.Lists.{without, unless_empty, standing, stands, parcels_at, outputs, places, times_among}
-use Rattle.vx_record.specs.Installs.{component_of, wired}
+use Rattle.vx_record.specs.Installs.{wired}
 use Rattle.vx_record.specs.Parcels.{ports_of, first_copy, parcel_ports, port_list}
 use Rattle.vx_record.specs.Routing.{routes, is_dry, is_sent, wired_targets}
-use Rattle.vx_record.specs.SinkBatches.{failures_with, attempts_allowed, retries_made, is_failed}
-use Rattle.vx_record.specs.Spending.{WasAnswered, last_attempted, last_reply, oldest}
+use Rattle.vx_record.specs.SinkBatches.{failures_with, is_failed}
+use Rattle.vx_record.specs.Spending.{HasCause, WasAnswered, last_attempted, last_reply, oldest}
 use Rattle.vx_record.specs.Moving.{IsConserved}
 use Rattle.vx_record.proofs.Counts.{count-append, count-without, counting_before, counting_after}
 use Rattle.vx_record.proofs.Changes.{places_meant, same_place_is}
-use Rattle.vx_hub.specs.Order.{IsCaused, AreSpentFrom, readers_at, IsPlaceFor}
+use Rattle.vx_hub.specs.Order.{AreSpentFrom, readers_at, IsPlaceFor}
 use Rattle.vx_hub.specs.Spending.{IsSpentFor, AreAnswered}
 use Rattle.vx_hub.proofs.Ceasing.{has_abandoned}
 use Rattle.vx_hub.proofs.Retiring.{waiting_puts}
 use Rattle.vx_hub.proofs.Shrinking.{unless_less}
+use Rattle.vx_record.proofs.Attempted.{attempts_one}
 use Rattle.vx_hub.proofs.Silence.{same_test}
 
 -- ANSWERS
@@ -47,14 +47,6 @@ failures_some (Attempt j copies bytes answer ∷ h) i c l is = go (j == i) l is 
         omega (arith, one)
     go false has failed rest = let one = rest has failed in omega (arith, one)
 failures_some (e ∷ h) i c l is = failures_some h i c l is
-
--- and no other may follow
-attempts_one : (h : Record) (i : ℕ) → attempts_allowed h i ≡ 1
-attempts_one h i = ap (λ n. n + 1) (go (component_of h i))
-  where
-    go : (o : Option Component) → ◌≡◌ {A = ℕ} (elim o [ None ↦ 0 | Some c ↦ retries_made c ]) 0
-    go None = refl
-    go (Some c) = refl
 
 -- OUTPUTS
 parcels-more : (d : ℕ) (p : Place) (xs ys : List Put) → count d (joined (parcels_at p (xs ++ ys))) ≡ count d (joined (parcels_at p xs)) + count d (joined (parcels_at p ys))
@@ -154,7 +146,7 @@ born_port (e ∷ h) i c kept l =
     (omega (arith, before.0), before.1)
 
 -- the oldest output is on the first port
-oldest_port : (h : Record) (i c : ℕ) → IsConserved h → 0 < count c (oldest (outputs h i)) → parcel_ports h (oldest (outputs h i)) ≡ 1
+pub oldest_port : (h : Record) (i c : ℕ) → IsConserved h → 0 < count c (oldest (outputs h i)) → parcel_ports h (oldest (outputs h i)) ≡ 1
 oldest_port h i c kept l = go (outputs h i) l (λ d some. (born_port h i d kept (let less = stood d (Outputs i) (left h) (all_puts h) in omega (arith, less, some))).1)
   where
     go : (ps : List (List ℕ)) → 0 < count c (oldest ps) → ((d : ℕ) → 0 < count d (joined ps) → ports_of h d ≡ 1) → ports_of h (first_copy (oldest ps)) ≡ 1
@@ -183,21 +175,20 @@ held_answered : (h : Record) (i c : ℕ) (answer : Reply) (place : Place) → pl
 held_answered h i c answer place at a l = record { had = a.had c (subst (λ (p : Place). 0 < count c (joined (parcels_at p (stands h)))) at l); answered = a.answered }
 
 -- a copy that may be spent where it stands has its cause
-pub caused : (h : Record) (i c : ℕ) (outcome : Outcome) → IsConserved h → IsSpentFor h i outcome → AreSpentFrom h i outcome (c ∷ []) → IsCaused h i c outcome
+pub caused : (h : Record) (i c : ℕ) (outcome : Outcome) → IsConserved h → IsSpentFor h i outcome → AreSpentFrom h i outcome (c ∷ []) → HasCause h i c outcome
 caused h i c Delivered kept s from = held_answered h i c reply.Ok from.place from.meant (s.replied reply.Ok refl) (from.there c (itself c))
 caused h i c Refusal kept s from = held_answered h i c reply.Refused from.place from.meant (s.replied reply.Refused refl) (from.there c (itself c))
 caused h i c Attempts kept s from =
     let was = held_answered h i c reply.Failed from.place from.meant (s.replied reply.Failed refl) (from.there c (itself c)) in
-    (was, let one = attempts_one h i in let some = failures_some h i c was.had was.answered in omega (arith, one, some))
+    let one = attempts_one h i in
+    let some = failures_some h i c was.had was.answered in
+    omega (arith, one, some)
 caused h i c NoConsumer kept s from =
-    let next = from.next refl c (itself c) in (
-      record {
-        next = next;
-        none_waits = waiting_puts (stands h) i (s.none_waits refl);
-        no_target = no_routes h i (parcel_ports h (oldest (outputs h i))) (oldest_port h i c kept next) (s.unread refl);
-      },
-      s.unread refl,
-    )
+    let next = from.next refl c (itself c) in record {
+      next = next;
+      none_waits = waiting_puts (stands h) i (s.none_waits refl);
+      no_target = no_routes h i (parcel_ports h (oldest (outputs h i))) (oldest_port h i c kept next) (s.unread refl);
+    }
 caused h i c Abandoned kept s from = (has_abandoned h (s.given_up refl), s.home refl)
 caused h i c Filtered kept s from = absurd s.given
 caused h i c NewestDropped kept s from = absurd s.given

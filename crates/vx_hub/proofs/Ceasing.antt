@@ -12,26 +12,11 @@ use Rattle.vx_record.specs.declared.entry.Entry.TheVariants.{Lease, Home, Read, 
 use Rattle.vx_hub.specs.declared.hub.Hub.{Hub}
 use Rattle.vx_record.specs.Turns.{is_out}
 use Rattle.vx_record.specs.Moving.{IsStill}
-use Rattle.vx_hub.specs.Order.{IsOrderly, cause_of}
+use Rattle.vx_hub.specs.Order.{IsLegalWithReturns, cause_of}
 use Rattle.vx_hub.specs.Spending.{IsSpentFor}
 use Rattle.vx_hub.specs.Stands.{Stands, IsSound, touched}
-
--- a run without a cause wasn't given up
-pub unabandoned : (h : Record) → cause_of h ≡ None → abandoned h ≡ false
-unabandoned [] none = refl
-unabandoned (Abandon cause ∷ h) none = cc
-unabandoned (e ∷ h) none = unabandoned h none
-
--- and one that was has a cause
-has_cause : (h : Record) → abandoned h ≡ true → IsSome (cause_of h)
-has_cause [] is = cc
-has_cause (Abandon cause ∷ h) is = refl
-has_cause (e ∷ h) is = has_cause h is
-
-pub has_abandoned : (h : Record) → IsSome (cause_of h) → abandoned h ≡ true
-has_abandoned [] some = cc
-has_abandoned (Abandon cause ∷ h) some = refl
-has_abandoned (e ∷ h) some = has_abandoned h some
+use Rattle.vx_hub.proofs.Allowed.{earlier}
+pub use Rattle.vx_record.proofs.Ceasing.{unabandoned, has_cause, has_abandoned}
 
 -- before an abandonment anything may come
 pub comes_going : (h : Record) (e : Entry) → cause_of h ≡ None → MayStillCome h e
@@ -42,12 +27,12 @@ not_home : (b c : Bool) → (if b then false else c) ≡ true → c ≡ true
 not_home true c out = cc
 not_home false c out = out
 
-pub left_out : (h : Record) (i : ℕ) → IsOrderly h → is_out h i ≡ true → abandoned h ≡ true → is_out (at_abandon h) i ≡ true
+pub left_out : (h : Record) (i : ℕ) → IsLegalWithReturns h → is_out h i ≡ true → abandoned h ≡ true → is_out (at_abandon h) i ≡ true
 left_out [] i o out gone = cc
 left_out (Abandon cause ∷ h) i o out gone = out
-left_out (Lease j worker now polls ∷ h) i o out gone = let no : false ≡ true = o.0.2 gone in cc
-left_out (Home j ∷ h) i o out gone = left_out h i o.1 (not_home (j == i) (is_out h i) out) gone
-left_out (e ∷ h) i o out gone = left_out h i o.1 out gone
+left_out (Lease j worker now polls ∷ h) i o out gone = let no : false ≡ true = o.legal.0.still gone in cc
+left_out (Home j ∷ h) i o out gone = left_out h i (earlier _ _ o) (not_home (j == i) (is_out h i) out) gone
+left_out (e ∷ h) i o out gone = left_out h i (earlier _ _ o) out gone
 
 -- what tells of the work of an instance that was out may still come
 pub comes_left : (h : Record) (e : Entry) (i : ℕ) → touched e ≡ Some i → IsStill e → (abandoned h ≡ true → is_out (at_abandon h) i ≡ true) → MayStillCome h e

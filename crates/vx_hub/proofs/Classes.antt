@@ -1,5 +1,5 @@
 -- Of which class the component is that an instance runs.
-use Rattle.std.proofs.Common.{◌≡◌, ℕ, true, false, Option, Some, None, IfSome, IsSomeAnd, refl, sym, ap, subst, ◌∙◌}
+use Rattle.std.proofs.Common.{◌≡◌, ℕ, true, false, Option, Some, None, IsSomeAnd, refl, sym, ap, subst}
 use Rattle.std.specs.Prelude.{slice_get}
 use Rattle.vx_plan.specs.declared.class.Class.{Class}
 use Rattle.vx_plan.specs.declared.class.Class.TheVariants.{Source, Transform, Sink}
@@ -7,29 +7,12 @@ use Rattle.vx_plan.specs.declared.component.Component.{Component}
 use Rattle.vx_plan.specs.declared.plan.Plan.{Plan}
 use Rattle.vx_plan.specs.Components.{is_source, is_sink}
 use Rattle.vx_record.specs.Records.{Record}
-use Rattle.vx_record.specs.Wirings.{names_differ, begun}
 use Rattle.vx_record.specs.Installs.{in_force, component_of, source_at, sink_at}
-use Rattle.vx_record.proofs.FirstWiring.{component_of_first}
-use Rattle.vx_hub.specs.Order.{IsOrderly, IsOfClass, component_in}
-use Rattle.vx_hub.proofs.Naming.{component_is}
-use Rattle.vx_hub.proofs.Ordering.{named_apart}
-
--- a record that begins with a plan whose names differ is in order
-begun_orderly : (plan : Plan) → names_differ plan.components ≡ true → IsOrderly (begun plan false 0)
-begun_orderly plan apart = ((record { begins = record { first = refl; zeroth = refl; all_new = refl }; named = apart }, λ b w. w, λ gone. cc), tt)
-
--- the names of the plan that is in force differ
-pub names_apart : (h : Record) (plan : Plan) → IsOrderly h → in_force h ≡ Some plan → names_differ plan.components ≡ true
-names_apart h plan order force = subst (λ (p : Option Plan). IfSome p (λ (q : Plan). names_differ q.components ≡ true)) force (named_apart h order)
-
--- an instance runs the component in its place
-pub component_there : (h : Record) (plan : Plan) (i : ℕ) (c : Component) → IsOrderly h → in_force h ≡ Some plan → slice_get plan.components i ≡ Some c → component_of h i ≡ Some c
-component_there h plan i c order force at =
-    let apart = names_apart h plan order force in
-    component_is h plan i c order force at ∙ sym (component_is (begun plan false 0) plan i c (begun_orderly plan apart) refl at) ∙ component_of_first plan false 0 i c apart at
+use Rattle.vx_hub.specs.Order.{IsLegalWithReturns, IsOfClass, component_in}
+use Rattle.vx_hub.proofs.Runners.{component_there}
 
 -- so the component that it runs is of the class of that
-pub runs_class : (h : Record) (i : ℕ) (class : Class) → IsOrderly h → IsOfClass h i class → IsSomeAnd (component_of h i) (λ (c : Component). c.class ≡ class)
+pub runs_class : (h : Record) (i : ℕ) (class : Class) → IsLegalWithReturns h → IsOfClass h i class → IsSomeAnd (component_of h i) (λ (c : Component). c.class ≡ class)
 runs_class h i class order is = go (in_force h) refl is
   where
     found : (plan : Plan) → in_force h ≡ Some plan → (o : Option Component) → slice_get plan.components i ≡ o → IsSomeAnd o (λ (c : Component). c.class ≡ class) → IsSomeAnd (component_of h i) (λ (c : Component). c.class ≡ class)
@@ -41,7 +24,7 @@ runs_class h i class order is = go (in_force h) refl is
     go (Some plan) force of = found plan force (slice_get plan.components i) refl of
 
 -- a source by its place is one by its name
-pub source_there : (h : Record) (i : ℕ) → IsOrderly h → IsOfClass h i Source → source_at h i ≡ true
+pub source_there : (h : Record) (i : ℕ) → IsLegalWithReturns h → IsOfClass h i Source → source_at h i ≡ true
 source_there h i order is = go (component_of h i) (runs_class h i Source order is)
   where
     go : (o : Option Component) → IsSomeAnd o (λ (c : Component). c.class ≡ Source) → (elim o [ None ↦ false | Some c ↦ is_source c ]) ≡ true
@@ -49,7 +32,7 @@ source_there h i order is = go (component_of h i) (runs_class h i Source order i
     go (Some c) of = ap (λ (class : Class). elim class [ Source ↦ true | Transform ↦ false | Sink ↦ false ]) of
 
 -- and a sink likewise
-pub sink_there : (h : Record) (i : ℕ) → IsOrderly h → IsOfClass h i Sink → sink_at h i ≡ true
+pub sink_there : (h : Record) (i : ℕ) → IsLegalWithReturns h → IsOfClass h i Sink → sink_at h i ≡ true
 sink_there h i order is = go (component_of h i) (runs_class h i Sink order is)
   where
     go : (o : Option Component) → IsSomeAnd o (λ (c : Component). c.class ≡ Sink) → (elim o [ None ↦ false | Some c ↦ is_sink c ]) ≡ true

@@ -1,5 +1,5 @@
 -- A sink's batch is closed in the record where it is by what the hub knows, and is written with the codec of the sink.
-use Rattle.std.proofs.Common.{◌≡◌, ℕ, ◌<◌, ◌≤◌, Bool, true, false, ◌&&◌, ◌||◌, List, [], ◌∷◌, length, Option, Some, None, refl, ap, ◌∙◌, arith, inl, inr}
+use Rattle.std.proofs.Common.{◌≡◌, ℕ, ◌<◌, Bool, true, false, ◌&&◌, ◌||◌, List, [], ◌∷◌, length, Option, Some, None, refl, ap, ◌∙◌, arith, inl, inr}
 use Rattle.std.specs.Prelude.{◌⊎◌, IsSomeAnd, not, map}
 use Rattle.vx_value.specs.Texts.{is_empty}
 use Rattle.vx_ends.specs.Told.{Told}
@@ -12,14 +12,14 @@ use Rattle.vx_record.specs.Installs.{in_force}
 use Rattle.vx_record.specs.Lists.{held}
 use Rattle.vx_record.specs.Parcels.{parcel_event}
 use Rattle.vx_record.specs.Places.Place.{Held}
-use Rattle.vx_record.specs.SinkBatches.{is_full_batch, is_timed_out, is_last_batch, was_attempted, is_batch_closed, retry_from}
+use Rattle.vx_record.specs.SinkBatches.{is_full_batch, is_timed_out, is_last_batch, was_attempted, is_batch_closed}
 use Rattle.vx_hub.specs.declared.hub.Hub.{Hub}
 use Rattle.vx_hub.specs.declared.task.SinkCore.{SinkCore}
 use Rattle.vx_hub.specs.declared.task.Role.{Role}
 use Rattle.vx_hub.specs.declared.task.Role.TheVariants as role
 use Rattle.vx_hub.specs.Abreast.{HasCome}
 use Rattle.vx_hub.specs.Collecting.{IsSizedFor, IsCollecting, IsFullOrOld}
-use Rattle.vx_hub.specs.Order.{IsOrderly, IsClosedFor, IsLastOf, component_in}
+use Rattle.vx_hub.specs.Order.{IsLegalWithReturns, IsClosedFor, IsLastOf, component_in}
 use Rattle.vx_hub.specs.Places.{all_numbers}
 use Rattle.vx_hub.specs.Rows.{role_parcels}
 use Rattle.vx_hub.specs.Sinks.{IsClosedAt, IsLastAt}
@@ -61,14 +61,14 @@ codec_in None core sized = absurd sized
 codec_in (Some c) core sized = sized.codec
 
 -- so what a sink writes of some parcels is what that writes
-pub codec_so : (h : Record) (i : ℕ) (core : SinkCore) (parcels : List (List ℕ)) → IsOrderly h → IsCollecting h i core → encoded h i parcels ≡ encode core.codec (map (parcel_event h) parcels)
+pub codec_so : (h : Record) (i : ℕ) (core : SinkCore) (parcels : List (List ℕ)) → IsLegalWithReturns h → IsCollecting h i core → encoded h i parcels ≡ encode core.codec (map (parcel_event h) parcels)
 codec_so h i core parcels order collecting =
     let f = component_found h i (λ (c : Component). IsSizedFor c.settings core) order collecting.sized in
     ap (λ (o : Option Component). elim o [ None ↦ [] | Some c ↦ bytes_for c.settings (map (parcel_event h) parcels) ]) f.found
     ∙ ap (λ (o : Option Codec). elim o [ None ↦ [] | Some codec ↦ encode codec (map (parcel_event h) parcels) ]) f.has.codec
 
 -- what an instance holds it writes so, if that is anything
-pub writer_so : (h : Record) (i : ℕ) (role : Role) → IsOrderly h → HasCome h i role → 0 < length (role_parcels role) → IsWriter h i role
+pub writer_so : (h : Record) (i : ℕ) (role : Role) → IsLegalWithReturns h → HasCome h i role → 0 < length (role_parcels role) → IsWriter h i role
 writer_so h i (role.Source core) order come some = absurd (omega (arith, some))
 writer_so h i (role.Sink core) order come some = record {
   codec = core.codec;
@@ -102,6 +102,3 @@ closing_known {P} told_by d i now s fine going sink home closed =
 -- so it is closed, and may be attempted
 pub closed_known : {P : Type 0} (told_by : P → Told) (d : Hub P) (i now : ℕ) → Stands told_by d [] d.log.history → IsSound d → d.abandoned ≡ None → IsSinkAt d i → IsAtHome d i → IsClosedAt d i now → is_batch_closed d.log.history i now ≡ true
 closed_known told_by d i now s fine going sink home closed = closed_so d.log.history i now (closing_known told_by d i now s fine going sink home closed)
-
-pub retry_known : {P : Type 0} (told_by : P → Told) (d : Hub P) (i now : ℕ) → Stands told_by d [] d.log.history → IsSound d → d.abandoned ≡ None → IsSinkAt d i → IsAtHome d i → IsClosedAt d i now → retry_from d.log.history i ≤ now
-retry_known told_by d i now s fine going sink home closed = (closing_known told_by d i now s fine going sink home closed).waited

@@ -26,7 +26,7 @@ use Rattle.vx_hub.specs.declared.facts.Facts.{Facts}
 use Rattle.vx_hub.specs.declared.row.Row.{Row}
 use Rattle.vx_hub.specs.declared.hub.Hub.{Hub}
 use Rattle.vx_hub.specs.Closures.{IsDone}
-use Rattle.vx_hub.specs.Order.{lost_at, IsOrderly, readers_at}
+use Rattle.vx_hub.specs.Order.{lost_at, IsLegalWithReturns, readers_at}
 use Rattle.vx_hub.specs.Places.{IsThere, stacked_lists, parcel_lists, copies_if, all_numbers, numbers_at}
 use Rattle.vx_hub.specs.Rows.{row_at, NoneWaits}
 use Rattle.vx_hub.specs.Stands.{Stands, IsKnown, IsSound, IsSinkAt, facts_at}
@@ -197,7 +197,7 @@ dry_half false rest e = cc
 
 -- one instance of which something is known
 pub record IsSeen {P : Type 0} (hub : Hub P) (h : Record) (j : ℕ) (f : Facts) : Type 0 where
-  pub order : IsOrderly h
+  pub order : IsLegalWithReturns h
   pub placed : IsThere hub.rows.items [] h
   pub bytes : hub.bytes ≡ capped (bytes_of_all h)
   pub known : IsKnown f h j
@@ -207,7 +207,7 @@ pub record IsSeen {P : Type 0} (hub : Hub P) (h : Record) (j : ℕ) (f : Facts) 
 past_retired : (h : Record) (j i : ℕ) (f : Facts) → IsKnown f h j → f.retired ≡ true → (not (is_retired h j) && names h j i) ≡ false
 past_retired h j i f known retired = no_and (not (is_retired h j)) (names h j i) (ap not (sym known.retired ∙ retired))
 
-past_unread : (h : Record) (j i : ℕ) (f : Facts) → IsOrderly h → IsKnown f h j → Runs h j f.class → names_by i f ≡ false → (not (is_retired h j) && names h j i) ≡ false
+past_unread : (h : Record) (j i : ℕ) (f : Facts) → IsLegalWithReturns h → IsKnown f h j → Runs h j f.class → names_by i f ≡ false → (not (is_retired h j) && names h j i) ≡ false
 past_unread h j i f order known runs none =
     and_no (not (is_retired h j)) (names h j i) (unnamed_unread h j i f.class order runs
     (none_contained (readers_at h j) i (ap (λ (o : List (List ℕ)). list_any (λ target. target == i) (first_of o)) (sym known.outlet) ∙ none)))

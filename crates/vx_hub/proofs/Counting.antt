@@ -19,7 +19,7 @@ use Rattle.vx_record.specs.Moving.{IsStill}
 use Rattle.vx_hub.specs.declared.progress.Progress.{Progress}
 use Rattle.vx_record.specs.Sourcing.{must_wait}
 use Rattle.vx_hub.specs.declared.hub.Hub.{Hub}
-use Rattle.vx_hub.specs.Order.{IsOrderly}
+use Rattle.vx_hub.specs.Order.{IsLegalWithReturns}
 use Rattle.vx_hub.specs.Notices.{Pending, pending, pending_in, without_first, count_of, unnoticed, progress_at, SetsOne, IsReserved, IsPrefixKnown, IsAskedOf, IsBornTo, IsNoticedTo, IsCounted, judged_by}
 use Rattle.vx_hub.specs.Asking.{asked}
 use Rattle.vx_record.specs.Confirms.{births}
@@ -28,6 +28,7 @@ use Rattle.vx_hub.proofs.Prefixing.{IsPendingOf, abreast_born, abreast_born_othe
 use Rattle.vx_hub.specs.Places.{IsMine}
 use Rattle.vx_hub.specs.Stands.{touched, spare_of}
 use Rattle.vx_hub.proofs.Silence.{same_test, other_test}
+use Rattle.vx_hub.proofs.Allowed.{earlier}
 
 -- an entry of the port of an instance bears and notices nothing
 pub pending_touched : (h : Record) (e : Entry) (i : ℕ) → touched e ≡ Some i → IsStill e → pending (e ∷ h) ≡ pending h
@@ -153,20 +154,20 @@ count_less i b (p ∷ ps) = go (p.batch == b) (count_less i b ps)
     go false ih = omega (arith, ih)
 
 -- each of them has a copy of its own
-pub few_pending : (h : Record) (i : ℕ) → IsOrderly h → count_of i (pending h) ≤ next_copy h
+pub few_pending : (h : Record) (i : ℕ) → IsLegalWithReturns h → count_of i (pending h) ≤ next_copy h
 few_pending [] i o = omega arith
 few_pending (Born j b place copies events waits stream end ∷ h) i o =
-    let before = few_pending h i o.1 in
+    let before = few_pending h i (earlier _ _ o) in
     let more = count-more i (pending h) (record { batch = b; instance = j }) in
     let one : (if j == i then 1 else 0) ≤ 1 = at_most (j == i) in
-    let some : 0 < length copies = o.0.0.some in
+    let some : 0 < length copies = o.legal.0.row.some in
     omega (arith, before, more, one, some)
   where
     at_most : (t : Bool) → (if t then 1 else 0) ≤ 1
     at_most true = omega arith
     at_most false = omega arith
-few_pending (Notice b status ∷ h) i o = let before = few_pending h i o.1 in let less = count_less i b (pending h) in omega (arith, before, less)
-few_pending (e ∷ h) i o = let before = few_pending h i o.1 in omega (arith, before)
+few_pending (Notice b status ∷ h) i o = let before = few_pending h i (earlier _ _ o) in let less = count_less i b (pending h) in omega (arith, before, less)
+few_pending (e ∷ h) i o = let before = few_pending h i (earlier _ _ o) in omega (arith, before)
 
 mine_set : (o n : Option Progress) (R : Progress → Progress → Type 0) (x y : ℕ) → IfSome o (λ p. IsSomeAnd n (R p)) → ((p q : Progress) → R p q → p.unnoticed ≡ x → q.unnoticed ≡ y) → IsSomeAnd o (λ p. p.unnoticed ≡ x) → IsSomeAnd n (λ q. q.unnoticed ≡ y)
 mine_set None n R x y set is was = absurd was
@@ -209,7 +210,7 @@ prefixes_set i R old new h k set here others had j = go (j == i) refl
         subst (λ (o : Option Progress). IfSome o (λ p. IsPrefixKnown p k j)) (sym (set.others j other)) (progress_mapped (progress_at old j) (λ p a. others p j other a) (had j))
 
 -- one birth more
-pub counted_born : {P : Type 0} (d e : Hub P) (h : Record) (i b place : ℕ) (copies : List ℕ) (events : List Event) (waits : Bool) (stream end : ℕ) (r : OpenBatch) → IsOrderly h → next_copy h ≤ 2 ^ 63 →
+pub counted_born : {P : Type 0} (d e : Hub P) (h : Record) (i b place : ℕ) (copies : List ℕ) (events : List Event) (waits : Bool) (stream end : ℕ) (r : OpenBatch) → IsLegalWithReturns h → next_copy h ≤ 2 ^ 63 →
     e.batches.open_rows ≡ d.batches.open_rows ++ r ∷ [] → r.number ≡ b → r.instance ≡ i → b ≡ next_copy h → waits ≡ must_wait h i → e.rows ≡ d.rows → SetsOne i (IsBornTo b (record { stream = stream; end = end })) d.progress.items e.progress.items → IsCounted d h → IsCounted e (Born i b place copies events waits stream end ∷ h)
 counted_born d e h i b place copies events waits stream end r order fits rows number instance first must same set c =
     let new : Pending = record { batch = b; instance = i } in
@@ -226,7 +227,7 @@ counted_born d e h i b place copies events waits stream end r order fits rows nu
     }
 
 -- one notice more
-pub counted_noticed : {P : Type 0} (d e : Hub P) (h : Record) (i n : ℕ) (o : Outcome) (b : ℕ) (told : Told) (status : BatchStatus) → IsOrderly h → TakesOff b d.batches.open_rows e.batches.open_rows told → e.rows ≡ d.rows →
+pub counted_noticed : {P : Type 0} (d e : Hub P) (h : Record) (i n : ℕ) (o : Outcome) (b : ℕ) (told : Told) (status : BatchStatus) → IsLegalWithReturns h → TakesOff b d.batches.open_rows e.batches.open_rows told → e.rows ≡ d.rows →
     SetsOne told.instance (IsNoticedTo told.batch status) d.progress.items e.progress.items → IsCounted d h → IsCounted e (Notice told.batch status ∷ Spent i n o ∷ h)
 counted_noticed d e h i n o b told status order off same set c =
     let left : pending_in e.batches.open_rows ≡ without_first told.batch (pending h) =

@@ -21,13 +21,16 @@ use Rattle.vx_hub.specs.Notices.{waits_by, is_due_by}
 use Rattle.vx_hub.specs.Confirming.{HasNoneDue}
 use Rattle.vx_sourcecore.specs.declared.prefix.Due.{Due}
 use Rattle.std.specs.Prelude.{is_some, IsTrue}
+use Rattle.vx_hub.proofs.Offspring.{yield_read}
 use Rattle.vx_hub.proofs.Prefixing.{progress_is, known_waits}
 use Rattle.vx_record.specs.Sourcing.{must_wait}
 use Rattle.vx_hub.specs.declared.hub.Hub.{Hub}
-use Rattle.vx_hub.specs.Order.{IsOfClass, IsOrderly, IsReadBy}
+use Rattle.vx_hub.specs.Order.{IsOfClass, IsLegalWithReturns, IsReadBy}
 use Rattle.vx_hub.specs.Notices.{Pending, pending, without_first, count_of, unnoticed, progress_at, CountsNone}
 use Rattle.vx_hub.specs.Stands.{Stands, IsSound, IsKnown, IsRecorded, facts_at, component_in, IsNoticed}
+use Rattle.vx_hub.proofs.Runners.{placed_source}
 use Rattle.vx_hub.proofs.Silence.{same_test}
+use Rattle.vx_hub.proofs.Allowed.{earlier}
 
 -- a batch of an instance is among some
 abbrev Among : ℕ → ℕ → List Pending → Type 0
@@ -126,23 +129,23 @@ pub noticed_none : (h : Record) (i : ℕ) → unnoticed h i ≡ 0 → all_notice
 noticed_none h i none = all_covered h i (births h i) none (covered h i)
 
 -- BIRTHS
-read_source : (h : Record) (i : ℕ) → IsOrderly h → IsReadBy h i → IsOfClass h i Source
+read_source : (h : Record) (i : ℕ) → IsLegalWithReturns h → IsReadBy h i → IsOfClass h i Source
 read_source [] i o read = absurd read
-read_source (Read j stream took ∷ h) i o read = subst (λ (k : ℕ). IsOfClass h k Source) read o.0.0.source
+read_source (Read j stream took ∷ h) i o read = subst (λ (k : ℕ). IsOfClass h k Source) read (placed_source h j (earlier _ _ o) o.legal.0.row.source)
 read_source (e ∷ h) i o read = absurd read
 
 -- only a source bears
-pub bears : (h : Record) (i : ℕ) → IsOrderly h → (births h i ≡ []) ⊎ IsOfClass h i Source
+pub bears : (h : Record) (i : ℕ) → IsLegalWithReturns h → (births h i ≡ []) ⊎ IsOfClass h i Source
 bears [] i o = inl refl
-bears (Install version plan once instances now ∷ h) i o = inl (append-nil (births h i) ∙ ap (λ (k : Record). births k i) o.0.0.begins.first)
-bears (Born j b place copies events waits stream end ∷ h) i o = go (j == i) refl (bears h i o.1)
+bears (Install version plan once instances now ∷ h) i o = inl (append-nil (births h i) ∙ ap (λ (k : Record). births k i) o.legal.0.row.first)
+bears (Born j b place copies events waits stream end ∷ h) i o = go (j == i) refl (bears h i (earlier _ _ o))
   where
     go : (t : Bool) → (j == i) ≡ t → (births h i ≡ []) ⊎ IsOfClass h i Source →
         ((births h i ++ (if t then record { batch = b; waits = waits; stream = stream; end = end } ∷ [] else [])) ≡ []) ⊎ IsOfClass h i Source
-    go true e before = let same : j ≡ i = grind (arith, nat_tests) in inr (subst (λ (k : ℕ). IsOfClass h k Source) same (read_source h j o.1 o.0.0.read))
+    go true e before = let same : j ≡ i = grind (arith, nat_tests) in inr (subst (λ (k : ℕ). IsOfClass h k Source) same (read_source h j (earlier _ _ o) (yield_read h j events stream end o.legal.0.row.yield)))
     go false e (inl none) = inl (append-nil (births h i) ∙ none)
     go false e (inr source) = inr source
-bears (e ∷ h) i o = go (bears h i o.1)
+bears (e ∷ h) i o = go (bears h i (earlier _ _ o))
   where
     go : (births h i ≡ []) ⊎ IsOfClass h i Source → ((births h i ++ []) ≡ []) ⊎ IsOfClass h i Source
     go (inl none) = inl (append-nil (births h i) ∙ none)
@@ -153,7 +156,7 @@ class_by None x same is = absurd same
 class_by (Some component) x same is = same ∙ is
 
 -- an instance that is no source bore nothing, and of a source nothing is counted
-noticed_by : (h : Record) (i : ℕ) (f : Facts) → IsOrderly h → IsKnown f h i → (f.class ≡ Source → unnoticed h i ≡ 0) → all_noticed h i ≡ true
+noticed_by : (h : Record) (i : ℕ) (f : Facts) → IsLegalWithReturns h → IsKnown f h i → (f.class ≡ Source → unnoticed h i ≡ 0) → all_noticed h i ≡ true
 noticed_by h i f order known none = go (bears h i order)
   where
     go : (births h i ≡ []) ⊎ IsOfClass h i Source → all_noticed h i ≡ true

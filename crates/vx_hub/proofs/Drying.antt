@@ -1,6 +1,5 @@
 -- What takes no more takes no more later.
-use Rattle.std.proofs.Common.{◌≡◌, inl, inr, ℕ, ◌≤◌, Bool, true, false, ◌&&◌, ◌||◌, List, [], ◌∷◌, Option, Some, None, IfSome, IsSome, IsSomeAnd, refl, sym, ◌∙◌, ap, subst, arith}
-use Rattle.std.specs.Prelude.{◌^◌, if◌then◌else◌, ◌==◌}
+use Rattle.std.proofs.Common.{◌≡◌, inl, inr, ℕ, Bool, true, false, ◌&&◌, ◌||◌, List, ◌∷◌, Option, Some, None, IfSome, IsSome, IsSomeAnd, refl, sym, ◌∙◌, ap, subst, arith}
 use Rattle.vx_ends.specs.Told.{Told}
 use Rattle.vx_ends.specs.declared.position.Position.{Position}
 use Rattle.vx_plan.specs.declared.class.Class.{Class}
@@ -9,17 +8,14 @@ use Rattle.vx_plan.specs.declared.component.Component.{Component}
 use Rattle.vx_plan.specs.declared.plan.Plan.{Plan}
 use Rattle.vx_ledger.specs.Copies.{Copy}
 use Rattle.vx_record.specs.Records.{Record, capped}
-use Rattle.vx_record.specs.Noted.{Noted}
 use Rattle.vx_record.specs.Installs.{in_force}
-use Rattle.vx_record.specs.Turns.{is_out}
-use Rattle.vx_record.specs.Sourcing.{MayTurn}
-use Rattle.vx_record.specs.Reads.{bytes_of_all, is_end, all_ended}
+use Rattle.vx_record.specs.Reads.{bytes_of_all}
 use Rattle.vx_record.specs.declared.entry.Entry.{Entry}
-use Rattle.vx_record.specs.declared.entry.Entry.TheVariants.{Read, SourceLost, Abandon}
 use Rattle.vx_hub.specs.declared.hub.Hub.{Hub}
 use Rattle.vx_hub.specs.declared.facts.Facts.{Facts}
-use Rattle.vx_hub.specs.Order.{lost_at, cause_of, TakesNoMore, IsOfClass, IsTurnOf, IsReadBy, IsOrderly}
-use Rattle.vx_hub.specs.Stands.{Stands, IsKnown, IsClosing, MayShut, IsSpent, IsDry, component_in, facts_at, IsReadable}
+use Rattle.vx_hub.specs.Order.{TakesNoMore, IsOfClass}
+use Rattle.vx_record.proofs.Ceasing.{more_on}
+use Rattle.vx_hub.specs.Stands.{Stands, IsKnown, IsClosing, MayShut, IsSpent, IsDry, component_in, facts_at}
 
 -- another read tells no end
 pub unended : (a b r : Bool) → a ≡ false → ((a && b) || r) ≡ r
@@ -31,36 +27,6 @@ pub not_ended : (a r : Bool) → ((a && false) || r) ≡ r
 not_ended true r = refl
 not_ended false r = refl
 
-or_true : (a r : Bool) → r ≡ true → (a || r) ≡ true
-or_true true r e = refl
-or_true false r e = e
-
-ended_on : (h : Record) (i : ℕ) (e : Entry) → all_ended h i ≡ true → all_ended (e ∷ h) i ≡ true
-ended_on h i (Read j stream took) is = or_true ((j == i) && is_end took) (all_ended h i) is
-ended_on h i e is = is
-
-either_some : (t : Bool) (at : ℕ) (o : Option ℕ) → IsSome o → IsSome (if t then Some at else o)
-either_some true at o is = refl
-either_some false at o is = is
-
-lost_on : (h : Record) (i : ℕ) (e : Entry) → IsSome (lost_at h i) → IsSome (lost_at (e ∷ h) i)
-lost_on h i (SourceLost j at failed) is = either_some (j == i) at (lost_at h i) is
-lost_on h i e is = is
-
-bytes_on : (h : Record) (e : Entry) → 2 ^ 48 ≤ bytes_of_all h → 2 ^ 48 ≤ bytes_of_all (e ∷ h)
-bytes_on h (Read j stream took) many = omega (arith, many)
-bytes_on h e many = many
-
-cause_on : (h : Record) (e : Entry) → IsSome (cause_of h) → IsSome (cause_of (e ∷ h))
-cause_on h (Abandon cause) is = refl
-cause_on h e is = is
-
-pub more_on : (h : Record) (i : ℕ) (e : Entry) → TakesNoMore h i → TakesNoMore (e ∷ h) i
-more_on h i e (inl ended) = inl (ended_on h i e ended)
-more_on h i e (inr (inl lost)) = inr (inl (lost_on h i e lost))
-more_on h i e (inr (inr (inl many))) = inr (inr (inl (bytes_on h e many)))
-more_on h i e (inr (inr (inr given))) = inr (inr (inr (cause_on h e given)))
-
 weaker : (h : Record) (i : ℕ) (e : Entry) (o : Option Component) → IfSome o (λ component. component.class ≡ Source → TakesNoMore h i) → IfSome o (λ component. component.class ≡ Source → TakesNoMore (e ∷ h) i)
 weaker h i e None closing = tt
 weaker h i e (Some component) closing = λ source. more_on h i e (closing source)
@@ -69,12 +35,6 @@ weaker h i e (Some component) closing = λ source. more_on h i e (closing source
 pub closing_on : (h : Record) (i : ℕ) (e : Entry) → in_force (e ∷ h) ≡ in_force h → IsClosing h i → IsClosing (e ∷ h) i
 closing_on h i e same closing =
     subst (λ (p : Option Plan). IfSome (component_in p i) (λ component. component.class ≡ Source → TakesNoMore (e ∷ h) i)) (sym same) (weaker h i e (component_in (in_force h) i) closing)
-
--- and where the hub noted such an entry
-pub shut_on : {P : Type 0} (d e : Hub P) (i : ℕ) (entry : Entry) → Noted d.log entry e.log → in_force (entry ∷ d.log.history) ≡ in_force d.log.history → e.starved ≡ d.starved → MayShut d i → MayShut e i
-shut_on d e i entry noted same starved may sound =
-    let w = noted.whole sound.whole in
-    subst (λ (h : Record). IsClosing h i) (sym w.1) (closing_on d.log.history i entry same (may (record { whole = w.0; fed = sym starved ∙ sound.fed })))
 
 -- the end of all, of this read or of one before
 pub ended_here : (t e b r : Bool) (over : Bool) → t ≡ true → over ≡ (e || b) → b ≡ r → over ≡ ((t && e) || r)
@@ -102,15 +62,6 @@ shut_of_dry told_by hub hand i stands there dry sound =
     let r = stands.recorded sound in
     closing_if hub.log.history i hub.bytes (facts_at hub.facts.items i) there (r.facts i) r.bytes dry
 
--- an instance of a run that was given up may be closed
-given_closing : (h : Record) (i : ℕ) (o : Option Component) → IsSome (cause_of h) → IfSome o (λ component. component.class ≡ Source → TakesNoMore h i)
-given_closing h i None given = tt
-given_closing h i (Some component) given = λ source. inr (inr (inr given))
-
-pub shut_given_up : {P : Type 0} (told_by : P → Told) (hub : Hub P) (hand : List Copy) (i : ℕ) → Stands told_by hub hand hub.log.history → IsSome hub.abandoned → MayShut hub i
-shut_given_up told_by hub hand i stands given sound =
-    given_closing hub.log.history i (component_in (in_force hub.log.history) i) (subst IsSome (stands.recorded sound).cause given)
-
 -- the class of an instance by what is known of it
 class_is : (o : Option Component) (x y : Class) → IsSomeAnd o (λ component. x ≡ component.class) → x ≡ y → IsSomeAnd o (λ component. component.class ≡ y)
 class_is None x y same is = absurd same
@@ -122,21 +73,6 @@ class_known h i f known source = class_is (component_in (in_force h) i) f.class 
 pub sink_known : (h : Record) (i : ℕ) (o : Option Facts) → IsSomeAnd o (λ f. f.class ≡ Sink) → IfSome o (λ f. IsKnown f h i) → IsOfClass h i Sink
 sink_known h i None sink known = absurd sink
 sink_known h i (Some f) sink known = class_is (component_in (in_force h) i) f.class Sink known.class sink
-
-pub turn_of : (h : Record) (i : ℕ) (f : Facts) → is_out h i ≡ true → IsKnown f h i → IsReadable f → MayTurn h i → IsTurnOf h i
-turn_of h i f out known is row = record { out = out; unlost = sym known.lost ∙ is.0.0; source = class_known h i f known is.0.1; row = row }
-
--- what is known, by the component of the instance
-known_class : (o : Option Component) (x y : Class) → IsSomeAnd o (λ component. x ≡ component.class) → IsSomeAnd o (λ component. component.class ≡ y) → x ≡ y
-known_class None x y same is = absurd same
-known_class (Some component) x y same is = same ∙ is
-
--- what was read just now is a source
-pub read_class : (h : Record) (i : ℕ) (f : Facts) → IsOrderly h → IsReadBy h i → IsKnown f h i → f.class ≡ Source
-read_class [] i f order read known = absurd read
-read_class (Read j stream took ∷ h) i f order read known =
-    known_class (component_in (in_force h) i) f.class Source known.class (subst (λ (k : ℕ). IsOfClass h k Source) read order.0.0.source)
-read_class (e ∷ h) i f order read known = absurd read
 
 -- where nothing is taken, nothing is there
 pub taken_none : (o : Option (List Position)) → o ≡ None → IsSome o → ⊥

@@ -17,7 +17,7 @@ use Rattle.vx_record.specs.Copies.{next_copy}
 use Rattle.vx_record.specs.Encoding.{encode, encode_event, encoded, is_prefix}
 use Rattle.vx_record.specs.Installs.{in_force, sink_at}
 use Rattle.vx_record.specs.Lists.{held}
-use Rattle.vx_record.specs.SinkBatches.{is_batch_closed}
+use Rattle.vx_record.specs.SinkBatches.{is_batch_closed, retry_from}
 use Rattle.vx_record.specs.Turns.{is_out, lease_now, since_lease, is_attempt_of}
 use Rattle.vx_record.specs.Parcels.{no_event, event_of, parcel_event}
 use Rattle.vx_record.specs.declared.child.Child.{Child as NotedChild}
@@ -31,11 +31,11 @@ use Rattle.vx_hub.specs.Births.{IsSaidBy}
 use Rattle.vx_hub.specs.Abreast.{HasCome, HasComeHome}
 use Rattle.vx_hub.specs.Events.{written, written_by, IsPartOf, IsSaid, Each, EachChild, HasEach, IsSaidAt, AreSaid, ArePaired}
 use Rattle.vx_hub.specs.Numbers.{numbers_in}
-use Rattle.vx_plan.specs.declared.class.Class.TheVariants.{Sink}
-use Rattle.vx_hub.specs.Order.{IsAttemptOf, IsOfClass, IsClosedFor, component_in}
+use Rattle.vx_record.specs.Sinking.{MayAttempt}
+use Rattle.vx_hub.specs.Order.{component_in}
 use Rattle.vx_hub.specs.Places.{parcel_numbers}
 use Rattle.vx_hub.specs.Rows.{task_parcels, role_parcels, role_copies}
-use Rattle.vx_hub.proofs.Homing.{held_numbers, held_some}
+use Rattle.vx_hub.proofs.Homing.{held_numbers}
 use Rattle.vx_hub.proofs.Ordering.{sound_before}
 use Rattle.vx_hub.proofs.RowLaws.{rows_keep, row_has}
 use Rattle.vx_hub.proofs.Saids.{chosen_false, above, each_on}
@@ -84,10 +84,6 @@ pub last_child_each : (F : Parcel → Type 0) (old new : List Child) (c : Child)
 last_child_each F old new c is all =
     let both : EachChild F (new ++ c ∷ []) = subst (λ (cs : List Child). EachChild F cs) is all in
     (child-front F new (c ∷ []) both, (child-back F new (c ∷ []) both).0)
-
-pub task_each : {P : Type 0} (F : Parcel → Type 0) (t : Option (Task P)) → Each F (task_parcels t) → IfSome t (λ task. Each F (role_parcels task.role))
-task_each F None all = tt
-task_each F (Some task) all = all
 
 -- a task that was taken
 pub task_said : {P : Type 0} (h : Record) (i : ℕ) (t : Option (Task P)) → Each (IsSaid h) (task_parcels t) → HasComeHome h i t → IfSome t (λ task. Each (IsSaid h) (role_parcels task.role) × HasCome h i task.role)
@@ -190,25 +186,18 @@ pub record IsWriter (h : Record) (i : ℕ) (role : Role) : Type 0 where
   pub writes : written_by role ≡ written codec (role_parcels role)
   pub encoded_is : (parcels : List (List ℕ)) → encoded h i parcels ≡ encode codec (map (parcel_event h) parcels)
 
-pub attempt_in_order : (h : Record) (i : ℕ) (role : Role) (bytes : List ℕ) (reply : Reply) → is_out h i ≡ true → IsOfClass h i Sink → list_any (is_attempt_of i) (since_lease h i) ≡ false → 0 < length (role_parcels role) → held h i ≡ parcel_numbers (role_parcels role) → Each (IsSaid h) (role_parcels role) → IsPartOf (written_by role) bytes reply → IsClosedFor h i (lease_now h i) → sink_at h i ≡ true → is_batch_closed h i (lease_now h i) ≡ true → IsWriter h i role →
-    IsAttemptOf h i (numbers_in (role_copies role)) bytes reply
-attempt_in_order h i role bytes reply out sink once some is said part batch_closed is_sink closed writer =
+pub attempt_in_order : (h : Record) (i : ℕ) (role : Role) (bytes : List ℕ) (reply : Reply) → is_out h i ≡ true → list_any (is_attempt_of i) (since_lease h i) ≡ false → held h i ≡ parcel_numbers (role_parcels role) → Each (IsSaid h) (role_parcels role) → IsPartOf (written_by role) bytes reply → is_batch_closed h i (lease_now h i) ≡ true → retry_from h i ≤ lease_now h i → sink_at h i ≡ true → IsWriter h i role →
+    MayAttempt h i (numbers_in (role_copies role)) bytes reply
+attempt_in_order h i role bytes reply out once is said part closed waited sink writer =
     let all : encode writer.codec (map (parcel_event h) (held h i)) ≡ written_by role =
     ap (λ (ps : List (List ℕ)). encode writer.codec (map (parcel_event h) ps)) is ∙ written_events writer.codec h (role_parcels role) said ∙ sym writer.writes in
     record {
-      out = out;
       sink = sink;
+      out = out;
       once = once;
-      some = let n = ap length (held_numbers h i role is) in let m = held_some h i (role_parcels role) is some in omega (arith, n, m);
       all = held_numbers h i role is;
-      codec = writer.codec;
-      codec_is = writer.codec_is;
-      given = subst (λ (w : List ℕ). is_prefix bytes w ≡ true) (sym all) part.given;
-      whole = λ ok. part.whole ok ∙ sym all;
-      batch_closed = batch_closed;
-      is_sink = is_sink;
-      closed = closed;
-      waited = batch_closed.waited;
-      given_by = subst (λ (w : List ℕ). is_prefix bytes w ≡ true) (sym (writer.encoded_is (held h i) ∙ all)) part.given;
-      whole_by = λ ok. part.whole ok ∙ sym (writer.encoded_is (held h i) ∙ all);
+      batch_closed = closed;
+      waited = waited;
+      given = subst (λ (w : List ℕ). is_prefix bytes w ≡ true) (sym (writer.encoded_is (held h i) ∙ all)) part.given;
+      whole = λ ok. part.whole ok ∙ sym (writer.encoded_is (held h i) ∙ all);
     }

@@ -20,61 +20,45 @@ use Rattle.vx_record.specs.Places.{Place, Put, Kind, kind, same_place, one_each,
 use Rattle.vx_record.specs.Places.Place.{Outputs, Waiting, Contents, Held}
 use Rattle.vx_record.specs.Lists.{without, unless_empty, standing, parcels_at, waiting}
 use Rattle.vx_record.specs.Starting.{first_instances}
-use Rattle.vx_record.specs.Wirings.{names_differ, begun}
 use Rattle.vx_record.specs.Installs.{wired, in_force, component_of, is_new, started}
 use Rattle.vx_record.specs.Routing.{is_dry, is_sent, outlets, routes, all_ports, names, wired_targets}
 use Rattle.vx_record.proofs.Changes.{same_place_is}
-use Rattle.vx_record.proofs.FirstWiring.{component_of_first}
 use Rattle.vx_hub.specs.declared.facts.Facts.{Facts}
-use Rattle.vx_hub.specs.Order.{IsInOrder, IsOrderly, component_in, readers_at}
+use Rattle.vx_record.specs.Legal.{Allows}
+use Rattle.vx_hub.specs.Order.{IsLegalWithReturns, component_in, readers_at}
 use Rattle.vx_hub.specs.Stands.{IsKnown}
-use Rattle.vx_hub.proofs.Naming.{component_is}
+use Rattle.vx_hub.proofs.Runners.{component_there}
+use Rattle.vx_record.proofs.FirstPort.{split_routed}
 use Rattle.vx_hub.proofs.Silence.{same_test}
+use Rattle.vx_hub.proofs.Allowed.{earlier}
 
--- the names of the components in force differ
-names_so : (h : Record) (plan : Plan) → IsOrderly h → in_force h ≡ Some plan → names_differ plan.components ≡ true
-names_so [] plan order force = cc
-names_so (Install version made once instances now ∷ h) plan order force =
-    let same : made ≡ plan = cc in
-    subst (λ (p : Plan). names_differ p.components ≡ true) same order.0.0.named
-names_so (e ∷ h) plan order force = names_so h plan order.1 force
-
-begun_orderly : (plan : Plan) → names_differ plan.components ≡ true → IsOrderly (begun plan false 0)
-begun_orderly plan named = ((record { begins = record { first = refl; zeroth = refl; all_new = refl }; named = named }, λ b w. w, λ gone. cc), tt)
-
--- so an instance runs the component in its place
-pub component_so : (h : Record) (plan : Plan) (i : ℕ) (c : Component) → IsOrderly h → in_force h ≡ Some plan → slice_get plan.components i ≡ Some c → component_of h i ≡ Some c
-component_so h plan i c order force at =
-    let named = names_so h plan order force in
-    component_is h plan i c order force at ∙ sym (component_is (begun plan false 0) plan i c (begun_orderly plan named) refl at) ∙ component_of_first plan false 0 i c named at
-
--- and that is of the class that is known
+-- an instance runs a component, of the class that is known
 pub record Runs (h : Record) (i : ℕ) (class : Class) : Type 0 where
   pub component : Component
   pub there : component_of h i ≡ Some component
   pub class_is : class ≡ component.class
 
-pub runs_known : (h : Record) (plan : Plan) (i : ℕ) (f : Facts) → IsOrderly h → in_force h ≡ Some plan → IsKnown f h i → Runs h i f.class
+pub runs_known : (h : Record) (plan : Plan) (i : ℕ) (f : Facts) → IsLegalWithReturns h → in_force h ≡ Some plan → IsKnown f h i → Runs h i f.class
 runs_known h plan i f order force known = go (slice_get plan.components i) refl (subst (λ (p : Option Plan). IsSomeAnd (component_in p i) (λ component. f.class ≡ component.class)) force known.class)
   where
     go : (o : Option Component) → slice_get plan.components i ≡ o → IsSomeAnd o (λ component. f.class ≡ component.class) → Runs h i f.class
     go None at class = absurd class
-    go (Some c) at class = record { component = c; there = component_so h plan i c order force at; class_is = class }
+    go (Some c) at class = record { component = c; there = component_there h plan i c order force at; class_is = class }
 
 -- the instances are numbered as the components
 numbers_first : (from : ℕ) (components : List Component) → map (λ (instance : Instance). instance.number) (filter is_new (first_instances from components)) ≡ counting from (length components)
 numbers_first from [] = refl
 numbers_first from (c ∷ rest) = ap (λ ns. from ∷ ns) (numbers_first (from + 1) rest)
 
-pub started_so : (h : Record) (plan : Plan) → IsOrderly h → in_force h ≡ Some plan → started h ≡ counting 0 (length plan.components)
+pub started_so : (h : Record) (plan : Plan) → IsLegalWithReturns h → in_force h ≡ Some plan → started h ≡ counting 0 (length plan.components)
 started_so [] plan order force = cc
 started_so (Install version made once instances now ∷ h) plan order force =
     let same : made ≡ plan = cc in
-    let row = order.0.0.begins in
+    let row = order.legal.0.row in
     ap (λ (k : Record). started k ++ map (λ (instance : Instance). instance.number) (filter is_new instances)) row.first
     ∙ ap (λ (is : List Instance). map (λ (instance : Instance). instance.number) (filter is_new is)) row.all_new
     ∙ numbers_first 0 made.components ∙ ap (λ (p : Plan). counting 0 (length p.components)) same
-started_so (e ∷ h) plan order force = append-nil (started h) ∙ started_so h plan order.1 force
+started_so (e ∷ h) plan order force = append-nil (started h) ∙ started_so h plan (earlier _ _ order) force
 
 -- what holds of each number from one on
 neither : (a b : Bool) → a ≡ false → b ≡ false → (a || b) ≡ false
@@ -132,19 +116,19 @@ children_for : (h : Record) (i next m : ℕ) (ts : List ℕ) → ((t : ℕ) → 
 children_for h i next m [] all = tt
 children_for h i next m (t ∷ ts) all = (all t (count_head t ts), children_for h i (next + m) m ts (λ u l. all u (omega (arith, l))))
 
-entry_for : (h : Record) (e : Entry) → IsInOrder h e → AreForReaders (e ∷ h) (puts e)
-entry_for h (Born i b place copies events waits stream end) order = outputs_for (Born i b place copies events waits stream end ∷ h) i copies
-entry_for h (Split i ports copies event children) order =
-    subst (λ (cs : List Child). AreForReaders (Split i ports copies event children ∷ h) (map (λ (child : Child). record { place = Waiting i child.target; copies = child.copies }) cs)) (sym order.routed)
+entry_for : (h : Record) (e : Entry) → IsLegalWithReturns h → Allows h e → AreForReaders (e ∷ h) (puts e)
+entry_for h (Born i b place copies events waits stream end) before order = outputs_for (Born i b place copies events waits stream end ∷ h) i copies
+entry_for h (Split i ports copies event children) before order =
+    subst (λ (cs : List Child). AreForReaders (Split i ports copies event children ∷ h) (map (λ (child : Child). record { place = Waiting i child.target; copies = child.copies }) cs)) (sym (split_routed h i ports copies event children before.legal order))
     (children_for (Split i ports copies event children ∷ h) i (next_copy h) (length copies) (readers_at h i) (λ t l. l))
-entry_for h (Push i t s copies) order = (tt, tt)
-entry_for h (Take i s copies) order = (tt, tt)
-entry_for h e order = tt
+entry_for h (Push i t s copies) before order = (tt, tt)
+entry_for h (Take i s copies) before order = (tt, tt)
+entry_for h e before order = tt
 
-for_readers : (h : Record) → IsOrderly h → AreForReaders h (all_puts h)
+for_readers : (h : Record) → IsLegalWithReturns h → AreForReaders h (all_puts h)
 for_readers [] order = tt
-for_readers (Install version plan once instances now ∷ h) order = subst (λ (k : Record). AreForReaders (Install version plan once instances now ∷ h) (all_puts k ++ [])) (sym order.0.0.begins.first) tt
-for_readers (e ∷ h) order = readers-append (e ∷ h) (all_puts h) (puts e) (readers_on h e (all_puts h) (λ j. refl) (for_readers h order.1)) (entry_for h e order.0.0)
+for_readers (Install version plan once instances now ∷ h) order = subst (λ (k : Record). AreForReaders (Install version plan once instances now ∷ h) (all_puts k ++ [])) (sym order.legal.0.row.first) tt
+for_readers (e ∷ h) order = readers-append (e ∷ h) (all_puts h) (puts e) (readers_on h e (all_puts h) (λ j. refl) (for_readers h (earlier _ _ order))) (entry_for h e (earlier _ _ order) order.legal.0.row)
 
 -- so none waits for any other
 not_among : (n : ℕ) → nat_lt 0 n ≡ false → 0 < n → ⊥
@@ -163,7 +147,7 @@ none_for h gone (put ∷ ps) j t are off = go (without (gone (kind put.place)) p
     go [] later = later
     go (c ∷ cs) later = here (c ∷ cs) (same_place put.place (Waiting j t)) refl later
 
-pub waits_none : (h : Record) (j t : ℕ) → IsOrderly h → contains (readers_at h j) t ≡ false → waiting h j t ≡ []
+pub waits_none : (h : Record) (j t : ℕ) → IsLegalWithReturns h → contains (readers_at h j) t ≡ false → waiting h j t ≡ []
 waits_none h j t order off = none_for h (left h) (all_puts h) j t (for_readers h order) off
 
 -- whom an instance doesn't name: none waits for it, and it isn't in the outlet
@@ -191,7 +175,7 @@ unnamed_by h j i Transform runs none wait = unnamed_on_one h j i (ports_so h j T
 unnamed_by h j i Sink runs none wait = unnamed_by_sink h j i runs wait
 
 -- an instance that isn't among the readers isn't named
-pub unnamed_unread : (h : Record) (j i : ℕ) (class : Class) → IsOrderly h → Runs h j class → contains (readers_at h j) i ≡ false → names h j i ≡ false
+pub unnamed_unread : (h : Record) (j i : ℕ) (class : Class) → IsLegalWithReturns h → Runs h j class → contains (readers_at h j) i ≡ false → names h j i ≡ false
 unnamed_unread h j i class order runs off = unnamed_by h j i class runs (go (is_dry h j && is_sent h j)) (waits_none h j i order off)
   where
     go : (b : Bool) → contains (if b then [] else wired [] (wired_targets 0) h j) i ≡ false

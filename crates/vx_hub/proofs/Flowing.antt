@@ -1,39 +1,36 @@
 -- A source that the hub reads may be read by the record.
-use Rattle.std.proofs.Common.{◌≡◌, ℕ, ◌+◌, ◌<◌, Bool, true, false, List, [], ◌∷◌, Option, Some, None, IfSome, IsSome, IsSomeAnd, IsTrue, refl, sym, ap, subst, ◌∙◌, arith}
+use Rattle.std.proofs.Common.{◌≡◌, ℕ, ◌<◌, Bool, true, false, List, [], ◌∷◌, Option, Some, None, IfSome, IsSome, IsSomeAnd, refl, sym, ap, subst, ◌∙◌, arith}
 use Rattle.std.specs.Prelude.{◌==◌, ◌&&◌, ◌||◌, ◌^◌, not, nat_le, if◌then◌else◌}
 use Rattle.std.specs.List.{list_any}
 use Rattle.std.proofs.lemmas.Bool.Decides.{nat_tests}
 use Rattle.vx_value.specs.Texts.{is_empty}
 use Rattle.vx_ends.specs.Told.{Told}
 use Rattle.vx_ledger.specs.Copies.{Copy}
-use Rattle.vx_plan.specs.declared.component.Component.{Component}
 use Rattle.vx_record.specs.Records.{Record, capped}
 use Rattle.vx_record.specs.Noted.{Noted}
-use Rattle.vx_record.specs.declared.instance.Instance.{Instance}
-use Rattle.vx_record.specs.declared.log.Log.{Log}
 use Rattle.vx_record.specs.declared.entry.Entry.{Entry}
-use Rattle.vx_record.specs.declared.entry.Entry.TheVariants.{Install, Lease, SourceLost}
-use Rattle.vx_record.specs.Starting.{first_instances}
-use Rattle.vx_record.specs.Installs.{in_force, is_draining, is_marked, source_at}
+use Rattle.vx_record.specs.declared.entry.Entry.TheVariants.{Lease, SourceLost}
+use Rattle.vx_record.specs.Installs.{in_force, is_marked, source_at}
 use Rattle.vx_record.specs.Turns.{is_out, at_lease, lease_now, since_lease, is_turn_of}
 use Rattle.vx_record.specs.Reads.{all_ended, is_lost, bytes_of_all}
 use Rattle.vx_record.specs.Routing.{is_too_long, drains, is_out_from_before, is_dry, is_sent}
 use Rattle.vx_record.specs.Ready.{reading_moment, is_heir, can_read}
 use Rattle.vx_record.specs.Lists.{outputs, all_waiting}
 use Rattle.vx_record.specs.Places.Place.{Outputs}
-use Rattle.vx_record.specs.Sourcing.{MayIdle, MayBeLost}
+use Rattle.vx_record.specs.Sourcing.{MayTurn}
 use Rattle.vx_hub.specs.declared.facts.Facts.{Facts}
 use Rattle.vx_hub.specs.declared.hub.Hub.{Hub}
-use Rattle.vx_hub.specs.Order.{IsOrderly, IsTurnOf, IsTryOf, IsLossOf, lost_at, component_in}
+use Rattle.vx_hub.specs.Order.{IsLegalWithReturns, lost_at, component_in}
 use Rattle.vx_hub.specs.Readings.{IsFlowing, IsReadyToRead, WasReadable, MayRead}
 use Rattle.vx_hub.specs.Stands.{Stands, IsKnown, IsSound, IsReadable, facts_at}
 use Rattle.vx_hub.proofs.Classes.{source_there}
-use Rattle.vx_hub.proofs.Drying.{turn_of, class_known}
+use Rattle.vx_hub.proofs.Drying.{class_known}
 use Rattle.vx_hub.proofs.Heirs.{heir}
 use Rattle.vx_hub.proofs.Ordering.{sound_before}
 use Rattle.vx_hub.proofs.Placing.{places_all}
 use Rattle.vx_hub.proofs.Retiring.{none_waiting}
 use Rattle.vx_hub.proofs.Silence.{same_test}
+use Rattle.vx_record.proofs.Ceasing.{unmarked}
 
 none_of : (a b : Bool) → a ≡ false → b ≡ false → (a || b) ≡ false
 none_of true b e f = cc
@@ -51,19 +48,6 @@ both : (a b : Bool) → a ≡ true → b ≡ true → (a && b) ≡ true
 both true b e f = f
 both false b e f = cc
 
--- the first Install lets no instance drain
-unmarked_first : (from : ℕ) (components : List Component) (i : ℕ) → list_any (λ (instance : Instance). is_draining instance && (instance.number == i)) (first_instances from components) ≡ false
-unmarked_first from [] i = refl
-unmarked_first from (c ∷ rest) i = unmarked_first (from + 1) rest i
-
-pub unmarked : (h : Record) (i : ℕ) → IsOrderly h → is_marked h i ≡ false
-unmarked [] i order = refl
-unmarked (Install version plan once instances now ∷ h) i order =
-    none_of (list_any (λ (instance : Instance). is_draining instance && (instance.number == i)) instances) (is_marked h i)
-    (ap (λ (is : List Instance). list_any (λ (instance : Instance). is_draining instance && (instance.number == i)) is) order.0.0.begins.all_new ∙ unmarked_first 0 plan.components i)
-    (unmarked h i order.1)
-unmarked (e ∷ h) i order = unmarked h i order.1
-
 -- what wasn't lost after any bytes wasn't lost
 pub not_lost : (h : Record) (i : ℕ) → lost_at h i ≡ None → is_lost h i ≡ false
 not_lost [] i none = refl
@@ -78,12 +62,12 @@ short : (n : ℕ) → n < 2 ^ 48 → nat_le (2 ^ 48) n ≡ false
 short n l = grind (arith, nat_tests)
 
 -- nothing drains before all sources took 2^48 bytes
-pub not_draining : (h : Record) (i : ℕ) → IsOrderly h → bytes_of_all h < 2 ^ 48 → drains h i ≡ false
+pub not_draining : (h : Record) (i : ℕ) → IsLegalWithReturns h → bytes_of_all h < 2 ^ 48 → drains h i ≡ false
 not_draining h i order few =
-    none_of (is_marked h i) (source_at h i && is_too_long h) (unmarked h i order) (second_off (source_at h i) (is_too_long h) (short (bytes_of_all h) few))
+    none_of (is_marked h i) (source_at h i && is_too_long h) (unmarked h i order.legal) (second_off (source_at h i) (is_too_long h) (short (bytes_of_all h) few))
 
 -- and what was neither told the end of all nor lost isn't dry till then
-pub not_dry : (h : Record) (i : ℕ) → IsOrderly h → all_ended h i ≡ false → lost_at h i ≡ None → bytes_of_all h < 2 ^ 48 → is_dry h i ≡ false
+pub not_dry : (h : Record) (i : ℕ) → IsLegalWithReturns h → all_ended h i ≡ false → lost_at h i ≡ None → bytes_of_all h < 2 ^ 48 → is_dry h i ≡ false
 not_dry h i order going unlost few =
     second_off (source_at h i) (all_ended h i || is_lost h i || (drains h i && not (is_out_from_before h i)))
     (none_of (all_ended h i || is_lost h i) (drains h i && not (is_out_from_before h i))
@@ -91,7 +75,7 @@ not_dry h i order going unlost few =
     (first_off (drains h i) (not (is_out_from_before h i)) (not_draining h i order few)))
 
 -- an instance that sent everything and isn't dry can be read at any moment
-pub reads_now : (h : Record) (i now : ℕ) → IsOrderly h → IsSome (component_in (in_force h) i) → outputs h i ≡ [] → all_waiting h i ≡ [] → is_dry h i ≡ false → can_read h i now ≡ true
+pub reads_now : (h : Record) (i now : ℕ) → IsLegalWithReturns h → IsSome (component_in (in_force h) i) → outputs h i ≡ [] → all_waiting h i ≡ [] → is_dry h i ≡ false → can_read h i now ≡ true
 reads_now h i now order there none_out none_waits flowing =
     both (is_sent h i && not (is_dry h i) && nat_le (reading_moment h i) now) (is_heir h i)
     (both (is_sent h i && not (is_dry h i)) (nat_le (reading_moment h i) now)
@@ -104,7 +88,7 @@ some_there None F is = absurd is
 some_there (Some x) F is = refl
 
 -- what flows by what is known of it isn't dry
-pub flowing_known : (h : Record) (i bytes : ℕ) (o : Option Facts) → IsOrderly h → bytes ≡ capped (bytes_of_all h) → bytes < 2 ^ 48 → IfSome o (λ f. IsKnown f h i) → IsSomeAnd o (λ f. f.over ≡ false) → IsSomeAnd o (λ f. f.lost ≡ None) →
+pub flowing_known : (h : Record) (i bytes : ℕ) (o : Option Facts) → IsLegalWithReturns h → bytes ≡ capped (bytes_of_all h) → bytes < 2 ^ 48 → IfSome o (λ f. IsKnown f h i) → IsSomeAnd o (λ f. f.over ≡ false) → IsSomeAnd o (λ f. f.lost ≡ None) →
     is_dry h i ≡ false
 flowing_known h i bytes None order same few known going unlost = absurd going
 flowing_known h i bytes (Some f) order same few known going unlost = not_dry h i order (sym known.over ∙ going) (sym known.lost ∙ unlost) (omega (arith, same, few))
@@ -139,18 +123,7 @@ pub may_read_noted : {P : Type 0} (d e : Hub P) (entry : Entry) → Noted d.log 
 may_read_noted d e entry noted starved stays i may sound =
     subst (λ (h : Record). WasReadable h i) (sym (noted.whole sound.whole).1) (stays d.log.history i (may (sound_before d e entry noted starved sound)))
 
-pub may_read_same : {P : Type 0} (d e : Hub P) → e.log ≡ d.log → e.starved ≡ d.starved → (i : ℕ) → MayRead d i → MayRead e i
-may_read_same d e log starved i may sound =
-    subst (λ (l : Log). WasReadable l.history i) (sym log) (may (record { whole = subst (λ (l : Log). IsTrue l.whole) log sound.whole; fed = sym starved ∙ sound.fed }))
-
--- what a source brings home is a turn in order
-pub turn_in_order : (h : Record) (i : ℕ) (f : Facts) → IsOrderly h → is_out h i ≡ true → IsKnown f h i → IsReadable f → WasReadable h i → IsTurnOf h i
+-- what a source brings home is a turn that it may take
+pub turn_in_order : (h : Record) (i : ℕ) (f : Facts) → IsLegalWithReturns h → is_out h i ≡ true → IsKnown f h i → IsReadable f → WasReadable h i → MayTurn h i
 turn_in_order h i f order out known is was =
-    turn_of h i f out known is (record { source = source_there h i order (class_known h i f known is.0.1); out = out; readable = was.readable; once = was.once })
-
--- the rows of an idle turn and of a loss
-pub idle_row : (h : Record) (i : ℕ) (failed : Bool) → IsTryOf h i failed → MayIdle h i failed
-idle_row h i failed is = record { turn = is.turn.row; device = is.device; few = is.few }
-
-pub loss_row : (h : Record) (i at : ℕ) (failed : Bool) → IsLossOf h i at failed → MayBeLost h i at failed
-loss_row h i at failed is = record { turn = is.first.row; device = is.device; after = is.after; many = is.many }
+    record { source = source_there h i order (class_known h i f known is.0.1); out = out; readable = was.readable; once = was.once }

@@ -11,9 +11,9 @@ use Rattle.vx_record.specs.Records.{Record}
 use Rattle.vx_record.specs.Wirings.{names_differ}
 use Rattle.vx_record.specs.Installs.{Wiring, in_force, name_of, started, device_at, is_closed}
 use Rattle.vx_record.specs.Ready.{is_heir}
-use Rattle.vx_hub.specs.Order.{IsOrderly, component_in}
+use Rattle.vx_hub.specs.Order.{IsLegalWithReturns, component_in}
 use Rattle.vx_hub.proofs.Naming.{wired_so}
-use Rattle.vx_hub.proofs.Classes.{names_apart}
+use Rattle.vx_hub.proofs.Runners.{names_so}
 
 -- what holds of each holds of all
 pub each_passes : {X : Type 0} (test : X → Bool) (xs : List X) → ((x : X) → test x ≡ true) → list_all test xs ≡ true
@@ -25,7 +25,7 @@ each_passes test (x ∷ xs) all = both (test x) (list_all test xs) (all x) (each
     both false b e f = cc
 
 -- an instance has the name of the component in its place
-pub named_as : (h : Record) (plan : Plan) (i : ℕ) (c : Component) → IsOrderly h → in_force h ≡ Some plan → slice_get plan.components i ≡ Some c → name_of h i ≡ c.name
+pub named_as : (h : Record) (plan : Plan) (i : ℕ) (c : Component) → IsLegalWithReturns h → in_force h ≡ Some plan → slice_get plan.components i ≡ Some c → name_of h i ≡ c.name
 named_as h plan i c order force at = ap (λ (o : Option Wiring). elim o [ None ↦ [] | Some w ↦ w.name ]) (wired_so h plan i c order force at)
 
 both_hold : (a b : Bool) → (a && b) ≡ true → (a ≡ true) × (b ≡ true)
@@ -79,14 +79,14 @@ there_before (x ∷ rest) zero (suc k) d l at = (x, refl)
 there_before (x ∷ rest) (suc j) (suc k) d l at = there_before rest j k d (omega (arith, l)) at
 
 -- no older instance has the name of one
-pub unshared : (h : Record) (plan : Plan) (i j : ℕ) (d : Component) → IsOrderly h → in_force h ≡ Some plan → slice_get plan.components i ≡ Some d → j < i → same_text (name_of h j) (name_of h i) ≡ false
+pub unshared : (h : Record) (plan : Plan) (i j : ℕ) (d : Component) → IsLegalWithReturns h → in_force h ≡ Some plan → slice_get plan.components i ≡ Some d → j < i → same_text (name_of h j) (name_of h i) ≡ false
 unshared h plan i j d order force at l =
     let (c, first) = there_before plan.components j i d l at in
     ap (λ (w : Word). same_text w (name_of h i)) (named_as h plan j c order force first) ∙ ap (same_text c.name) (named_as h plan i d order force at)
-    ∙ apart plan.components j i c d (names_apart h plan order force) l first at
+    ∙ apart plan.components j i c d (names_so h plan order force) l first at
 
 -- so each instance that is there is an heir
-pub heir : (h : Record) (i : ℕ) → IsOrderly h → IsSome (component_in (in_force h) i) → is_heir h i ≡ true
+pub heir : (h : Record) (i : ℕ) → IsLegalWithReturns h → IsSome (component_in (in_force h) i) → is_heir h i ≡ true
 heir h i order there = go (in_force h) refl there
   where
     passed : (a b : Bool) → a ≡ false → (not a || b) ≡ true

@@ -1,5 +1,5 @@
 -- What a task holds stays what the record has, while its instance is out.
-use Rattle.std.proofs.Common.{◌≡◌, ℕ, zero, suc, List, [], ◌∷◌, ◌++◌, length, Option, Some, None, IfSome, refl, sym, ap, subst, ◌∙◌, arith, inl, inr}
+use Rattle.std.proofs.Common.{◌≡◌, ℕ, zero, suc, List, [], ◌∷◌, ◌++◌, length, Option, Some, None, IfSome, refl, sym, ap, subst, ◌∙◌, arith}
 use Rattle.std.specs.Prelude.{◌<◌, get_or, slice_get, Bool, true, false, ◌≢◌}
 use Rattle.vx_ends.specs.Told.{Told}
 use Rattle.vx_ledger.specs.Copies.{Copy}
@@ -8,7 +8,6 @@ use Rattle.vx_ledger.specs.declared.parcel.Parcel.{Parcel}
 use Rattle.vx_record.specs.Records.{Record}
 use Rattle.vx_record.specs.Noted.{Noted}
 use Rattle.vx_record.specs.declared.entry.Entry.{Entry}
-use Rattle.vx_record.specs.declared.entry.Entry.TheVariants.{Idle, SourceLost}
 use Rattle.vx_record.specs.Places.Place.{Waiting, Held}
 use Rattle.std.proofs.lemmas.List.{append_assoc, length-append}
 use Rattle.vx_record.specs.Copies.{joined}
@@ -25,7 +24,6 @@ use Rattle.vx_hub.specs.declared.task.Role.TheVariants.{Source, Sink}
 use Rattle.vx_hub.specs.Rows.{role_copies, role_parcels, parcel_copies, row_at, NoneWaits}
 use Rattle.vx_hub.specs.Places.{parcel_lists, parcel_numbers, HoldsSome, PutsLast, waiting_lists, copies_if, copies_at, all_numbers, numbers_at, NoneBefore, SamePlaces, TakesOldest}
 use Rattle.vx_hub.specs.Births.{IsHeldBy, IsNextOut}
-use Rattle.vx_hub.specs.Failures.{IsFailureOf}
 use Rattle.vx_hub.specs.Numbers.{numbers_in}
 use Rattle.vx_hub.specs.Stands.{Stands}
 use Rattle.vx_hub.proofs.Ordering.{sound_before}
@@ -38,11 +36,6 @@ held_on told_by d e hand i role entry s noted starved still had sound =
     let before = sound_before d e entry noted starved sound in
     subst (λ (h : Record). held h i ≡ parcel_numbers (role_parcels role)) (sym (noted.whole sound.whole).1)
     (stands_still d.log.history entry (Held i) still (conserved d.log.history (s.recorded before).order) ∙ had before)
-
-pub held_failed : {P : Type 0} (told_by : P → Told) (d e : Hub P) (hand : List Copy) (i j : ℕ) (role : Role) (at_start : Bool) → Stands told_by d hand d.log.history → IsFailureOf j at_start d.log e.log → e.starved ≡ d.starved →
-    IsHeldBy d i role → IsHeldBy e i role
-held_failed told_by d e hand i j role at_start s (inl idle) starved had = held_on told_by d e hand i role (Idle j true) s idle.1 starved tt had
-held_failed told_by d e hand i j role at_start s (inr lost) starved had = held_on told_by d e hand i role (SourceLost j lost.0 at_start) s lost.1 starved tt had
 
 -- the copies that a role holds are those behind its parcels
 pub role_same : (role : Role) → role_copies role ≡ parcel_copies (role_parcels role)
@@ -78,16 +71,6 @@ length_lists (p ∷ ps) = ap suc (length_lists ps)
 pub holds_some : {P : Type 0} (rows : List (Row P)) (i : ℕ) (ps : List Parcel) → copies_at (Held i) rows ≡ parcel_lists ps → (ps ≡ [] → false ≡ true) → HoldsSome rows i
 holds_some rows i [] is some = let no : false ≡ true = some refl in cc
 holds_some rows i (p ∷ ps) is some = subst (λ (qs : List (List Copy)). 0 < length qs) (sym is) (omega arith)
-
--- where a parcel is held, a copy is
-pub held_some : (h : Record) (i : ℕ) (ps : List Parcel) → held h i ≡ parcel_numbers ps → 0 < length ps → 0 < length (joined (held h i))
-held_some h i ps is some =
-    go (held h i) (let a = ap length is in let b = length_parcels ps in omega (arith, some, a, b)) (none_empty (Held i) (left h) (all_puts h))
-  where
-    go : (qs : List (List ℕ)) → 0 < length qs → NoneEmpty qs → 0 < length (joined qs)
-    go [] l full = absurd (omega (arith, l))
-    go ([] ∷ qs) l full = absurd full
-    go ((c ∷ cs) ∷ qs) l full = omega arith
 
 -- a parcel that is put leaves what was held
 pub holds_put : {P : Type 0} (q : Place) (i : ℕ) (copies : List Copy) (old new : List (Row P)) → PutsLast q copies old new → HoldsSome old i → HoldsSome new i

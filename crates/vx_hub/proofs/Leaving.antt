@@ -1,5 +1,5 @@
 -- An instance that comes home goes on doing so, until the record tells it.
-use Rattle.std.proofs.Common.{◌≡◌, ℕ, ◌+◌, Bool, true, false, List, [], ◌∷◌, length, sym, ap, subst, ◌∙◌, arith, inl, inr, refl}
+use Rattle.std.proofs.Common.{◌≡◌, ℕ, ◌+◌, Bool, true, false, List, [], ◌∷◌, length, sym, ap, subst, ◌∙◌, arith}
 use Rattle.std.specs.Prelude.{IsSome, IsTrue, Option, ◌==◌, ◌&&◌, if◌then◌else◌}
 use Rattle.std.specs.List.{list_all, list_any}
 use Rattle.vx_record.specs.Records.{Record}
@@ -8,13 +8,12 @@ use Rattle.vx_record.specs.Turns.{is_out, is_take_of, at_lease, since_lease, is_
 use Rattle.vx_record.specs.Owing.{all_noticed}
 use Rattle.vx_record.specs.declared.log.Log.{Log}
 use Rattle.vx_record.specs.declared.entry.Entry.{Entry}
-use Rattle.vx_record.specs.declared.entry.Entry.TheVariants.{Lease, Take, Idle, SourceLost}
+use Rattle.vx_record.specs.declared.entry.Entry.TheVariants.{Lease, Take}
 use Rattle.vx_hub.specs.declared.hub.Hub.{Hub}
 use Rattle.vx_hub.specs.Away.{IsAway, IsReturning, OnlyTook, HasTaken, IsUntried, IsSettled, IsArrived, WasNoticed}
 use Rattle.vx_hub.specs.Rows.{SamePorts}
 use Rattle.vx_record.specs.SinkBatches.{attempts_with}
 use Rattle.vx_hub.specs.Order.{AreSettled}
-use Rattle.vx_hub.specs.Failures.{IsFailureOf}
 use Rattle.vx_hub.proofs.Ordering.{sound_before}
 use Rattle.vx_hub.proofs.Silence.{same_test}
 use Rattle.vx_hub.proofs.Settling.{settled_on}
@@ -61,19 +60,11 @@ pub untried_noted : {P : Type 0} (d e : Hub P) (entry : Entry) → Noted d.log e
 untried_noted d e entry noted starved stays i untried sound =
     subst (λ (h : Record). list_any (is_attempt_of i) (since_lease h i) ≡ false) (sym (noted.whole sound.whole).1) (stays d.log.history i (untried (sound_before d e entry noted starved sound)))
 
-pub untried_same : {P : Type 0} (d e : Hub P) → e.log ≡ d.log → e.starved ≡ d.starved → (i : ℕ) → IsUntried d i → IsUntried e i
-untried_same d e log starved i untried sound =
-    subst (λ (l : Log). list_any (is_attempt_of i) (since_lease l.history i) ≡ false) (sym log) (untried (record { whole = subst (λ (l : Log). IsTrue l.whole) log sound.whole; fed = sym starved ∙ sound.fed }))
-
 -- and was leased when it was
 pub noticed_noted : {P : Type 0} (d e : Hub P) (entry : Entry) → Noted d.log entry e.log → e.starved ≡ d.starved → ((h : Record) (k : ℕ) → at_lease (entry ∷ h) k ≡ at_lease h k) → (i : ℕ) → WasNoticed d i → WasNoticed e i
 noticed_noted d e entry noted starved same i noticed sound =
     subst (λ (h : Record). all_noticed (at_lease h i) i ≡ true) (sym (noted.whole sound.whole).1)
     (subst (λ (k : Record). all_noticed k i ≡ true) (sym (same d.log.history i)) (noticed (sound_before d e entry noted starved sound)))
-
-pub noticed_same : {P : Type 0} (d e : Hub P) → e.log ≡ d.log → e.starved ≡ d.starved → (i : ℕ) → WasNoticed d i → WasNoticed e i
-noticed_same d e log starved i noticed sound =
-    subst (λ (l : Log). all_noticed (at_lease l.history i) i ≡ true) (sym log) (noticed (record { whole = subst (λ (l : Log). IsTrue l.whole) log sound.whole; fed = sym starved ∙ sound.fed }))
 
 -- behind an entry that brings nobody home an instance that comes home does so still
 pub arrived_noted : {P : Type 0} (d e : Hub P) (entry : Entry) → SamePorts d.rows.items e.rows.items → Noted d.log entry e.log → e.starved ≡ d.starved → ((h : Record) (k : ℕ) → is_out h k ≡ true → is_out (entry ∷ h) k ≡ true) →
@@ -93,10 +84,6 @@ settled_noted d e entry noted starved same i settled sound =
 pub settled_same : {P : Type 0} (d e : Hub P) → e.log ≡ d.log → e.starved ≡ d.starved → (i : ℕ) → IsSettled d i → IsSettled e i
 settled_same d e log starved i settled sound =
     subst (λ (l : Log). AreSettled l.history i) (sym log) (settled (record { whole = subst (λ (l : Log). IsTrue l.whole) log sound.whole; fed = sym starved ∙ sound.fed }))
-
-pub settled_failed : {P : Type 0} (d e : Hub P) (i : ℕ) (at_start : Bool) → IsFailureOf i at_start d.log e.log → e.starved ≡ d.starved → IsSettled d i → IsSettled e i
-settled_failed d e i at_start (inl idle) starved settled = settled_noted d e (Idle i true) idle.1 starved (λ h k c. refl) i settled
-settled_failed d e i at_start (inr lost) starved settled = settled_noted d e (SourceLost i lost.0 at_start) lost.1 starved (λ h k c. refl) i settled
 
 pub returning_noted : {P : Type 0} (d e : Hub P) (entry : Entry) → SamePorts d.rows.items e.rows.items → Noted d.log entry e.log → e.starved ≡ d.starved → ((h : Record) (k : ℕ) → is_out h k ≡ true → is_out (entry ∷ h) k ≡ true) →
     ((h : Record) (k c : ℕ) → attempts_with (entry ∷ h) k c ≡ attempts_with h k c) → ((h : Record) (k : ℕ) → HasTold h k → HasTold (entry ∷ h) k) → (i : ℕ) → IsReturning d i → IsReturning e i

@@ -6,6 +6,8 @@ pub mod Placing
 pub mod Owning
 mod Finding
 mod Noticing
+pub mod Allowed
+mod Runners
 mod Prefixing
 mod Counting
 mod Covering
@@ -22,7 +24,7 @@ pub mod Remaining
 pub mod Returning
 mod Asking
 mod Drying
-mod Porting
+mod Known
 mod Naming
 mod Rooming
 mod Ordering
@@ -50,6 +52,7 @@ mod Classes
 mod Heirs
 mod Flowing
 mod Offspring
+mod Adding
 mod Owed
 mod Moments
 mod Splitting

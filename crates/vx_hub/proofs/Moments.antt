@@ -1,12 +1,11 @@
 -- No moment of a worker falls, and each lease has its own.
 use Rattle.std.proofs.Common.{◌≡◌, ℕ, ◌≤◌, Bool, true, false, List, ◌∷◌, Some, refl, sym, ap, subst, ◌∙◌, arith}
-use Rattle.std.specs.Prelude.{◌==◌, if◌then◌else◌, IsTrue}
+use Rattle.std.specs.Prelude.{◌==◌, if◌then◌else◌}
 use Rattle.vx_ends.specs.Told.{Told}
 use Rattle.vx_ledger.specs.Copies.{Copy}
 use Rattle.vx_record.specs.Records.{Record}
 use Rattle.vx_record.specs.Noted.{Noted}
 use Rattle.vx_record.specs.Turns.{lease_now, worker_now}
-use Rattle.vx_record.specs.declared.log.Log.{Log}
 use Rattle.vx_record.specs.declared.entry.Entry.{Entry}
 use Rattle.vx_record.specs.declared.entry.Entry.TheVariants.{Lease}
 use Rattle.vx_hub.specs.declared.hub.Hub.{Hub}
@@ -89,7 +88,3 @@ pub moment_noted : {P : Type 0} (d e : Hub P) (entry : Entry) → Noted d.log en
 moment_noted d e entry noted starved stays i now moment sound =
     let w = noted.whole sound.whole in
     subst (λ (h : Record). lease_now h i ≡ now) (sym w.1) (stays d.log.history i ∙ moment (record { whole = w.0; fed = sym starved ∙ sound.fed }))
-
-pub moment_same : {P : Type 0} (d e : Hub P) → e.log ≡ d.log → e.starved ≡ d.starved → (i now : ℕ) → IsLeaseMoment d i now → IsLeaseMoment e i now
-moment_same d e log starved i now moment sound =
-    subst (λ (l : Log). lease_now l.history i ≡ now) (sym log) (moment (record { whole = subst (λ (l : Log). IsTrue l.whole) log sound.whole; fed = sym starved ∙ sound.fed }))

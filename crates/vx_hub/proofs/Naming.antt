@@ -1,7 +1,6 @@
 -- Which component an instance runs: that of the name that its component in the plan has.
-use Rattle.std.proofs.Common.{◌≡◌, ℕ, zero, suc, ◌+◌, Bool, true, false, List, [], ◌∷◌, Option, Some, None, refl, ap, ◌∙◌, arith, eq-eqb}
+use Rattle.std.proofs.Common.{◌≡◌, ℕ, zero, suc, Bool, true, false, List, [], ◌∷◌, Option, Some, None, refl, ap, ◌∙◌, eq-eqb}
 use Rattle.std.specs.Prelude.{◌==◌, IsSomeAnd, is_some, slice_get, find, if◌then◌else◌}
-use Rattle.std.proofs.lemmas.Bool.Decides.{nat_tests}
 use Rattle.vx_value.specs.Texts.{Word, same_text}
 use Rattle.vx_plan.specs.declared.plan.Plan.{Plan}
 use Rattle.vx_plan.specs.declared.component.Component.{Component}
@@ -10,49 +9,21 @@ use Rattle.vx_plan.specs.declared.settings.Settings.TheVariants.{Stdin, Console}
 use Rattle.vx_plan.specs.Components.{component_named}
 use Rattle.vx_plan.specs.Options.{has_device}
 use Rattle.vx_record.specs.Records.{Record}
-use Rattle.vx_record.specs.declared.entry.Entry.TheVariants.{Install}
-use Rattle.vx_record.specs.declared.instance.Instance.{Instance}
 use Rattle.vx_record.specs.Starting.{first_instances}
-use Rattle.vx_record.specs.Installs.{Wiring, wiring, name_at, component_of, device_at, in_force}
+use Rattle.vx_record.specs.Installs.{wiring, component_of, device_at, in_force}
 use Rattle.vx_hub.specs.declared.facts.Facts.{Facts}
-use Rattle.vx_hub.specs.Order.{IsOrderly, component_in}
+use Rattle.vx_hub.specs.Order.{IsLegalWithReturns, component_in}
 use Rattle.vx_hub.specs.Stands.{IsKnown}
+use Rattle.vx_record.proofs.Wired.{wired_so as legal_wired, component_is as legal_component}
 
--- the name under which an instance from a number on is started
-name_from : (from : ℕ) (components : List Component) (k : ℕ) (c : Component) → slice_get components k ≡ Some c → name_at (first_instances from components) (from + k) ≡ Some c.name
-name_from from [] k c at = cc
-name_from from (d ∷ rest) zero c at =
-    let here : (from == from + 0) ≡ true = eq-eqb from (from + 0) (omega arith) in
-    let same : d ≡ c = cc in
-    rw here (ap (λ (x : Component). Some x.name) same)
-name_from from (d ∷ rest) (suc k) c at =
-    let past : (from == from + suc k) ≡ false = grind (arith, nat_tests) in
-    let further : from + suc k ≡ from + 1 + k = omega arith in
-    rw (past, further) (name_from (from + 1) rest k c at)
-
--- an instance has the name of the component in its place
-pub name_first : (components instances : List _) (k : ℕ) (c : Component) → slice_get components k ≡ Some c → instances ≡ first_instances 0 components → name_at instances k ≡ Some c.name
-name_first components instances k c at are =
-    let zero_on : k ≡ 0 + k = omega arith in
-    ap (λ (is : List Instance). name_at is k) are ∙ ap (name_at (first_instances 0 components)) zero_on ∙ name_from 0 components k c at
-
--- and is wired as the plan that is in force has it
-pub wired_so : (h : Record) (plan : Plan) (i : ℕ) (c : Component) → IsOrderly h → in_force h ≡ Some plan → slice_get plan.components i ≡ Some c →
+-- an instance is wired as the plan that is in force has it
+pub wired_so : (h : Record) (plan : Plan) (i : ℕ) (c : Component) → IsLegalWithReturns h → in_force h ≡ Some plan → slice_get plan.components i ≡ Some c →
     wiring h i ≡ Some (record { plan = plan; instances = first_instances 0 plan.components; name = c.name })
-wired_so [] plan i c order force at = cc
-wired_so (Install version made once instances now ∷ h) plan i c order force at =
-    let same : made ≡ plan = cc in
-    let row = order.0.0.begins in
-    let here : slice_get made.components i ≡ Some c = ap (λ (p : Plan). slice_get p.components i) same ∙ at in
-    ap (λ (o : Option Word). elim o [ None ↦ wiring h i | Some name ↦ Some (record { plan = made; instances = instances; name = name }) ]) (name_first made.components instances i c here row.all_new)
-    ∙ ap (λ (is : List Instance). Some (record { plan = made; instances = is; name = c.name })) row.all_new
-    ∙ ap (λ (p : Plan). Some (record { plan = p; instances = first_instances 0 p.components; name = c.name })) same
-wired_so (e ∷ h) plan i c order force at = wired_so h plan i c order.1 force at
+wired_so h plan i c order = legal_wired h plan i c order.legal
 
 -- so it runs the component of that name
-pub component_is : (h : Record) (plan : Plan) (i : ℕ) (c : Component) → IsOrderly h → in_force h ≡ Some plan → slice_get plan.components i ≡ Some c → component_of h i ≡ component_named plan c.name
-component_is h plan i c order force at =
-    ap (λ (o : Option Wiring). elim o [ None ↦ None | Some w ↦ component_named w.plan w.name ]) (wired_so h plan i c order force at)
+pub component_is : (h : Record) (plan : Plan) (i : ℕ) (c : Component) → IsLegalWithReturns h → in_force h ≡ Some plan → slice_get plan.components i ≡ Some c → component_of h i ≡ component_named plan c.name
+component_is h plan i c order = legal_component h plan i c order.legal
 
 same_itself : (w : Word) → same_text w w ≡ true
 same_itself [] = refl
@@ -72,7 +43,7 @@ named_there (d ∷ rest) (suc k) c at = go (same_text d.name c.name) (named_ther
     go false later = later
 
 -- an instance of which something is known runs a component
-pub there_known : (h : Record) (i : ℕ) (f : Facts) → IsOrderly h → IsKnown f h i → is_some (component_of h i) ≡ true
+pub there_known : (h : Record) (i : ℕ) (f : Facts) → IsLegalWithReturns h → IsKnown f h i → is_some (component_of h i) ≡ true
 there_known h i f order known = go (in_force h) refl known.class
   where
     found : (plan : Plan) → in_force h ≡ Some plan → (o : Option Component) → slice_get plan.components i ≡ o → IsSomeAnd o (λ component. f.class ≡ component.class) → is_some (component_of h i) ≡ true
@@ -83,12 +54,12 @@ there_known h i f order known = go (in_force h) refl known.class
     go None force class = absurd class
     go (Some plan) force class = found plan force (slice_get plan.components i) refl class
 
-works_with_one : (settings : Settings) → has_device settings ≡ true
+pub works_with_one : (settings : Settings) → has_device settings ≡ true
 works_with_one (Stdin max_length codec) = refl
 works_with_one (Console target codec sink) = refl
 
 -- and works with a port
-pub device_known : (h : Record) (i : ℕ) (f : Facts) → IsOrderly h → IsKnown f h i → device_at h i ≡ true
+pub device_known : (h : Record) (i : ℕ) (f : Facts) → IsLegalWithReturns h → IsKnown f h i → device_at h i ≡ true
 device_known h i f order known = go (component_of h i) (there_known h i f order known)
   where
     go : (o : Option Component) → is_some o ≡ true → (elim o [ None ↦ false | Some c ↦ has_device c.settings ]) ≡ true

@@ -4,6 +4,7 @@ use Rattle.std.specs.Prelude.{◌==◌, ◌&&◌, if◌then◌else◌, IsSome}
 use Rattle.std.proofs.lemmas.Bool.Decides.{nat_tests}
 use Rattle.std.proofs.lemmas.Bool.{cases_eq}
 use Rattle.vx_status.specs.declared.outcome.Outcome.{Outcome}
+use Rattle.vx_status.specs.declared.batch_status.BatchStatus.{BatchStatus}
 use Rattle.vx_status.specs.declared.batch_status.BatchStatus.TheVariants.{Delivered}
 use Rattle.vx_status.specs.Tables.{status_of, batch_update}
 use Rattle.vx_ledger.specs.Copies.{Copy, copies_of}
@@ -17,27 +18,25 @@ use Rattle.vx_record.specs.Copies.{next_copy}
 use Rattle.vx_record.specs.Batches.{batch_of, AwaitsNotice, NoNoticeDue}
 use Rattle.vx_record.specs.Statuses.{running}
 use Rattle.vx_record.specs.Moving.{IsStill, IsConserved}
-use Rattle.vx_record.specs.Accounting.{IsInTurn, Accounts, IsAccounted, IsNoticedSo}
-use Rattle.vx_record.proofs.Statuses.{running_future}
+use Rattle.vx_record.specs.Accounting.{IsInTurn, IsAccounted, IsNoticedSo}
+use Rattle.vx_record.proofs.Statuses.{running_future, running_so}
 use Rattle.vx_hub.specs.declared.row.Row.{Row}
 use Rattle.vx_hub.specs.Rows.{copies_in}
-use Rattle.vx_hub.specs.Order.{IsInOrder, IsOrderly}
+use Rattle.vx_record.specs.Spending.{MayNotice}
+use Rattle.vx_record.proofs.LegalNotices.{accounted as legal_accounted}
+use Rattle.vx_hub.specs.Order.{IsLegalWithReturns}
 use Rattle.vx_hub.specs.Batching.{AreRunning}
 use Rattle.vx_hub.specs.Places.{IsMine, AllMine, IsPlaced}
 use Rattle.vx_hub.specs.Stands.{IsBalanced}
-use Rattle.vx_hub.proofs.Placing.{conserved}
 use Rattle.vx_hub.proofs.Finding.{live_is_had, had_is_live}
 
--- what is in order accounts
-accounts : (h : Record) (e : Entry) → IsInOrder h e → Accounts h e
-accounts h (Born i b place copies events waits stream end) o = record { some = o.some; number = o.number }
-accounts h (Split i ports copies event children) o = o.some
-accounts h (Notice b status) o = o
-accounts h e o = tt
+-- and accounts
+pub accounted : (h : Record) → IsLegalWithReturns h → IsAccounted h
+accounted h o = legal_accounted h o.legal
 
-pub accounted : (h : Record) → IsOrderly h → IsAccounted h
-accounted [] o = tt
-accounted (e ∷ h) o = (record { conserves = (conserved (e ∷ h) o).0; accounts = accounts h e o.0.0; turn = o.0.1 }, accounted h o.1)
+-- a notice with the status that is kept has its row
+pub notice_row : (h : Record) (b : ℕ) (status : BatchStatus) → IsLegalWithReturns h → IsNoticedSo h b status → MayNotice h b status
+notice_row h b status o so = record { due = so.due; folded = so.folded ∙ running_so h b (accounted h o) }
 
 -- where no notice is due, any entry may stand
 pub in_turn : (h : Record) (e : Entry) → NoNoticeDue h → IsInTurn h e

@@ -14,15 +14,19 @@ use Rattle.vx_record.specs.Ending.{BirthWants, last_events}
 use Rattle.vx_record.specs.Installs.{in_force}
 use Rattle.vx_record.specs.Owing.{fruitful, owes_birth}
 use Rattle.vx_record.specs.Reads.{events_of}
+use Rattle.vx_record.specs.Sourcing.{IsYield}
 use Rattle.vx_record.specs.Turns.{is_out}
 use Rattle.vx_record.specs.declared.entry.Entry.{Entry}
 use Rattle.vx_record.specs.declared.entry.Entry.TheVariants.{Install, Lease, Home, Read, Born, Abandon}
 use Rattle.vx_hub.specs.declared.fatal.Fatal.{Fatal}
 use Rattle.vx_hub.specs.declared.fatal.Fatal.TheVariants.{Numbers, WantOfMemory}
 use Rattle.vx_hub.specs.Offspring.{AreBorn, AreBornAtHome, AreBornBefore, OwesNothing, WantsBirth}
-use Rattle.vx_hub.specs.Order.{IsInOrder, IsOfClass, IsOrderly, IsReadBy, component_in}
+use Rattle.vx_record.specs.Legal.{Allows}
+use Rattle.vx_hub.specs.Order.{IsOfClass, IsLegalWithReturns, IsReadBy, component_in}
 use Rattle.vx_hub.specs.Stands.{IsQuiet, touched}
+use Rattle.vx_hub.proofs.Runners.{placed_source}
 use Rattle.vx_hub.proofs.Silence.{other_test, same_test}
+use Rattle.vx_hub.proofs.Allowed.{earlier}
 
 -- TESTS
 not_leased : (b c : Bool) → (if b then true else c) ≡ false → c ≡ false
@@ -49,14 +53,20 @@ same_births h i e none = let all = length-append (births h i) (births_in i e) in
 pub even_on : (h : Record) (i : ℕ) (e : Entry) → births_in i e ≡ [] → fruitful h i ≡ length (births h i) → fruitful h i ≡ length (births (e ∷ h) i)
 even_on h i e none even = even ∙ sym (same_births h i e none)
 
+-- what is born stands behind a read
+pub yield_read : (h : Record) (i : ℕ) (events : List Event) (stream end : ℕ) → IsYield h i events stream end → IsReadBy h i
+yield_read [] i events stream end yield = absurd yield
+yield_read (Read j from took ∷ h) i events stream end yield = yield.reader
+yield_read (e ∷ h) i events stream end yield = absurd yield
+
 -- who read just now is out
-read_out : (h : Record) (i : ℕ) → IsOrderly h → IsReadBy h i → is_out h i ≡ true
+read_out : (h : Record) (i : ℕ) → IsLegalWithReturns h → IsReadBy h i → is_out h i ≡ true
 read_out [] i order read = absurd read
-read_out (Read j stream took ∷ h) i order read = subst (λ (k : ℕ). is_out h k ≡ true) read order.0.0.out
+read_out (Read j stream took ∷ h) i order read = subst (λ (k : ℕ). is_out h k ≡ true) read order.legal.0.row.out
 read_out (e ∷ h) i order read = absurd read
 
 -- nobody at home owes a birth behind an entry, where what comes home owes none
-pub born_on : (h : Record) (e : Entry) → IsOrderly h → IsInOrder h e → OwesNothing h e → AreBornAtHome h → AreBornAtHome (e ∷ h)
+pub born_on : (h : Record) (e : Entry) → IsLegalWithReturns h → Allows h e → OwesNothing h e → AreBornAtHome h → AreBornAtHome (e ∷ h)
 born_on h (Lease j worker now polls) order so owes all i home going = even_on h i (Lease j worker now polls) refl (all i (not_leased (j == i) (is_out h i) home) going)
 born_on h (Home j) order so owes all i home going = go (j == i) refl home
   where
@@ -66,7 +76,7 @@ born_on h (Home j) order so owes all i home going = go (j == i) refl home
 born_on h (Read j stream took) order so owes all i home going =
     not_read (j == i) (not (is_empty (events_of h i stream took))) (fruitful h i) (apart h i j so.out home) ∙ even_on h i (Read j stream took) refl (all i home going)
 born_on h (Born j b place copies events waits stream end) order so owes all i home going =
-    even_on h i (Born j b place copies events waits stream end) (not_mine (j == i) _ (apart h i j (read_out h j order so.read) home)) (all i home going)
+    even_on h i (Born j b place copies events waits stream end) (not_mine (j == i) _ (apart h i j (read_out h j order (yield_read h j events stream end so.yield)) home)) (all i home going)
 born_on h (Abandon cause) order so owes all i home going = cc
 born_on h e order so owes all i home going = even_on h i e refl (all i home going)
 
@@ -138,22 +148,22 @@ not_sink : (h : Record) (i j : ℕ) → IsOfClass h j Source → IsOfClass h i S
 not_sink h i j source sink = other_test j i (λ e. two_classes (component_in (in_force h) i) (subst (λ (k : ℕ). IsOfClass h k Source) (sym e) source) sink)
 
 -- who read just now is a source
-read_source : (h : Record) (i : ℕ) → IsOrderly h → IsReadBy h i → IsOfClass h i Source
+read_source : (h : Record) (i : ℕ) → IsLegalWithReturns h → IsReadBy h i → IsOfClass h i Source
 read_source [] i order read = absurd read
-read_source (Read j stream took ∷ h) i order read = subst (λ (k : ℕ). IsOfClass h k Source) read order.0.0.source
+read_source (Read j stream took ∷ h) i order read = subst (λ (k : ℕ). IsOfClass h k Source) read (placed_source h j (earlier _ _ order) order.legal.0.row.source)
 read_source (e ∷ h) i order read = absurd read
 
 -- a sink neither reads nor bears
-pub sink_barren : (h : Record) (i : ℕ) → IsOrderly h → IsOfClass h i Sink → (fruitful h i ≡ 0) × (length (births h i) ≡ 0)
+pub sink_barren : (h : Record) (i : ℕ) → IsLegalWithReturns h → IsOfClass h i Sink → (fruitful h i ≡ 0) × (length (births h i) ≡ 0)
 sink_barren [] i order sink = absurd sink
 sink_barren (Install version plan once instances now ∷ h) i order sink =
-    let first : h ≡ [] = order.0.0.begins.first in
+    let first : h ≡ [] = order.legal.0.row.first in
     (ap (λ (k : Record). fruitful k i) first, same_births h i (Install version plan once instances now) refl ∙ ap (λ (k : Record). length (births k i)) first)
 sink_barren (Read j stream took ∷ h) i order sink =
-    let before = sink_barren h i order.1 sink in
-    (not_read (j == i) (not (is_empty (events_of h i stream took))) (fruitful h i) (not_sink h i j order.0.0.source sink) ∙ before.0, same_births h i (Read j stream took) refl ∙ before.1)
+    let before = sink_barren h i (earlier _ _ order) sink in
+    (not_read (j == i) (not (is_empty (events_of h i stream took))) (fruitful h i) (not_sink h i j (placed_source h j (earlier _ _ order) order.legal.0.row.source) sink) ∙ before.0, same_births h i (Read j stream took) refl ∙ before.1)
 sink_barren (Born j b place copies events waits stream end ∷ h) i order sink =
-    let before = sink_barren h i order.1 sink in
-    let off : (j == i) ≡ false = not_sink h i j (read_source h j order.1 order.0.0.read) sink in
+    let before = sink_barren h i (earlier _ _ order) sink in
+    let off : (j == i) ≡ false = not_sink h i j (read_source h j (earlier _ _ order) (yield_read h j events stream end order.legal.0.row.yield)) sink in
     (before.0, same_births h i (Born j b place copies events waits stream end) (not_mine (j == i) _ off) ∙ before.1)
-sink_barren (e ∷ h) i order sink = let before = sink_barren h i order.1 sink in (before.0, same_births h i e refl ∙ before.1)
+sink_barren (e ∷ h) i order sink = let before = sink_barren h i (earlier _ _ order) sink in (before.0, same_births h i e refl ∙ before.1)

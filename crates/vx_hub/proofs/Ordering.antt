@@ -25,12 +25,12 @@ use Rattle.vx_record.specs.Lists.{all_waiting, waiting, outputs}
 use Rattle.vx_record.specs.Places.{puts}
 use Rattle.vx_record.specs.Turns.{is_out}
 use Rattle.vx_record.specs.Spending.{last_attempted, last_reply}
-use Rattle.vx_record.specs.Sending.{IsOldest}
+use Rattle.vx_record.specs.Sending.{IsOldest, MaySplit}
 use Rattle.vx_record.specs.Noted.{Noted}
 use Rattle.vx_record.specs.declared.log.Log.{Log}
 use Rattle.vx_record.specs.declared.child.Child.{Child as NotedChild}
 use Rattle.vx_record.specs.declared.entry.Entry.{Entry}
-use Rattle.vx_record.specs.declared.entry.Entry.TheVariants.{Install, Split, Spent, Notice}
+use Rattle.vx_record.specs.declared.entry.Entry.TheVariants.{Split, Spent, Notice}
 use Rattle.vx_record.specs.declared.abandon_cause.AbandonCause.{AbandonCause}
 use Rattle.vx_hub.specs.declared.hub.Hub.{Hub}
 use Rattle.vx_hub.specs.declared.fatal.Fatal.{Fatal}
@@ -38,12 +38,12 @@ use Rattle.vx_hub.specs.declared.fatal.Fatal.TheVariants as fatal
 use Rattle.vx_hub.specs.Failures.{HasReason}
 use Rattle.vx_hub.specs.Numbers.{numbers_in, noted_of}
 use Rattle.vx_hub.specs.Events.{IsSaid}
-use Rattle.vx_hub.specs.Order.{IsBirthOf, IsReadBy, IsSplitOf, IsOrderly, readers_at, reply_behind, cause_of}
+use Rattle.vx_hub.specs.Order.{IsLegalWithReturns, readers_at, reply_behind, cause_of}
 use Rattle.vx_hub.specs.Spending.{IsGiven, AreAnswered, IsSpentFor, MaySpend, IsReplied}
-use Rattle.vx_record.specs.Sourcing.{IsYield}
+use Rattle.vx_record.specs.Sourcing.{IsYield, MayBear}
 use Rattle.vx_hub.specs.Abreast.{AreNamedApart}
 use Rattle.vx_hub.specs.Stands.{Stands, IsSound, IsBalanced}
-use Rattle.vx_hub.proofs.Porting.{output_on_first, first_routes}
+use Rattle.vx_record.proofs.FirstPort.{output_on_first, first_routes}
 use Rattle.vx_hub.proofs.StandsLaws.{unmade}
 use Rattle.vx_hub.proofs.Shrinking.{answered_on, waits_none}
 use Rattle.vx_record.specs.Sourcing.{must_wait}
@@ -65,19 +65,16 @@ length_counting first zero = refl
 length_counting first (suc n) = ap suc (length_counting (first + 1) n)
 
 -- no two components of a plan that was installed have one name
-pub named_apart : (h : Record) → IsOrderly h → AreNamedApart h
-named_apart [] order = tt
-named_apart (Install version plan once instances now ∷ h) order = order.0.0.named
-named_apart (e ∷ h) order = named_apart h order.1
+pub named_apart : (h : Record) → IsLegalWithReturns h → AreNamedApart h
+named_apart h order = order.named
 
--- a batch that the ledger bore is in order
-pub birth_in_order : (h : Record) (i next n batch : ℕ) (copies : List Copy) (events : List Event) (waits : Bool) (stream end : ℕ) → IsOrderly h → waits ≡ must_wait h i → IsReadBy h i → (AreNamedApart h → 0 < length events → IsYield h i events stream end) → next ≡ next_copy h → batch ≡ next → copies ≡ numbered n next next next → length events ≡ n → 0 < n → next + n ≤ 2 ^ 63 →
-    IsBirthOf h i batch (numbers_in copies) events waits stream end
-birth_in_order h i next n batch copies events waits stream end order must read yield now first are each some fits =
+-- a batch that the ledger bore may be born
+pub birth_in_order : (h : Record) (i next n batch : ℕ) (copies : List Copy) (events : List Event) (waits : Bool) (stream end : ℕ) → IsLegalWithReturns h → waits ≡ must_wait h i → (AreNamedApart h → 0 < length events → IsYield h i events stream end) → next ≡ next_copy h → batch ≡ next → copies ≡ numbered n next next next → length events ≡ n → 0 < n → next + n ≤ 2 ^ 63 →
+    MayBear h i batch (numbers_in copies) events waits stream end
+birth_in_order h i next n batch copies events waits stream end order must yield now first are each some fits =
     let counted : numbers_in copies ≡ counting next n = ap numbers_in are ∙ numbers_numbered n next next next in
     let many : length (numbers_in copies) ≡ n = ap length counted ∙ length_counting next n in
     record {
-      read = read;
       yield = yield (named_apart h order) (omega (arith, each, some));
       some = omega (arith, many, some);
       one_each = many ∙ sym each;
@@ -101,9 +98,9 @@ length_children next m (target ∷ rest) = ap suc (length_children (next + m) m 
 pub length_noted : (targets : List ℕ) (first : ℕ) (parcel : Parcel) (children : List Child) → children ≡ children_for targets first parcel → length (noted_of children) ≡ length targets
 length_noted targets first parcel children are = ap (λ (cs : List Child). length (noted_of cs)) are ∙ ap length (noted_children targets first parcel) ∙ length_children first (length parcel.finalizers) targets
 
--- a split that the ledger made is in order
-pub split_in_order : (h : Record) (i next : ℕ) (targets : List ℕ) (parcel : Parcel) (children : List Child) → IsOrderly h → is_out h i ≡ false → all_waiting h i ≡ [] → targets ≡ readers_at h i → IsOldest (numbers_in parcel.finalizers) (outputs h i) → next ≡ next_copy h → children ≡ children_for targets next parcel → 0 < length targets →
-    next + length targets * length parcel.finalizers ≤ 2 ^ 63 → IsSaid h parcel → IsSplitOf h i 1 (numbers_in parcel.finalizers) parcel.event (noted_of children)
+-- a split that the ledger made is allowed
+pub split_in_order : (h : Record) (i next : ℕ) (targets : List ℕ) (parcel : Parcel) (children : List Child) → IsLegalWithReturns h → is_out h i ≡ false → all_waiting h i ≡ [] → targets ≡ readers_at h i → IsOldest (numbers_in parcel.finalizers) (outputs h i) → next ≡ next_copy h → children ≡ children_for targets next parcel → 0 < length targets →
+    next + length targets * length parcel.finalizers ≤ 2 ^ 63 → IsSaid h parcel → MaySplit h i 1 (numbers_in parcel.finalizers) parcel.event (noted_of children)
 split_in_order h i next targets parcel children order home waits routed oldest now are some fits said =
     let m = length parcel.finalizers in
     let many : length (numbers_in parcel.finalizers) ≡ m = length_numbers parcel.finalizers in
@@ -111,14 +108,15 @@ split_in_order h i next targets parcel children order home waits routed oldest n
     let made : noted_of children ≡ children_of (next_copy h) (length (numbers_in parcel.finalizers)) targets =
     ap noted_of are ∙ noted_children targets next parcel ∙ ap (λ k. children_of k m targets) now ∙ ap (λ k. children_of (next_copy h) k targets) (sym many) in
     record {
-      home = home;
-      divides = record { oldest = oldest; made = (targets, made) };
-      none_waits = waits;
-      on_ports = output_on_first h i (numbers_in parcel.finalizers) order oldest;
-      same_event = said.event;
-      made = made ∙ ap (λ (ts : List ℕ). children_of (next_copy h) (length (numbers_in parcel.finalizers)) ts) (routed ∙ sym (first_routes h i (numbers_in parcel.finalizers) oldest));
-      routed = made ∙ ap (λ (ts : List ℕ). children_of (next_copy h) (length (numbers_in parcel.finalizers)) ts) routed;
-      some = omega (arith, count, some);
+      split = record {
+        home = home;
+        none_waits = waits;
+        oldest = oldest;
+        on_ports = output_on_first h i (numbers_in parcel.finalizers) order.legal oldest;
+        same_event = said.event;
+        some = omega (arith, count, some);
+        made = made ∙ ap (λ (ts : List ℕ). children_of (next_copy h) (length (numbers_in parcel.finalizers)) ts) (routed ∙ sym (first_routes h i (numbers_in parcel.finalizers) oldest));
+      };
       fits = subst (λ k. k + length (noted_of children) * length (numbers_in parcel.finalizers) ≤ 2 ^ 63) now
           (subst (λ k. next + k * length (numbers_in parcel.finalizers) ≤ 2 ^ 63) (sym count) (subst (λ k. next + length targets * k ≤ 2 ^ 63) (sym many) fits));
     }

@@ -33,7 +33,7 @@ use Rattle.vx_hub.proofs.Ordering.{named_apart, sound_before}
 use Rattle.vx_hub.proofs.Silence.{same_test}
 
 -- what was sound before no entry was noted
-sound_same : {P : Type 0} (d e : Hub P) → e.log ≡ d.log → e.starved ≡ d.starved → IsSound e → IsSound d
+pub sound_same : {P : Type 0} (d e : Hub P) → e.log ≡ d.log → e.starved ≡ d.starved → IsSound e → IsSound d
 sound_same d e log starved sound = record { whole = subst (λ (l : Log). IsTrue l.whole) log sound.whole; fed = sym starved ∙ sound.fed }
 
 -- behind an entry that reads and bears nothing no birth more is owed

@@ -169,11 +169,6 @@ other_removed t u zero (d ∷ cs) c l at is other =
 other_removed t u (suc k) (d ∷ cs) c l at is other =
     ap (λ ns. if d.target == u then d.parcel.finalizers ∷ ns else ns) (other_removed t u k cs c (omega arith) at is other)
 
-pub none_before_within : (t k : ℕ) (cs : List Child) → NoneBefore t k cs → k < length cs
-none_before_within t k [] first = absurd first
-none_before_within t zero (c ∷ cs) first = omega arith
-none_before_within t (suc k) (c ∷ cs) first = let l = none_before_within t k cs first.1 in omega arith
-
 -- a parcel that was popped from a stack, or from a queue
 pub popped_stack : (r : Option Parcel) (old new : List Parcel) (F : Parcel → Type 0) → IfSome r (λ x. old ≡ new ++ x ∷ []) →
     ((x : Parcel) → stacked_lists old ≡ x.finalizers ∷ stacked_lists new → F x) → IfSome r F

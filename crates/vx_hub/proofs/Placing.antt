@@ -1,6 +1,6 @@
 -- The instances go on having what the record has, where parcels move and entries tell it.
 use Rattle.std.proofs.Common.{◌≡◌, ℕ, zero, suc, ◌+◌, ◌<◌, ◌≤◌, Bool, true, false, List, [], ◌∷◌, ◌++◌, length, Option, Some, None, IfSome, refl, sym, ap, ◌∙◌, subst, arith}
-use Rattle.std.specs.Prelude.{◌==◌, if◌then◌else◌, IfNone}
+use Rattle.std.specs.Prelude.{◌==◌, if◌then◌else◌}
 use Rattle.std.proofs.lemmas.Bool.Decides.{nat_tests}
 use Rattle.std.proofs.lemmas.List.{append_assoc, append-nil}
 use Rattle.vx_value.specs.declared.event.Event.{Event}
@@ -16,30 +16,22 @@ use Rattle.vx_record.specs.Copies.{count, joined, children_of, counting, IsLive}
 use Rattle.vx_record.specs.Places.{Place, same_place}
 use Rattle.vx_record.specs.Places.Place.{Outputs, Waiting, Contents, Held}
 use Rattle.vx_record.specs.Lists.{stands, and_rest, shrunk, parcels_at, is_child_of, outputs, held}
-use Rattle.vx_record.specs.Moving.{IsStill, Conserves, IsConserved, singles, children_for}
+use Rattle.vx_record.specs.Moving.{IsStill, IsConserved, singles, children_for}
 use Rattle.vx_record.proofs.Counts.{count-append}
 use Rattle.vx_record.proofs.Changes.{same_place_is, stands_once}
 use Rattle.vx_record.proofs.Hands.{AreAt, shrunk_by_none, stands_still, live_still, others_stay, hand_is_live, parcel_is_at, parcel_taken, parcel_once, all_taken, spent_from_hand, rest_live, born_in_hand, born_once, born_live, singles_left}
 use Rattle.vx_record.proofs.Entries.{push_pops, push_grows, push_stays, take_pops, take_grows, take_stays, split_pops, split_grows, split_stays, born_grows}
 use Rattle.vx_hub.specs.declared.row.Row.{Row}
-use Rattle.vx_hub.specs.Rows.{parcel_copies, option_copies}
+use Rattle.vx_hub.specs.Rows.{parcel_copies}
 use Rattle.vx_hub.specs.Numbers.{numbers_in, noted_of}
-use Rattle.vx_hub.specs.Order.{IsInOrder, IsOrderly}
+use Rattle.vx_record.proofs.OnePlace.{conserved as legal_conserved}
+use Rattle.vx_hub.specs.Order.{IsLegalWithReturns}
 use Rattle.vx_hub.proofs.Silence.{same_test}
 use Rattle.vx_hub.specs.Places.{parcel_lists, parcel_numbers, waiting_lists, copies_at, all_numbers, numbers_at, IsThere, SamePlaces, TakesOldest, TakesFrom, PutsLast, Fills, FillsWaiting}
 
--- an entry in order conserves copies
-conserves : (h : Record) (e : Entry) → IsInOrder h e → Conserves h e
-conserves h (Born i b place copies events waits stream end) o = o.next
-conserves h (Split i ports copies event children) o = o.divides
-conserves h (Push i t s copies) o = o.oldest
-conserves h (Take i s copies) o = o.oldest
-conserves h (Spent i c outcome) o = o.live
-conserves h e o = tt
-
-pub conserved : (h : Record) → IsOrderly h → IsConserved h
-conserved [] o = tt
-conserved (e ∷ h) o = (conserves h e o.0.0, conserved h o.1)
+-- a legal record conserves copies
+pub conserved : (h : Record) → IsLegalWithReturns h → IsConserved h
+conserved h o = legal_conserved h o.legal
 
 pub all_numbers-append : (xs ys : List (List Copy)) → all_numbers (xs ++ ys) ≡ all_numbers xs ++ all_numbers ys
 all_numbers-append [] ys = refl
@@ -309,22 +301,10 @@ pub spent_live : {P : Type 0} (rows : List (Row P)) (h : Record) (rest : List Co
 spent_live rows h rest f n same placed =
     spent_is_live rows h n (numbers_in rest) (subst (λ ns. IsThere rows ns h) (numbers-append rest (f ∷ []) ∙ ap (λ k. numbers_in rest ++ k ∷ []) (sym same)) placed)
 
--- a parcel that there may be is taken into the hand
-pub there_if : {P : Type 0} (q : Place) (r : Option Parcel) (old new : List (Row P)) (h : Record) → IsConserved h → IsThere old [] h →
-    IfSome r (λ parcel. TakesFrom q parcel.finalizers old new) → IfNone r (SamePlaces old new) → IsThere new (numbers_in (option_copies r)) h
-there_if q None old new h kept placed some none = there_same old new [] h none placed
-there_if q (Some parcel) old new h kept placed some none = there_taken q parcel.finalizers old new h kept placed some
-
 pub some_from_oldest : {P : Type 0} (q : Place) (r : Option Parcel) (old new : List (Row P)) → IfSome r (λ parcel. TakesOldest q parcel.finalizers old new) →
     IfSome r (λ parcel. TakesFrom q parcel.finalizers old new)
 some_from_oldest q None old new takes = tt
 some_from_oldest q (Some parcel) old new takes = from_oldest q parcel.finalizers old new takes
-
--- the same, where the place is one of some targets
-pub there_child_if : {P : Type 0} (i : ℕ) (r : Option Parcel) (old new : List (Row P)) (h : Record) → IsConserved h → IsThere old [] h →
-    IfSome r (λ parcel. (t : ℕ) × TakesFrom (Waiting i t) parcel.finalizers old new) → IfNone r (SamePlaces old new) → IsThere new (numbers_in (option_copies r)) h
-there_child_if i None old new h kept placed some none = there_same old new [] h none placed
-there_child_if i (Some parcel) old new h kept placed some none = there_taken (Waiting i some.0) parcel.finalizers old new h kept placed some.1
 
 -- a batch that is born where its instance has no outputs is lined up
 pub lined_born : {P : Type 0} (rows : List (Row P)) (h : Record) (i b place : ℕ) (copies : List ℕ) (events : List Event) (waits : Bool) (stream end : ℕ) →

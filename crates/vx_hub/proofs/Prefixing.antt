@@ -20,12 +20,13 @@ use Rattle.vx_sourcecore.proofs.Prefixing.{prefix_by, SaysSame}
 use Rattle.vx_hub.specs.declared.progress.Progress.{Progress}
 use Rattle.vx_hub.specs.Asking.{asked}
 use Rattle.vx_hub.specs.Notices.{Pending, pending, without_first, IsPrefixKnown, IsAskedOf, IsBornTo, IsNoticedTo, judged_by, progress_at, waits_by}
-use Rattle.vx_hub.specs.Order.{IsOrderly}
+use Rattle.vx_hub.specs.Order.{IsLegalWithReturns}
 use Rattle.vx_hub.specs.Stands.{touched}
 use Rattle.vx_record.specs.Moving.{IsStill}
 use Rattle.vx_hub.proofs.Noticing.{accounted}
 use Rattle.vx_hub.proofs.Silence.{same_test, other_test}
 use Rattle.vx_hub.proofs.Unnoticed.{noticed_times, bred, open_of, pending_open}
+use Rattle.vx_hub.proofs.Allowed.{earlier}
 
 -- PLAIN ENTRIES
 -- an entry that installs nothing, leases nobody, bears nothing and notices nothing
@@ -141,28 +142,28 @@ apart_more n (x ∷ bs) birth l less a = (none_more x.batch bs (birth ∷ []) a.
 abbrev born_to : Bool → Birth → List Birth
 born_to t birth = if t then birth ∷ [] else []
 
-less_born : (h : Record) (i : ℕ) → IsOrderly h → AreLess (next_copy h) (births h i)
+less_born : (h : Record) (i : ℕ) → IsLegalWithReturns h → AreLess (next_copy h) (births h i)
 less_born [] i o = tt
 less_born (Born j b place copies events waits stream end ∷ h) i o =
-    let some : 0 < length copies = o.0.0.some in
-    let number : b ≡ next_copy h = o.0.0.number in
+    let some : 0 < length copies = o.legal.0.row.some in
+    let number : b ≡ next_copy h = o.legal.0.row.number in
     less_more (next_copy h + length copies) (births h i) (born_to (j == i) (record { batch = b; waits = waits; stream = stream; end = end }))
-    (less_on (next_copy h) (next_copy h + length copies) (births h i) (omega arith) (less_born h i o.1)) (go (j == i) (omega (arith, some, number)))
+    (less_on (next_copy h) (next_copy h + length copies) (births h i) (omega arith) (less_born h i (earlier _ _ o))) (go (j == i) (omega (arith, some, number)))
   where
     go : (t : Bool) → b < next_copy h + length copies → AreLess (next_copy h + length copies) (born_to t (record { batch = b; waits = waits; stream = stream; end = end }))
     go true l = (l, tt)
     go false l = tt
-less_born (e ∷ h) i o = less_more (next_copy (e ∷ h)) (births h i) [] (less_on (next_copy h) (next_copy (e ∷ h)) (births h i) (omega arith) (less_born h i o.1)) tt
+less_born (e ∷ h) i o = less_more (next_copy (e ∷ h)) (births h i) [] (less_on (next_copy h) (next_copy (e ∷ h)) (births h i) (omega arith) (less_born h i (earlier _ _ o))) tt
 
 -- each batch of an instance has a number of its own
-pub births_apart : (h : Record) (i : ℕ) → IsOrderly h → AreApart (births h i)
+pub births_apart : (h : Record) (i : ℕ) → IsLegalWithReturns h → AreApart (births h i)
 births_apart [] i o = tt
-births_apart (Born j b place copies events waits stream end ∷ h) i o = go (j == i) (births_apart h i o.1)
+births_apart (Born j b place copies events waits stream end ∷ h) i o = go (j == i) (births_apart h i (earlier _ _ o))
   where
     go : (t : Bool) → AreApart (births h i) → AreApart (births h i ++ born_to t (record { batch = b; waits = waits; stream = stream; end = end }))
-    go true before = let number : b ≡ next_copy h = o.0.0.number in apart_more (next_copy h) (births h i) (record { batch = b; waits = waits; stream = stream; end = end }) (omega (arith, number)) (less_born h i o.1) before
+    go true before = let number : b ≡ next_copy h = o.legal.0.row.number in apart_more (next_copy h) (births h i) (record { batch = b; waits = waits; stream = stream; end = end }) (omega (arith, number)) (less_born h i (earlier _ _ o)) before
     go false before = subst AreApart (sym (append-nil (births h i))) before
-births_apart (e ∷ h) i o = subst AreApart (sym (append-nil (births h i))) (births_apart h i o.1)
+births_apart (e ∷ h) i o = subst AreApart (sym (append-nil (births h i))) (births_apart h i (earlier _ _ o))
 
 -- and none of another has it
 bare_of : (b : ℕ) (bs : List Birth) → IsOneOf b (bs ++ []) → IsOneOf b bs
@@ -171,31 +172,31 @@ bare_of b bs = subst (IsOneOf b) (append-nil bs)
 full_of : (b : ℕ) (bs : List Birth) → IsNoneOf b bs → IsNoneOf b (bs ++ [])
 full_of b bs = subst (IsNoneOf b) (sym (append-nil bs))
 
-pub others_apart : (h : Record) (i j b : ℕ) → j ≢ i → IsOrderly h → IsOneOf b (births h i) → IsNoneOf b (births h j)
+pub others_apart : (h : Record) (i j b : ℕ) → j ≢ i → IsLegalWithReturns h → IsOneOf b (births h i) → IsNoneOf b (births h j)
 others_apart [] i j b other o one = absurd one
-others_apart (Born k b' place copies events waits stream end ∷ h) i j b other o one = go (k == i) (k == j) refl refl (others_apart h i j b other o.1) one
+others_apart (Born k b' place copies events waits stream end ∷ h) i j b other o one = go (k == i) (k == j) refl refl (others_apart h i j b other (earlier _ _ o)) one
   where
     new : Birth
     new = record { batch = b'; waits = waits; stream = stream; end = end }
 
     number : b' ≡ next_copy h
-    number = o.0.0.number
+    number = o.legal.0.row.number
 
     here : (IsOneOf b (births h i) → IsNoneOf b (births h j)) → IsOneOf b (births h i) ⊎ IsOneOf b (new ∷ []) → IsNoneOf b (births h j)
     here ih (inl before) = ih before
-    here ih (inr (inl same)) = none_less b (next_copy h) (births h j) (omega (arith, same, number)) (less_born h j o.1)
+    here ih (inr (inl same)) = none_less b (next_copy h) (births h j) (omega (arith, same, number)) (less_born h j (earlier _ _ o))
     here ih (inr (inr never)) = absurd never
 
     there : (IsOneOf b (births h i) → IsNoneOf b (births h j)) → IsOneOf b (births h i) → IsNoneOf b (births h j ++ new ∷ [])
     there ih before = none_more b (births h j) (new ∷ []) (ih before)
-        (let less : b < next_copy h = one_less b (next_copy h) (births h i) (less_born h i o.1) before in grind (arith, nat_tests, less, number), tt)
+        (let less : b < next_copy h = one_less b (next_copy h) (births h i) (less_born h i (earlier _ _ o)) before in grind (arith, nat_tests, less, number), tt)
 
     go : (t s : Bool) → (k == i) ≡ t → (k == j) ≡ s → (IsOneOf b (births h i) → IsNoneOf b (births h j)) → IsOneOf b (births h i ++ born_to t new) → IsNoneOf b (births h j ++ born_to s new)
     go true true e f ih x = absurd (other (let a : k ≡ i = grind (arith, nat_tests) in let c : k ≡ j = grind (arith, nat_tests) in sym c ∙ a))
     go true false e f ih x = full_of b (births h j) (here ih (one_split b (births h i) (new ∷ []) x))
     go false true e f ih x = there ih (bare_of b (births h i) x)
     go false false e f ih x = full_of b (births h j) (ih (bare_of b (births h i) x))
-others_apart (e ∷ h) i j b other o one = full_of b (births h j) (others_apart h i j b other o.1 (bare_of b (births h i) one))
+others_apart (e ∷ h) i j b other o one = full_of b (births h j) (others_apart h i j b other (earlier _ _ o) (bare_of b (births h i) one))
 
 -- PENDING BATCHES
 -- some of them are an instance's with a number
@@ -250,7 +251,7 @@ undelivered (Notice b' status ∷ h) b none = go (b' == b) (is_noticed h b) none
 undelivered (e ∷ h) b none = undelivered h b none
 
 -- so one that is born may be confirmed only where it needn't wait
-may_new : (h : Record) (b : ℕ) (waits : Bool) (position : Position) → IsOrderly h → b ≡ next_copy h → (judged_by h).may (birth_at waits b position) ≡ not waits
+may_new : (h : Record) (b : ℕ) (waits : Bool) (position : Position) → IsLegalWithReturns h → b ≡ next_copy h → (judged_by h).may (birth_at waits b position) ≡ not waits
 may_new h b waits position order number =
     let none : is_noticed h b ≡ false = noticed_times h b ((noticed h b (accounted h order)).future (omega (arith, number))) in
     ap (λ (t : Bool). not waits || t) (undelivered h b none) ∙ or_none (not waits)
@@ -259,7 +260,7 @@ may_new h b waits position order number =
     or_none true = refl
     or_none false = refl
 
-pub abreast_born : (p q : Progress) (h : Record) (i b place : ℕ) (copies : List ℕ) (events : List Event) (waits : Bool) (stream end : ℕ) → IsOrderly h → b ≡ next_copy h → waits ≡ must_wait h i →
+pub abreast_born : (p q : Progress) (h : Record) (i b place : ℕ) (copies : List ℕ) (events : List Event) (waits : Bool) (stream end : ℕ) → IsLegalWithReturns h → b ≡ next_copy h → waits ≡ must_wait h i →
     IsPrefixKnown p h i → IsBornTo b (record { stream = stream; end = end }) p q → IsPrefixKnown q (Born i b place copies events waits stream end ∷ h) i
 abreast_born p q h i b place copies events waits stream end order number must a set =
     let position : Position = record { stream = stream; end = end } in
@@ -290,7 +291,7 @@ open_unnoticed h i b (p ∷ ps) has = go (is_noticed h p.batch) refl has (open_u
     go false e (inl here) ih = ap (is_noticed h) (sym here.0) ∙ e
     go false e (inr later) ih = ih later
 
-pub unnoticed_yet : (h : Record) (i b : ℕ) → IsOrderly h → IsPendingOf i b (pending h) → is_noticed h b ≡ false
+pub unnoticed_yet : (h : Record) (i b : ℕ) → IsLegalWithReturns h → IsPendingOf i b (pending h) → is_noticed h b ≡ false
 unnoticed_yet h i b order has = open_unnoticed h i b (bred h) (subst (IsPendingOf i b) (pending_open h (accounted h order)) has)
 
 -- its notice lets it be confirmed, if it was delivered, and else it never may; of no other batch anything changes
@@ -327,7 +328,7 @@ tells h b status none = record {
     never_none true w e = cc
     never_none false w e = refl
 
-pub abreast_noticed : (p q : Progress) (h : Record) (i b : ℕ) (status : BatchStatus) → IsOrderly h → IsPendingOf i b (pending h) → IsNoticedTo b status p q → IsPrefixKnown p h i → IsPrefixKnown q (Notice b status ∷ h) i
+pub abreast_noticed : (p q : Progress) (h : Record) (i b : ℕ) (status : BatchStatus) → IsLegalWithReturns h → IsPendingOf i b (pending h) → IsNoticedTo b status p q → IsPrefixKnown p h i → IsPrefixKnown q (Notice b status ∷ h) i
 abreast_noticed p q h i b status order has set a = record {
   waits = set.waits ∙ a.waits;
   prefix = subst (λ (bs : List Birth). IsPrefixOf q.prefix (judged_by (Notice b status ∷ h)) bs (asked h i)) (sym (append-nil (births h i)))
@@ -350,7 +351,7 @@ same_others h b status birth other =
     never true s n d e = cc
     never false s n d e = refl
 
-pub abreast_noticed_other : (p : Progress) (h : Record) (i j b : ℕ) (status : BatchStatus) → j ≢ i → IsOrderly h → IsPendingOf i b (pending h) → IsPrefixKnown p h j → IsPrefixKnown p (Notice b status ∷ h) j
+pub abreast_noticed_other : (p : Progress) (h : Record) (i j b : ℕ) (status : BatchStatus) → j ≢ i → IsLegalWithReturns h → IsPendingOf i b (pending h) → IsPrefixKnown p h j → IsPrefixKnown p (Notice b status ∷ h) j
 abreast_noticed_other p h i j b status other order has a = record {
   waits = a.waits;
   prefix = subst (λ (bs : List Birth). IsPrefixOf p.prefix (judged_by (Notice b status ∷ h)) bs (asked h j)) (sym (append-nil (births h j)))

@@ -13,7 +13,7 @@ use Rattle.vx_hub.specs.declared.fatal.Fatal.TheVariants as fatal
 use Rattle.vx_hub.specs.declared.hub.Hub.{Hub}
 use Rattle.vx_hub.specs.Failures.{fatal_of, abandon_cause, HasReason}
 use Rattle.vx_hub.specs.Offspring.{WantsBirth}
-use Rattle.vx_hub.specs.Order.{IsReason}
+use Rattle.vx_record.specs.Ending.{HasReason as IsReason}
 use Rattle.vx_hub.specs.Owed.{HasWanted}
 use Rattle.vx_hub.specs.Splitting.{WantsSplit}
 use Rattle.vx_hub.specs.Stands.{IsSound}

@@ -7,7 +7,6 @@ use Rattle.vx_record.specs.Records.{Record}
 use Rattle.vx_hub.specs.declared.facts.Facts.{Facts}
 use Rattle.vx_hub.specs.declared.row.Row.{Row}
 use Rattle.vx_hub.specs.declared.task.Task.{Task}
-use Rattle.vx_hub.specs.declared.parts.Numbered.{Numbered}
 use Rattle.vx_hub.specs.Rows.{IsBare, row_at, task_port, port_at}
 use Rattle.vx_hub.specs.Stands.{IsGone, IsShut, IsTold, IsKnown, facts_at}
 use Rattle.vx_record.specs.Places.{Place, owner}
@@ -22,7 +21,7 @@ use Rattle.vx_record.proofs.After.{accounted_tells}
 use Rattle.vx_hub.proofs.Noticing.{accounted}
 use Rattle.vx_record.proofs.OnePlace.{conserved_place}
 use Rattle.vx_record.proofs.Hands.{nowhere}
-use Rattle.vx_hub.specs.Order.{IsOrderly, IsClosing}
+use Rattle.vx_hub.specs.Order.{IsLegalWithReturns, IsClosing}
 use Rattle.vx_hub.specs.Places.{copies_at, copies_if, all_numbers, IsPlaced}
 use Rattle.vx_hub.proofs.Beginning.{unused_here}
 use Rattle.vx_hub.proofs.Placing.{conserved, places_all}
@@ -98,16 +97,6 @@ all_counted {P} (r ∷ rows) first bare = put (all_counted rows (first + 1) bare
     put rest None s = cc
     put rest (Some p) s = ap suc rest
 
--- the ports, when the first is put behind those that there are
-pub ports_next : {P : Type 0} (before all : List (Numbered P)) (row : Row P) (rows : List (Row P)) (i : ℕ) (p : P) → task_port row.task ≡ Some p →
-    before ++ ports_in i (row ∷ rows) ≡ all → (before ++ record { instance = i; port = p } ∷ []) ++ ports_in (i + 1) rows ≡ all
-ports_next {P} before all row rows i p at e =
-    one before ∙ ap (λ o. before ++ (numbered_port i o ++ ports_in (i + 1) rows)) (sym at) ∙ e
-  where
-    one : (xs : List (Numbered P)) → (xs ++ record { instance = i; port = p } ∷ []) ++ ports_in (i + 1) rows ≡ xs ++ (record { instance = i; port = p } ∷ ports_in (i + 1) rows)
-    one [] = refl
-    one (x ∷ xs) = ap (λ ys. x ∷ ys) (one xs)
-
 pub ports_told : {P : Type 0} (told_by : P → Told) (h : Record) (rows : List (Row P)) →
     ((i : ℕ) → IfSome (port_at rows i) (λ port. IsTold (told_by port) h i)) → AreTold told_by h (ports_in 0 rows)
 ports_told {P} told_by h rows told = all_told told_by h rows 0 (λ i. from_zero i (told i))
@@ -125,17 +114,17 @@ bare_nowhere {P} rows bare p = go rows (owner p) bare
     go (r ∷ rs) (suc k) b = go rs k b.1
 
 -- what stands in no place was split or spent
-pub all_spent : {P : Type 0} (rows : List (Row P)) (h : Record) → IsOrderly h → IsPlaced rows [] h → AreBare rows → AllSpent h
+pub all_spent : {P : Type 0} (rows : List (Row P)) (h : Record) → IsLegalWithReturns h → IsPlaced rows [] h → AreBare rows → AllSpent h
 all_spent rows h order placed bare c l =
     let none = nowhere h (λ p. places_all rows h placed.standing p ∙ ap all_numbers (bare_nowhere rows bare p)) c in
     let one = conserved_place [] h (conserved h order) c l in
     omega arith
 
-pub one_place : (h : Record) → IsOrderly h → HasOnePlace h
+pub one_place : (h : Record) → IsLegalWithReturns h → HasOnePlace h
 one_place h order later earlier is c l = conserved_place later earlier (subst IsConserved (sym is) (conserved h order)) c l
 
 -- each batch had its notice
-pub all_noticed : (h : Record) → IsOrderly h → NoNoticeDue h → AllSpent h → HasNotices h
+pub all_noticed : (h : Record) → IsLegalWithReturns h → NoNoticeDue h → AllSpent h → HasNotices h
 all_noticed h order quiet spent = record {
   once = λ b has. accounted_once h (accounted h order) b has (λ c same live. let one = spent c live.0 in let a = live.1 in let d = live.2 in omega arith) (quiet b);
   due = λ later earlier b status is. (accounted_so later earlier b status (all is)).0;

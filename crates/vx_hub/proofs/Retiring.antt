@@ -1,13 +1,13 @@
 -- An instance is closed, and retired.
-use Rattle.std.proofs.Common.{◌≡◌, ℕ, zero, suc, ◌<◌, Bool, true, false, List, [], ◌∷◌, length, Option, Some, None, IfSome, refl, sym, ap, subst, ◌∙◌, arith}
-use Rattle.std.specs.Prelude.{◌==◌, ◌≢◌, ◌||◌, ◌&&◌, ◌⊎◌, if◌then◌else◌, All}
+use Rattle.std.proofs.Common.{◌≡◌, ℕ, zero, suc, ◌<◌, Bool, true, false, List, [], ◌∷◌, length, Option, Some, None, IfSome, refl, sym, ap, subst, ◌∙◌, arith, inl, inr}
+use Rattle.std.specs.Prelude.{◌==◌, ◌||◌, ◌&&◌, ◌⊎◌, if◌then◌else◌, All}
 use Rattle.std.proofs.lemmas.Bool.Decides.{nat_tests}
 use Rattle.std.proofs.lemmas.List.Elements.{All-head, All-tail}
 use Rattle.vx_value.specs.Texts.{is_empty}
 use Rattle.vx_ends.specs.Told.{Told}
 use Rattle.vx_record.specs.Records.{Record}
 use Rattle.vx_record.specs.declared.entry.Entry.TheVariants.{Lease, Home, Closed, Retired}
-use Rattle.vx_record.specs.Turns.{is_out}
+use Rattle.vx_record.specs.Turns.{is_out, at_lease}
 use Rattle.vx_record.specs.Installs.{is_closed, is_retired}
 use Rattle.vx_record.specs.Places.{Place, Put, owner, same_place}
 use Rattle.vx_record.specs.Places.Place.{Outputs, Waiting, Contents, Held}
@@ -17,22 +17,19 @@ use Rattle.vx_hub.specs.declared.row.Row.{Row}
 use Rattle.vx_hub.specs.declared.hub.Hub.{Hub}
 use Rattle.vx_record.specs.Abandoning.{abandoned}
 use Rattle.vx_hub.specs.Closures.{IsDone}
-use Rattle.vx_hub.specs.Order.{IsEndOf, IsClosing}
+use Rattle.vx_record.specs.Ending.{MayRetire}
+use Rattle.vx_record.specs.Owing.{is_done}
+use Rattle.vx_hub.specs.Order.{IsClosing}
 use Rattle.vx_hub.specs.Places.{IsThere, copies_if, all_numbers}
 use Rattle.vx_hub.specs.Remains.{HasEnds}
 use Rattle.vx_hub.specs.Rows.{row_at, IsBare, IsBareAt, NoneWaits}
 use Rattle.vx_hub.specs.Stands.{Stands, IsKnown, IsGone, IsSound, facts_at}
 use Rattle.vx_hub.proofs.Drying.{closing_on}
 use Rattle.vx_hub.proofs.Naming.{there_known}
-use Rattle.vx_hub.proofs.Silence.{same_test, other_test}
+use Rattle.vx_hub.proofs.Silence.{same_test}
 use Rattle.vx_hub.proofs.Placing.{places_all}
 use Rattle.vx_hub.proofs.Homing.{none_wait}
 use Rattle.vx_hub.proofs.Beginning.{unused_here}
-
--- a test that fails leaves the other side
-or_other : (a b c : Bool) → a ≡ false → c ≡ b → c ≡ (a || b)
-or_other true b c e k = cc
-or_other false b c e k = k
 
 -- what is known of the instance that is closed, and of each other
 pub known_closed : (f : Facts) (h : Record) (i : ℕ) → IsClosing h i → IsKnown f h i → IsKnown (record f { closed = true }) (Closed i ∷ h) i
@@ -46,21 +43,6 @@ known_closed f h i done k = record {
   class = k.class;
   done = λ closed. closing_on h i (Closed i) refl done;
   closed = ap (λ t. t || is_closed h i) (sym (same_test i));
-  retired = k.retired;
-  leased = k.leased;
-}
-
-pub known_closed_other : (f : Facts) (h : Record) (i j : ℕ) → j ≢ i → IsKnown f h j → IsKnown f (Closed i ∷ h) j
-known_closed_other f h i j other k = record {
-  taken = k.taken;
-  lost = k.lost;
-  failed_starts = k.failed_starts;
-  confirm_failed = k.confirm_failed;
-  outlet = k.outlet;
-  over = k.over;
-  class = k.class;
-  done = λ closed. closing_on h j (Closed i) refl (k.done closed);
-  closed = or_other (i == j) (is_closed h j) f.closed (other_test i j other) k.closed;
   retired = k.retired;
   leased = k.leased;
 }
@@ -81,21 +63,6 @@ known_retired f h i k = record {
   leased = k.leased;
 }
 
-pub known_retired_other : (f : Facts) (h : Record) (i j : ℕ) → j ≢ i → IsKnown f h j → IsKnown f (Retired i ∷ h) j
-known_retired_other f h i j other k = record {
-  taken = k.taken;
-  lost = k.lost;
-  failed_starts = k.failed_starts;
-  confirm_failed = k.confirm_failed;
-  outlet = k.outlet;
-  over = k.over;
-  class = k.class;
-  done = λ closed. closing_on h j (Retired i) refl (k.done closed);
-  closed = k.closed;
-  retired = or_other (i == j) (is_retired h j) f.retired (other_test i j other) k.retired;
-  leased = k.leased;
-}
-
 -- what is known of an instance behind a lease, or a return, of one
 pub known_leased : (f : Facts) (h : Record) (i worker now polls : ℕ) → IsKnown f h i → IsKnown (record f { leased = true }) (Lease i worker now polls ∷ h) i
 known_leased f h i worker now polls k = record {
@@ -112,21 +79,6 @@ known_leased f h i worker now polls k = record {
   leased = sym (ap (λ t. if t then true else is_out h i) (same_test i));
 }
 
-pub known_leased_other : (f : Facts) (h : Record) (i j worker now polls : ℕ) → j ≢ i → IsKnown f h j → IsKnown f (Lease i worker now polls ∷ h) j
-known_leased_other f h i j worker now polls other k = record {
-  taken = k.taken;
-  lost = k.lost;
-  failed_starts = k.failed_starts;
-  confirm_failed = k.confirm_failed;
-  outlet = k.outlet;
-  over = k.over;
-  class = k.class;
-  done = λ closed. closing_on h j (Lease i worker now polls) refl (k.done closed);
-  closed = k.closed;
-  retired = k.retired;
-  leased = k.leased ∙ sym (ap (λ t. if t then true else is_out h j) (other_test i j other));
-}
-
 pub known_home : (f : Facts) (h : Record) (i : ℕ) → IsKnown f h i → IsKnown (record f { leased = false }) (Home i ∷ h) i
 known_home f h i k = record {
   taken = k.taken;
@@ -140,21 +92,6 @@ known_home f h i k = record {
   closed = k.closed;
   retired = k.retired;
   leased = sym (ap (λ t. if t then false else is_out h i) (same_test i));
-}
-
-pub known_home_other : (f : Facts) (h : Record) (i j : ℕ) → j ≢ i → IsKnown f h j → IsKnown f (Home i ∷ h) j
-known_home_other f h i j other k = record {
-  taken = k.taken;
-  lost = k.lost;
-  failed_starts = k.failed_starts;
-  confirm_failed = k.confirm_failed;
-  outlet = k.outlet;
-  over = k.over;
-  class = k.class;
-  done = λ closed. closing_on h j (Home i) refl (k.done closed);
-  closed = k.closed;
-  retired = k.retired;
-  leased = k.leased ∙ sym (ap (λ t. if t then false else is_out h j) (other_test i j other));
 }
 
 place_itself : (p : Place) → same_place p p ≡ true
@@ -231,16 +168,26 @@ bare_place {P} rows i p own bare = go (row_at rows (owner p)) (subst (λ (k : �
 pub bare_record : {P : Type 0} (rows : List (Row P)) (h : Record) (i : ℕ) → IsThere rows [] h → IsBareAt rows i → is_bare h i ≡ true
 bare_record rows h i placed bare = bare_puts (stands h) i (λ p own. places_all rows h placed p ∙ bare_place rows i p own bare)
 
+-- an instance ends when it is done, or when nothing stands at it behind an abandonment
+is_over : (h : Record) (i : ℕ) → is_bare h i ≡ true → IsDone h i ⊎ (abandoned h ≡ true) → (is_done h i ≡ true) ⊎ ((abandoned h ≡ true) × (is_bare h i ≡ true))
+is_over h i bare (inl done) = inl done
+is_over h i bare (inr gone) = inr (gone, bare)
+
 -- an instance that ended may be retired
-pub end_in_order : {P : Type 0} (told_by : P → Told) (d : Hub P) (i : ℕ) (f : Facts) → Stands told_by d [] d.log.history → IsSound d → IsKnown f d.log.history i → f.closed ≡ true → f.retired ≡ false → f.leased ≡ false → IsBareAt d.rows.items i → IsDone d.log.history i ⊎ (abandoned d.log.history ≡ true) → IsEndOf d.log.history i
+pub end_in_order : {P : Type 0} (told_by : P → Told) (d : Hub P) (i : ℕ) (f : Facts) → Stands told_by d [] d.log.history → IsSound d → IsKnown f d.log.history i → f.closed ≡ true → f.retired ≡ false → f.leased ≡ false → IsBareAt d.rows.items i → IsDone d.log.history i ⊎ (abandoned d.log.history ≡ true) → MayRetire d.log.history i
 end_in_order told_by d i f s fine k closed unretired unleased bare over = record {
   known = there_known d.log.history i f (s.recorded fine).order k;
   home = sym k.leased ∙ unleased;
   unretired = sym k.retired ∙ unretired;
-  port_closed = sym k.closed ∙ closed;
-  bare = bare_record d.rows.items d.log.history i (s.recorded fine).places.standing bare;
-  over = over;
+  port_closed = λ device. sym k.closed ∙ closed;
+  over = is_over d.log.history i (bare_record d.rows.items d.log.history i (s.recorded fine).places.standing bare) over;
 }
+
+-- a port is closed by an instance that was done when it was leased, or behind an abandonment
+pub was_over : (h : Record) (i : ℕ) → (is_out h i ≡ true) ⊎ (abandoned h ≡ true) → IsDone (at_lease h i) i ⊎ (abandoned h ≡ true) → ((is_out h i ≡ true) × (is_done (at_lease h i) i ≡ true)) ⊎ (abandoned h ≡ true)
+was_over h i (inr gone) finished = inr gone
+was_over h i (inl out) (inr gone) = inr gone
+was_over h i (inl out) (inl done) = inl (out, done)
 
 -- where all instances ended, the record has that of each
 pub all_ends : {P : Type 0} (h : Record) (fs : List Facts) (rows : List (Row P)) → All (λ f. f.retired ≡ true) fs → ((i : ℕ) → IfSome (facts_at fs i) (IsGone rows i)) → ((i : ℕ) → IfSome (facts_at fs i) (λ f. IsKnown f h i)) →

@@ -16,7 +16,7 @@ use Rattle.vx_record.specs.Stages.{stages_of, room_from, first_room, filled_from
 use Rattle.vx_hub.specs.declared.hub.Hub.{Hub}
 use Rattle.vx_hub.specs.declared.row.Row.{Row}
 use Rattle.vx_hub.specs.Making.{first_size, room_at}
-use Rattle.vx_hub.specs.Order.{IsOrderly}
+use Rattle.vx_hub.specs.Order.{IsLegalWithReturns}
 use Rattle.vx_hub.specs.Places.{parcel_lists, all_numbers, copies_if}
 use Rattle.vx_hub.specs.Rows.{row_at, HasRoom, HasBuffer}
 use Rattle.vx_hub.specs.Stands.{Stands, IsSound}
@@ -39,7 +39,7 @@ room_of_stages plan i = go (slice_get plan.components i)
     go (Some c) = named (component_named plan c.name)
 
 -- and by the record
-stages_so : (h : Record) (plan : Plan) (i : ℕ) → IsOrderly h → in_force h ≡ Some plan → 0 < room_at plan i → stages_of h i ≡ stages_at plan i
+stages_so : (h : Record) (plan : Plan) (i : ℕ) → IsLegalWithReturns h → in_force h ≡ Some plan → 0 < room_at plan i → stages_of h i ≡ stages_at plan i
 stages_so h plan i order force some = go (slice_get plan.components i) refl some
   where
     go : (o : Option Component) → slice_get plan.components i ≡ o → 0 < (elim o [ None ↦ 0 | Some c ↦ elim (component_named plan c.name) [ None ↦ 0 | Some component ↦ first_size (stages component) ] ]) →

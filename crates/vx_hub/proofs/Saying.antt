@@ -5,15 +5,13 @@ use Rattle.std.proofs.lemmas.List.{append-nil}
 use Rattle.vx_value.specs.declared.event.Event.{Event}
 use Rattle.vx_ends.specs.Told.{Told}
 use Rattle.vx_ends.specs.declared.position.Position.{Position}
-use Rattle.vx_ends.specs.declared.trouble.Reply.{Reply}
 use Rattle.vx_record.specs.Records.{Record, capped}
 use Rattle.vx_record.specs.Reads.{taken, all_ended, ended_streams, ended_by as ended_in_entry}
 use Rattle.vx_record.specs.Encoding.{given, given_in}
 use Rattle.vx_record.specs.Confirms.{confirmed, confirmed_in}
 use Rattle.vx_record.specs.Growth.{taken_in}
 use Rattle.vx_record.specs.Noted.{Noted}
-use Rattle.vx_record.specs.PortCounts.{fault_count, refusal_count, idle_count, faults_in, refusals_in, idles_in, is_refused}
-use Rattle.vx_record.specs.SinkBatches.{is_failed}
+use Rattle.vx_record.specs.PortCounts.{fault_count, refusal_count, idle_count, faults_in, refusals_in, idles_in}
 use Rattle.vx_record.proofs.Grows.{taken_grows}
 use Rattle.vx_record.specs.declared.log.Log.{Log}
 use Rattle.vx_record.specs.declared.entry.Entry.{Entry}
@@ -90,72 +88,6 @@ says_stream_end h i stream events end = record {
   over = λ over. over_said (i == i) false (all_ended h i) over;
   faults = refl;
   refusals = refl;
-  idles = refl;
-  plan = refl;
-}
-
-pub says_all_end : (h : Record) (i stream : ℕ) (events : List Event) (end : ℕ) →
-    Says (entry.Read i stream taken.AllEnded) h i (Read (turned.AllEnded stream events end))
-says_all_end h i stream events end = record {
-  taken = λ from. if_same ((i == i) && (stream == from)) [];
-  given = refl;
-  confirmed = refl;
-  ended = refl;
-  over = λ over. inr refl;
-  faults = refl;
-  refusals = refl;
-  idles = refl;
-  plan = refl;
-}
-
-pub says_idle : (h : Record) (i : ℕ) → Says (entry.Idle i false) h i (Read turned.Idle)
-says_idle h i = record {
-  taken = λ from. refl;
-  given = refl;
-  confirmed = refl;
-  ended = refl;
-  over = λ over. inl over;
-  faults = ap (λ t. if t && false then 1 else 0) (same_test i);
-  refusals = refl;
-  idles = ap (λ t. if t && true then 1 else 0) (same_test i);
-  plan = refl;
-}
-
-pub says_failed_start : (h : Record) (i : ℕ) (at_start : Bool) → Says (entry.Idle i true) h i (Read (turned.Failed at_start))
-says_failed_start h i at_start = record {
-  taken = λ from. refl;
-  given = refl;
-  confirmed = refl;
-  ended = refl;
-  over = λ over. inl over;
-  faults = ap (λ t. if t && true then 1 else 0) (same_test i);
-  refusals = refl;
-  idles = ap (λ t. if t && false then 1 else 0) (same_test i);
-  plan = refl;
-}
-
-pub says_lost : (h : Record) (i at : ℕ) (failed at_start : Bool) → Says (entry.SourceLost i at failed) h i (Read (turned.Failed at_start))
-says_lost h i at failed at_start = record {
-  taken = λ from. refl;
-  given = refl;
-  confirmed = refl;
-  ended = refl;
-  over = λ over. inl over;
-  faults = ap (λ t. if t then 1 else 0) (same_test i);
-  refusals = refl;
-  idles = refl;
-  plan = refl;
-}
-
-pub says_attempt : (h : Record) (i : ℕ) (copies bytes : List ℕ) (reply : Reply) → Says (entry.Attempt i copies bytes reply) h i (Attempted bytes reply)
-says_attempt h i copies bytes reply = record {
-  taken = λ from. refl;
-  given = ap (λ t. if t then bytes else []) (same_test i);
-  confirmed = refl;
-  ended = refl;
-  over = λ over. inl over;
-  faults = ap (λ t. if t && is_failed reply then 1 else 0) (same_test i);
-  refusals = ap (λ t. if t && is_refused reply then 1 else 0) (same_test i);
   idles = refl;
   plan = refl;
 }

@@ -1,5 +1,5 @@
 -- What was attempted is held or spent, and spent where its instance is at home.
-use Rattle.std.proofs.Common.{◌≡◌, ℕ, zero, suc, ◌+◌, ◌<◌, ◌≤◌, Bool, true, false, List, [], ◌∷◌, ◌++◌, length, refl, sym, ap, subst, ◌∙◌, arith, inl, inr}
+use Rattle.std.proofs.Common.{◌≡◌, ℕ, ◌+◌, ◌<◌, ◌≤◌, Bool, true, false, List, [], ◌∷◌, length, refl, sym, ap, subst, ◌∙◌, arith, inl, inr}
 use Rattle.std.specs.Prelude.{if◌then◌else◌, nat_lt, ◌==◌, ◌&&◌, ◌||◌, IsTrue, IfSome, IsSomeAnd, Option, Some, None}
 use Rattle.std.specs.List.{list_any}
 use Rattle.std.proofs.lemmas.Bool.Decides.{nat_tests}
@@ -8,33 +8,30 @@ use Rattle.vx_ends.specs.Told.{Told}
 use Rattle.vx_ledger.specs.Copies.{Copy}
 use Rattle.vx_record.specs.Records.{Record}
 use Rattle.vx_record.specs.declared.entry.Entry.{Entry}
-use Rattle.vx_record.specs.declared.entry.Entry.TheVariants.{Lease, Home, Attempt, Spent, Abandon}
+use Rattle.vx_record.specs.declared.entry.Entry.TheVariants.{Lease, Home, Attempt, Abandon}
 use Rattle.vx_record.specs.Copies.{count, contains, joined, spends, all_of, times_spent}
-use Rattle.vx_record.specs.Places.{kind, leaves, puts}
 use Rattle.vx_record.specs.Places.Place.{Held}
-use Rattle.vx_record.specs.Lists.{shrunk, held}
+use Rattle.vx_record.specs.Lists.{held}
 use Rattle.vx_record.specs.Abandoning.{abandoned}
 use Rattle.vx_record.specs.Turns.{is_out, since_lease, is_attempt_of, worker_now}
 use Rattle.vx_record.specs.SinkBatches.{attempts_with, failures_with, attempts_allowed}
 use Rattle.vx_record.specs.Parcels.{first_copy}
 use Rattle.vx_record.specs.Owing.{is_decided, unspent_of, owes_spends_in, owes_birth}
 use Rattle.vx_record.specs.Ready.{is_ready}
-use Rattle.vx_record.specs.Moving.{IsConserved}
 use Rattle.vx_record.proofs.Counts.{count-append}
-use Rattle.vx_record.proofs.Changes.{parcels_after, put_at}
-use Rattle.vx_record.proofs.Hands.{stands_still}
 use Rattle.vx_hub.specs.declared.facts.Facts.{Facts}
 use Rattle.vx_hub.specs.declared.hub.Hub.{Hub}
-use Rattle.vx_hub.specs.Order.{IsOrderly, AreSettled, IsLeaseOf}
+use Rattle.vx_record.specs.Starting.{MayLease}
+use Rattle.vx_hub.specs.Order.{IsLegalWithReturns, AreSettled}
 use Rattle.vx_hub.specs.Away.{IsUntried, IsSettled}
 use Rattle.vx_hub.specs.Rows.{IsOutAt, row_at}
 use Rattle.vx_hub.specs.Places.{all_numbers, copies_at}
 use Rattle.vx_hub.specs.Stands.{Stands, IsKnown, IsSound, IsAtHome, facts_at}
-use Rattle.vx_hub.proofs.Naming.{there_known}
 use Rattle.vx_hub.proofs.Silence.{same_test, other_test}
-use Rattle.vx_hub.proofs.Placing.{conserved, places_all}
-use Rattle.vx_hub.proofs.Standing.{count_shrunk}
+use Rattle.vx_hub.proofs.Placing.{places_all}
 use Rattle.vx_hub.proofs.Touching.{out_port}
+use Rattle.vx_record.proofs.Attempted.{attempted_held}
+use Rattle.vx_hub.proofs.Allowed.{earlier}
 
 -- a run that wasn't given up wasn't before
 went_on : (h : Record) (e : Entry) → abandoned (e ∷ h) ≡ false → abandoned h ≡ false
@@ -69,87 +66,41 @@ or_right true b e = cc
 or_right false b e = e
 
 -- an instance at home has spent all that it attempted
-pub settled_home : (h : Record) (i : ℕ) → IsOrderly h → is_out h i ≡ false → AreSettled h i
+pub settled_home : (h : Record) (i : ℕ) → IsLegalWithReturns h → is_out h i ≡ false → AreSettled h i
 settled_home [] i o home = λ going c l. absurd (omega (arith, l))
-settled_home (Lease j worker now polls ∷ h) i o home = settled_on h (Lease j worker now polls) i (λ c. refl) (settled_home h i o.1 (not_leased (j == i) (is_out h i) home))
-settled_home (Home j ∷ h) i o home = go (j == i) refl home (settled_home h i o.1)
+settled_home (Lease j worker now polls ∷ h) i o home = settled_on h (Lease j worker now polls) i (λ c. refl) (settled_home h i (earlier _ _ o) (not_leased (j == i) (is_out h i) home))
+settled_home (Home j ∷ h) i o home = go (j == i) refl home (settled_home h i (earlier _ _ o))
   where
     go : (b : Bool) → (j == i) ≡ b → (if b then false else is_out h i) ≡ false → (is_out h i ≡ false → AreSettled h i) → AreSettled (Home j ∷ h) i
-    go true e at rest = let same : j ≡ i = grind (arith, nat_tests) in settled_on h (Home j) i (λ c. refl) (subst (λ (k : ℕ). AreSettled h k) same o.0.0.settled)
+    go true e at rest = let same : j ≡ i = grind (arith, nat_tests) in settled_on h (Home j) i (λ c. refl) (subst (λ (k : ℕ). AreSettled h k) same o.returned.0.settled)
     go false e at rest = settled_on h (Home j) i (λ c. refl) (rest at)
 settled_home (Attempt j copies bytes reply ∷ h) i o home =
-    let off : (j == i) ≡ false = other_test j i (λ e. let out : is_out h i ≡ true = subst (λ (k : ℕ). is_out h k ≡ true) (sym e) o.0.0.out in let no : true ≡ false = sym out ∙ home in cc) in
-    settled_on h (Attempt j copies bytes reply) i (λ c. not_tried (j == i) (contains copies c) (attempts_with h i c) off) (settled_home h i o.1 home)
-settled_home (e ∷ h) i o home = settled_on h e i (λ c. refl) (settled_home h i o.1 home)
+    let off : (j == i) ≡ false = other_test j i (λ e. let out : is_out h i ≡ true = subst (λ (k : ℕ). is_out h k ≡ true) (sym e) o.legal.0.row.out in let no : true ≡ false = sym out ∙ home in cc) in
+    settled_on h (Attempt j copies bytes reply) i (λ c. not_tried (j == i) (contains copies c) (attempts_with h i c) off) (settled_home h i (earlier _ _ o) home)
+settled_home (e ∷ h) i o home = settled_on h e i (λ c. refl) (settled_home h i (earlier _ _ o) home)
 
 -- so has one that is out and made no attempt yet
-pub settled_untried : (h : Record) (i : ℕ) → IsOrderly h → is_out h i ≡ true → list_any (is_attempt_of i) (since_lease h i) ≡ false → AreSettled h i
+pub settled_untried : (h : Record) (i : ℕ) → IsLegalWithReturns h → is_out h i ≡ true → list_any (is_attempt_of i) (since_lease h i) ≡ false → AreSettled h i
 settled_untried [] i o out none = cc
-settled_untried (Lease j worker now polls ∷ h) i o out none = go (j == i) refl out none (settled_untried h i o.1)
+settled_untried (Lease j worker now polls ∷ h) i o out none = go (j == i) refl out none (settled_untried h i (earlier _ _ o))
   where
     go : (b : Bool) → (j == i) ≡ b → (if b then true else is_out h i) ≡ true → list_any (is_attempt_of i) (if b then [] else Lease j worker now polls ∷ since_lease h i) ≡ false →
         (is_out h i ≡ true → list_any (is_attempt_of i) (since_lease h i) ≡ false → AreSettled h i) → AreSettled (Lease j worker now polls ∷ h) i
     go true e at un rest = let same : j ≡ i = grind (arith, nat_tests) in
-        settled_on h (Lease j worker now polls) i (λ c. refl) (settled_home h i o.1 (subst (λ (k : ℕ). is_out h k ≡ false) same o.0.0.home))
+        settled_on h (Lease j worker now polls) i (λ c. refl) (settled_home h i (earlier _ _ o) (subst (λ (k : ℕ). is_out h k ≡ false) same o.legal.0.row.home))
     go false e at un rest = settled_on h (Lease j worker now polls) i (λ c. refl) (rest at un)
-settled_untried (Home j ∷ h) i o out none = settled_on h (Home j) i (λ c. refl) (settled_untried h i o.1 (was_out (j == i) (is_out h i) out) none)
+settled_untried (Home j ∷ h) i o out none = settled_on h (Home j) i (λ c. refl) (settled_untried h i (earlier _ _ o) (was_out (j == i) (is_out h i) out) none)
 settled_untried (Attempt j copies bytes reply ∷ h) i o out none =
     settled_on h (Attempt j copies bytes reply) i (λ c. not_tried (j == i) (contains copies c) (attempts_with h i c) (or_left (j == i) _ none))
-    (settled_untried h i o.1 out (or_right (j == i) _ none))
-settled_untried (e ∷ h) i o out none = settled_on h e i (λ c. refl) (settled_untried h i o.1 out none)
-
-joined_more : (c : ℕ) (xs ys : List (List ℕ)) → count c (joined (xs ++ ys)) ≡ count c (joined xs) + count c (joined ys)
-joined_more c [] ys = omega arith
-joined_more c (x ∷ xs) ys =
-    let a = count-append c x (joined (xs ++ ys)) in
-    let b = count-append c x (joined xs) in
-    let ih = joined_more c xs ys in
-    omega (arith, a, b, ih)
-
--- what is held stays held, but for what leaves
-held_stays : (h : Record) (e : Entry) (i c : ℕ) → IsConserved (e ∷ h) → count c (leaves (kind (Held i)) e) ≡ 0 → 0 < count c (joined (held h i)) → 0 < count c (joined (held (e ∷ h) i))
-held_stays h e i c kept none l =
-    let now = ap (λ (ps : List (List ℕ)). count c (joined ps)) (parcels_after h e (Held i) kept) in
-    let more = joined_more c (shrunk (leaves (kind (Held i)) e) (held h i)) (put_at (Held i) (puts e)) in
-    let same = count_shrunk c (leaves (kind (Held i)) e) (held h i) none in
-    omega (arith, l, now, more, same)
-
--- what was attempted and isn't spent is held
-attempted_held : (h : Record) (i c : ℕ) → IsOrderly h → 0 < attempts_with h i c → times_spent h c ≡ 0 → 0 < count c (joined (held h i))
-attempted_held [] i c o l none = absurd (omega (arith, l))
-attempted_held (Attempt j copies bytes reply ∷ h) i c o l none =
-    subst (λ (ps : List (List ℕ)). 0 < count c (joined ps)) (sym (stands_still h (Attempt j copies bytes reply) (Held i) tt (conserved h o.1)))
-    (go (j == i) refl l (attempted_held h i c o.1))
-  where
-    before : times_spent h c ≡ 0
-    before = let all = count-append c (all_of spends h) [] in omega (arith, none, all)
-
-    named : (n m : ℕ) → n ≤ 0 → 0 < n + (if true && nat_lt 0 m then 1 else 0) → 0 < m
-    named n zero few some = absurd (omega (arith, few, some))
-    named n (suc m) few some = omega arith
-
-    go : (b : Bool) → (j == i) ≡ b → 0 < attempts_with h i c + (if b && contains copies c then 1 else 0) → (0 < attempts_with h i c → times_spent h c ≡ 0 → 0 < count c (joined (held h i))) → 0 < count c (joined (held h i))
-    go true e some rest = elim (cases_lt 0 (attempts_with h i c)) [
-      | inl tried ↦ rest tried before
-      | inr few ↦
-          let same : j ≡ i = grind (arith, nat_tests) in
-          let here : 0 < count c (joined (held h j)) = subst (λ (cs : List ℕ). 0 < count c cs) o.0.0.all (named (attempts_with h i c) (count c copies) few some) in
-          subst (λ (k : ℕ). 0 < count c (joined (held h k))) same here
-    ]
-    go false e some rest = rest (omega (arith, some)) before
-attempted_held (Spent j d outcome ∷ h) i c o l none =
-    let all = count-append c (all_of spends h) (d ∷ []) in
-    held_stays h (Spent j d outcome) i c (conserved (Spent j d outcome ∷ h) o) (omega (arith, none, all)) (attempted_held h i c o.1 l (omega (arith, none, all)))
-attempted_held (e ∷ h) i c o l none =
-    let all = count-append c (all_of spends h) [] in
-    held_stays h e i c (conserved (e ∷ h) o) refl (attempted_held h i c o.1 l (omega (arith, none, all)))
+    (settled_untried h i (earlier _ _ o) out (or_right (j == i) _ none))
+settled_untried (e ∷ h) i o out none = settled_on h e i (λ c. refl) (settled_untried h i (earlier _ _ o) out none)
 
 -- so where nothing is held all that was attempted is spent
-pub settled_bare : (h : Record) (i : ℕ) → IsOrderly h → held h i ≡ [] → AreSettled h i
+pub settled_bare : (h : Record) (i : ℕ) → IsLegalWithReturns h → held h i ≡ [] → AreSettled h i
 settled_bare h i o none going c l = elim (cases_lt 0 (times_spent h c)) [
   | inl spent ↦ spent
   | inr few ↦
-      let here = attempted_held h i c o l (omega (arith, few)) in
+      let here = attempted_held h i c o.legal l (omega (arith, few)) in
       let nothing = ap (λ (ps : List (List ℕ)). count c (joined ps)) none in
       absurd (omega (arith, here, nothing))
 ]
@@ -197,15 +148,12 @@ owes_none (Attempt j copies bytes reply ∷ h) whole i all =
 owes_none (e ∷ h) whole i all = owes_none h whole i all
 
 -- what isn't closed isn't retired
-pub unclosed_unretired : (h : Record) (f : Facts) (i worker now : ℕ) (gone : IsTrue f.retired → IsTrue f.closed) → f.closed ≡ false → f.leased ≡ false → IsKnown f h i → IsOrderly h → abandoned h ≡ false → owes_birth h i ≡ false → worker_now h worker ≤ now → is_ready h i now ≡ true → IsLeaseOf h i worker now 0
+pub unclosed_unretired : (h : Record) (f : Facts) (i worker now : ℕ) (gone : IsTrue f.retired → IsTrue f.closed) → f.closed ≡ false → f.leased ≡ false → IsKnown f h i → IsLegalWithReturns h → abandoned h ≡ false → owes_birth h i ≡ false → worker_now h worker ≤ now → is_ready h i now ≡ true → MayLease h i worker now 0
 unclosed_unretired h f i worker now gone unclosed unleased k orderly going born later ready = record {
-  known = there_known h i f orderly k;
   home = sym k.leased ∙ unleased;
-  settled = owes_none h h i (settled_home h i orderly (sym k.leased ∙ unleased) going);
-  unclosed = sym k.closed ∙ unclosed;
+  settled = ap (λ (b : Bool). b || owes_spends_in h h i) born ∙ owes_none h h i (settled_home h i orderly (sym k.leased ∙ unleased) going);
   unretired = sym k.retired ∙ go f.retired refl;
   unpolled = refl;
-  born = born;
   later = later;
   ready = ready;
 }

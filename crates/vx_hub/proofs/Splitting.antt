@@ -18,7 +18,7 @@ use Rattle.vx_plan.specs.Targets.{enter, in_order, names_reading, reads, readers
 use Rattle.vx_record.specs.Records.{Record}
 use Rattle.vx_record.specs.declared.child.Child.{Child as NotedChild}
 use Rattle.vx_record.specs.declared.entry.Entry.{Entry}
-use Rattle.vx_record.specs.declared.entry.Entry.TheVariants.{Install, Born, Split, Push, Take}
+use Rattle.vx_record.specs.declared.entry.Entry.TheVariants.{Born, Split, Push, Take}
 use Rattle.vx_record.specs.declared.instance.Instance.{Instance}
 use Rattle.vx_record.specs.declared.instance.Start.TheVariants.{New}
 use Rattle.vx_record.specs.Copies.{count, joined, children_of, next_copy}
@@ -40,12 +40,13 @@ use Rattle.vx_hub.specs.Events.{IsSaid}
 use Rattle.vx_hub.specs.declared.fatal.Fatal.{Fatal}
 use Rattle.vx_hub.specs.Failures.{fatal_of}
 use Rattle.vx_hub.specs.Numbers.{numbers_in}
-use Rattle.vx_hub.specs.Order.{IsOrderly, component_in, readers_at}
+use Rattle.vx_hub.specs.Order.{IsLegalWithReturns, component_in, readers_at}
 use Rattle.vx_hub.specs.Splitting.{WantsSplit}
 use Rattle.vx_hub.specs.declared.facts.Facts.{Facts}
 use Rattle.vx_hub.specs.Stands.{Stands, IsRecorded, IsKnown, IsSound}
 use Rattle.vx_hub.proofs.Naming.{wired_so}
-use Rattle.vx_hub.proofs.Porting.{output_on_first, first_routes}
+use Rattle.vx_record.proofs.FirstPort.{output_on_first, first_routes}
+use Rattle.vx_hub.proofs.Runners.{names_so}
 use Rattle.vx_hub.proofs.Ordering.{length_numbers}
 use Rattle.vx_hub.proofs.Touching.{facts_has}
 
@@ -209,21 +210,13 @@ joined_few f (name ∷ rest) one =
     let all = length-append (f name) (joined (map f rest)) in
     omega (arith, here, later, all)
 
--- the names in the plan that is in force differ
-force_named : (h : Record) (plan : Plan) → IsOrderly h → in_force h ≡ Some plan → names_differ plan.components ≡ true
-force_named [] plan order force = cc
-force_named (Install version made once instances now ∷ h) plan order force =
-    let same : made ≡ plan = cc in
-    subst (λ (p : Plan). names_differ p.components ≡ true) same order.0.0.named
-force_named (e ∷ h) plan order force = force_named h plan order.1 force
-
 -- an instance has no more readers than there are components
-readers_few : (h : Record) (plan : Plan) (i : ℕ) (c : Component) → IsOrderly h → in_force h ≡ Some plan → slice_get plan.components i ≡ Some c → length (readers_at h i) ≤ length plan.components
+readers_few : (h : Record) (plan : Plan) (i : ℕ) (c : Component) → IsLegalWithReturns h → in_force h ≡ Some plan → slice_get plan.components i ≡ Some c → length (readers_at h i) ≤ length plan.components
 readers_few h plan i c order force at =
     let w : Wiring = record { plan = plan; instances = first_instances 0 plan.components; name = c.name } in
     let wired : readers_at h i ≡ wired_targets 0 w = ap (λ (o : Option Wiring). elim o [ None ↦ [] | Some x ↦ wired_targets 0 x ]) (wired_so h plan i c order force at) in
     let n = ap length wired in
-    let few = joined_few (numbers_of w.instances) (targets plan c.name 0) (λ name. numbers_few 0 plan.components name (force_named h plan order force)) in
+    let few = joined_few (numbers_of w.instances) (targets plan c.name 0) (λ name. numbers_few 0 plan.components name (names_so h plan order force)) in
     let most = targets_few plan c.name in
     omega (arith, n, few, most)
 
@@ -262,7 +255,7 @@ times_one m (suc zero) most l one = omega (arith, l)
 times_one m (suc (suc n)) most l one = absurd (omega (arith, one))
 
 -- a split whose numbers the ledger refused has all else
-pub split_wants : (h : Record) (i : ℕ) (targets : List ℕ) (parcel : Parcel) → IsOrderly h → is_out h i ≡ false → all_waiting h i ≡ [] → targets ≡ readers_at h i → IsOldest (numbers_in parcel.finalizers) (outputs h i) → IsSaid h parcel →
+pub split_wants : (h : Record) (i : ℕ) (targets : List ℕ) (parcel : Parcel) → IsLegalWithReturns h → is_out h i ≡ false → all_waiting h i ≡ [] → targets ≡ readers_at h i → IsOldest (numbers_in parcel.finalizers) (outputs h i) → IsSaid h parcel →
     0 < length targets → SplitWants h (length targets * length parcel.finalizers)
 split_wants h i targets parcel order home waits routed oldest said some =
     let copies = numbers_in parcel.finalizers in
@@ -278,7 +271,7 @@ split_wants h i targets parcel order home waits routed oldest said some =
         home = home;
         none_waits = waits;
         oldest = oldest;
-        on_ports = output_on_first h i copies order oldest;
+        on_ports = output_on_first h i copies order.legal oldest;
         same_event = said.event;
         some = omega (arith, many, some);
         made = refl;

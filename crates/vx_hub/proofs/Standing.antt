@@ -1,5 +1,5 @@
 -- Copies are spent where they stand.
-use Rattle.std.proofs.Common.{◌≡◌, ℕ, ◌+◌, ◌<◌, ◌≤◌, List, [], ◌∷◌, ◌++◌, Option, Some, None, IfSome, refl, sym, ap, ◌∙◌, subst, arith}
+use Rattle.std.proofs.Common.{◌≡◌, ℕ, ◌<◌, ◌≤◌, List, [], ◌∷◌, ◌++◌, Option, Some, None, IfSome, refl, sym, ap, ◌∙◌, subst, arith}
 use Rattle.std.specs.Prelude.{IsTrue}
 use Rattle.vx_ends.specs.Told.{Told}
 use Rattle.vx_ends.specs.declared.trouble.Reply.{Reply}
@@ -12,39 +12,24 @@ use Rattle.vx_record.specs.Noted.{Noted}
 use Rattle.vx_record.specs.Copies.{count, joined, IsLive}
 use Rattle.vx_record.specs.Places.{Place}
 use Rattle.vx_record.specs.Places.Place.{Outputs, Waiting, Held}
-use Rattle.vx_record.specs.Lists.{stands, without, and_rest, shrunk, parcels_at, outputs}
+use Rattle.vx_record.specs.Lists.{stands, shrunk, parcels_at, outputs}
 use Rattle.vx_record.specs.Spending.{oldest}
 use Rattle.vx_record.specs.Moving.{IsConserved}
 use Rattle.vx_record.specs.declared.entry.Entry.TheVariants.{Spent, Notice}
-use Rattle.vx_record.proofs.Counts.{count-append, count-without, unless}
+use Rattle.vx_record.proofs.Counts.{count-append}
 use Rattle.vx_record.proofs.Hands.{shrunk_by_none, stands_still, parcel_is_at, spent_from_hand}
 use Rattle.vx_hub.specs.declared.hub.Hub.{Hub}
 use Rattle.vx_hub.specs.Numbers.{numbers_in}
-use Rattle.vx_hub.specs.Order.{AreSpentFrom, IsSpending, IsPlaceFor, reply_behind}
+use Rattle.vx_record.specs.Spending.{MaySpend}
+use Rattle.vx_hub.specs.Order.{AreSpentFrom, IsPlaceFor, reply_behind}
 use Rattle.vx_hub.specs.Places.{TakesFrom, TakesOldest, copies_at, all_numbers}
 use Rattle.vx_hub.specs.Spending.{IsSpentFor, ComeFrom}
 use Rattle.vx_hub.specs.Stands.{Stands, IsSound}
 use Rattle.vx_hub.proofs.Causing.{caused, spent_here}
+use Rattle.vx_record.proofs.Attempted.{count_shrunk}
 use Rattle.vx_hub.proofs.Shrinking.{shrinks, oldest_left}
 use Rattle.vx_hub.proofs.Ordering.{sound_before}
 use Rattle.vx_hub.proofs.Placing.{places_all, all_numbers-append, numbers-append, spent_live, conserved}
-
-joined_and_rest : (d : ℕ) (cs : List ℕ) (rest : List (List ℕ)) → count d (joined (and_rest cs rest)) ≡ count d cs + count d (joined rest)
-joined_and_rest d [] rest = omega arith
-joined_and_rest d (c ∷ cs) rest = count-append d (c ∷ cs) (joined rest)
-
-count_left : (d : ℕ) (gone xs : List ℕ) → count d gone ≡ 0 → count d (without gone xs) ≡ count d xs
-count_left d gone xs none = count-without d gone xs ∙ ap (λ n. unless n (count d xs)) none
-
--- what isn't gone stands there still
-pub count_shrunk : (d : ℕ) (gone : List ℕ) (ps : List (List ℕ)) → count d gone ≡ 0 → count d (joined (shrunk gone ps)) ≡ count d (joined ps)
-count_shrunk d gone [] none = refl
-count_shrunk d gone (p ∷ ps) none =
-    let a = joined_and_rest d (without gone p) (shrunk gone ps) in
-    let b = count_left d gone p none in
-    let c = count_shrunk d gone ps none in
-    let e = count-append d p (joined ps) in
-    omega (arith, a, b, c, e)
 
 -- where one is spent, the others stand where they stood
 spent_rest : (h : Record) (i c : ℕ) (outcome : Outcome) (rest : List ℕ) → IsConserved (Spent i c outcome ∷ h) → ((d : ℕ) → count d (rest ++ c ∷ []) ≤ 1) →
@@ -132,11 +117,11 @@ reply_place NoConsumer reply i behind = cc
 reply_place Abandoned reply i behind = cc
 reply_place outcome reply i behind = refl
 
--- a copy of the hand is spent in order
-pub spending : (h : Record) (i : ℕ) (f : Copy) (n : ℕ) (outcome : Outcome) → n ≡ f.number → IsConserved h → IsLive h n → IsSpentFor h i outcome → AreSpentFrom h i outcome (f.number ∷ []) → IsSpending h i n outcome
+-- a copy of the hand may be spent
+pub spending : (h : Record) (i : ℕ) (f : Copy) (n : ℕ) (outcome : Outcome) → n ≡ f.number → IsConserved h → IsLive h n → IsSpentFor h i outcome → AreSpentFrom h i outcome (f.number ∷ []) → MaySpend h i n outcome
 spending h i f n outcome same kept live cause from =
     let alone : AreSpentFrom h i outcome (n ∷ []) = subst (λ (k : ℕ). AreSpentFrom h i outcome (k ∷ [])) (sym same) from in
-    record { live = live; here = spent_here h i n outcome alone; cause = caused h i n outcome kept cause alone; left = cause.left; from = alone }
+    record { live = live; here = spent_here h i n outcome alone; cause = caused h i n outcome kept cause alone }
 
 -- a record behind which a copy of the hand is spent
 kept_spent : {P : Type 0} (told_by : P → Told) (d : Hub P) (i : ℕ) (rest : List Copy) (f : Copy) (n : ℕ) (outcome : Outcome) → n ≡ f.number → Stands told_by d (rest ++ f ∷ []) d.log.history → IsSound d →

@@ -10,9 +10,9 @@ use Rattle.vx_record.specs.Records.{Record}
 use Rattle.vx_record.specs.Noted.{Noted}
 use Rattle.vx_record.specs.declared.log.Log.{Log}
 use Rattle.vx_record.specs.declared.entry.Entry.{Entry}
-use Rattle.vx_record.specs.declared.entry.Entry.TheVariants.{Install, Lease, Home, Read, Idle, SourceLost, Born, Attempt, Spent, Notice, Confirm, Closed, Retired, Abandon}
+use Rattle.vx_record.specs.declared.entry.Entry.TheVariants.{Install, Home, Read, Idle, SourceLost, Attempt, Spent, Notice, Confirm, Abandon}
 use Rattle.vx_record.specs.declared.abandon_cause.AbandonCause.{AbandonCause}
-use Rattle.vx_hub.proofs.Drying.{closing_on}
+use Rattle.vx_hub.proofs.Known.{known_far, quiet_far}
 use Rattle.vx_hub.specs.declared.facts.Facts.{Facts}
 use Rattle.vx_hub.specs.declared.row.Row.{Row}
 use Rattle.vx_hub.specs.declared.hub.Hub.{Hub}
@@ -33,20 +33,24 @@ use Rattle.vx_record.specs.Abandoning.{MayStillCome}
 use Rattle.vx_record.specs.Turns.{is_out}
 use Rattle.vx_hub.specs.Events.{AreSaid}
 use Rattle.vx_hub.proofs.Saids.{rows_on}
-use Rattle.vx_hub.specs.Order.{IsInOrder, IsOrderly, IsUnknown, IsReason}
+use Rattle.vx_record.specs.Ending.{HasReason as IsReason}
+use Rattle.vx_record.specs.Legal.{Allows}
+use Rattle.vx_hub.specs.Order.{IsLegalWithReturns, IsUnknown}
 use Rattle.vx_status.specs.declared.outcome.Outcome.{Outcome}
 use Rattle.vx_status.specs.declared.batch_status.BatchStatus.{BatchStatus}
 use Rattle.vx_record.specs.Accounting.{IsNoticedSo}
 use Rattle.vx_record.specs.Batches.{NoNoticeDue}
 use Rattle.vx_hub.specs.Batching.{AreRunning}
 use Rattle.vx_hub.proofs.Placing.{conserved}
-use Rattle.vx_hub.proofs.Always.{MayFollow, order_next, order_noted, order_same, fed_noted, fed_same, sound_whole}
-use Rattle.vx_hub.proofs.Noticing.{in_turn, running_still}
+use Rattle.vx_hub.proofs.Allowed.{MayFollow, next_orderly, Keeps}
+use Rattle.vx_hub.proofs.Always.{order_next, order_noted, order_same, fed_noted, fed_same, sound_whole}
+use Rattle.vx_record.specs.Spending.{MaySpend, MayNotice}
+use Rattle.vx_hub.proofs.Noticing.{notice_row, in_turn, running_still}
 use Rattle.vx_hub.proofs.Owning.{placed_still}
 use Rattle.vx_hub.specs.Notices.{pending, pending_in, progress_at, IsCounted}
 use Rattle.vx_hub.proofs.Counting.{counted_on}
 use Rattle.vx_hub.proofs.Prefixing.{IsPlain, abreast_plain}
-use Rattle.vx_hub.proofs.Ceasing.{comes_going}
+use Rattle.vx_hub.proofs.Ceasing.{comes_going, unabandoned}
 use Rattle.vx_hub.proofs.Silence.{told_silent, silent_mute, other_test}
 use Rattle.vx_hub.proofs.Offspring.{born_on, owes_quiet}
 use Rattle.vx_hub.proofs.Moments.{later_quiet, later_same}
@@ -67,33 +71,6 @@ told_mute told h i e m t = told_silent told h i e (silent_mute h i e m) t
 
 pub told_quiet : (told : Told) (h : Record) (i : ℕ) (e : Entry) → IsQuiet e → IsTold told h i → IsTold told (e ∷ h) i
 told_quiet told h i e q t = told_mute told h i e (mute_of_quiet e q) t
-
--- a quiet entry changes nothing of what is known
-pub known_quiet : (f : Facts) (h : Record) (i : ℕ) (e : Entry) → IsQuiet e → IsKnown f h i → IsKnown f (e ∷ h) i
-known_quiet f h i (Install version plan once instances now) q k = absurd q
-known_quiet f h i (Lease j worker now polls) q k = absurd q
-known_quiet f h i (Home j) q k = absurd q
-known_quiet f h i (Read j stream took) q k = absurd q
-known_quiet f h i (Idle j failed) q k = absurd q
-known_quiet f h i (SourceLost j at failed) q k = absurd q
-known_quiet f h i (Born j b place copies events waits stream end) q k = absurd q
-known_quiet f h i (Attempt j copies bytes reply) q k = absurd q
-known_quiet f h i (Confirm j positions made) q k = absurd q
-known_quiet f h i (Closed j) q k = absurd q
-known_quiet f h i (Retired j) q k = absurd q
-known_quiet f h i e q k = record {
-  taken = k.taken;
-  lost = k.lost;
-  failed_starts = k.failed_starts;
-  confirm_failed = k.confirm_failed;
-  outlet = k.outlet;
-  over = k.over;
-  class = k.class;
-  done = λ closed. closing_on h i e refl (k.done closed);
-  closed = k.closed;
-  retired = k.retired;
-  leased = k.leased;
-}
 
 pub bytes_mute : (h : Record) (e : Entry) → IsMute e → bytes_of_all (e ∷ h) ≡ bytes_of_all h
 bytes_mute h (Read j stream took) m = absurd m
@@ -122,12 +99,18 @@ unknown_mute e h i m u = record { unlost = u.unlost; confirmed = u.confirmed }
 pub same_next : (old new : Ledger) (h : Record) (entry : Entry) → makes entry ≡ 0 → new.next ≡ old.next → old.next ≡ next_copy h → new.next ≡ next_copy (entry ∷ h)
 same_next old new h entry none same next = omega (arith, none, same, next)
 
+-- a quiet entry needs only its row
+keeps_quiet : (h : Record) (e : Entry) → IsQuiet e → Keeps h e
+keeps_quiet h (Install version plan once instances now) q = absurd q
+keeps_quiet h (Home i) q = absurd q
+keeps_quiet h e q = tt
+
 -- what an entry needs that is noted while parcels move
 pub record Passes {P : Type 0} (d e : Hub P) (hand after : List Copy) (entry : Entry) : Type 0 where
   pub quiet : IsQuiet entry
   pub plain : IsPlain entry
   pub next : d.batches.next ≡ next_copy d.log.history → e.batches.next ≡ next_copy (entry ∷ d.log.history)
-  pub order : IsSound d → IsInOrder d.log.history entry
+  pub order : IsSound d → Allows d.log.history entry
   pub comes : IsSound d → MayStillCome d.log.history entry
   pub said : IsSound d → AreSaid d.log.history d.rows.items → AreSaid (entry ∷ d.log.history) e.rows.items
   pub outs : IsSound d → (i : ℕ) → port_at d.rows.items i ≡ None → is_out d.log.history i ≡ true → is_out (entry ∷ d.log.history) i ≡ true
@@ -195,10 +178,10 @@ stands_quiet {P} told_by d e hand after entry s balanced facts ports bare rooms 
             ports = λ i. subst (λ (p : Option P). IfSome p (λ port. IsTold (told_by port) (entry ∷ d.log.history) i)) (sym (ports i))
                 (some_mapped _ _ (port_at d.rows.items i) (λ port t. told_quiet (told_by port) d.log.history i entry quiet t) (r.ports i));
             facts = λ i. subst (λ (fs : List Facts). IfSome (facts_at fs i) (λ f. IsKnown f (entry ∷ d.log.history) i)) (sym (ap (λ (v : _). v.items) facts))
-                (some_mapped _ _ (facts_at d.facts.items i) (λ f k. known_quiet f d.log.history i entry quiet k) (r.facts i));
+                (some_mapped _ _ (facts_at d.facts.items i) (λ f k. known_far f d.log.history i entry (quiet_far i entry quiet) k) (r.facts i));
             bytes = bytes ∙ r.bytes ∙ ap capped (sym (bytes_quiet d.log.history entry quiet));
             next = passes.next r.next;
-            order = ((passes.order fine, in_turn d.log.history entry r.noticeless, passes.comes fine), r.order);
+            order = next_orderly d.log.history entry ((passes.order fine, keeps_quiet d.log.history entry quiet), in_turn d.log.history entry r.noticeless, passes.comes fine) r.order;
             outs = λ i l none. let was : port_at d.rows.items i ≡ None = sym (ports i) ∙ none in passes.outs fine i was (r.outs i (subst (λ n. i < n) size l) was);
             said = passes.said fine r.said;
             noticeless = passes.due fine;
@@ -207,7 +190,7 @@ stands_quiet {P} told_by d e hand after entry s balanced facts ports bare rooms 
             unknown = λ i past. unknown_mute entry d.log.history i (mute_of_quiet entry quiet) (r.unknown i (subst (λ n. n ≤ i) size past));
             cause = ap (λ (t : _). t.1) berths ∙ r.cause ∙ sym (cause_quiet d.log.history entry quiet);
             installed = force_quiet d.log.history entry quiet ∙ r.installed ∙ ap Some (sym (ap (λ (t : _). t.2) berths));
-            places = passes.places fine (conserved (entry ∷ d.log.history) ((passes.order fine, in_turn d.log.history entry r.noticeless, passes.comes fine), r.order)) r.places;
+            places = passes.places fine (conserved (entry ∷ d.log.history) (next_orderly d.log.history entry ((passes.order fine, keeps_quiet d.log.history entry quiet), in_turn d.log.history entry r.noticeless, passes.comes fine) r.order)) r.places;
             bore = λ going. born_on d.log.history entry r.order (passes.order fine) (owes_quiet d.log.history entry quiet) (r.bore (sym (ap (λ (t : _). t.3) berths) ∙ going));
             unnoticed = counted_on d e d.log.history (entry ∷ d.log.history) passes.opened passes.unnoticed (abreast_plain entry passes.plain d.log.history) size berths r.unnoticed;
             later = later_quiet d.log.history entry d.latest e.latest quiet (ap (λ (t : _). t.4) berths) r.later;
@@ -221,7 +204,7 @@ stands_quiet {P} told_by d e hand after entry s balanced facts ports bare rooms 
       rooms = rooms_kept d.plan e.plan d.rows.items e.rows.items (ap (λ (t : _). t.2) berths) rooms s.rooms;
       few = few_kept d.plan e.plan (ap (λ (t : _). t.2) berths) s.few;
       count = count_kept d.plan e.plan d.rows.items e.rows.items (ap (λ (t : _). t.2) berths) size s.count;
-      order = order_noted told_by d hand e.log entry s noted (λ fine. (passes.order fine, in_turn d.log.history entry (s.recorded fine).noticeless, passes.comes fine));
+      order = order_noted told_by d hand e.log entry s noted (λ fine. ((passes.order fine, keeps_quiet d.log.history entry quiet), in_turn d.log.history entry (s.recorded fine).noticeless, passes.comes fine));
       fed = fed_noted d.log e.log entry d.starved e.starved noted starved s.fed;
     }
 
@@ -351,22 +334,6 @@ hand_balanced ledger before after copies b l batch place = omega (arith, b batch
 pub put_balanced : {P : Type 0} (ledger : Ledger) (before after : List (Row P)) (copies : List Copy) → IsBalanced ledger before copies → Gains before copies after → IsBalanced ledger after []
 put_balanced ledger before after copies b g batch place = omega (arith, b batch place, g batch place)
 
--- an abandonment bears no batch
-known_abandoned : (f : Facts) (h : Record) (i : ℕ) (cause : AbandonCause) → IsKnown f h i → IsKnown f (Abandon cause ∷ h) i
-known_abandoned f h i cause k = record {
-  taken = k.taken;
-  lost = k.lost;
-  failed_starts = k.failed_starts;
-  confirm_failed = k.confirm_failed;
-  outlet = k.outlet;
-  over = k.over;
-  class = k.class;
-  done = λ closed. closing_on h i (Abandon cause) refl (k.done closed);
-  closed = k.closed;
-  retired = k.retired;
-  leased = k.leased;
-}
-
 -- a run is abandoned
 pub stands_abandoned : {P : Type 0} (told_by : P → Told) (d : Hub P) (log : Log) (cause : AbandonCause) → Stands told_by d [] d.log.history → d.abandoned ≡ None → (IsSound d → IsReason d.log.history cause) → Noted d.log (Abandon cause) log →
     Stands told_by (record d { abandoned = Some cause; log = log }) [] log.history
@@ -379,10 +346,10 @@ stands_abandoned {P} told_by d log cause s once reason noted = record {
       let r : IsRecorded told_by d [] d.log.history = s.recorded fine in
       subst (λ (h : Record). IsRecorded told_by (record d { abandoned = Some cause; log = log }) [] h) (sym w.1) (record {
         ports = λ i. some_mapped _ _ (port_at d.rows.items i) (λ port t. told_mute (told_by port) d.log.history i (Abandon cause) tt t) (r.ports i);
-        facts = λ i. some_mapped _ _ (facts_at d.facts.items i) (λ f k. known_abandoned f d.log.history i cause k) (r.facts i);
+        facts = λ i. some_mapped _ _ (facts_at d.facts.items i) (λ f k. known_far f d.log.history i (Abandon cause) refl k) (r.facts i);
         bytes = r.bytes;
         next = same_next d.batches d.batches d.log.history (Abandon cause) refl refl r.next;
-        order = ((record { first = sym r.cause ∙ once; reason = reason fine }, r.noticeless, comes_going d.log.history (Abandon cause) (sym r.cause ∙ once)), r.order);
+        order = next_orderly d.log.history (Abandon cause) ((record { first = unabandoned d.log.history (sym r.cause ∙ once); reason = reason fine }, tt), r.noticeless, comes_going d.log.history (Abandon cause) (sym r.cause ∙ once)) r.order;
         said = rows_on d.log.history (Abandon cause) tt d.rows.items r.said;
         outs = r.outs;
         noticeless = λ b w. w;
@@ -404,7 +371,7 @@ stands_abandoned {P} told_by d log cause s once reason noted = record {
   few = s.few;
   count = s.count;
   order = order_noted told_by d [] log (Abandon cause) s noted (λ fine.
-      let r = s.recorded fine in (record { first = sym r.cause ∙ once; reason = reason fine }, r.noticeless, comes_going d.log.history (Abandon cause) (sym r.cause ∙ once)));
+      let r = s.recorded fine in ((record { first = unabandoned d.log.history (sym r.cause ∙ once); reason = reason fine }, tt), r.noticeless, comes_going d.log.history (Abandon cause) (sym r.cause ∙ once)));
   fed = fed_noted d.log log (Abandon cause) d.starved d.starved noted refl s.fed;
 }
 
@@ -450,7 +417,7 @@ stands_settled {P} told_by d e hand same s kept = subst (λ (x : Hub P). Stands 
 -- a copy is spent, and its batch gets its notice
 pub stands_noticed : {P : Type 0} (told_by : P → Told) (d e : Hub P) (hand after : List Copy) (i c : ℕ) (outcome : Outcome) (batch : ℕ) (status : BatchStatus) (mid : Log) →
     Stands told_by d hand d.log.history → IsBalanced e.batches e.rows.items after → e.facts ≡ d.facts → e.rows ≡ d.rows → Noted d.log (Spent i c outcome) mid → Noted mid (Notice batch status) e.log →
-    e.batches.next ≡ d.batches.next → (IsSound d → IsInOrder d.log.history (Spent i c outcome)) → (IsSound d → MayStillCome d.log.history (Spent i c outcome)) → (IsSound d → IsPlaced d.rows.items after (Spent i c outcome ∷ d.log.history)) →
+    e.batches.next ≡ d.batches.next → (IsSound d → MaySpend d.log.history i c outcome) → (IsSound d → MayStillCome d.log.history (Spent i c outcome)) → (IsSound d → IsPlaced d.rows.items after (Spent i c outcome ∷ d.log.history)) →
     (IsSound d → IsNoticedSo (Spent i c outcome ∷ d.log.history) batch status) → (IsSound d → AreRunning (Spent i c outcome ∷ d.log.history) e.batches.open_rows) → IsKept e.batches →
     e.starved ≡ d.starved → e.bytes ≡ d.bytes → spare_of (record e { progress = d.progress }) ≡ spare_of d → (IsSound d → IsCounted d d.log.history → IsCounted e (Notice batch status ∷ Spent i c outcome ∷ d.log.history)) → Stands told_by e after e.log.history
 stands_noticed {P} told_by d e hand after i c outcome batch status mid s balanced facts rows spent noticed next order comes places so statuses ledger starved bytes berths counted =
@@ -465,15 +432,16 @@ stands_noticed {P} told_by d e hand after i c outcome batch status mid s balance
           let w₁ = spent.whole w₂.0 in
           let fine : IsSound d = record { whole = w₁.0; fed = sym starved ∙ sound.fed } in
           let r : IsRecorded told_by d hand h = s.recorded fine in
-          let ordered : IsOrderly (first ∷ h) = ((order fine, in_turn h first r.noticeless, comes fine), r.order) in
+          let ordered : IsLegalWithReturns (first ∷ h) = next_orderly h first ((order fine, tt), in_turn h first r.noticeless, comes fine) r.order in
+          let noted_so : MayNotice (first ∷ h) batch status = notice_row (first ∷ h) batch status ordered (so fine) in
           subst (λ (k : Record). IsRecorded told_by e after k) (sym (w₂.1 ∙ ap (λ (k : Record). second ∷ k) w₁.1)) (record {
             ports = λ j. subst (λ (v : _). IfSome (port_at v.items j) (λ port. IsTold (told_by port) (second ∷ first ∷ h) j)) (sym rows)
                 (some_mapped _ _ (port_at d.rows.items j) (λ port t. told_quiet (told_by port) (first ∷ h) j second tt (told_quiet (told_by port) h j first tt t)) (r.ports j));
             facts = λ j. subst (λ (v : _). IfSome (facts_at v.items j) (λ f. IsKnown f (second ∷ first ∷ h) j)) (sym facts)
-                (some_mapped _ _ (facts_at d.facts.items j) (λ f k. known_quiet f (first ∷ h) j second tt (known_quiet f h j first tt k)) (r.facts j));
+                (some_mapped _ _ (facts_at d.facts.items j) (λ f k. known_far f (first ∷ h) j second refl (known_far f h j first refl k)) (r.facts j));
             bytes = bytes ∙ r.bytes;
             next = same_next d.batches e.batches (first ∷ h) second refl next (same_next d.batches d.batches h first refl refl r.next);
-            order = ((so fine, tt, λ gone. refl), ordered);
+            order = next_orderly (first ∷ h) second ((noted_so, tt), tt, λ gone. refl) ordered;
             outs = subst (λ (v : _). AreOut v.items (second ∷ first ∷ h)) (sym rows) r.outs;
             said = subst (λ (v : _). AreSaid (second ∷ first ∷ h) v.items) (sym rows) (rows_on (first ∷ h) second tt d.rows.items (rows_on h first tt d.rows.items r.said));
             noticeless = λ b w. w;
@@ -483,7 +451,7 @@ stands_noticed {P} told_by d e hand after i c outcome batch status mid s balance
             cause = ap (λ (t : _). t.1) berths ∙ r.cause;
             installed = r.installed ∙ ap Some (sym (ap (λ (t : _). t.2) berths));
             places = subst (λ (v : _). IsPlaced v.items after (second ∷ first ∷ h)) (sym rows) (placed_still d.rows.items after (first ∷ h) second tt (conserved (first ∷ h) ordered) (places fine));
-            bore = λ going. born_on (first ∷ h) second ordered (so fine) tt (born_on h first r.order (order fine) tt (r.bore (sym (ap (λ (t : _). t.3) berths) ∙ going)));
+            bore = λ going. born_on (first ∷ h) second ordered noted_so tt (born_on h first r.order (order fine) tt (r.bore (sym (ap (λ (t : _). t.3) berths) ∙ going)));
             unnoticed = counted fine r.unnoticed;
             later = later_same h d.latest e.latest (ap (λ (t : _). t.4) berths) r.later;
           });
@@ -494,7 +462,8 @@ stands_noticed {P} told_by d e hand after i c outcome batch status mid s balance
       rooms = rooms_kept d.plan e.plan d.rows.items e.rows.items (ap (λ (t : _). t.2) berths) (ap (λ (v : _). buffer_rooms v.items) rows) s.rooms;
       few = few_kept d.plan e.plan (ap (λ (t : _). t.2) berths) s.few;
       count = count_kept d.plan e.plan d.rows.items e.rows.items (ap (λ (t : _). t.2) berths) (ap (λ (v : _). length v.items) rows) s.count;
-      order = order_next mid e.log second noticed (order_noted told_by d hand mid first s spent (λ fine. (order fine, in_turn h first (s.recorded fine).noticeless, comes fine)))
-          (λ whole. let w = spent.whole whole in subst (λ (k : Record). MayFollow k second) (sym w.1) (so (sound_whole told_by d hand h s w.0), tt, λ gone. refl));
+      order = order_next mid e.log second noticed (order_noted told_by d hand mid first s spent (λ fine. ((order fine, tt), in_turn h first (s.recorded fine).noticeless, comes fine)))
+          (λ whole. let w = spent.whole whole in let fine = sound_whole told_by d hand h s w.0 in
+          subst (λ (k : Record). MayFollow k second) (sym w.1) ((notice_row (first ∷ h) batch status (next_orderly h first ((order fine, tt), in_turn h first (s.recorded fine).noticeless, comes fine) s.order) (so fine), tt), tt, λ gone. refl));
       fed = λ whole. starved ∙ s.fed (spent.whole (noticed.whole whole).0).0;
     }

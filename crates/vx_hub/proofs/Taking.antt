@@ -44,7 +44,7 @@ use Rattle.vx_hub.specs.Abreast.{HasCome, HasComeHome}
 use Rattle.vx_hub.specs.Collecting.{IsSizedFor, IsSince, IsCollecting, MayLeave, role_of, task_role, role_at, IsFullOrOld}
 use Rattle.vx_hub.specs.Events.{IsSaidAt, AreSaid}
 use Rattle.vx_hub.specs.Numbers.{numbers_in}
-use Rattle.vx_hub.specs.Order.{IsOrderly, AreSettled, IsClosedFor, IsLastOf, IsPlaceFor, component_in, cause_of}
+use Rattle.vx_hub.specs.Order.{IsLegalWithReturns, AreSettled, IsClosedFor, IsLastOf, IsPlaceFor, component_in, cause_of}
 use Rattle.vx_hub.specs.Places.{IsThere, parcel_lists, parcel_numbers, copies_at, copies_if, all_numbers, numbers_at}
 use Rattle.vx_hub.specs.Rows.{row_at, task_parcels, role_parcels, CanHold, HoldsMore, RoleHoldsMore}
 use Rattle.vx_hub.specs.Spending.{IsSpentFor, MaySpend}
@@ -52,7 +52,8 @@ use Rattle.vx_hub.specs.Stands.{Stands, IsSound, IsMute}
 use Rattle.vx_hub.proofs.Collecting.{IsFirstHeld, collecting_taken, tried_leave, given_leave}
 use Rattle.vx_hub.proofs.Following.{abreast_on}
 use Rattle.vx_hub.proofs.Homing.{length_parcels}
-use Rattle.vx_hub.proofs.Naming.{name_first, component_is}
+use Rattle.vx_record.proofs.Wired.{name_first}
+use Rattle.vx_hub.proofs.Naming.{component_is}
 use Rattle.vx_hub.proofs.Ordering.{named_apart}
 use Rattle.vx_hub.proofs.Placing.{places_all, conserved}
 use Rattle.vx_hub.proofs.Ceasing.{unabandoned}
@@ -202,7 +203,7 @@ pub record IsFound (h : Record) (i : ℕ) (F : Component → Type 0) : Type 0 wh
   pub found : component_of h i ≡ Some component
   pub has : F component
 
-pub component_found : (h : Record) (i : ℕ) (F : Component → Type 0) → IsOrderly h → IsSomeAnd (component_in (in_force h) i) F → IsFound h i F
+pub component_found : (h : Record) (i : ℕ) (F : Component → Type 0) → IsLegalWithReturns h → IsSomeAnd (component_in (in_force h) i) F → IsFound h i F
 component_found h i F order is = go (in_force h) refl is (named_apart h order)
   where
     at : (plan : Plan) → in_force h ≡ Some plan → names_differ plan.components ≡ true → (o : Option Component) → slice_get plan.components i ≡ o → IsSomeAnd o F → IsFound h i F
@@ -214,7 +215,7 @@ component_found h i F order is = go (in_force h) refl is (named_apart h order)
     go (Some plan) force f apart = at plan force apart (slice_get plan.components i) refl f
 
 -- a batch is full where its core is
-full_is : (h : Record) (i : ℕ) (core : SinkCore) → IsOrderly h → IsCollecting h i core → held h i ≡ parcel_numbers core.held.items → is_full_batch h i ≡ nat_le core.held.room (length core.held.items)
+full_is : (h : Record) (i : ℕ) (core : SinkCore) → IsLegalWithReturns h → IsCollecting h i core → held h i ≡ parcel_numbers core.held.items → is_full_batch h i ≡ nat_le core.held.room (length core.held.items)
 full_is h i core order c is =
     let f = component_found h i (λ (x : Component). IsSizedFor x.settings core) order c.sized in
     ap (λ (o : Option Component). elim o [ None ↦ false | Some x ↦ nat_le (batch_max_events x.settings) (length (held h i)) ]) f.found
@@ -223,7 +224,7 @@ full_is h i core order c is =
     ∙ ap (λ n. nat_le core.held.room n) (length_parcels core.held.items)
 
 -- and timed out where its core has waited
-timed_is : (h : Record) (i : ℕ) (core : SinkCore) (now : ℕ) → IsOrderly h → IsCollecting h i core → core.since ≡ taken_at h i (oldest_held h i) → is_timed_out h i now ≡ nat_le (capped (core.since + core.timeout)) now
+timed_is : (h : Record) (i : ℕ) (core : SinkCore) (now : ℕ) → IsLegalWithReturns h → IsCollecting h i core → core.since ≡ taken_at h i (oldest_held h i) → is_timed_out h i now ≡ nat_le (capped (core.since + core.timeout)) now
 timed_is h i core now order c since =
     let f = component_found h i (λ (x : Component). IsSizedFor x.settings core) order c.sized in
     ap (λ (o : Option Component). elim o [ None ↦ false | Some x ↦ nat_le (capped (taken_at h i (oldest_held h i) + batch_timeout x.settings)) now ]) f.found
@@ -354,7 +355,7 @@ oldest_since h i (p ∷ ps) since is some going none old =
 
 -- a sink's core, as the record has it, where nothing that it holds was attempted
 pub record IsFresh (h : Record) (i : ℕ) (core : SinkCore) : Type 0 where
-  pub order : IsOrderly h
+  pub order : IsLegalWithReturns h
   pub collecting : IsCollecting h i core
   pub holds : held h i ≡ parcel_numbers core.held.items
   pub settled : AreSettled h i

@@ -14,10 +14,6 @@ use Rattle.vx_hub.specs.declared.work.Done.{Done}
 use Rattle.vx_hub.specs.declared.work.Done.TheVariants.{Nothing, Read, Attempted, Closed, Starved}
 use Rattle.vx_hub.specs.Works.{Did, Reports, Counts, IsOfOpenBy, turn_faults, turn_idles, taken_by, given_by, ended_by, confirmed_by, confirm_faults, faults_by, refusals_by, idles_by}
 
--- a count that rose after it had stood or risen
-pub rose_on : (a b c : ℕ) → a ≤ b → Rose b c → b ≤ c → Rose a c
-rose_on a b c le rose later = grind arith
-
 -- an attempt's parts
 pub gives_on : (a b c : Told) → OnlyGives a b → OnlyGives b c → OnlyGives a c
 gives_on a b c g h = record {

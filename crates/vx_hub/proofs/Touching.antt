@@ -9,24 +9,23 @@ use Rattle.vx_ledger.specs.Ledger.{Ledger, live_count, IsKept}
 use Rattle.vx_ledger.proofs.CopyLaws.{copies_of-append}
 use Rattle.vx_record.specs.Records.{Record}
 use Rattle.vx_ends.specs.declared.trouble.Reply.{Reply}
-use Rattle.vx_record.specs.Reads.{taken, bytes_of_all, is_end, all_ended}
+use Rattle.vx_record.specs.Reads.{taken, bytes_of_all}
 use Rattle.vx_record.specs.Installs.{in_force}
 use Rattle.vx_record.specs.Encoding.{given}
-use Rattle.vx_record.specs.Confirms.{confirmed, is_unconfirmed}
-use Rattle.vx_record.specs.Sourcing.{failed_starts}
+use Rattle.vx_record.specs.Confirms.{confirmed}
 use Rattle.vx_record.specs.PortCounts.{fault_count, refusal_count, idle_count}
 use Rattle.vx_record.specs.Noted.{Noted}
 use Rattle.vx_record.specs.declared.log.Log.{Log}
 use Rattle.vx_record.specs.declared.entry.Entry.{Entry}
-use Rattle.vx_record.specs.declared.entry.Entry.TheVariants.{Install, Read, Idle, SourceLost, Born, Attempt, Confirm, Abandon}
-use Rattle.vx_hub.proofs.Drying.{closing_on, unended}
+use Rattle.vx_record.specs.declared.entry.Entry.TheVariants.{Install, Home, Attempt, Abandon}
 use Rattle.vx_hub.specs.declared.facts.Facts.{Facts}
 use Rattle.vx_hub.specs.declared.row.Row.{Row}
 use Rattle.vx_hub.specs.declared.hub.Hub.{Hub}
 use Rattle.vx_hub.specs.Rows.{buffer_rooms, SameRooms, port_at, port_of, task_port, row_at, copies_in, IsBareAt, IsOutAt, SameOtherPorts, KeepsOthersBare, KeepsBare, Gains, Loses}
 use Rattle.vx_hub.specs.Works.{IsClosedBy}
 use Rattle.vx_hub.specs.declared.task.Task.{Task}
-use Rattle.vx_hub.specs.Stands.{Stands, IsTold, IsKnown, AreOut, IsRecorded, IsSound, IsShut, IsGone, facts_at, lost_at, spec_at, capped, touched, IsBalanced, IsMute, spare_of, cause_of}
+use Rattle.vx_hub.specs.Stands.{Stands, IsTold, IsKnown, AreOut, IsRecorded, IsSound, IsShut, IsGone, facts_at, spec_at, capped, touched, IsBalanced, IsMute, spare_of, cause_of}
+use Rattle.vx_hub.proofs.Known.{known_far, touched_far}
 use Rattle.vx_hub.proofs.RowLaws.{same_length}
 use Rattle.vx_hub.proofs.StandsLaws.{some_mapped, some_all, berths_kept, rooms_kept, told_mute, bytes_mute, force_mute, same_next, unknown_on, unknown_mute, few_kept, count_kept}
 use Rattle.vx_record.specs.Copies.{next_copy, makes}
@@ -39,7 +38,10 @@ use Rattle.vx_hub.specs.Events.{AreSaid}
 use Rattle.vx_hub.proofs.Saids.{rows_on, rows_told}
 use Rattle.vx_hub.proofs.Taking.{rows_marked}
 use Rattle.vx_hub.specs.Numbers.{numbers_in}
-use Rattle.vx_hub.specs.Order.{IsAttemptOf, IsInOrder, readers_at}
+use Rattle.vx_record.specs.Sinking.{MayAttempt}
+use Rattle.vx_record.specs.Legal.{Allows}
+use Rattle.vx_hub.specs.Order.{readers_at}
+use Rattle.vx_hub.proofs.Allowed.{next_orderly, Keeps}
 use Rattle.vx_ledger.specs.Routing.{targets_of}
 use Rattle.vx_hub.proofs.Ordering.{first_targets}
 use Rattle.vx_record.specs.Batches.{NoNoticeDue}
@@ -52,113 +54,10 @@ use Rattle.vx_hub.proofs.Owning.{placed_still, placed_same}
 use Rattle.vx_hub.specs.Notices.{progress_at, pending_in, IsCounted}
 use Rattle.vx_hub.proofs.Counting.{counted_on, pending_touched}
 use Rattle.vx_hub.proofs.Prefixing.{abreast_plain, plain_touched}
-use Rattle.vx_hub.proofs.Silence.{told_silent, silent_other, other_test, same_test}
+use Rattle.vx_hub.proofs.Silence.{told_silent, silent_other, same_test}
 use Rattle.vx_hub.specs.Offspring.{OwesNothing}
 use Rattle.vx_hub.proofs.Offspring.{born_on, owes_touched}
 use Rattle.vx_hub.proofs.Moments.{later_touched, later_same}
-
--- a test that fails chooses the other side
-known_chosen : {X : Type 0} (a : Bool) (x y z : X) → a ≡ false → z ≡ y → z ≡ (if a then x else y)
-known_chosen true x y z e k = cc
-known_chosen false x y z e k = k
-
--- what is known of another instance
-pub known_other : (f : Facts) (h : Record) (i j : ℕ) (e : Entry) → touched e ≡ Some i → j ≢ i → IsKnown f h j → IsKnown f (e ∷ h) j
-known_other f h i j (Read k stream took) t other s =
-    let k_is : k ≡ i = cc in
-    let test : (k == j) ≡ false = other_test k j (λ e. other (e ∙ k_is)) in
-    record {
-      taken = grind (arith, nat_tests, test, s.taken);
-      lost = s.lost;
-      failed_starts = known_chosen (k == j) 0 (failed_starts h j) f.failed_starts test s.failed_starts;
-      confirm_failed = s.confirm_failed;
-      outlet = s.outlet;
-      over = s.over ∙ sym (unended (k == j) (is_end took) (all_ended h j) test);
-      class = s.class;
-      done = λ closed. closing_on h j (Read k stream took) refl (s.done closed);
-      closed = s.closed;
-      retired = s.retired;
-      leased = s.leased;
-    }
-known_other f h i j (Idle k failed) t other s =
-    let k_is : k ≡ i = cc in
-    let test : (k == j) ≡ false = other_test k j (λ e. other (e ∙ k_is)) in
-    record {
-      taken = s.taken;
-      lost = s.lost;
-      failed_starts = known_chosen (k == j) (if failed then failed_starts h j + 1 else 0) (failed_starts h j) f.failed_starts test s.failed_starts;
-      confirm_failed = s.confirm_failed;
-      outlet = s.outlet;
-      over = s.over;
-      class = s.class;
-      done = λ closed. closing_on h j (Idle k failed) refl (s.done closed);
-      closed = s.closed;
-      retired = s.retired;
-      leased = s.leased;
-    }
-known_other f h i j (SourceLost k at failed) t other s =
-    let k_is : k ≡ i = cc in
-    let test : (k == j) ≡ false = other_test k j (λ e. other (e ∙ k_is)) in
-    record {
-      taken = s.taken;
-      lost = known_chosen (k == j) (Some at) (lost_at h j) f.lost test s.lost;
-      failed_starts = s.failed_starts;
-      confirm_failed = s.confirm_failed;
-      outlet = s.outlet;
-      over = s.over;
-      class = s.class;
-      done = λ closed. closing_on h j (SourceLost k at failed) refl (s.done closed);
-      closed = s.closed;
-      retired = s.retired;
-      leased = s.leased;
-    }
-known_other f h i j (Attempt k copies bytes reply) t other s =
-    record {
-      taken = s.taken;
-      lost = s.lost;
-      failed_starts = s.failed_starts;
-      confirm_failed = s.confirm_failed;
-      outlet = s.outlet;
-      over = s.over;
-      class = s.class;
-      done = λ closed. closing_on h j (Attempt k copies bytes reply) refl (s.done closed);
-      closed = s.closed;
-      retired = s.retired;
-      leased = s.leased;
-    }
-known_other f h i j (Confirm k positions made) t other s =
-    let k_is : k ≡ i = cc in
-    let test : (k == j) ≡ false = other_test k j (λ e. other (e ∙ k_is)) in
-    record {
-      taken = s.taken;
-      lost = s.lost;
-      failed_starts = s.failed_starts;
-      confirm_failed = known_chosen (k == j) (not made) (is_unconfirmed h j) f.confirm_failed test s.confirm_failed;
-      outlet = s.outlet;
-      over = s.over;
-      class = s.class;
-      done = λ closed. closing_on h j (Confirm k positions made) refl (s.done closed);
-      closed = s.closed;
-      retired = s.retired;
-      leased = s.leased;
-    }
-known_other f h i j (Born k b place copies events waits stream end) t other s =
-    let k_is : k ≡ i = cc in
-    let test : (k == j) ≡ false = other_test k j (λ e. other (e ∙ k_is)) in
-    record {
-      taken = s.taken;
-      lost = s.lost;
-      failed_starts = s.failed_starts;
-      confirm_failed = s.confirm_failed;
-      outlet = s.outlet;
-      over = s.over;
-      class = s.class;
-      done = λ closed. closing_on h j (Born k b place copies events waits stream end) refl (s.done closed);
-      closed = s.closed;
-      retired = s.retired;
-      leased = s.leased;
-    }
-known_other f h i j e t other s = cc
 
 -- the facts of the instance that were written
 pub facts_written : (fs : List Facts) (i : ℕ) (new : Facts) → i < length fs → facts_at (slice_set fs i new) i ≡ Some new
@@ -227,6 +126,12 @@ force_touched : (h : Record) (e : Entry) (i : ℕ) → touched e ≡ Some i → 
 force_touched h (Install version plan once instances now) i t = cc
 force_touched h e i t = refl
 
+-- and the entry needs only its row
+keeps_touched : (h : Record) (e : Entry) (i : ℕ) → touched e ≡ Some i → Keeps h e
+keeps_touched h (Install version plan once instances now) i t = cc
+keeps_touched h (Home j) i t = cc
+keeps_touched h e i t = tt
+
 -- bytes or the loss of an instance that is out are told
 pub stands_touched : {P : Type 0} (told_by : P → Told) (d e : Hub P) (hand : List Copy) (entry : Entry) (i : ℕ) (f g : Facts) →
     Stands told_by d hand d.log.history → IsOutAt d.rows.items i → i < length d.facts.items → f ≡ get_or d.facts.items i f →
@@ -234,7 +139,7 @@ pub stands_touched : {P : Type 0} (told_by : P → Told) (d e : Hub P) (hand : L
     e.rows ≡ d.rows → spare_of e ≡ spare_of d → e.batches ≡ d.batches → e.starved ≡ d.starved → Noted d.log entry e.log → touched entry ≡ Some i → IsStill entry →
     (IsKnown f d.log.history i → IsKnown g (entry ∷ d.log.history) i) →
     (d.bytes ≡ capped (bytes_of_all d.log.history) → e.bytes ≡ capped (bytes_of_all (entry ∷ d.log.history))) →
-    makes entry ≡ 0 → (IsSound d → IsKnown f d.log.history i → is_out d.log.history i ≡ true → IsInOrder d.log.history entry) →
+    makes entry ≡ 0 → (IsSound d → IsKnown f d.log.history i → is_out d.log.history i ≡ true → Allows d.log.history entry) →
     Stands told_by e hand e.log.history
 stands_touched {P} told_by d e hand entry i f g s out within at written closed retired rows berths batches starved noted touch still known bytes none_made order =
     let was : facts_at d.facts.items i ≡ Some f = facts_read d.facts.items i f within at in
@@ -255,10 +160,10 @@ stands_touched {P} told_by d e hand entry i f g s out within at written closed r
                 (λ k other. some_mapped _ _ (port_at d.rows.items k) (λ port t. told_silent (told_by port) d.log.history k entry (silent_other d.log.history i k entry touch other) t) (r.ports k)) j);
             facts = λ j. subst (λ (fs : List Facts). IfSome (facts_at fs j) (λ x. IsKnown x (entry ∷ d.log.history) j)) (sym written)
                 (facts_keep (λ k o. IfSome o (λ x. IsKnown x (entry ∷ d.log.history) k)) d.facts.items i g within (known mine)
-                (λ k other. some_mapped _ _ (facts_at d.facts.items k) (λ x t. known_other x d.log.history i k entry touch other t) (r.facts k)) j);
+                (λ k other. some_mapped _ _ (facts_at d.facts.items k) (λ x t. known_far x d.log.history k entry (touched_far i k entry touch other) t) (r.facts k)) j);
             bytes = bytes r.bytes;
             next = same_next d.batches e.batches d.log.history entry none_made (ap (λ (l : Ledger). l.next) batches) r.next;
-            order = ((order fine mine (r.outs i (subst (λ n. i < n) s.size within) none), in_turn d.log.history entry r.noticeless, comes_left d.log.history entry i touch still (left_out d.log.history i r.order (r.outs i (subst (λ n. i < n) s.size within) none))), r.order);
+            order = next_orderly d.log.history entry ((order fine mine (r.outs i (subst (λ n. i < n) s.size within) none), keeps_touched d.log.history entry i touch), in_turn d.log.history entry r.noticeless, comes_left d.log.history entry i touch still (left_out d.log.history i r.order (r.outs i (subst (λ n. i < n) s.size within) none))) r.order;
             said = subst (λ (v : _). AreSaid (entry ∷ d.log.history) v.items) (sym rows) (rows_told d.log.history entry i d.rows.items touch out r.said);
             outs = subst (λ (v : _). AreOut v.items (entry ∷ d.log.history)) (sym rows) (λ k l away. out_touched d.log.history entry i k touch ∙ r.outs k l away);
             noticeless = still_quiet d.log.history entry still;
@@ -291,7 +196,7 @@ stands_touched {P} told_by d e hand entry i f g s out within at written closed r
           let r : IsRecorded told_by d hand d.log.history = s.recorded fine in
           let mine : IsKnown f d.log.history i = subst (λ (o : Option Facts). IfSome o (λ x. IsKnown x d.log.history i)) was (r.facts i) in
           let away = r.outs i (subst (λ n. i < n) s.size within) none in
-          (order fine mine away, in_turn d.log.history entry r.noticeless, comes_left d.log.history entry i touch still (left_out d.log.history i r.order away)));
+          ((order fine mine away, keeps_touched d.log.history entry i touch), in_turn d.log.history entry r.noticeless, comes_left d.log.history entry i touch still (left_out d.log.history i r.order away)));
       fed = fed_noted d.log e.log entry d.starved e.starved noted starved s.fed;
     }
 
@@ -300,7 +205,7 @@ pub stands_marked : {P : Type 0} (told_by : P → Told) (d e : Hub P) (hand afte
     Stands told_by d hand d.log.history → i < length d.facts.items → f ≡ get_or d.facts.items i f →
     e.facts.items ≡ slice_set d.facts.items i g →
     e.rows ≡ d.rows → spare_of (record e { progress = d.progress }) ≡ spare_of d → IsBalanced e.batches d.rows.items after → e.starved ≡ d.starved → e.bytes ≡ d.bytes → Noted d.log entry e.log → IsMute entry →
-    (d.batches.next ≡ next_copy d.log.history → e.batches.next ≡ next_copy (entry ∷ d.log.history)) → (IsSound d → IsInOrder d.log.history entry) → (IsSound d → MayStillCome d.log.history entry) → ((k : ℕ) → port_at d.rows.items k ≡ None → is_out d.log.history k ≡ true → is_out (entry ∷ d.log.history) k ≡ true) →
+    (d.batches.next ≡ next_copy d.log.history → e.batches.next ≡ next_copy (entry ∷ d.log.history)) → (IsSound d → Allows d.log.history entry × Keeps d.log.history entry) → (IsSound d → MayStillCome d.log.history entry) → ((k : ℕ) → port_at d.rows.items k ≡ None → is_out d.log.history k ≡ true → is_out (entry ∷ d.log.history) k ≡ true) →
     cause_of (entry ∷ d.log.history) ≡ cause_of d.log.history →
     (IsSound d → IsKnown f d.log.history i → IsKnown g (entry ∷ d.log.history) i) →
     ((x : Facts) (k : ℕ) → k ≢ i → IsKnown x d.log.history k → IsKnown x (entry ∷ d.log.history) k) →
@@ -330,8 +235,8 @@ stands_marked {P} told_by d e hand after entry i f g s within at written rows be
                 (λ k other. some_mapped _ _ (facts_at d.facts.items k) (λ x t. others x k other t) (r.facts k)) j);
             bytes = bytes ∙ r.bytes ∙ ap capped (sym (bytes_mute d.log.history entry mute));
             next = next r.next;
-            order = ((order fine, in_turn d.log.history entry r.noticeless, comes fine), r.order);
-            said = subst (λ (v : _). AreSaid (entry ∷ d.log.history) v.items) (sym rows) (rows_marked d.log.history entry mute d.rows.items (numbers_in hand) r.places.standing (conserved (entry ∷ d.log.history) ((order fine, in_turn d.log.history entry r.noticeless, comes fine), r.order)) r.said);
+            order = next_orderly d.log.history entry (order fine, in_turn d.log.history entry r.noticeless, comes fine) r.order;
+            said = subst (λ (v : _). AreSaid (entry ∷ d.log.history) v.items) (sym rows) (rows_marked d.log.history entry mute d.rows.items (numbers_in hand) r.places.standing (conserved (entry ∷ d.log.history) (next_orderly d.log.history entry (order fine, in_turn d.log.history entry r.noticeless, comes fine) r.order)) r.said);
             outs = subst (λ (v : _). AreOut v.items (entry ∷ d.log.history)) (sym rows) (λ k l away. outs k away (r.outs k l away));
             noticeless = due;
             statuses = statuses fine (accounted d.log.history r.order) r.statuses;
@@ -340,8 +245,8 @@ stands_marked {P} told_by d e hand after entry i f g s within at written rows be
             cause = ap (λ (t : _). t.1) berths ∙ r.cause ∙ sym cause;
             installed = force_mute d.log.history entry mute ∙ r.installed ∙ ap Some (sym (ap (λ (t : _). t.2) berths));
             places = subst (λ (v : _). IsPlaced v.items after (entry ∷ d.log.history)) (sym rows)
-                (places fine (conserved (entry ∷ d.log.history) ((order fine, in_turn d.log.history entry r.noticeless, comes fine), r.order)) r.places);
-            bore = λ going. let before : d.fatal ≡ false = sym (ap (λ (t : _). t.3) berths) ∙ going in born_on d.log.history entry r.order (order fine) (owes fine before) (r.bore before);
+                (places fine (conserved (entry ∷ d.log.history) (next_orderly d.log.history entry (order fine, in_turn d.log.history entry r.noticeless, comes fine) r.order)) r.places);
+            bore = λ going. let before : d.fatal ≡ false = sym (ap (λ (t : _). t.3) berths) ∙ going in born_on d.log.history entry r.order (order fine).0 (owes fine before) (r.bore before);
             unnoticed = counted fine r.unnoticed;
             later = later_same (entry ∷ d.log.history) d.latest e.latest (ap (λ (t : _). t.4) berths) (λ worker. later worker (r.later worker));
           });
@@ -557,24 +462,9 @@ pub no_bytes : (t : Bool) (b : ℕ) (bs : List ℕ) → bs ≡ [] → capped b �
 no_bytes true b bs none = ap capped (let e : length bs ≡ 0 = ap length none in omega arith)
 no_bytes false b bs none = ap capped (omega arith)
 
-known_attempt : (f : Facts) (h : Record) (i j : ℕ) (copies bytes : List ℕ) (reply : Reply) → IsKnown f h j → IsKnown f (Attempt i copies bytes reply ∷ h) j
-known_attempt f h i j copies bytes reply k = record {
-  taken = k.taken;
-  lost = k.lost;
-  failed_starts = k.failed_starts;
-  confirm_failed = k.confirm_failed;
-  outlet = k.outlet;
-  over = k.over;
-  class = k.class;
-  done = λ closed. closing_on h j (Attempt i copies bytes reply) refl (k.done closed);
-  closed = k.closed;
-  retired = k.retired;
-  leased = k.leased;
-}
-
 -- an attempt of an instance that is out is told
 pub stands_attempted : {P : Type 0} (told_by : P → Told) (d : Hub P) (log : Log) (hand : List Copy) (i : ℕ) (copies bytes : List ℕ) (reply : Reply) →
-    Stands told_by d hand d.log.history → i < length d.rows.items → IsOutAt d.rows.items i → (IsSound d → is_out d.log.history i ≡ true → IsAttemptOf d.log.history i copies bytes reply) → Noted d.log (Attempt i copies bytes reply) log →
+    Stands told_by d hand d.log.history → i < length d.rows.items → IsOutAt d.rows.items i → (IsSound d → is_out d.log.history i ≡ true → MayAttempt d.log.history i copies bytes reply) → Noted d.log (Attempt i copies bytes reply) log →
     Stands told_by (record d { log = log }) hand log.history
 stands_attempted {P} told_by d log hand i copies bytes reply s within out names noted =
     let e : Entry = Attempt i copies bytes reply in
@@ -589,10 +479,10 @@ stands_attempted {P} told_by d log hand i copies bytes reply s within out names 
             ports = other_port (λ k p. IfSome p (λ port. IsTold (told_by port) (e ∷ d.log.history) k)) i d.rows.items
                 (subst (λ (p : Option P). IfSome p (λ port. IsTold (told_by port) (e ∷ d.log.history) i)) (sym none) tt)
                 (λ k other. some_mapped _ _ (port_at d.rows.items k) (λ port t. told_silent (told_by port) d.log.history k e (silent_other d.log.history i k e refl other) t) (r.ports k));
-            facts = λ j. some_mapped _ _ (facts_at d.facts.items j) (λ f k. known_attempt f d.log.history i j copies bytes reply k) (r.facts j);
+            facts = λ j. some_mapped _ _ (facts_at d.facts.items j) (λ f k. known_far f d.log.history j (Attempt i copies bytes reply) refl k) (r.facts j);
             bytes = r.bytes;
             next = same_next d.batches d.batches d.log.history e refl refl r.next;
-            order = ((names (record { whole = w.0; fed = sound.fed }) (r.outs i within none), r.noticeless, left_out d.log.history i r.order (r.outs i within none)), r.order);
+            order = next_orderly d.log.history e ((names (record { whole = w.0; fed = sound.fed }) (r.outs i within none), tt), r.noticeless, left_out d.log.history i r.order (r.outs i within none)) r.order;
             said = rows_on d.log.history e tt d.rows.items r.said;
             outs = r.outs;
             noticeless = λ b w. w;
@@ -616,7 +506,7 @@ stands_attempted {P} told_by d log hand i copies bytes reply s within out names 
       order = order_noted told_by d hand log e s noted (λ fine.
           let r = s.recorded fine in
           let away = r.outs i within none in
-          (names fine away, r.noticeless, left_out d.log.history i r.order away));
+          ((names fine away, tt), r.noticeless, left_out d.log.history i r.order away));
       fed = fed_noted d.log log e d.starved d.starved noted refl s.fed;
     }
 

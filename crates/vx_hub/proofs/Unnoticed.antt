@@ -10,7 +10,7 @@ use Rattle.vx_record.specs.Confirms.{Birth, births, is_noticed}
 use Rattle.vx_record.specs.Laws.{times_noticed}
 use Rattle.vx_record.specs.Accounting.{IsAccounted}
 use Rattle.vx_record.proofs.Notices.{noticed}
-use Rattle.vx_hub.specs.Order.{IsOrderly}
+use Rattle.vx_hub.specs.Order.{IsLegalWithReturns}
 use Rattle.vx_hub.specs.Notices.{Pending, pending, without_first, count_of, count_unnoticed, unnoticed}
 use Rattle.vx_hub.proofs.Noticing.{accounted}
 
@@ -161,5 +161,5 @@ counts_births k (Born j b place copies events waits stream end ∷ h) i =
 counts_births k (e ∷ h) i = counts_births k h i ∙ ap (count_unnoticed k) (sym (append-nil (births h i)))
 
 -- so many are an instance's births without a notice
-pub unnoticed_births : (h : Record) (i : ℕ) → IsOrderly h → unnoticed h i ≡ count_unnoticed h (births h i)
+pub unnoticed_births : (h : Record) (i : ℕ) → IsLegalWithReturns h → unnoticed h i ≡ count_unnoticed h (births h i)
 unnoticed_births h i order = ap (count_of i) (pending_open h (accounted h order)) ∙ counts_births h h i

@@ -1,5 +1,5 @@
 -- What a source brings home, behind the entries that tell it.
-use Rattle.std.proofs.Common.{◌≡◌, ℕ, ◌<◌, length, Bool, List, [], ◌∷◌, ◌++◌, inl, inr, true, subst, sym}
+use Rattle.std.proofs.Common.{◌≡◌, ℕ, ◌<◌, length, Bool, List, [], ◌∷◌, ◌++◌, subst, sym}
 use Rattle.std.specs.Prelude.{Contains}
 use Rattle.std.proofs.lemmas.List.{append-nil}
 use Rattle.vx_ends.specs.declared.position.Position.{Position}
@@ -10,7 +10,6 @@ use Rattle.vx_record.specs.Noted.{Noted}
 use Rattle.vx_record.specs.Reads.{ended_streams, ended_by}
 use Rattle.vx_record.specs.declared.entry.Entry.{Entry}
 use Rattle.vx_record.specs.declared.entry.Entry.TheVariants.{Read, Confirm}
-use Rattle.vx_record.specs.declared.entry.Entry.TheVariants as entry
 use Rattle.vx_record.specs.declared.taken.Taken.{Taken}
 use Rattle.vx_record.specs.declared.taken.Taken.TheVariants as taken
 use Rattle.vx_hub.specs.declared.hub.Hub.{Hub}
@@ -23,7 +22,6 @@ use Rattle.vx_hub.specs.declared.work.Done.{Done}
 use Rattle.vx_hub.specs.declared.work.Done.TheVariants as done
 use Rattle.vx_hub.specs.Abreast.{AreNamedApart, IsAbreast, HasCome, HasDone, HasTurned, RoleHasTurned, Yields, Gives}
 use Rattle.vx_hub.specs.Births.{HasComeBy, HasDoneBy}
-use Rattle.vx_hub.specs.Failures.{IsFailureOf}
 use Rattle.vx_hub.specs.Stands.{IsSound}
 use Rattle.vx_hub.specs.Spending.{HasYielded}
 use Rattle.vx_record.specs.Sourcing.{IsYield}
@@ -85,24 +83,6 @@ stream_role h i stream events end (Sink core) t = absurd t
 pub all_role : (h : Record) (i stream : ℕ) (events : List Event) (end : ℕ) (role : Role) → RoleHasTurned h i role (AllEnded stream events end) → HasCome (Read i stream taken.AllEnded ∷ h) i role × Yields h i stream taken.AllEnded events stream end × Gives h i stream taken.AllEnded events
 all_role h i stream events end (Source core) t = t
 all_role h i stream events end (Sink core) t = absurd t
-
-pub idle_role : (h : Record) (i : ℕ) (role : Role) → RoleHasTurned h i role Idle → HasCome h i role
-idle_role h i (Source core) t = t
-idle_role h i (Sink core) t = absurd t
-
-pub failed_role : (h : Record) (i : ℕ) (at_start : Bool) (role : Role) → RoleHasTurned h i role (Failed at_start) → HasCome h i role
-failed_role h i at_start (Source core) t = t
-failed_role h i at_start (Sink core) t = absurd t
-
--- a read is told of a source that comes home with it
-pub come_read : {P : Type 0} (d e : Hub P) (i stream : ℕ) (took : Taken) (role : Role) → Noted d.log (Read i stream took) e.log → e.starved ≡ d.starved → (IsSound d → HasCome (Read i stream took ∷ d.log.history) i role) → HasComeBy e i role
-come_read d e i stream took role noted starved come sound =
-    subst (λ (h : Record). HasCome h i role) (sym (noted.whole sound.whole).1) (come (sound_before d e (Read i stream took) noted starved sound))
-
--- a failure leaves it abreast
-pub come_failed : {P : Type 0} (d e : Hub P) (i : ℕ) (at_start : Bool) (role : Role) → IsFailureOf i at_start d.log e.log → e.starved ≡ d.starved → HasComeBy d i role → HasComeBy e i role
-come_failed d e i at_start role (inl idle) starved come = come_on d e (entry.Idle i true) i role tt idle.1 starved come
-come_failed d e i at_start role (inr lost) starved come = come_on d e (entry.SourceLost i lost.0 at_start) i role tt lost.1 starved come
 
 -- and what it gave is what that read gives
 pub yielded : {P : Type 0} (d e : Hub P) (i stream : ℕ) (took : Taken) (events : List Event) (position : Position) → Noted d.log (Read i stream took) e.log → e.starved ≡ d.starved → (IsSound d → Yields d.log.history i stream took events position.stream position.end) → HasYielded e i events position

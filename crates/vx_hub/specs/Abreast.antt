@@ -1,15 +1,13 @@
 -- A source that has come as far as the record has it.
-use Rattle.std.specs.Prelude.{◌≡◌, ℕ, ◌<◌, true, Option, Some, None, IfSome, IsSomeAnd, List, [], ◌∷◌, length, Contains}
+use Rattle.std.specs.Prelude.{◌≡◌, ℕ, ◌<◌, Option, Some, None, IsSomeAnd, List, [], ◌∷◌, length, Contains}
 use Rattle.vx_value.specs.declared.event.Event.{Event}
 use Rattle.vx_frame.specs.Framings.{HasTaken}
 use Rattle.vx_plan.specs.declared.component.Component.{Component}
-use Rattle.vx_plan.specs.declared.plan.Plan.{Plan}
 use Rattle.vx_plan.specs.declared.settings.Settings.{Settings}
 use Rattle.vx_plan.specs.Components.{longest_line}
 use Rattle.vx_plan.specs.Options.{decoding, type_name}
 use Rattle.vx_record.specs.Records.{Record}
-use Rattle.vx_record.specs.Installs.{in_force, component_of}
-use Rattle.vx_record.specs.Wirings.{names_differ}
+use Rattle.vx_record.specs.Installs.{component_of}
 use Rattle.vx_record.specs.Reads.{last_stream, open_bytes, ended_streams, events_of}
 use Rattle.vx_record.specs.Sourcing.{IsYieldOf}
 use Rattle.vx_record.specs.declared.entry.Entry.TheVariants.{Read}
@@ -25,10 +23,7 @@ use Rattle.vx_hub.specs.declared.task.Role.{Role}
 use Rattle.vx_hub.specs.declared.task.Role.TheVariants.{Source, Sink}
 use Rattle.vx_hub.specs.declared.task.Task.{Task}
 use Rattle.vx_hub.specs.Collecting.{IsCollecting}
-
--- no two components of the plan in force have one name
-abbrev pub AreNamedApart : Record → Type 0
-AreNamedApart h = IfSome (in_force h) (λ (plan : Plan). names_differ plan.components ≡ true)
+pub use Rattle.vx_hub.specs.Order.{AreNamedApart}
 
 -- a source takes the lines of its component, and decodes them by the component's codec, with its type
 pub record IsMadeFor (settings : Settings) (core : SourceCore) : Type 0 where

@@ -7,7 +7,7 @@ use Rattle.vx_record.specs.declared.log.Log.{Log}
 use Rattle.vx_record.specs.declared.entry.Entry.TheVariants.{Idle, SourceLost}
 use Rattle.vx_record.specs.declared.abandon_cause.AbandonCause.{AbandonCause}
 use Rattle.vx_record.specs.declared.abandon_cause.AbandonCause.TheVariants as cause
-use Rattle.vx_hub.specs.Order.{IsReason}
+use Rattle.vx_record.specs.Ending.{HasReason as IsReason}
 use Rattle.vx_hub.specs.Stands.{IsSound}
 use Rattle.vx_hub.specs.declared.hub.Hub.{Hub}
 use Rattle.vx_hub.specs.declared.fatal.Fatal.{Fatal}

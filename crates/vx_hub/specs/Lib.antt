@@ -15,6 +15,7 @@ pub mod Notices
 pub mod Stands
 pub mod Confirming
 pub mod Births
+pub mod Adding
 pub mod Away
 pub mod Readings
 pub mod Events

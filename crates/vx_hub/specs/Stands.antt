@@ -30,7 +30,7 @@ use Rattle.vx_hub.specs.Places.{IsPlaced}
 use Rattle.vx_hub.specs.Events.{AreSaid}
 use Rattle.vx_hub.specs.Turns.{NothingLeft}
 pub use Rattle.vx_hub.specs.Order.{lost_at, cause_of, component_in, IsClosing}
-use Rattle.vx_hub.specs.Order.{IsOrderly, IsUnknown, readers_at}
+use Rattle.vx_hub.specs.Order.{IsLegalWithReturns, IsUnknown, readers_at}
 use Rattle.vx_record.specs.Copies.{next_copy}
 use Rattle.vx_record.specs.Installs.{in_force, is_closed, is_retired}
 use Rattle.vx_ends.specs.declared.port_spec.PortSpec.{PortSpec}
@@ -95,7 +95,7 @@ pub record IsRecorded {P : Type 0} (told_by : P → Told) (hub : Hub P) (hand : 
   pub facts : (i : ℕ) → IfSome (facts_at hub.facts.items i) (λ f. IsKnown f h i)
   pub bytes : hub.bytes ≡ capped (bytes_of_all h)
   pub next : hub.batches.next ≡ next_copy h
-  pub order : IsOrderly h
+  pub order : IsLegalWithReturns h
   pub unknown : (i : ℕ) → length hub.rows.items ≤ i → IsUnknown h i
   pub cause : hub.abandoned ≡ cause_of h
   pub installed : in_force h ≡ Some hub.plan
@@ -157,7 +157,7 @@ HasFew plan = length plan.components < 2 ^ 32
 abbrev pub spare_of : {P : Type 0} → Hub P → Filled (Numbered P) × Option AbandonCause × Plan × Bool × ℕ × List Progress
 spare_of hub = (hub.ports, hub.abandoned, hub.plan, hub.fatal, hub.latest, hub.progress.items)
 
--- the hub stands for a record, while the copies in the hand are neither at an instance nor spent; each entry is in order,
+-- the hub stands for a record, while the copies in the hand are neither at an instance nor spent; the record is legal,
 -- also where memory was wanting, since the record ends there
 pub record Stands {P : Type 0} (told_by : P → Told) (hub : Hub P) (hand : List Copy) (h : Record) : Type 0 where
   pub history : hub.log.history ≡ h
@@ -170,7 +170,7 @@ pub record Stands {P : Type 0} (told_by : P → Told) (hub : Hub P) (hand : List
   pub rooms : HasRooms hub.plan hub.rows.items
   pub few : HasFew hub.plan
   pub count : length hub.rows.items ≡ length hub.plan.components
-  pub order : IsOrderly h
+  pub order : IsLegalWithReturns h
   pub fed : IsTrue hub.log.whole → hub.starved ≡ false
 
 -- an entry that installs nothing and tells nothing of any port

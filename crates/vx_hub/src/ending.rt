@@ -1,6 +1,6 @@
 ghost use Rattle.std.specs.Prelude.{◌≡◌, ◌<◌, ◌↔◌, ◌⊎◌, [], length, IfSome, IsSomeAnd, IsTrue, IsSome, All, Some, None, ℕ, IfNone, false, true};
 ghost use Rattle.vx_record.specs.Noted.{Noted};
-ghost use Rattle.vx_hub.specs.Order.{IsReason};
+ghost use Rattle.vx_record.specs.Ending.{HasReason};
 ghost use Rattle.vx_hub.specs.Spending.{ComeFrom};
 ghost use Rattle.vx_hub.specs.Stands.{Stands, IsSound, IsAtHome, facts_at};
 ghost use Rattle.vx_hub.specs.Finishing.{IsFinishedWell, IsRetirable};
@@ -126,7 +126,7 @@ impl<P: Port> Hub<P> {
     pub fn abandon(&mut self, cause: AbandonCause)
         requires stands { Stands P.told self.old [] self.old.log.history }
         requires once { self.old.abandoned ≡ None }
-        requires reason { IsSound self.old → IsReason self.old.log.history cause }
+        requires reason { IsSound self.old → HasReason self.old.log.history cause }
         ensures stands { Stands P.told self.new [] self.new.log.history }
         ensures size { length self.new.rows.items ≡ length self.old.rows.items }
         ensures plan { self.new.plan ≡ self.old.plan }
@@ -144,7 +144,7 @@ impl<P: Port> Hub<P> {
     fn note_abandoned(&mut self, cause: AbandonCause)
         requires stands { Stands P.told self.old [] self.old.log.history }
         requires once { self.old.abandoned ≡ None }
-        requires reason { IsSound self.old → IsReason self.old.log.history cause }
+        requires reason { IsSound self.old → HasReason self.old.log.history cause }
         ensures stands { Stands P.told self.new [] self.new.log.history }
         ensures size { length self.new.rows.items ≡ length self.old.rows.items }
         ensures plan { self.new.plan ≡ self.old.plan }

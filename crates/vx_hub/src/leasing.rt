@@ -5,6 +5,7 @@ ghost use Rattle.vx_hub.specs.Stands.{Stands, IsSound, IsUnlost, MayShut, IsDry,
 ghost use Rattle.vx_hub.specs.Finishing.{is_dry_by, is_sent_at, feeds_at, unnoticed_by, IsUnfed, IsSourceFinished, IsSinkFinished, IsFinished, WasDone};
 ghost use Rattle.vx_hub.specs.Works.{IsSending};
 ghost use Rattle.vx_hub.specs.Leases.{IsLeased, IsOpenAt};
+ghost use Rattle.vx_hub.specs.Adding.{OnlyAdds, IsTakeBy};
 ghost use Rattle.vx_hub.specs.Away.{IsAway, HasTaken, IsUntried, WasNoticed};
 ghost use Rattle.vx_hub.specs.Readings.{IsFlowing, IsReadyToRead, MayRead};
 ghost use Rattle.vx_hub.specs.Readiness.{IsToConfirm, IsReadyFor, HasWork};
@@ -353,22 +354,13 @@ impl<P: Port> Hub<P> {
         ensures facts { self.new.facts ≡ self.old.facts }
         ensures outputs { (i : ℕ) → numbers_at (Outputs i) self.new.rows.items ≡ numbers_at (Outputs i) self.old.rows.items }
         ensures ports { SamePorts self.old.rows.items self.new.rows.items }
-        ensures shut { MayShut self.old instance → MayShut self.new instance }
         ensures size { length self.new.rows.items ≡ length self.old.rows.items }
         ensures plan { self.new.plan ≡ self.old.plan }
         ensures fatal { self.new.fatal ≡ self.old.fatal }
         ensures abandoned { self.new.abandoned ≡ self.old.abandoned }
-        ensures away { (i : ℕ) → IsAway self.old i → IsAway self.new i }
-        ensures untried { (i : ℕ) → IsUntried self.old i → IsUntried self.new i }
-        ensures turn { (i : ℕ) → MayRead self.old i → MayRead self.new i }
-        ensures nothing { (i : ℕ) → HadNothing self.old i → HadNothing self.new i }
+        ensures took { OnlyAdds (IsTakeBy instance) self.old self.new }
         ensures holds { (i : ℕ) → HoldsSome self.old.rows.items i → HoldsSome self.new.rows.items i }
-        ensures bore { (i : ℕ) → HasBorn self.old i → HasBorn self.new i }
-        ensures noticed { (i : ℕ) → WasNoticed self.old i → WasNoticed self.new i }
         ensures latest { self.new.latest ≡ self.old.latest }
-        ensures moment { (i moment : ℕ) → IsLeaseMoment self.old i moment → IsLeaseMoment self.new i moment }
-        ensures leased { (i : ℕ) → IsLeaseMoment self.old i self.old.latest → IsLeaseMoment self.new i self.new.latest }
-        ensures done { (i : ℕ) → WasDone self.old i → WasDone self.new i }
     {
         for _taken in 0..TAKES {
             if !self.take(instance, now) {
@@ -389,23 +381,14 @@ impl<P: Port> Hub<P> {
         ensures facts { self.new.facts ≡ self.old.facts }
         ensures outputs { (i : ℕ) → numbers_at (Outputs i) self.new.rows.items ≡ numbers_at (Outputs i) self.old.rows.items }
         ensures ports { SamePorts self.old.rows.items self.new.rows.items }
-        ensures shut { MayShut self.old instance → MayShut self.new instance }
         ensures size { length self.new.rows.items ≡ length self.old.rows.items }
         ensures plan { self.new.plan ≡ self.old.plan }
         ensures fatal { self.new.fatal ≡ self.old.fatal }
         ensures abandoned { self.new.abandoned ≡ self.old.abandoned }
-        ensures away { (i : ℕ) → IsAway self.old i → IsAway self.new i }
+        ensures took { OnlyAdds (IsTakeBy instance) self.old self.new }
         ensures taken { (n : ℕ) → HasTaken self.old instance n → HasTaken self.new instance (n + 1) }
-        ensures untried { (i : ℕ) → IsUntried self.old i → IsUntried self.new i }
-        ensures turn { (i : ℕ) → MayRead self.old i → MayRead self.new i }
-        ensures nothing { (i : ℕ) → HadNothing self.old i → HadNothing self.new i }
         ensures holds { (i : ℕ) → HoldsSome self.old.rows.items i → HoldsSome self.new.rows.items i }
-        ensures bore { (i : ℕ) → HasBorn self.old i → HasBorn self.new i }
-        ensures noticed { (i : ℕ) → WasNoticed self.old i → WasNoticed self.new i }
         ensures latest { self.new.latest ≡ self.old.latest }
-        ensures moment { (i moment : ℕ) → IsLeaseMoment self.old i moment → IsLeaseMoment self.new i moment }
-        ensures leased { (i : ℕ) → IsLeaseMoment self.old i self.old.latest → IsLeaseMoment self.new i self.new.latest }
-        ensures done { (i : ℕ) → WasDone self.old i → WasDone self.new i }
     {
         if !self.can_hold(instance as usize) {
             return false;

@@ -2,7 +2,7 @@ ghost use Rattle.std.specs.Prelude.{◌≡◌, ◌<◌, ℕ, [], length, All, So
 ghost use Rattle.vx_hub.specs.Rows.{IsBare, task_port};
 ghost use Rattle.vx_hub.specs.Stands.{Stands, IsSound, HasBerths};
 ghost use Rattle.vx_hub.specs.Remains.{AreBare, ports_in, AreNumbered, AreClosed, AreTold, HasOnePlace, AllSpent, HasNotices, HasEnds};
-ghost use Rattle.vx_hub.specs.Order.{IsOrderly, IsClosing};
+ghost use Rattle.vx_hub.specs.Order.{IsLegalWithReturns, IsClosing};
 ghost use Rattle.vx_record.specs.Installs.{in_force};
 ghost use Rattle.vx_record.specs.Legal.{IsLegal, IsClosed};
 
@@ -36,7 +36,7 @@ impl<P: Port> Hub<P> {
         ensures closed { AreClosed P.told result.ports }
         ensures told { IsSound self → AreTold P.told result.history result.ports }
         ensures installed { IsSound self → in_force result.history ≡ Some self.plan }
-        ensures order { IsOrderly result.history }
+        ensures order { IsLegalWithReturns result.history }
         ensures done { IsSound self → (i : ℕ) → i < length self.rows.items → IsClosing result.history i }
         ensures one_place { IsSound self → HasOnePlace result.history }
         ensures spent { IsSound self → AllSpent result.history }

@@ -47,7 +47,7 @@ started_stays (e ∷ later) plan once now legal =
     append-nil (started (later ++ begun plan once now)) ∙ started_stays later plan once now legal.1
 
 -- the name under which an instance from a number on is started
-name_of_first : (from : ℕ) (components : List Component) (k : ℕ) (c : Component) → slice_get components k ≡ Some c →
+pub name_of_first : (from : ℕ) (components : List Component) (k : ℕ) (c : Component) → slice_get components k ≡ Some c →
     name_at (first_instances from components) (from + k) ≡ Some c.name
 name_of_first from [] k c at = cc
 name_of_first from (d ∷ rest) zero c at =

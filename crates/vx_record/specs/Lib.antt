@@ -28,6 +28,9 @@ pub mod Sinking
 pub mod Spending
 pub mod Ending
 pub mod Legal
+pub mod Ceasing
+pub mod Promises
+pub mod Finality
 pub mod Tally
 pub mod Tallies
 pub mod Laws

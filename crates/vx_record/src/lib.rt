@@ -8,6 +8,7 @@ mod count;
 mod counted;
 mod cut;
 mod entry;
+mod finality;
 mod instance;
 mod laws;
 mod line_counts;
@@ -22,6 +23,7 @@ mod plain_notices;
 mod put_counts;
 mod record;
 mod role;
+mod row_laws;
 mod status_counts;
 mod taken;
 mod tally;
@@ -32,6 +34,7 @@ mod ways;
 pub use abandon_cause::AbandonCause;
 pub use child::{Child, ChildList};
 pub use entry::Entry;
+pub use finality::final_laws;
 pub use instance::{Instance, InstanceList, Start};
 pub use laws::{
     accounted, beginnings, conserved, counting, first_wiring, growth, line_events, one_event,
@@ -39,6 +42,7 @@ pub use laws::{
 };
 pub use log::Log;
 pub use record::Record;
+pub use row_laws::{attempt_laws, end_laws, lease_laws, source_laws, spend_laws};
 pub use taken::Taken;
 pub use tally::Tally;
 pub use tally_list::{TallyList, tallies};

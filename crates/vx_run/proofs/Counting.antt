@@ -13,8 +13,6 @@ use Rattle.vx_status.specs.declared.batch_status.BatchStatus.{BatchStatus}
 use Rattle.vx_record.specs.declared.entry.Entry.TheVariants.{Notice}
 use Rattle.vx_record.specs.Records.{Record}
 use Rattle.vx_record.specs.Installs.{in_force}
-use Rattle.vx_record.specs.TallyLists.{tallies_of}
-use Rattle.vx_record.specs.declared.tally.Tally.{Tally}
 use Rattle.vx_hub.specs.declared.parts.Numbered.{Numbered}
 use Rattle.vx_hub.specs.declared.hub.Hub.{Hub}
 use Rattle.vx_record.specs.Reads.{bytes_of_all, all_ended}
@@ -23,48 +21,9 @@ use Rattle.vx_hub.specs.Remains.{AreTold, HasOnePlace, AllSpent, HasNotices, Has
 use Rattle.vx_hub.specs.Stands.{IsSound}
 use Rattle.vx_run.specs.Judging.{IsSure}
 use Rattle.vx_run.specs.Answers.{IsReady, IsAnswer, IsJudged, NoneLost, WentOn, component_at}
-use Rattle.vx_run.specs.Running.{IsTrueTo, HasInstalled, IsInForce, AreKept, AreNoticed, AllRead, AllReadOrLost, IsReadOut, AreEnded, IsCounted, HasAll, HasEach, NoneMissing}
-use Rattle.vx_run.specs.Telling.{IsKept}
+use Rattle.vx_run.specs.Running.{IsTrueTo, HasInstalled, IsInForce, AreKept, AreNoticed, AllRead, AllReadOrLost, IsReadOut, AreEnded, HasAll, HasEach, NoneMissing}
 use Rattle.vx_cli.specs.declared.fault.Fault.{Fault}
 use Rattle.vx_cli.specs.declared.fault.Fault.TheVariants.{Usage, ConfigRead, ConfigRefused, Numbers, TooLong, SourceFailed, ConfirmFailed, PrintFailed, WantOfMemory}
-
--- what is counted of a record is what is counted, whatever the fault
-pub counted_so : (h : Record) (n : ℕ) (tallies : List Tally) (fault : Option Fault) → tallies ≡ tallies_of h n → IsCounted h n tallies fault
-counted_so h n tallies None so = so
-counted_so h n tallies (Some WantOfMemory) so = inl so
-counted_so h n tallies (Some Usage) so = so
-counted_so h n tallies (Some (ConfigRead path)) so = so
-counted_so h n tallies (Some (ConfigRefused f)) so = so
-counted_so h n tallies (Some (Numbers next wanted)) so = so
-counted_so h n tallies (Some TooLong) so = so
-counted_so h n tallies (Some PrintFailed) so = so
-counted_so h n tallies (Some (SourceFailed name at)) so = so
-counted_so h n tallies (Some (ConfirmFailed name)) so = so
-
--- and for want of memory that is not more
-counted_short : (h : Record) (n : ℕ) (tallies : List Tally) (fault : Option Fault) → IsCounted h n tallies fault → (tallies ≡ tallies_of h n) ⊎ (tallies ≡ [])
-counted_short h n tallies None so = inl so
-counted_short h n tallies (Some WantOfMemory) so = so
-counted_short h n tallies (Some Usage) so = inl so
-counted_short h n tallies (Some (ConfigRead path)) so = inl so
-counted_short h n tallies (Some (ConfigRefused f)) so = inl so
-counted_short h n tallies (Some (Numbers next wanted)) so = inl so
-counted_short h n tallies (Some TooLong) so = inl so
-counted_short h n tallies (Some PrintFailed) so = inl so
-counted_short h n tallies (Some (SourceFailed name at)) so = inl so
-counted_short h n tallies (Some (ConfirmFailed name)) so = inl so
-
-pub counted_kept : (h : Record) (n : ℕ) (tallies : List Tally) (fault told : Option Fault) → IsKept fault told → IsCounted h n tallies fault → IsCounted h n tallies told
-counted_kept h n tallies fault None kept so = subst (λ (f : Option Fault). IsCounted h n tallies f) kept so
-counted_kept h n tallies fault (Some WantOfMemory) kept so = counted_short h n tallies fault so
-counted_kept h n tallies fault (Some Usage) kept so = subst (λ (f : Option Fault). IsCounted h n tallies f) kept so
-counted_kept h n tallies fault (Some (ConfigRead path)) kept so = subst (λ (f : Option Fault). IsCounted h n tallies f) kept so
-counted_kept h n tallies fault (Some (ConfigRefused f)) kept so = subst (λ (f : Option Fault). IsCounted h n tallies f) kept so
-counted_kept h n tallies fault (Some (Numbers next wanted)) kept so = subst (λ (f : Option Fault). IsCounted h n tallies f) kept so
-counted_kept h n tallies fault (Some TooLong) kept so = subst (λ (f : Option Fault). IsCounted h n tallies f) kept so
-counted_kept h n tallies fault (Some PrintFailed) kept so = subst (λ (f : Option Fault). IsCounted h n tallies f) kept so
-counted_kept h n tallies fault (Some (SourceFailed name at)) kept so = subst (λ (f : Option Fault). IsCounted h n tallies f) kept so
-counted_kept h n tallies fault (Some (ConfirmFailed name)) kept so = subst (λ (f : Option Fault). IsCounted h n tallies f) kept so
 
 -- what holds of a fault holds where want of memory takes its place
 pub judged_short : (h : Record) (fault counted : Option Fault) → (counted ≡ fault) ⊎ (counted ≡ Some WantOfMemory) → IsJudged h fault → IsJudged h counted
@@ -105,39 +64,6 @@ kept_of hub h (Some (ConfirmFailed name)) sure one spent = (one sure, spent sure
 pub kept_short : (h : Record) (fault counted : Option Fault) → (counted ≡ fault) ⊎ (counted ≡ Some WantOfMemory) → AreKept h fault → AreKept h counted
 kept_short h fault counted (inl same) kept = subst (λ (f : Option Fault). AreKept h f) (sym same) kept
 kept_short h fault counted (inr short) kept = subst (λ (f : Option Fault). AreKept h f) (sym short) tt
-
--- of an empty record there is no copy
-none_placed : HasOnePlace []
-none_placed [] [] is c l = absurd (omega arith)
-none_placed [] (e ∷ earlier) is c l = cc
-none_placed (e ∷ later) earlier is c l = cc
-
-none_spent : AllSpent []
-none_spent c l = absurd (omega arith)
-
-pub kept_none : (h : Record) (fault : Option Fault) → h ≡ [] → AreKept h fault
-kept_none h None none = (subst HasOnePlace (sym none) none_placed, subst AllSpent (sym none) none_spent)
-kept_none h (Some WantOfMemory) none = tt
-kept_none h (Some Usage) none = (subst HasOnePlace (sym none) none_placed, subst AllSpent (sym none) none_spent)
-kept_none h (Some (ConfigRead path)) none = (subst HasOnePlace (sym none) none_placed, subst AllSpent (sym none) none_spent)
-kept_none h (Some (ConfigRefused f)) none = (subst HasOnePlace (sym none) none_placed, subst AllSpent (sym none) none_spent)
-kept_none h (Some (Numbers next wanted)) none = (subst HasOnePlace (sym none) none_placed, subst AllSpent (sym none) none_spent)
-kept_none h (Some TooLong) none = (subst HasOnePlace (sym none) none_placed, subst AllSpent (sym none) none_spent)
-kept_none h (Some PrintFailed) none = (subst HasOnePlace (sym none) none_placed, subst AllSpent (sym none) none_spent)
-kept_none h (Some (SourceFailed name at)) none = (subst HasOnePlace (sym none) none_placed, subst AllSpent (sym none) none_spent)
-kept_none h (Some (ConfirmFailed name)) none = (subst HasOnePlace (sym none) none_placed, subst AllSpent (sym none) none_spent)
-
-pub kept_told : (h : Record) (fault told : Option Fault) → IsKept fault told → AreKept h fault → AreKept h told
-kept_told h fault None same kept = subst (λ (f : Option Fault). AreKept h f) same kept
-kept_told h fault (Some WantOfMemory) same kept = tt
-kept_told h fault (Some Usage) same kept = subst (λ (f : Option Fault). AreKept h f) same kept
-kept_told h fault (Some (ConfigRead path)) same kept = subst (λ (f : Option Fault). AreKept h f) same kept
-kept_told h fault (Some (ConfigRefused f)) same kept = subst (λ (f : Option Fault). AreKept h f) same kept
-kept_told h fault (Some (Numbers next wanted)) same kept = subst (λ (f : Option Fault). AreKept h f) same kept
-kept_told h fault (Some TooLong) same kept = subst (λ (f : Option Fault). AreKept h f) same kept
-kept_told h fault (Some PrintFailed) same kept = subst (λ (f : Option Fault). AreKept h f) same kept
-kept_told h fault (Some (SourceFailed name at)) same kept = subst (λ (f : Option Fault). AreKept h f) same kept
-kept_told h fault (Some (ConfirmFailed name)) same kept = subst (λ (f : Option Fault). AreKept h f) same kept
 
 -- but for want of memory a run that began has its plan in force
 pub force_of : {P : Type 0} (hub : Hub P) (plan : Plan) (h : Record) (fault : Option Fault) → IsSure hub fault → (IsSound hub → in_force h ≡ Some plan) → IsInForce plan h fault
@@ -201,19 +127,6 @@ none_missing_for words environment texts plan h ports (Some TooLong) ready judge
 none_missing_for words environment texts plan h ports (Some PrintFailed) ready judged is each = absurd judged
 none_missing_for words environment texts plan h ports (Some (SourceFailed name at)) ready judged is each = there plan h ports is each
 none_missing_for words environment texts plan h ports (Some (ConfirmFailed name)) ready judged is each = there plan h ports is each
-
--- for each component of a plan there is a port, whatever the fault
-pub each_of : {P : Type 0} (plan : Plan) (h : Record) (ports : List (Numbered P)) (fault : Option Fault) → HasAll ports plan → HasEach plan h ports fault
-each_of plan h ports None all = all
-each_of plan h ports (Some WantOfMemory) all = inr all
-each_of plan h ports (Some Usage) all = all
-each_of plan h ports (Some (ConfigRead path)) all = all
-each_of plan h ports (Some (ConfigRefused f)) all = all
-each_of plan h ports (Some (Numbers next wanted)) all = all
-each_of plan h ports (Some TooLong) all = all
-each_of plan h ports (Some PrintFailed) all = all
-each_of plan h ports (Some (SourceFailed name at)) all = all
-each_of plan h ports (Some (ConfirmFailed name)) all = all
 
 -- but for want of memory each batch has its notice
 pub noticed_of : {P : Type 0} (hub : Hub P) (h : Record) (fault : Option Fault) → IsSure hub fault → (IsSound hub → HasNotices h) → AreNoticed h fault
@@ -326,19 +239,6 @@ read_of hub plan h n (Some (ConfirmFailed name)) sure force size done judged = a
 pub read_short : (h : Record) (fault counted : Option Fault) → (counted ≡ fault) ⊎ (counted ≡ Some WantOfMemory) → IsReadOut h fault → IsReadOut h counted
 read_short h fault counted (inl same) read = subst (λ (f : Option Fault). IsReadOut h f) (sym same) read
 read_short h fault counted (inr short) read = subst (λ (f : Option Fault). IsReadOut h f) (sym short) tt
-
--- the fault that is told says no more of it
-pub read_told : (h : Record) (fault told : Option Fault) → IsKept fault told → IsReadOut h fault → IsReadOut h told
-read_told h fault None kept read = subst (λ (f : Option Fault). IsReadOut h f) kept read
-read_told h fault (Some WantOfMemory) kept read = tt
-read_told h fault (Some Usage) kept read = tt
-read_told h fault (Some (ConfigRead path)) kept read = tt
-read_told h fault (Some (ConfigRefused f)) kept read = tt
-read_told h fault (Some (Numbers next wanted)) kept read = tt
-read_told h fault (Some TooLong) kept read = tt
-read_told h fault (Some PrintFailed) kept read = tt
-read_told h fault (Some (SourceFailed name at)) kept read = subst (λ (f : Option Fault). IsReadOut h f) kept read
-read_told h fault (Some (ConfirmFailed name)) kept read = subst (λ (f : Option Fault). IsReadOut h f) kept read
 
 -- of an empty record there is no source
 pub read_none : (h : Record) (fault : Option Fault) → h ≡ [] → IsReadOut h fault

@@ -18,7 +18,8 @@ use Rattle.std.proofs.lemmas.Bool.Decides.{nat_tests}
 use Rattle.vx_record.specs.declared.abandon_cause.AbandonCause.{AbandonCause}
 use Rattle.vx_record.specs.declared.abandon_cause.AbandonCause.TheVariants as cause
 use Rattle.vx_record.specs.declared.entry.Entry.TheVariants.{Abandon}
-use Rattle.vx_hub.specs.Order.{IsOrderly, IsReason}
+use Rattle.vx_record.specs.Ending.{HasReason}
+use Rattle.vx_record.specs.Legal.{IsLegal}
 use Rattle.vx_run.specs.Judging.{IsSure, IsNamed, IsUnconfirmedAt, IsUnasked, IsFaultOf}
 
 facts_there : (fs : List Facts) (i : ℕ) → i < length fs → IsSome (facts_at fs i)
@@ -49,9 +50,6 @@ none_lost told_by hub stands sound none i = go (nat_lt i (length hub.facts.items
 -- the count of bytes decides as the record's does
 pub few_bytes : (n bytes : ℕ) → bytes ≡ capped n → bytes < 2 ^ 48 → n < 2 ^ 48
 few_bytes n bytes e l = omega arith
-
-pub many_bytes : (n bytes : ℕ) → bytes ≡ capped n → 2 ^ 48 ≤ bytes → 2 ^ 48 ≤ n
-many_bytes n bytes e l = omega arith
 
 -- the component in a place of the plan in force is that of the instance
 named_there : (h : Record) (plan : Plan) (i : ℕ) (name : Word) → in_force h ≡ Some plan → IsSomeAnd (slice_get plan.components i) (λ component. name ≡ component.name) →
@@ -103,20 +101,20 @@ judged_unconfirmed h plan i (ConfirmFailed name) force goes few kept failed leas
 judged_unconfirmed h plan i WantOfMemory force goes few kept failed least named = tt
 
 -- nobody asked for a reason that there is
-reason_unasked : (h : Record) (cause : AbandonCause) → IsReason h cause → IsUnasked cause
-reason_unasked h (cause.Grace stopped now limit) r = absurd r
+reason_unasked : (h : Record) (cause : AbandonCause) → HasReason h cause → IsUnasked cause
+reason_unasked h (cause.Grace stopped now limit) r = let no : None ≡ Some stopped = r.0 in cc
 reason_unasked h (cause.Numbers next wanted) r = tt
 reason_unasked h cause.WantOfMemory r = tt
 
 -- a run that was given up has a reason, and nobody asked it to stop
-orderly_unasked : (h : Record) (cause : AbandonCause) → IsOrderly h → cause_of h ≡ Some cause → IsUnasked cause
-orderly_unasked [] cause o is = cc
-orderly_unasked (Abandon found ∷ h) cause o is = let same : found ≡ cause = cc in subst (λ (c : AbandonCause). IsUnasked c) same (reason_unasked h found o.0.0.reason)
-orderly_unasked (e ∷ h) cause o is = orderly_unasked h cause o.1 is
+legal_unasked : (h : Record) (cause : AbandonCause) → IsLegal h → cause_of h ≡ Some cause → IsUnasked cause
+legal_unasked [] cause legal is = cc
+legal_unasked (Abandon found ∷ h) cause legal is = let same : found ≡ cause = cc in subst (λ (c : AbandonCause). IsUnasked c) same (reason_unasked h found legal.0.row.reason)
+legal_unasked (e ∷ h) cause legal is = legal_unasked h cause legal.1 is
 
 pub given_up_unasked : {P : Type 0} (told_by : P → Told) (hub : Hub P) (cause : AbandonCause) → Stands told_by hub [] hub.log.history → IsSound hub → hub.abandoned ≡ Some cause → IsUnasked cause
 given_up_unasked told_by hub cause stands sound is =
-    let r = stands.recorded sound in orderly_unasked hub.log.history cause r.order (sym r.cause ∙ is)
+    let r = stands.recorded sound in legal_unasked hub.log.history cause r.order.legal (sym r.cause ∙ is)
 
 -- the fault of a run that was given up says why
 pub judged_given_up : (h : Record) (cause : AbandonCause) (fault : Fault) → cause_of h ≡ Some cause → IsUnasked cause → IsFaultOf cause fault → IsJudged h (Some fault)

@@ -2,7 +2,7 @@ ghost use Rattle.std.specs.Prelude.{◌≡◌, ◌≢◌, ◌⊎◌, List, ◌<�
 ghost use Rattle.vx_record.specs.Legal.{IsLegal};
 ghost use Rattle.vx_record.specs.Wirings.{names_differ};
 ghost use Rattle.vx_hub.specs.Making.{AreUntouched};
-ghost use Rattle.vx_hub.specs.Order.{IsOrderly};
+ghost use Rattle.vx_hub.specs.Order.{IsLegalWithReturns};
 ghost use Rattle.vx_hub.specs.Stands.{Stands};
 ghost use Rattle.vx_hub.specs.Remains.{AreNumbered, AreClosed};
 ghost use Rattle.vx_value.specs.Texts.{Word};
@@ -47,7 +47,7 @@ pub(crate) fn perform<R: Wait, W: World, C: Clock, P: Printer>(
     ensures answer { IsAnswer words.now environment.now (W.texts world.old) (W.faults world.old) (W.faults world.new) result.history result.fault }
     ensures shown { IsShown words.now environment.now (W.texts world.old) (out.new ≡ out.old) (P.printed out.old) (P.printed out.new) (P.faults out.old) (P.faults out.new) result.fault }
     ensures told { IsTrueTo W.Port.told result.history result.ports result.fault }
-    ensures order { IsOrderly result.history }
+    ensures returned { IsLegalWithReturns result.history }
     ensures installed { HasInstalled words.now environment.now (W.texts world.old) result.history result.fault }
     ensures copies { AreKept result.history result.fault }
     ensures notices { AreNoticed result.history result.fault }
@@ -82,7 +82,7 @@ fn run<R: Wait, W: World, C: Clock>(
 ) -> Outcome<W::Port>
     ensures answer { (words : List Word) → IsCommand words (Run file.now) → IsAnswer words environment.now (W.texts world.old) (W.faults world.old) (W.faults world.new) result.history result.fault }
     ensures told { IsTrueTo W.Port.told result.history result.ports result.fault }
-    ensures order { IsOrderly result.history }
+    ensures returned { IsLegalWithReturns result.history }
     ensures installed { (words : List Word) → IsCommand words (Run file.now) → HasInstalled words environment.now (W.texts world.old) result.history result.fault }
     ensures copies { AreKept result.history result.fault }
     ensures notices { AreNoticed result.history result.fault }
@@ -109,7 +109,7 @@ fn unbegun<P>(alloc: Global, fault: Option<Fault>) -> Outcome<P>
     ensures history { result.history ≡ [] }
     ensures tallies { result.tallies ≡ [] }
     ensures ports { result.ports ≡ [] }
-    ensures order { IsOrderly result.history }
+    ensures returned { IsLegalWithReturns result.history }
     ensures copies { AreKept result.history result.fault }
     ensures notices { AreNoticed result.history result.fault }
     ensures read { IsReadOut result.history result.fault }
@@ -139,7 +139,7 @@ fn begin<R: Wait, P: Port, C: Clock>(
     requires named { names_differ parts.plan.components ≡ true }
     ensures judged { IsJudged result.history result.fault }
     ensures told { IsTrueTo P.told result.history result.ports result.fault }
-    ensures order { IsOrderly result.history }
+    ensures returned { IsLegalWithReturns result.history }
     ensures installed { IsInForce parts.plan result.history result.fault }
     ensures copies { AreKept result.history result.fault }
     ensures notices { AreNoticed result.history result.fault }
@@ -174,7 +174,7 @@ fn finish<R: Wait, P: Port, C: Clock>(
     requires plan { hub.plan ≡ plan.now }
     ensures judged { IsJudged result.history result.fault }
     ensures told { IsTrueTo P.told result.history result.ports result.fault }
-    ensures order { IsOrderly result.history }
+    ensures returned { IsLegalWithReturns result.history }
     ensures installed { IsInForce plan.now result.history result.fault }
     ensures copies { AreKept result.history result.fault }
     ensures notices { AreNoticed result.history result.fault }

@@ -1,5 +1,5 @@
 ghost use Rattle.std.specs.Prelude.{◌≡◌, length};
-ghost use Rattle.vx_hub.specs.Order.{IsOrderly};
+ghost use Rattle.vx_hub.specs.Order.{IsLegalWithReturns};
 ghost use Rattle.vx_hub.specs.Remains.{AreNumbered, AreClosed};
 ghost use Rattle.vx_record.specs.Legal.{IsLegal};
 ghost use Rattle.vx_run.specs.Answers.{IsAnswer};
@@ -31,7 +31,7 @@ pub fn vector<R: Wait, W: World, C: Clock, P: Printer, L: Printer>(
     err: &mut L,
 ) -> Ended<W>
     ensures told { IsTrueTo W.Port.told result.history result.ports result.fault }
-    ensures order { IsOrderly result.history }
+    ensures returned { IsLegalWithReturns result.history }
     ensures installed { HasInstalled words.now environment.now (W.texts world) result.history result.fault }
     ensures copies { AreKept result.history result.fault }
     ensures notices { AreNoticed result.history result.fault }

@@ -1,12 +1,12 @@
 use Rattle.std.proofs.Common.{ap, length, subst, sym}
 use Rattle.vx_record.specs.Records.{Record}
-use Rattle.vx_hub.specs.Order.{IsOrderly}
+use Rattle.vx_hub.specs.Order.{IsLegalWithReturns}
 use Rattle.vx_run.proofs.Counting.{noticed_none, read_none, ended_none}
 use Rattle.vx_run.proofs.Closing.{legal_none, complete_none}
 use Rattle.vx_run.proofs.running.unbegun.Goals as goal
 
-pub returns-clause-order : goal.returns-clause-order
-returns-clause-order g c = subst (λ (h : Record). IsOrderly h) (sym c.new.ensures) tt
+pub returns-clause-returned : goal.returns-clause-returned
+returns-clause-returned g c = subst (λ (h : Record). IsLegalWithReturns h) (sym c.new.ensures) (record { legal = tt; named = tt; returned = tt })
 
 pub returns-clause-notices : goal.returns-clause-notices
 returns-clause-notices g c = noticed_none c.new.result c.args.fault c.new.ensures

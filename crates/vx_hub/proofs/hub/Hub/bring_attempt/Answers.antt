@@ -25,11 +25,10 @@ use Rattle.vx_hub.proofs.hub.Hub.bring_attempt.Goals as goal
 pub bring-requires-clause-stands : goal.bring-requires-clause-stands
 bring-requires-clause-stands g c =
     stands_attempted g.P.Port.told c.args.self.now c.note_attempt.new.log (role_copies c.args.task.role) c.args.instance (numbers_in (role_copies c.args.task.role)) c.args.bytes c.args.reply c.requires.stands c.requires.open.within c.requires.out
-    (λ fine out. attempt_in_order c.args.self.now.log.history c.args.instance c.args.task.role c.args.bytes c.args.reply out
-    (sink_known c.args.self.now.log.history c.args.instance (facts_at c.args.self.now.facts.items c.args.instance) c.requires.sink ((c.requires.stands.recorded fine).facts c.args.instance)) (c.requires.untried fine) c.requires.some (c.requires.held fine) (c.requires.said fine) c.requires.writes (c.requires.closing fine)
+    (λ fine out. attempt_in_order c.args.self.now.log.history c.args.instance c.args.task.role c.args.bytes c.args.reply out (c.requires.untried fine) (c.requires.held fine) (c.requires.said fine) c.requires.writes
+    (closed_so c.args.self.now.log.history c.args.instance (lease_now c.args.self.now.log.history c.args.instance) (c.requires.closing fine)) (c.requires.closing fine).waited
     (sink_there c.args.self.now.log.history c.args.instance (c.requires.stands.recorded fine).order
     (sink_known c.args.self.now.log.history c.args.instance (facts_at c.args.self.now.facts.items c.args.instance) c.requires.sink ((c.requires.stands.recorded fine).facts c.args.instance)))
-    (closed_so c.args.self.now.log.history c.args.instance (lease_now c.args.self.now.log.history c.args.instance) (c.requires.closing fine))
     (writer_so c.args.self.now.log.history c.args.instance c.args.task.role (c.requires.stands.recorded fine).order (c.requires.come fine) c.requires.some)) c.note_attempt.ensures
 
 pub returns-clause-replied : goal.returns-clause-replied

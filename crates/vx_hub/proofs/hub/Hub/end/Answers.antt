@@ -3,7 +3,7 @@ use Rattle.vx_hub.specs.declared.parts.Numbered.{Numbered}
 use Rattle.vx_hub.specs.Remains.{AreNumbered, AreClosed, AreTold, HasEnds}
 use Rattle.vx_hub.proofs.Remaining.{all_bare, all_shut, ports_told, all_numbered, all_counted, one_place, all_spent, all_noticed, all_done}
 use Rattle.vx_hub.proofs.Retiring.{all_ends}
-use Rattle.vx_hub.proofs.Legal.{orderly_legal, ended_closed}
+use Rattle.vx_hub.proofs.Legal.{ended_closed}
 use Rattle.vx_hub.proofs.hub.Hub.end.Goals as goal
 
 pub ports_of-requires-clause-bare : goal.ports_of-requires-clause-bare
@@ -54,7 +54,7 @@ returns-clause-ends g c sound = subst (λ (n : ℕ). HasEnds n c.args.self.log.h
     (all_ends c.args.self.log.history c.args.self.facts.items c.args.self.rows.items c.requires.over c.requires.stands.gone (c.requires.stands.recorded sound).facts)
 
 pub returns-clause-legal : goal.returns-clause-legal
-returns-clause-legal g c = orderly_legal c.args.self.log.history c.requires.stands.order
+returns-clause-legal g c = c.requires.stands.order.legal
 
 pub returns-clause-finished : goal.returns-clause-finished
 returns-clause-finished g c sound =

@@ -10,7 +10,8 @@ use Rattle.vx_hub.proofs.Silence.{same_test}
 use Rattle.vx_hub.proofs.Touching.{stands_touched, facts_surely, facts_get}
 use Rattle.vx_record.specs.Records.{Record}
 use Rattle.vx_hub.specs.Asking.{HasTold}
-use Rattle.vx_hub.proofs.Asking.{told_confirmed, source_is}
+use Rattle.vx_hub.proofs.Asking.{told_confirmed}
+use Rattle.vx_hub.proofs.Classes.{source_there}
 use Rattle.vx_hub.proofs.Concluding.{was_noted}
 use Rattle.vx_hub.proofs.hub.Hub.note_confirm.Goals as goal
 
@@ -32,7 +33,7 @@ returns-clause-stands g c hand s =
       leased = known.leased;
     })
     (λ bytes. bytes)
-    refl (λ fine known out. record { out = out; device = device_known c.args.self.now.log.history c.args.instance c.index_mut-facts.result.now (s.recorded fine).order known; due = c.requires.due fine; source = source_is c.args.self.now.log.history c.args.instance (s.recorded fine).order (c.requires.due fine).source })
+    refl (λ fine known out. let due = c.requires.due fine in record { out = out; once = due.once; was_due = due.was_due; all_due = due.all_due; device = device_known c.args.self.now.log.history c.args.instance c.index_mut-facts.result.now (s.recorded fine).order known; source = source_there c.args.self.now.log.history c.args.instance (s.recorded fine).order due.source })
 
 pub returns-clause-open : goal.returns-clause-open
 returns-clause-open g c open_at = record {

@@ -21,14 +21,14 @@ use Rattle.vx_hub.proofs.Owning.{placed_still}
 use Rattle.vx_hub.proofs.Noticing.{running_still}
 use Rattle.vx_hub.proofs.Counting.{counted_leased}
 use Rattle.vx_hub.proofs.Ceasing.{hub_comes, leased_on, going_on, unabandoned}
-use Rattle.vx_hub.proofs.Retiring.{known_leased, known_leased_other}
+use Rattle.vx_hub.proofs.Retiring.{known_leased}
 use Rattle.vx_hub.proofs.Settling.{unclosed_unretired, known_at_home}
 use Rattle.std.specs.List.{list_any}
 use Rattle.std.specs.Prelude.{◌==◌, if◌then◌else◌, IsSome}
 use Rattle.vx_record.specs.Turns.{is_out, at_lease, since_lease, is_attempt_of}
 use Rattle.vx_record.specs.Owing.{all_noticed}
 use Rattle.vx_hub.proofs.Covering.{noticed_known, some_there}
-use Rattle.vx_hub.proofs.Silence.{same_test}
+use Rattle.vx_hub.proofs.Silence.{other_test, same_test}
 use Rattle.vx_hub.specs.Away.{OnlyTook}
 use Rattle.vx_hub.proofs.Leaving.{untaken_leased}
 use Rattle.vx_hub.specs.Readings.{WasReadable}
@@ -40,6 +40,7 @@ use Rattle.vx_hub.proofs.Concluding.{was_leased}
 use Rattle.vx_hub.proofs.Closing.{closed_known}
 use Rattle.vx_hub.proofs.Dones.{done_known}
 use Rattle.vx_hub.proofs.Readiness.{ready_known}
+use Rattle.vx_hub.proofs.Known.{known_far}
 use Rattle.vx_hub.proofs.hub.Hub.note_lease.Goals as goal
 
 pub returns-clause-stands : goal.returns-clause-stands
@@ -53,18 +54,21 @@ returns-clause-stands g c =
     let within : i < length d.facts.items = omega (arith, c.requires.stands.size, c.requires.open.within) in
     stands_marked g.P.Port.told d _ [] [] _ i f _ s within c.index_mut.ensures.value
     refl refl refl s.balanced refl refl c.note.ensures.noted tt (same_next d.batches d.batches h e refl refl)
-    (λ fine. unclosed_unretired h f i c.args.worker c.args.now
-    (λ retired. (facts_has (IsGone d.rows.items i) d.facts.items i f within c.index_mut.ensures.value (s.gone i) retired).0)
-    (facts_surely (λ x. x.closed ≡ false) d.facts.items i f within c.index_mut.ensures.value c.requires.open.unclosed)
-    (facts_surely (λ x. x.leased ≡ false) d.facts.items i f within c.index_mut.ensures.value c.requires.unleased)
-    (facts_has (λ x. IsKnown x h i) d.facts.items i f within c.index_mut.ensures.value ((s.recorded fine).facts i)) (s.recorded fine).order
-    (unabandoned h (going_on g.P.Port.told d [] s c.requires.going fine))
-    (owes_no_birth h i ((s.recorded fine).bore c.requires.running i (known_at_home g.P.Port.told d [] i s c.requires.unleased fine) (unabandoned h (going_on g.P.Port.told d [] s c.requires.going fine))))
-    (let l = (s.recorded fine).later c.args.worker in omega (arith, l, c.requires.moment))
-    (ready_known g.P.Port.told d i c.args.now s c.requires.going fine c.requires.open c.requires.unleased (λ finished. done_known g.P.Port.told d i s c.requires.running c.requires.going c.requires.unleased finished fine) (λ sink closed. closed_known g.P.Port.told d i c.args.now s fine c.requires.going sink c.requires.unleased closed) c.requires.ready))
+    (λ fine. (
+      unclosed_unretired h f i c.args.worker c.args.now
+          (λ retired. (facts_has (IsGone d.rows.items i) d.facts.items i f within c.index_mut.ensures.value (s.gone i) retired).0)
+          (facts_surely (λ x. x.closed ≡ false) d.facts.items i f within c.index_mut.ensures.value c.requires.open.unclosed)
+          (facts_surely (λ x. x.leased ≡ false) d.facts.items i f within c.index_mut.ensures.value c.requires.unleased)
+          (facts_has (λ x. IsKnown x h i) d.facts.items i f within c.index_mut.ensures.value ((s.recorded fine).facts i)) (s.recorded fine).order
+          (unabandoned h (going_on g.P.Port.told d [] s c.requires.going fine))
+          (owes_no_birth h i ((s.recorded fine).bore c.requires.running i (known_at_home g.P.Port.told d [] i s c.requires.unleased fine) (unabandoned h (going_on g.P.Port.told d [] s c.requires.going fine))))
+          (let l = (s.recorded fine).later c.args.worker in omega (arith, l, c.requires.moment))
+          (ready_known g.P.Port.told d i c.args.now s c.requires.going fine c.requires.open c.requires.unleased (λ finished. done_known g.P.Port.told d i s c.requires.running c.requires.going c.requires.unleased finished fine) (λ sink closed. closed_known g.P.Port.told d i c.args.now s fine c.requires.going sink c.requires.unleased closed) c.requires.ready),
+      tt,
+    ))
     (hub_comes g.P.Port.told d [] e s c.requires.going) (λ k none out. leased_on (i == k) (is_out h k) out) refl
     (λ fine known. known_leased f h i c.args.worker c.args.now 0 known)
-    (λ x k other known. known_leased_other x h i k c.args.worker c.args.now 0 other known)
+    (λ x k other known. known_far x h k e (other_test i k other) known)
     (facts_has (IsShut g.P.Port.told d.rows.items i) d.facts.items i f within c.index_mut.ensures.value (s.shut i))
     (facts_has (IsGone d.rows.items i) d.facts.items i f within c.index_mut.ensures.value (s.gone i))
     (λ fine kept placed. placed_still d.rows.items [] h e tt kept.1 placed)

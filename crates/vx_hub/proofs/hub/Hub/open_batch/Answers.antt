@@ -1,12 +1,11 @@
 use Rattle.std.proofs.Common.{refl, ◌≡◌, ◌<◌, ◌∙◌, [], ap, sym, length, arith, subst, ℕ, List, ◌++◌, ◌∷◌}
 use Rattle.vx_hub.specs.Numbers.{numbers_in}
 use Rattle.vx_hub.specs.Stands.{IsShut, IsGone, IsSound}
-use Rattle.vx_hub.proofs.Drying.{closing_on}
 use Rattle.vx_hub.proofs.Covering.{hub_waits}
 use Rattle.vx_hub.specs.Notices.{waits_by}
 use Rattle.std.specs.Prelude.{slice_get}
 use Rattle.vx_hub.proofs.Ordering.{birth_in_order, length_numbers}
-use Rattle.vx_hub.proofs.Touching.{stands_marked, own_facts, known_other, facts_has, length_numbered}
+use Rattle.vx_hub.proofs.Touching.{stands_marked, own_facts, facts_has, length_numbered}
 use Rattle.vx_record.specs.Records.{Record}
 use Rattle.vx_record.specs.Lists.{outputs}
 use Rattle.vx_record.specs.Moving.{singles}
@@ -24,10 +23,11 @@ use Rattle.vx_hub.specs.Events.{ArePaired}
 use Rattle.vx_hub.specs.declared.fatal.Fatal.{Fatal}
 use Rattle.vx_hub.specs.Failures.{abandon_cause}
 use Rattle.vx_hub.specs.Offspring.{WantsBirth}
-use Rattle.vx_hub.specs.Order.{IsReason}
+use Rattle.vx_record.specs.Ending.{HasReason as IsReason}
 use Rattle.vx_hub.proofs.Owed.{born_batch, birth_short}
 use Rattle.vx_hub.proofs.Counting.{counted_born}
 use Rattle.vx_hub.proofs.Reasons.{birth_reason}
+use Rattle.vx_hub.proofs.Known.{known_far}
 use Rattle.vx_hub.proofs.hub.Hub.open_batch.Goals as goal
 
 pub returns-clause-stands : goal.returns-clause-stands
@@ -43,24 +43,15 @@ returns-clause-stands g c =
     stands_marked g.P.Port.told c.args.self.now _ [] copies _ c.args.instance own.0 own.0 s within own.1 own.2
     refl refl (λ batch place. omega (arith, s.balanced batch place, c.in-Ok.ensures.exchange batch place)) refl refl c.note_born.ensures tt
     (λ now. omega (arith, now, c.in-Ok.ensures.next, length_numbers copies, many))
-    (λ fine. birth_in_order h c.args.instance next c.len-n.result c.in-Ok.born.0 copies c.args.events.now c.waits-must_wait.result c.args.position.stream c.args.position.end (s.recorded fine).order (hub_waits g.P.Port.told c.args.self.now [] c.args.instance c.waits-must_wait.result c.requires.stands c.requires.open.within (c.waits-must_wait.ensures ∙ ap (λ ps. waits_by (slice_get ps c.args.instance)) c.as_slice.ensures.value) fine) (c.requires.read fine) (c.requires.yields fine) (s.recorded fine).next c.in-Ok.ensures.number c.in-Ok.ensures.copies (sym c.len-n.ensures)
-    (omega (arith, c.requires.some, c.len-n.ensures)) (omega (arith, c.born.ensures.kept.numbers, c.in-Ok.ensures.next)))
+    (λ fine. (
+      birth_in_order h c.args.instance next c.len-n.result c.in-Ok.born.0 copies c.args.events.now c.waits-must_wait.result c.args.position.stream c.args.position.end (s.recorded fine).order (hub_waits g.P.Port.told c.args.self.now [] c.args.instance c.waits-must_wait.result c.requires.stands c.requires.open.within (c.waits-must_wait.ensures ∙ ap (λ ps. waits_by (slice_get ps c.args.instance)) c.as_slice.ensures.value) fine) (c.requires.yields fine) (s.recorded fine).next c.in-Ok.ensures.number c.in-Ok.ensures.copies (sym c.len-n.ensures)
+          (omega (arith, c.requires.some, c.len-n.ensures)) (omega (arith, c.born.ensures.kept.numbers, c.in-Ok.ensures.next)),
+      tt,
+    ))
     (hub_comes g.P.Port.told c.args.self.now [] (Born c.args.instance c.in-Ok.born.0 c.in-Ok.born.0 (numbers_in copies) c.args.events.now c.waits-must_wait.result c.args.position.stream c.args.position.end) s c.requires.going)
     (λ k none out. out) refl
-    (λ fine known. record {
-      taken = known.taken;
-      lost = known.lost;
-      failed_starts = known.failed_starts;
-      confirm_failed = known.confirm_failed;
-      outlet = known.outlet;
-      over = known.over;
-      class = known.class;
-      done = λ closed. closing_on h c.args.instance e refl (known.done closed);
-      closed = known.closed;
-      retired = known.retired;
-      leased = known.leased;
-    })
-    (λ x k other known. known_other x h c.args.instance k _ refl other known)
+    (λ fine known. known_far own.0 h c.args.instance e refl known)
+    (λ x k other known. known_far x h k e refl known)
     (facts_has (IsShut g.P.Port.told c.args.self.now.rows.items c.args.instance) c.args.self.now.facts.items c.args.instance own.0 within own.1 (s.shut c.args.instance))
     (facts_has (IsGone c.args.self.now.rows.items c.args.instance) c.args.self.now.facts.items c.args.instance own.0 within own.1 (s.gone c.args.instance))
     (λ fine kept placed. placed_born c.args.self.now.rows.items h c.args.instance c.in-Ok.born.0 c.in-Ok.born.0 copies c.args.events.now c.waits-must_wait.result c.args.position.stream c.args.position.end c.len-n.result
@@ -90,7 +81,7 @@ returns-clause-lined g c sound =
     let copies = c.in-Ok.born.1 in
     let w = c.note_born.ensures.whole sound.whole in
     let fine : IsSound d = record { whole = w.0; fed = sound.fed } in
-    let order = birth_in_order h c.args.instance next c.len-n.result c.in-Ok.born.0 copies c.args.events.now c.waits-must_wait.result c.args.position.stream c.args.position.end (s.recorded fine).order (hub_waits g.P.Port.told c.args.self.now [] c.args.instance c.waits-must_wait.result c.requires.stands c.requires.open.within (c.waits-must_wait.ensures ∙ ap (λ ps. waits_by (slice_get ps c.args.instance)) c.as_slice.ensures.value) fine) (c.requires.read fine) (c.requires.yields fine) (s.recorded fine).next c.in-Ok.ensures.number c.in-Ok.ensures.copies (sym c.len-n.ensures)
+    let order = birth_in_order h c.args.instance next c.len-n.result c.in-Ok.born.0 copies c.args.events.now c.waits-must_wait.result c.args.position.stream c.args.position.end (s.recorded fine).order (hub_waits g.P.Port.told c.args.self.now [] c.args.instance c.waits-must_wait.result c.requires.stands c.requires.open.within (c.waits-must_wait.ensures ∙ ap (λ ps. waits_by (slice_get ps c.args.instance)) c.as_slice.ensures.value) fine) (c.requires.yields fine) (s.recorded fine).next c.in-Ok.ensures.number c.in-Ok.ensures.copies (sym c.len-n.ensures)
     (omega (arith, c.requires.some, c.len-n.ensures)) (omega (arith, c.born.ensures.kept.numbers, c.in-Ok.ensures.next)) in
     subst (λ (k : Record). (done : List ℕ) × (outputs k c.args.instance ≡ singles (numbers_in copies ++ done))) (sym w.1)
     (lined_born d.rows.items h c.args.instance c.in-Ok.born.0 c.in-Ok.born.0 (numbers_in copies) c.args.events.now c.waits-must_wait.result c.args.position.stream c.args.position.end (order.next, conserved h (s.recorded fine).order) (s.recorded fine).places.standing c.requires.sent)

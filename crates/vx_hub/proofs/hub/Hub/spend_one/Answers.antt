@@ -5,9 +5,9 @@ use Rattle.vx_hub.proofs.Ordering.{spent_on, noticed_on}
 use Rattle.vx_hub.proofs.StandsLaws.{same_next, stands_quiet, stands_noticed, spent_balanced, bare_stays}
 use Rattle.vx_hub.proofs.Placing.{spent_live, conserved}
 use Rattle.vx_hub.proofs.Owning.{placed_spent}
-use Rattle.vx_hub.proofs.Noticing.{in_turn, spent_statuses, spent_quietly, spent_last, last_mine, none_there}
+use Rattle.vx_hub.proofs.Noticing.{spent_statuses, spent_quietly, spent_last, last_mine, none_there}
 use Rattle.vx_record.specs.Moving.{IsConserved}
-use Rattle.vx_hub.specs.Order.{IsInOrder}
+use Rattle.vx_record.specs.Spending.{MaySpend}
 use Rattle.vx_record.specs.Abandoning.{MayStillCome}
 use Rattle.vx_hub.proofs.Ceasing.{spent_comes}
 use Rattle.vx_hub.specs.Places.{IsPlaced}
@@ -28,7 +28,7 @@ returns-in_default-clause-stands g c rest s =
     let f = c.args.finalizer in
     let n = c.number-copy.result in
     let balanced = spent_balanced d.batches c.spend-notice.new.self d.rows.items rest f s.balanced c.spend-notice.ensures.exchange in
-    let order : IsSound d → IsInOrder h (Spent c.args.instance n c.args.outcome) = λ fine. spending h c.args.instance f n c.args.outcome c.number-copy.ensures (conserved h (s.recorded fine).order) (spent_live d.rows.items h rest f n c.number-copy.ensures (s.recorded fine).places.standing) (c.requires.cause fine) (c.requires.from fine) in
+    let order : IsSound d → MaySpend h c.args.instance n c.args.outcome = λ fine. spending h c.args.instance f n c.args.outcome c.number-copy.ensures (conserved h (s.recorded fine).order) (spent_live d.rows.items h rest f n c.number-copy.ensures (s.recorded fine).places.standing) (c.requires.cause fine) (c.requires.from fine) in
     let comes : IsSound d → MayStillCome h (Spent c.args.instance n c.args.outcome) = λ fine. spent_comes h c.args.instance n c.args.outcome (c.requires.cause fine) in
     stands_quiet g.P.Port.told d _ (rest ++ f ∷ []) rest (Spent c.args.instance n c.args.outcome) s balanced
     refl (λ i. refl) (bare_stays d.facts.items d.rows.items) refl c.note.ensures.noted
@@ -43,7 +43,7 @@ returns-in_default-clause-stands g c rest s =
       places = λ fine kept placed. placed_spent d.rows.items h c.args.instance rest f n c.args.outcome c.number-copy.ensures kept placed;
       due = λ fine.
           let r = s.recorded fine in
-          let kept = conserved (Spent c.args.instance n c.args.outcome ∷ h) ((order fine, in_turn h (Spent c.args.instance n c.args.outcome) r.noticeless, comes fine), r.order) in
+          let kept : IsConserved (Spent c.args.instance n c.args.outcome ∷ h) = ((order fine).live, conserved h r.order) in
           spent_quietly c.spend-notice.new.self d.rows.items rest h c.args.instance n c.args.outcome f c.number-copy.ensures (last_mine h rest f r.places.owned) kept
           (placed_spent d.rows.items h c.args.instance rest f n c.args.outcome c.number-copy.ensures kept r.places) balanced
           (λ none. none_there c.spend-notice.result c.in_default.is (c.spend-notice.ensures.last.1 none));
@@ -61,10 +61,10 @@ returns-in-Some-clause-stands g c rest s =
     let f = c.args.finalizer in
     let n = c.number-copy.result in
     let balanced = spent_balanced d.batches c.spend-notice.new.self d.rows.items rest f s.balanced c.spend-notice.ensures.exchange in
-    let order : IsSound d → IsInOrder h (Spent c.args.instance n c.args.outcome) = λ fine. spending h c.args.instance f n c.args.outcome c.number-copy.ensures (conserved h (s.recorded fine).order) (spent_live d.rows.items h rest f n c.number-copy.ensures (s.recorded fine).places.standing) (c.requires.cause fine) (c.requires.from fine) in
+    let order : IsSound d → MaySpend h c.args.instance n c.args.outcome = λ fine. spending h c.args.instance f n c.args.outcome c.number-copy.ensures (conserved h (s.recorded fine).order) (spent_live d.rows.items h rest f n c.number-copy.ensures (s.recorded fine).places.standing) (c.requires.cause fine) (c.requires.from fine) in
     let comes : IsSound d → MayStillCome h (Spent c.args.instance n c.args.outcome) = λ fine. spent_comes h c.args.instance n c.args.outcome (c.requires.cause fine) in
     let kept : IsSound d → IsConserved (Spent c.args.instance n c.args.outcome ∷ h) = λ fine. let r = s.recorded fine in
-    conserved (Spent c.args.instance n c.args.outcome ∷ h) ((order fine, in_turn h (Spent c.args.instance n c.args.outcome) r.noticeless, comes fine), r.order) in
+    ((order fine).live, conserved h r.order) in
     let places : IsSound d → IsPlaced d.rows.items rest (Spent c.args.instance n c.args.outcome ∷ h) = λ fine.
     placed_spent d.rows.items h c.args.instance rest f n c.args.outcome c.number-copy.ensures (kept fine) (s.recorded fine).places in
     subst (λ (x : Hub _). Stands g.P.Port.told x rest x.log.history) (sym c.tell.ensures.rest)

@@ -8,7 +8,7 @@ use Rattle.vx_hub.proofs.Placing.{oldest_is, conserved, there_taken, from_oldest
 use Rattle.vx_hub.proofs.Collecting.{taken_now}
 use Rattle.vx_hub.proofs.Taking.{rows_taken, oldest_full}
 use Rattle.vx_hub.proofs.Sinking.{may_take}
-use Rattle.vx_hub.specs.Order.{IsTakeOf}
+use Rattle.vx_record.specs.Sinking.{MayTake}
 use Rattle.vx_hub.specs.Stands.{IsSound}
 use Rattle.vx_hub.proofs.Rooming.{take_first}
 use Rattle.vx_hub.proofs.Owning.{placed_held, placed_same}
@@ -16,13 +16,10 @@ use Rattle.vx_hub.proofs.Homing.{is_oldest, holds_put}
 use Rattle.vx_hub.specs.Places.{all_numbers}
 use Rattle.vx_hub.proofs.Noticing.{running_on}
 use Rattle.vx_hub.proofs.Ceasing.{hub_comes}
-use Rattle.vx_hub.proofs.Asking.{nothing_noted, nothing_same}
-use Rattle.vx_hub.proofs.Leaving.{away_noted, away_same, taken_more, taken_same, untried_noted, untried_same, noticed_noted, noticed_same}
+use Rattle.vx_hub.proofs.Adding.{adds_none, adds_one}
+use Rattle.vx_hub.proofs.Leaving.{taken_more, taken_same}
+use Rattle.vx_hub.specs.Adding.{IsTakeBy}
 use Rattle.vx_hub.proofs.Saids.{said_on}
-use Rattle.vx_hub.proofs.Flowing.{may_read_noted, may_read_same}
-use Rattle.vx_hub.proofs.Owed.{born_noted, born_same}
-use Rattle.vx_hub.proofs.Moments.{moment_noted, moment_same}
-use Rattle.vx_hub.proofs.Concluding.{was_noted, was_same}
 use Rattle.vx_hub.proofs.hub.Hub.take.Goals as goal
 
 pub returns-in_default-clause-stands : goal.returns-in_default-clause-stands
@@ -41,7 +38,7 @@ returns-clause-stands g c =
     let i = c.args.instance in
     let copies = c.in-Some.parcel.finalizers in
     let e = Take i 0 (numbers_in copies) in
-    let order : IsSound d → IsTakeOf h i 0 (numbers_in copies) = λ fine.
+    let order : IsSound d → MayTake h i 0 (numbers_in copies) = λ fine.
     let is = oldest_is (Contents i 0) copies d.rows.items c.pop_buffer.new.rows.items h (c.requires.stands.recorded fine).places.standing c.in-Some.ensures.oldest in
     let may = may_take g.P.Port.told d i c.args.now 63 (numbers_in copies) _ c.requires.stands c.requires.going c.requires.open.within fine (c.requires.away fine) (c.requires.few fine) (c.can_hold.ensures c.if-not-can_hold.false) (c.is_batch_closed.ensures.unclosed c.if-is_batch_closed.false) (c.requires.moment fine) is in
     record {
@@ -87,29 +84,11 @@ returns-in_default-clause-outputs g c i = ap all_numbers (c.in_default.ensures.n
 pub returns-clause-outputs : goal.returns-clause-outputs
 returns-clause-outputs g c i = ap all_numbers (c.hold.ensures.last.others (Outputs i) refl ∙ c.in-Some.ensures.oldest.others (Outputs i) refl)
 
-pub returns-in_default-clause-away : goal.returns-in_default-clause-away
-returns-in_default-clause-away g c = away_same c.args.self.now _ refl refl
-
-pub returns-clause-away : goal.returns-clause-away
-returns-clause-away g c = away_noted c.args.self.now _ (Take c.args.instance 0 (numbers_in c.in-Some.parcel.finalizers)) c.note_take.ensures refl (λ h k out. out)
-
 pub returns-clause-taken : goal.returns-clause-taken
 returns-clause-taken g c = taken_more c.args.self.now _ c.args.instance 0 (numbers_in c.in-Some.parcel.finalizers) c.note_take.ensures refl
 
 pub returns-in_default-clause-taken : goal.returns-in_default-clause-taken
 returns-in_default-clause-taken g c = taken_same c.args.self.now _ c.args.instance refl refl
-
-pub returns-in_default-clause-untried : goal.returns-in_default-clause-untried
-returns-in_default-clause-untried g c = untried_same c.args.self.now _ refl refl
-
-pub returns-clause-untried : goal.returns-clause-untried
-returns-clause-untried g c = untried_noted c.args.self.now _ (Take c.args.instance 0 (numbers_in c.in-Some.parcel.finalizers)) c.note_take.ensures refl (λ h k none. none)
-
-pub returns-in_default-clause-nothing : goal.returns-in_default-clause-nothing
-returns-in_default-clause-nothing g c = nothing_same c.args.self.now _ refl refl
-
-pub returns-clause-nothing : goal.returns-clause-nothing
-returns-clause-nothing g c = nothing_noted c.args.self.now _ (Take c.args.instance 0 (numbers_in c.in-Some.parcel.finalizers)) c.note_take.ensures refl (λ h k had. record { undue = had.undue; told = had.told })
 
 pub returns-in_default-clause-holds : goal.returns-in_default-clause-holds
 returns-in_default-clause-holds g c i some = subst (λ (ps : List (List Copy)). 0 < length ps) (sym (c.in_default.ensures.none (Held i))) some
@@ -119,40 +98,8 @@ returns-clause-holds g c i some =
     holds_put (Held c.args.instance) i c.in-Some.parcel.finalizers c.pop_buffer.new.rows.items c.hold.new.rows.items c.hold.ensures.last
     (subst (λ (ps : List (List Copy)). 0 < length ps) (sym (c.in-Some.ensures.oldest.others (Held i) refl)) some)
 
-pub returns-in_default-clause-turn : goal.returns-in_default-clause-turn
-returns-in_default-clause-turn g c = may_read_same c.args.self.now _ refl refl
+pub returns-in_default-clause-took : goal.returns-in_default-clause-took
+returns-in_default-clause-took g c = adds_none (IsTakeBy c.args.instance) c.args.self.now _ refl refl
 
-pub returns-clause-turn : goal.returns-clause-turn
-returns-clause-turn g c =
-    may_read_noted c.args.self.now _ (Take c.args.instance 0 (numbers_in c.in-Some.parcel.finalizers)) c.note_take.ensures refl
-    (λ h k was. record { readable = was.readable; once = was.once })
-
-pub returns-in_default-clause-bore : goal.returns-in_default-clause-bore
-returns-in_default-clause-bore g c = born_same c.args.self.now _ refl refl
-
-pub returns-clause-bore : goal.returns-clause-bore
-returns-clause-bore g c = born_noted c.args.self.now _ (Take c.args.instance 0 (numbers_in c.in-Some.parcel.finalizers)) c.note_take.ensures refl (λ h k. refl) (λ k. refl) (λ h going. going)
-
-pub returns-in_default-clause-noticed : goal.returns-in_default-clause-noticed
-returns-in_default-clause-noticed g c = noticed_same c.args.self.now _ refl refl
-
-pub returns-clause-noticed : goal.returns-clause-noticed
-returns-clause-noticed g c = noticed_noted c.args.self.now _ (Take c.args.instance 0 (numbers_in c.in-Some.parcel.finalizers)) c.note_take.ensures refl (λ h k. refl)
-
-pub returns-in_default-clause-moment : goal.returns-in_default-clause-moment
-returns-in_default-clause-moment g c = moment_same c.args.self.now _ refl refl
-
-pub returns-clause-moment : goal.returns-clause-moment
-returns-clause-moment g c = moment_noted c.args.self.now _ (Take c.args.instance 0 (numbers_in c.in-Some.parcel.finalizers)) c.note_take.ensures refl (λ h k. refl)
-
-pub returns-in_default-clause-leased : goal.returns-in_default-clause-leased
-returns-in_default-clause-leased g c i = moment_same c.args.self.now _ refl refl i c.args.self.now.latest
-
-pub returns-clause-leased : goal.returns-clause-leased
-returns-clause-leased g c i = moment_noted c.args.self.now _ (Take c.args.instance 0 (numbers_in c.in-Some.parcel.finalizers)) c.note_take.ensures refl (λ h k. refl) i c.args.self.now.latest
-
-pub returns-in_default-clause-done : goal.returns-in_default-clause-done
-returns-in_default-clause-done g c = was_same c.args.self.now _ refl refl
-
-pub returns-clause-done : goal.returns-clause-done
-returns-clause-done g c = was_noted c.args.self.now _ (Take c.args.instance 0 (numbers_in c.in-Some.parcel.finalizers)) c.note_take.ensures refl (λ h k. refl)
+pub returns-clause-took : goal.returns-clause-took
+returns-clause-took g c = adds_one (IsTakeBy c.args.instance) c.args.self.now _ (Take c.args.instance 0 (numbers_in c.in-Some.parcel.finalizers)) c.note_take.ensures refl refl

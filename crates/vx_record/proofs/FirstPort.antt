@@ -3,21 +3,23 @@ use Rattle.std.proofs.Common.{◌≡◌, ℕ, zero, suc, ◌+◌, ◌<◌, ◌�
 use Rattle.std.specs.Prelude.{◌==◌, ◌&&◌, if◌then◌else◌, map}
 use Rattle.std.proofs.lemmas.List.{append-nil}
 use Rattle.vx_value.specs.Texts.{is_empty}
+use Rattle.vx_value.specs.declared.event.Event.{Event}
 use Rattle.vx_record.specs.Records.{Record}
 use Rattle.vx_record.specs.declared.child.Child.{Child as NotedChild}
 use Rattle.vx_record.specs.declared.entry.Entry.{Entry}
 use Rattle.vx_record.specs.declared.entry.Entry.TheVariants.{Born, Split, Push, Take}
-use Rattle.vx_record.specs.Copies.{count, counting, next_copy}
+use Rattle.vx_record.specs.Copies.{count, counting, children_of, next_copy}
 use Rattle.vx_record.specs.Parcels.{first_copy, ports_of, port_list, parcel_ports}
 use Rattle.vx_record.specs.Places.{Put, Kind, kind, same_place, one_each, puts, all_puts, left}
 use Rattle.vx_record.specs.Places.Place.{Outputs, Waiting}
 use Rattle.vx_record.specs.Lists.{without, unless_empty, standing, parcels_at, outputs, all_waiting}
-use Rattle.vx_record.specs.Sending.{IsOldest}
+use Rattle.vx_record.specs.Sending.{IsOldest, MaySplit}
 use Rattle.vx_record.specs.Installs.{wired}
 use Rattle.vx_record.specs.Routing.{is_dry, outlets, routes, wired_targets}
 use Rattle.vx_record.proofs.Live.{if_lt, if_ge}
 use Rattle.vx_record.proofs.Changes.{same_place_is}
-use Rattle.vx_hub.specs.Order.{IsInOrder, IsOrderly, readers_at}
+use Rattle.vx_record.specs.Legal.{Allows, IsLegal}
+use Rattle.vx_record.specs.Ceasing.{readers_at}
 
 -- a copy that was made, and put out on the first port
 pub record IsOnFirst (h : Record) (c : ℕ) : Type 0 where
@@ -72,7 +74,7 @@ children_elsewhere : (h : Record) (i : ℕ) (children : List NotedChild) → Put
 children_elsewhere h i [] = tt
 children_elsewhere h i (child ∷ rest) = (λ j is. cc, children_elsewhere h i rest)
 
-entry_on : (h : Record) (e : Entry) → IsInOrder h e → PutOnFirst (e ∷ h) (puts e)
+entry_on : (h : Record) (e : Entry) → Allows h e → PutOnFirst (e ∷ h) (puts e)
 entry_on h (Born i b place copies events waits stream end) order =
     each_alone (Born i b place copies events waits stream end ∷ h) i copies
     (subst (λ (cs : List ℕ). AreOnFirst (Born i b place copies events waits stream end ∷ h) cs) (sym order.next)
@@ -83,9 +85,9 @@ entry_on h (Take i s copies) order = (λ j is. cc, tt)
 entry_on h e order = tt
 
 -- whatever was put out was put out on the first port
-all_puts_on : (h : Record) → IsOrderly h → PutOnFirst h (all_puts h)
+all_puts_on : (h : Record) → IsLegal h → PutOnFirst h (all_puts h)
 all_puts_on [] o = tt
-all_puts_on (e ∷ h) o = puts-append (e ∷ h) (all_puts h) (puts e) (puts_on h e (all_puts h) (all_puts_on h o.1)) (entry_on h e o.0.0)
+all_puts_on (e ∷ h) o = puts-append (e ∷ h) (all_puts h) (puts e) (puts_on h e (all_puts h) (all_puts_on h o.1)) (entry_on h e o.0.row)
 
 -- the first copy that is left of a parcel
 left_on : (h : Record) (gone xs : List ℕ) (c : ℕ) (cs : List ℕ) → AreOnFirst h xs → without gone xs ≡ c ∷ cs → IsOnFirst h c
@@ -122,7 +124,7 @@ rest_of copies [] oldest = absurd oldest
 rest_of copies (p ∷ ps) oldest = (ps, ap (λ (cs : List ℕ). cs ∷ ps) (sym oldest))
 
 -- the oldest output was put out on the first port
-pub output_on_first : (h : Record) (i : ℕ) (copies : List ℕ) → IsOrderly h → IsOldest copies (outputs h i) → 1 ≡ parcel_ports h copies
+pub output_on_first : (h : Record) (i : ℕ) (copies : List ℕ) → IsLegal h → IsOldest copies (outputs h i) → 1 ≡ parcel_ports h copies
 output_on_first h i copies order oldest =
     let first = rest_of copies (outputs h i) oldest in
     sym (standing_on h (left h) i (all_puts h) copies first.0 (all_puts_on h order) first.1).port
@@ -140,3 +142,10 @@ first_routes h i copies oldest =
     open_outlet [] dry is = absurd is
     open_outlet (p ∷ ps) true is = refl
     open_outlet (p ∷ ps) false is = refl
+
+-- so a split is for the readers of its instance
+pub split_routed : (h : Record) (i ports : ℕ) (copies : List ℕ) (event : Event) (children : List NotedChild) → IsLegal h → MaySplit h i ports copies event children →
+    children ≡ children_of (next_copy h) (length copies) (readers_at h i)
+split_routed h i ports copies event children order may =
+    let first : 1 ≡ ports = output_on_first h i copies order may.split.oldest ∙ sym may.split.on_ports in
+    may.split.made ∙ ap (λ (ts : List ℕ). children_of (next_copy h) (length copies) ts) (ap (λ n. routes h i (port_list n)) (sym first) ∙ first_routes h i copies may.split.oldest)

@@ -1,0 +1,272 @@
+-- The rows of a legal record say more.
+use Rattle.std.proofs.Common.{◌≡◌, ℕ, ◌+◌, ◌<◌, ◌≤◌, Bool, true, false, List, [], ◌∷◌, Option, Some, None, refl, sym, ap, subst, ◌∙◌, arith, inl, inr}
+use Rattle.std.specs.Prelude.{◌^◌, ◌⊎◌, ◌==◌, ◌&&◌, ◌||◌, not, nat_le, is_some, IsSome, if◌then◌else◌}
+use Rattle.std.specs.List.{list_any}
+use Rattle.std.proofs.lemmas.Bool.Decides.{nat_tests}
+use Rattle.vx_status.specs.declared.outcome.Outcome.TheVariants.{Delivered, Attempts, Refusal, Abandoned, NoConsumer, Filtered, NewestDropped}
+use Rattle.vx_plan.specs.declared.class.Class.TheVariants.{Source, Transform, Sink}
+use Rattle.vx_plan.specs.declared.component.Component.{Component}
+use Rattle.vx_plan.specs.Components.{component_named, is_source}
+use Rattle.vx_plan.specs.Options.{has_device}
+use Rattle.vx_plan.specs.declared.settings.Settings.{Settings}
+use Rattle.vx_plan.specs.declared.settings.Settings.TheVariants.{Stdin, Console}
+use Rattle.vx_record.specs.Records.{Record}
+use Rattle.vx_record.specs.declared.entry.Entry.TheVariants.{Install, Lease, Home, Read, Idle, SourceLost, Attempt}
+use Rattle.vx_record.specs.Copies.{count, contains}
+use Rattle.vx_record.specs.Lists.{outputs}
+use Rattle.vx_record.specs.Turns.{is_out, at_lease, since_lease, lease_now, is_turn_of}
+use Rattle.vx_record.specs.Installs.{Wiring, wiring, component_of, source_at, is_marked}
+use Rattle.vx_record.specs.Reads.{all_ended, bytes_of_all, is_lost}
+use Rattle.vx_record.specs.Abandoning.{abandoned}
+use Rattle.vx_record.specs.Parcels.{port_list}
+use Rattle.vx_record.specs.Routing.{drains, is_dry, is_sent, is_out_from_before, is_too_long, routes}
+use Rattle.vx_record.specs.Owing.{owes, is_done, is_worker_done, is_source_done, all_noticed}
+use Rattle.vx_record.specs.Confirms.{is_confirm_due}
+use Rattle.vx_record.specs.Ready.{is_heir, reading_moment, is_source_ready, is_sink_ready}
+use Rattle.vx_record.specs.SinkBatches.{attempts_with, failures_with, is_failed}
+use Rattle.vx_record.specs.Spending.{last_attempted, oldest}
+use Rattle.vx_record.specs.Sending.{IsOldest}
+use Rattle.vx_record.specs.Sourcing.{MayTurn}
+use Rattle.vx_record.specs.Legal.{IsLegal}
+use Rattle.vx_record.specs.Ceasing.{lost_at, TakesNoMore}
+use Rattle.vx_record.specs.Promises.{TurnUnlost, ClosedTakesNoMore, LeasedRuns, RetiredClosed, UnaskedToStop, SpentAbandoned, NoneFiltered, UnconsumedUnread, DecidedHeld}
+use Rattle.vx_record.proofs.Attempted.{attempts_one, attempted_held}
+use Rattle.vx_record.proofs.Ceasing.{has_cause, more_on, unmarked}
+use Rattle.vx_record.proofs.FirstPort.{first_routes, output_on_first}
+
+pub or_left : (a b : Bool) → (a || b) ≡ false → a ≡ false
+or_left true b e = cc
+or_left false b e = refl
+
+pub or_right : (a b : Bool) → (a || b) ≡ false → b ≡ false
+or_right true b e = cc
+or_right false b e = e
+
+pub and_left : (a b : Bool) → (a && b) ≡ true → a ≡ true
+and_left true b e = refl
+and_left false b e = cc
+
+pub and_right : (a b : Bool) → (a && b) ≡ true → b ≡ true
+and_right true b e = e
+and_right false b e = cc
+
+either : (a b : Bool) → (a || b) ≡ true → (a ≡ true) ⊎ (b ≡ true)
+either true b e = inl refl
+either false b e = inr e
+
+-- LEASES
+-- an instance that is out is wired as when it was leased
+wired_lease : (h : Record) (i : ℕ) → IsLegal h → is_out h i ≡ true → wiring (at_lease h i) i ≡ wiring h i
+wired_lease [] i legal out = cc
+wired_lease (Install version plan once instances now ∷ h) i legal out = let no : is_out [] i ≡ true = subst (λ (k : Record). is_out k i ≡ true) legal.0.row.first out in cc
+wired_lease (Lease j worker now polls ∷ h) i legal out = go (j == i) out (wired_lease h i legal.1)
+  where
+    go : (b : Bool) → (if b then true else is_out h i) ≡ true → (is_out h i ≡ true → wiring (at_lease h i) i ≡ wiring h i) → wiring (if b then h else at_lease h i) i ≡ wiring h i
+    go true out rest = refl
+    go false out rest = rest out
+wired_lease (Home j ∷ h) i legal out = go (j == i) out (wired_lease h i legal.1)
+  where
+    go : (b : Bool) → (if b then false else is_out h i) ≡ true → (is_out h i ≡ true → wiring (at_lease h i) i ≡ wiring h i) → wiring (at_lease h i) i ≡ wiring h i
+    go true out rest = cc
+    go false out rest = rest out
+wired_lease (e ∷ h) i legal out = wired_lease h i legal.1 out
+
+-- so it was a source then if it is one
+pub source_lease : (h : Record) (i : ℕ) → IsLegal h → is_out h i ≡ true → source_at h i ≡ true → source_at (at_lease h i) i ≡ true
+source_lease h i legal out is =
+    let same : component_of (at_lease h i) i ≡ component_of h i = ap (λ (o : Option Wiring). elim o [ None ↦ None | Some w ↦ component_named w.plan w.name ]) (wired_lease h i legal out) in
+    let also : source_at (at_lease h i) i ≡ source_at h i = ap (λ (o : Option Component). elim o [ None ↦ false | Some c ↦ is_source c ]) same in
+    also ∙ is
+
+-- the record as it stood at a lease is legal
+pub legal_lease : (h : Record) (i : ℕ) → IsLegal h → IsLegal (at_lease h i)
+legal_lease [] i legal = tt
+legal_lease (Lease j worker now polls ∷ h) i legal = go (j == i) (legal_lease h i legal.1)
+  where
+    go : (b : Bool) → IsLegal (at_lease h i) → IsLegal (if b then h else at_lease h i)
+    go true rest = legal.1
+    go false rest = rest
+legal_lease (e ∷ h) i legal = legal_lease h i legal.1
+
+-- LOSSES
+-- what wasn't lost wasn't lost after any bytes
+none_lost : (h : Record) (i : ℕ) → is_lost h i ≡ false → lost_at h i ≡ None
+none_lost [] i off = refl
+none_lost (SourceLost j at failed ∷ h) i off = go (j == i) off (none_lost h i)
+  where
+    go : (b : Bool) → (b || is_lost h i) ≡ false → (is_lost h i ≡ false → lost_at h i ≡ None) → (if b then Some at else lost_at h i) ≡ None
+    go true off rest = cc
+    go false off rest = rest off
+none_lost (e ∷ h) i off = none_lost h i off
+
+some_lost : (h : Record) (i : ℕ) → is_lost h i ≡ true → IsSome (lost_at h i)
+some_lost [] i on = cc
+some_lost (SourceLost j at failed ∷ h) i on = go (j == i) on (some_lost h i)
+  where
+    go : (b : Bool) → (b || is_lost h i) ≡ true → (is_lost h i ≡ true → IsSome (lost_at h i)) → IsSome (if b then Some at else lost_at h i)
+    go true on rest = refl
+    go false on rest = rest on
+some_lost (e ∷ h) i on = some_lost h i on
+
+-- nothing was lost since a lease behind which no turn stands
+lost_since : (h : Record) (i : ℕ) → list_any (is_turn_of i) (since_lease h i) ≡ false → lost_at h i ≡ lost_at (at_lease h i) i
+lost_since [] i none = refl
+lost_since (Lease j worker now polls ∷ h) i none = go (j == i) none (lost_since h i)
+  where
+    go : (b : Bool) → list_any (is_turn_of i) (if b then [] else Lease j worker now polls ∷ since_lease h i) ≡ false → (list_any (is_turn_of i) (since_lease h i) ≡ false → lost_at h i ≡ lost_at (at_lease h i) i) →
+        lost_at h i ≡ lost_at (if b then h else at_lease h i) i
+    go true none rest = refl
+    go false none rest = rest none
+lost_since (Read j stream took ∷ h) i none = lost_since h i (or_right (j == i) _ none)
+lost_since (Idle j failed ∷ h) i none = lost_since h i (or_right (j == i) _ none)
+lost_since (SourceLost j at failed ∷ h) i none =
+    ap (λ (b : Bool). if b then Some at else lost_at h i) (or_left (j == i) _ none) ∙ lost_since h i (or_right (j == i) _ none)
+lost_since (e ∷ h) i none = lost_since h i none
+
+-- a source that could be read wasn't lost
+not_of : (a : Bool) → not a ≡ true → a ≡ false
+not_of true e = cc
+not_of false e = refl
+
+pub undry_unlost : (s e l d : Bool) → s ≡ true → (s && (e || l || d)) ≡ false → l ≡ false
+undry_unlost false e l d on off = cc
+undry_unlost true true l d on off = cc
+undry_unlost true false true d on off = cc
+undry_unlost true false false d on off = refl
+
+-- a source that could be read when it was leased wasn't dry then
+pub undry_lease : (h : Record) (i : ℕ) → MayTurn h i → is_dry (at_lease h i) i ≡ false
+undry_lease h i row =
+    let k = at_lease h i in
+    let sent_dry = and_left (is_sent k i && not (is_dry k i)) (nat_le (reading_moment k i) (lease_now h i)) (and_left (is_sent k i && not (is_dry k i) && nat_le (reading_moment k i) (lease_now h i)) (is_heir k i) row.readable) in
+    not_of (is_dry k i) (and_right (is_sent k i) (not (is_dry k i)) sent_dry)
+
+pub turn_unlost : TurnUnlost
+turn_unlost h i legal row =
+    let k = at_lease h i in
+    lost_since h i row.once
+    ∙ none_lost k i (undry_unlost (source_at k i) (all_ended k i) (is_lost k i) (drains k i && not (is_out_from_before k i)) (source_lease h i legal row.out row.source) (undry_lease h i row))
+
+-- CLOSURES
+-- what takes no more at its lease takes no more
+more_since : (h : Record) (i : ℕ) → TakesNoMore (at_lease h i) i → TakesNoMore h i
+more_since [] i more = more
+more_since (Lease j worker now polls ∷ h) i more = go (j == i) more (more_since h i)
+  where
+    go : (b : Bool) → TakesNoMore (if b then h else at_lease h i) i → (TakesNoMore (at_lease h i) i → TakesNoMore h i) → TakesNoMore (Lease j worker now polls ∷ h) i
+    go true more rest = more_on h i (Lease j worker now polls) more
+    go false more rest = more_on h i (Lease j worker now polls) (rest more)
+more_since (e ∷ h) i more = more_on h i e (more_since h i more)
+
+too_long : (n : ℕ) → nat_le (2 ^ 48) n ≡ true → 2 ^ 48 ≤ n
+too_long n on = grind (arith, nat_tests, on)
+
+-- a dry source takes no more
+dry_more : (h : Record) (i : ℕ) → IsLegal h → is_dry h i ≡ true → TakesNoMore h i
+dry_more h i legal dry = by_cause (either (all_ended h i || is_lost h i) (drains h i && not (is_out_from_before h i)) (and_right (source_at h i) _ dry))
+  where
+    drained : (is_marked h i ≡ true) ⊎ ((source_at h i && (false || is_too_long h)) ≡ true) → TakesNoMore h i
+    drained (inl marked) = let no : true ≡ false = sym marked ∙ unmarked h i legal in cc
+    drained (inr long) = inr (inr (inl (too_long (bytes_of_all h) (and_right (source_at h i) (is_too_long h) long))))
+
+    by_cause : ((all_ended h i || is_lost h i) ≡ true) ⊎ ((drains h i && not (is_out_from_before h i)) ≡ true) → TakesNoMore h i
+    by_cause (inl over) = by_end (either (all_ended h i) (is_lost h i) over)
+      where
+        by_end : (all_ended h i ≡ true) ⊎ (is_lost h i ≡ true) → TakesNoMore h i
+        by_end (inl ended) = inl ended
+        by_end (inr lost) = inr (inl (some_lost h i lost))
+    by_cause (inr drains_now) = drained (either (is_marked h i) (source_at h i && (false || is_too_long h)) (and_left (drains h i) (not (is_out_from_before h i)) drains_now))
+
+source_dry : (h : Record) (i : ℕ) → source_at h i ≡ true → is_done h i ≡ true → is_dry h i ≡ true
+source_dry h i source done = and_left (is_dry h i) (not (owes h i)) (and_left (is_dry h i && not (owes h i)) (is_sent h i)
+    (and_left (is_dry h i && not (owes h i) && is_sent h i) (all_noticed h i) (and_left (is_dry h i && not (owes h i) && is_sent h i && all_noticed h i) (not (is_confirm_due h i)) all)))
+  where
+    all : is_source_done h i ≡ true
+    all = ap (λ (b : Bool). if b then is_source_done h i else is_worker_done h i) (sym source) ∙ done
+
+pub closed_takes_no_more : ClosedTakesNoMore
+closed_takes_no_more h i legal row source = go row.over
+  where
+    go : ((is_out h i ≡ true) × (is_done (at_lease h i) i ≡ true)) ⊎ (abandoned h ≡ true) → TakesNoMore h i
+    go (inl was) = more_since h i (dry_more (at_lease h i) i (legal_lease h i legal) (source_dry (at_lease h i) i (source_lease h i legal was.0 source) was.1))
+    go (inr gone) = inr (inr (inr (has_cause h gone)))
+
+-- LEASES AND ENDS
+works_with_one : (settings : Settings) → has_device settings ≡ true
+works_with_one (Stdin max_length codec) = refl
+works_with_one (Console target codec sink) = refl
+
+pub leased_runs : LeasedRuns
+leased_runs h i worker now polls row = go (component_of h i) row.ready
+  where
+    go : (o : Option Component) → (elim o [ None ↦ false | Some c ↦ elim c.class [ Source ↦ is_source_ready h i now | Transform ↦ false | Sink ↦ is_sink_ready h i now ] ]) ≡ true → is_some o ≡ true
+    go None ready = cc
+    go (Some c) ready = refl
+
+pub retired_closed : RetiredClosed
+retired_closed h i row = row.port_closed (go (component_of h i) row.known)
+  where
+    go : (o : Option Component) → is_some o ≡ true → (elim o [ None ↦ false | Some c ↦ has_device c.settings ]) ≡ true
+    go None there = cc
+    go (Some c) there = works_with_one c.settings
+
+pub unasked_to_stop : UnaskedToStop
+unasked_to_stop h stopped now limit row = let no : None ≡ Some stopped = row.reason.0 in cc
+
+-- SPENDS
+pub spent_abandoned : SpentAbandoned
+spent_abandoned h i c Abandoned legal gone = refl
+spent_abandoned h i c Delivered legal gone = let no : false ≡ true = legal.0.still gone in cc
+spent_abandoned h i c Attempts legal gone = let no : false ≡ true = legal.0.still gone in cc
+spent_abandoned h i c Refusal legal gone = let no : false ≡ true = legal.0.still gone in cc
+spent_abandoned h i c NoConsumer legal gone = let no : false ≡ true = legal.0.still gone in cc
+spent_abandoned h i c Filtered legal gone = let no : false ≡ true = legal.0.still gone in cc
+spent_abandoned h i c NewestDropped legal gone = let no : false ≡ true = legal.0.still gone in cc
+
+pub none_filtered : NoneFiltered
+none_filtered h i c row = row.cause
+
+is_oldest : (ps : List (List ℕ)) (c : ℕ) → 0 < count c (oldest ps) → IsOldest (oldest ps) ps
+is_oldest [] c some = absurd (omega (arith, some))
+is_oldest (p ∷ ps) c some = refl
+
+pub unconsumed_unread : UnconsumedUnread
+unconsumed_unread h i c legal row =
+    let oldest_one = is_oldest (outputs h i) c row.cause.next in
+    let first = output_on_first h i (oldest (outputs h i)) legal oldest_one in
+    sym (first_routes h i (oldest (outputs h i)) oldest_one)
+    ∙ ap (λ n. routes h i (port_list n)) first ∙ row.cause.no_target
+
+-- what was attempted last was attempted
+last_counts : (h : Record) (i c : ℕ) → 0 < count c (last_attempted h i) → 0 < attempts_with h i c
+last_counts [] i c some = absurd (omega (arith, some))
+last_counts (Attempt j copies bytes reply ∷ h) i c some = go (j == i) some (last_counts h i c)
+  where
+    go : (b : Bool) → 0 < count c (if b then copies else last_attempted h i) → (0 < count c (last_attempted h i) → 0 < attempts_with h i c) → 0 < attempts_with h i c + (if b && contains copies c then 1 else 0)
+    go true has rest = let one : contains copies c ≡ true = grind (arith, nat_tests, has) in subst (λ (b : Bool). 0 < attempts_with h i c + (if true && b then 1 else 0)) (sym one) (omega arith)
+    go false has rest = let before = rest has in omega (arith, before)
+last_counts (e ∷ h) i c some = last_counts h i c some
+
+-- what failed was attempted
+failed_counts : (h : Record) (i c : ℕ) → failures_with h i c ≤ attempts_with h i c
+failed_counts [] i c = omega arith
+failed_counts (Attempt j copies bytes reply ∷ h) i c = go ((j == i) && contains copies c) (is_failed reply) (failed_counts h i c)
+  where
+    go : (b f : Bool) → failures_with h i c ≤ attempts_with h i c → failures_with h i c + (if b && f then 1 else 0) ≤ attempts_with h i c + (if b then 1 else 0)
+    go true true ih = omega (arith, ih)
+    go true false ih = omega (arith, ih)
+    go false f ih = omega (arith, ih)
+failed_counts (e ∷ h) i c = failed_counts h i c
+
+pub decided_held : DecidedHeld
+decided_held h i c Delivered legal is row = attempted_held h i c legal (last_counts h i c row.cause.had) row.live.2
+decided_held h i c Refusal legal is row = attempted_held h i c legal (last_counts h i c row.cause.had) row.live.2
+decided_held h i c Attempts legal is row =
+    let one = attempts_one h i in
+    let many = row.cause in
+    let more = failed_counts h i c in
+    attempted_held h i c legal (omega (arith, one, many, more)) row.live.2
+decided_held h i c NoConsumer legal is row = absurd is
+decided_held h i c Abandoned legal is row = absurd is
+decided_held h i c Filtered legal is row = absurd is
+decided_held h i c NewestDropped legal is row = absurd is

@@ -1,0 +1,186 @@
+-- Who sends: only sources put out and have children that wait, and nobody who is retired.
+use Rattle.std.proofs.Common.{◌≡◌, ℕ, ◌+◌, ◌<◌, Bool, true, false, List, [], ◌∷◌, Option, Some, None, refl, sym, ap, subst, ◌∙◌, arith, map, filter}
+use Rattle.std.specs.Prelude.{◌==◌, ◌&&◌, ◌||◌, if◌then◌else◌}
+use Rattle.std.specs.List.{list_any, list_all}
+use Rattle.std.proofs.lemmas.Bool.{eqb-true}
+use Rattle.std.proofs.lemmas.List.{append-nil}
+use Rattle.vx_value.specs.Texts.{Word}
+use Rattle.vx_value.specs.declared.event.Event.{Event}
+use Rattle.vx_plan.specs.declared.component.Component.{Component}
+use Rattle.vx_plan.specs.Components.{component_named, is_source}
+use Rattle.vx_record.specs.declared.instance.Instance.{Instance}
+use Rattle.vx_record.specs.Records.{Record}
+use Rattle.vx_record.specs.declared.entry.Entry.{Entry}
+use Rattle.vx_record.specs.declared.entry.Entry.TheVariants.{Install, Lease, Home, Read, Born, Retired}
+use Rattle.vx_record.specs.Copies.{count}
+use Rattle.vx_record.specs.Turns.{is_out}
+use Rattle.vx_record.specs.Installs.{Wiring, wiring, name_at, is_new, started, told, source_at, is_retired}
+use Rattle.vx_record.specs.Starting.{first_instances}
+use Rattle.vx_record.specs.Sourcing.{IsYield}
+use Rattle.vx_record.specs.Legal.{IsLegal}
+use Rattle.vx_record.proofs.Counts.{count-append}
+use Rattle.vx_record.proofs.OnePlace.{conserved}
+use Rattle.vx_record.proofs.Bare.{retired_bare}
+use Rattle.vx_record.proofs.Vacant.{Sent, bears, bare_sent, sent_on}
+
+-- what a wiring tells
+abbrev pub told_by : {X : Type 0} → X → (Component → X) → Option Wiring → X
+told_by none f o = elim (elim o as (λ (x : Option Wiring). Option Component) [ None ↦ None | Some w ↦ component_named w.plan w.name ]) [ None ↦ none | Some c ↦ f c ]
+
+-- two instances with one wiring are told the same
+pub same_told : {X : Type 0} (none : X) (f : Component → X) (h k : Record) (i : ℕ) → wiring h i ≡ wiring k i → told none f h i ≡ told none f k i
+same_told none f h k i same = ap (told_by none f) same
+
+-- WHO IS STARTED
+-- what holds of all holds of each
+pub all_among : (test : ℕ → Bool) (xs : List ℕ) (i : ℕ) → list_all test xs ≡ true → 0 < count i xs → test i ≡ true
+all_among test [] i all some = absurd (omega (arith, some))
+all_among test (x ∷ xs) i all some = go (x == i) (test x) refl refl all some (λ e l. all_among test xs i e l)
+  where
+    go : (b t : Bool) → (x == i) ≡ b → test x ≡ t → (t && list_all test xs) ≡ true → 0 < (if b then 1 else 0) + count i xs → (list_all test xs ≡ true → 0 < count i xs → test i ≡ true) → test i ≡ true
+    go b false is at e l rest = cc
+    go true true is at e l rest = let same : x ≡ i = eqb-true x i is in subst (λ (k : ℕ). test k ≡ true) same at
+    go false true is at e l rest = rest e (omega (arith, l))
+
+-- and what holds of none of none
+pub none_among : (test : ℕ → Bool) (xs : List ℕ) (i : ℕ) → list_any test xs ≡ false → 0 < count i xs → test i ≡ false
+none_among test [] i none some = absurd (omega (arith, some))
+none_among test (x ∷ xs) i none some = go (x == i) (test x) refl refl none some (λ e l. none_among test xs i e l)
+  where
+    go : (b t : Bool) → (x == i) ≡ b → test x ≡ t → (t || list_any test xs) ≡ false → 0 < (if b then 1 else 0) + count i xs → (list_any test xs ≡ false → 0 < count i xs → test i ≡ false) → test i ≡ false
+    go b true is at e l rest = cc
+    go true false is at e l rest = let same : x ≡ i = eqb-true x i is in subst (λ (k : ℕ). test k ≡ false) same at
+    go false false is at e l rest = rest e (omega (arith, l))
+
+-- whoever the first Install gives a name it starts
+named_new : (from : ℕ) (components : List Component) (i : ℕ) (name : Word) → name_at (first_instances from components) i ≡ Some name →
+    0 < count i (map (λ (instance : Instance). instance.number) (filter is_new (first_instances from components)))
+named_new from [] i name is = cc
+named_new from (c ∷ rest) i name is = go (from == i) is (named_new (from + 1) rest i name)
+  where
+    go : (b : Bool) → (if b && true then Some c.name else name_at (first_instances (from + 1) rest) i) ≡ Some name →
+        (name_at (first_instances (from + 1) rest) i ≡ Some name → 0 < count i (map (λ (instance : Instance). instance.number) (filter is_new (first_instances (from + 1) rest)))) →
+        0 < (if b then 1 else 0) + count i (map (λ (instance : Instance). instance.number) (filter is_new (first_instances (from + 1) rest)))
+    go true e later = omega arith
+    go false e later = let l = later e in omega (arith, l)
+
+-- a source is started
+pub started_source : (h : Record) (i : ℕ) → IsLegal h → source_at h i ≡ true → 0 < count i (started h)
+started_source [] i legal is = cc
+started_source (Install version plan once instances now ∷ h) i legal is = go (name_at instances i) refl
+  where
+    numbers : List Instance → List ℕ
+    numbers all = map (λ (instance : Instance). instance.number) (filter is_new all)
+
+    named : (name : Word) → name_at instances i ≡ Some name → 0 < count i (numbers instances)
+    named name e =
+        subst (λ (all : List Instance). 0 < count i (map (λ (instance : Instance). instance.number) (filter is_new all))) (sym legal.0.row.all_new)
+        (named_new 0 plan.components i name (subst (λ (all : List Instance). name_at all i ≡ Some name) legal.0.row.all_new e))
+
+    go : (o : Option Word) → name_at instances i ≡ o → 0 < count i (started (Install version plan once instances now ∷ h))
+    go (Some name) e =
+        let more = named name e in
+        let all = count-append i (started h) (numbers instances) in
+        omega (arith, more, all)
+    go None e =
+        let same : wiring (Install version plan once instances now ∷ h) i ≡ wiring [] i =
+        ap (λ (o : Option Word). elim o [ None ↦ wiring h i | Some name ↦ Some (record { plan = plan; instances = instances; name = name }) ]) e ∙ ap (λ (k : Record). wiring k i) legal.0.row.first in
+        let no : false ≡ true = sym (same_told false is_source (Install version plan once instances now ∷ h) [] i same) ∙ is in cc
+started_source (e ∷ h) i legal is =
+    let l = started_source h i legal.1 is in
+    let all = count-append i (started h) [] in
+    omega (arith, l, all)
+
+-- WHO BEARS
+-- an Install begins the record
+abbrev pub installs : Entry → Bool
+installs (Install version plan once instances now) = true
+installs other = false
+
+-- so no other entry changes a wiring or starts an instance
+pub wired_same : (e : Entry) (h : Record) (i : ℕ) → installs e ≡ false → wiring (e ∷ h) i ≡ wiring h i
+wired_same (Install version plan once instances now) h i off = cc
+wired_same e h i off = refl
+
+pub started_same : (e : Entry) (h : Record) → installs e ≡ false → started (e ∷ h) ≡ started h
+started_same (Install version plan once instances now) h off = cc
+started_same e h off = append-nil (started h)
+
+pub source_same : (e : Entry) (h : Record) (i : ℕ) → installs e ≡ false → source_at (e ∷ h) i ≡ source_at h i
+source_same e h i off = same_told false is_source (e ∷ h) h i (wired_same e h i off)
+
+-- where a component runs no Install comes
+pub uninstalled : (e : Entry) (h : Record) (i : ℕ) (f : Component → Bool) → IsLegal (e ∷ h) → told false f h i ≡ true → installs e ≡ false
+uninstalled (Install version plan once instances now) h i f legal is = let no : told false f [] i ≡ true = subst (λ (k : Record). told false f k i ≡ true) legal.0.row.first is in cc
+uninstalled e h i f legal is = refl
+
+-- who bears a batch is a source, and out
+pub bearer : (h : Record) (i : ℕ) (events : List Event) (stream end : ℕ) → IsLegal h → IsYield h i events stream end → (source_at h i ≡ true) × (is_out h i ≡ true)
+bearer (Read j s took ∷ h) i events stream end legal yield =
+    (subst (λ (k : ℕ). source_at h k ≡ true) yield.reader legal.0.row.source, subst (λ (k : ℕ). is_out h k ≡ true) yield.reader legal.0.row.out)
+bearer h i events stream end legal yield = absurd yield
+
+-- an instance of which this can't be said bears nothing
+unborn_by : (h : Record) (e : Entry) (i : ℕ) → IsLegal (e ∷ h) → ((source_at h i ≡ true) × (is_out h i ≡ true) → ⊥) → bears i e ≡ false
+unborn_by h (Born j b place copies events waits stream end) i legal never = go (j == i) refl
+  where
+    go : (b : Bool) → (j == i) ≡ b → b ≡ false
+    go true is =
+        let same : j ≡ i = eqb-true j i is in
+        let of = bearer h j events stream end legal.1 legal.0.row.yield in
+        absurd (never (subst (λ (k : ℕ). source_at h k ≡ true) same of.0, subst (λ (k : ℕ). is_out h k ≡ true) same of.1))
+    go false is = refl
+unborn_by h e i legal never = refl
+
+-- who is no source bears nothing
+pub unborn_worker : (h : Record) (e : Entry) (i : ℕ) → IsLegal (e ∷ h) → source_at h i ≡ false → bears i e ≡ false
+unborn_worker h e i legal off = unborn_by h e i legal (λ is. let no : true ≡ false = sym is.0 ∙ off in cc)
+
+-- who is no source was none before
+source_before : (e : Entry) (h : Record) (i : ℕ) → IsLegal (e ∷ h) → source_at (e ∷ h) i ≡ false → source_at h i ≡ false
+source_before (Install version plan once instances now) h i legal off = ap (λ (k : Record). source_at k i) legal.0.row.first
+source_before e h i legal off = off
+
+-- so only sources send
+pub worker_sent : (h : Record) (i : ℕ) → IsLegal h → source_at h i ≡ false → Sent h i
+worker_sent [] i legal off = record { put_out = refl; waits = λ t. refl }
+worker_sent (e ∷ h) i legal off =
+    let before = source_before e h i legal off in
+    sent_on h e i (conserved (e ∷ h) legal) (unborn_worker h e i legal before) (worker_sent h i legal.1 before)
+
+-- WHO IS RETIRED
+-- who is retired is at home
+pub retired_home : (h : Record) (i : ℕ) → IsLegal h → is_retired h i ≡ true → is_out h i ≡ false
+retired_home [] i legal is = cc
+retired_home (Lease j worker now polls ∷ h) i legal is = go (j == i) refl (retired_home h i legal.1 is)
+  where
+    go : (b : Bool) → (j == i) ≡ b → is_out h i ≡ false → (if b then true else is_out h i) ≡ false
+    go true here rest =
+        let same : j ≡ i = eqb-true j i here in
+        let no : true ≡ false = sym is ∙ subst (λ (k : ℕ). is_retired h k ≡ false) same legal.0.row.unretired in cc
+    go false here rest = rest
+retired_home (Home j ∷ h) i legal is = go (j == i) (retired_home h i legal.1 is)
+  where
+    go : (b : Bool) → is_out h i ≡ false → (if b then false else is_out h i) ≡ false
+    go true rest = refl
+    go false rest = rest
+retired_home (Retired j ∷ h) i legal is = go (j == i) refl is (retired_home h i legal.1)
+  where
+    go : (b : Bool) → (j == i) ≡ b → (b || is_retired h i) ≡ true → (is_retired h i ≡ true → is_out h i ≡ false) → is_out h i ≡ false
+    go true here e rest = let same : j ≡ i = eqb-true j i here in subst (λ (k : ℕ). is_out h k ≡ false) same legal.0.row.home
+    go false here e rest = rest e
+retired_home (e ∷ h) i legal is = retired_home h i legal.1 is
+
+-- and bears nothing
+unborn_retired : (h : Record) (e : Entry) (i : ℕ) → IsLegal (e ∷ h) → is_retired h i ≡ true → bears i e ≡ false
+unborn_retired h e i legal is = unborn_by h e i legal (λ of. let no : true ≡ false = sym of.1 ∙ retired_home h i legal.1 is in cc)
+
+-- so nothing that a retired instance put out stands anywhere
+pub retired_sent : (h : Record) (i : ℕ) → IsLegal h → is_retired h i ≡ true → Sent h i
+retired_sent [] i legal is = cc
+retired_sent (Retired j ∷ h) i legal is = sent_on h (Retired j) i (conserved (Retired j ∷ h) legal) refl (go (j == i) refl is (retired_sent h i legal.1))
+  where
+    go : (b : Bool) → (j == i) ≡ b → (b || is_retired h i) ≡ true → (is_retired h i ≡ true → Sent h i) → Sent h i
+    go true here e rest = let same : j ≡ i = eqb-true j i here in subst (λ (k : ℕ). Sent h k) same (bare_sent h j (retired_bare h j legal.1 legal.0.row))
+    go false here e rest = rest e
+retired_sent (e ∷ h) i legal is = sent_on h e i (conserved (e ∷ h) legal) (unborn_retired h e i legal is) (retired_sent h i legal.1 is)

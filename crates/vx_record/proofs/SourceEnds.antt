@@ -1,0 +1,233 @@
+-- A source that is done stays done until it bears or confirms.
+use Rattle.std.proofs.Common.{◌≡◌, ℕ, ◌+◌, ◌<◌, Bool, true, false, cond, List, [], ◌∷◌, ◌++◌, Option, Some, None, refl, sym, ap, subst, ◌∙◌, arith, length, map}
+use Rattle.std.specs.Prelude.{◌==◌, ◌&&◌, ◌||◌, not, nat_lt, take_while, if◌then◌else◌}
+use Rattle.std.specs.List.{list_all}
+use Rattle.std.proofs.lemmas.Bool.{and_parts, and_from, or_parts, or_from, or_right, not-true, eqb-true}
+use Rattle.std.proofs.lemmas.List.{append-nil}
+use Rattle.std.proofs.lemmas.List.Sums.{take_while-cons}
+use Rattle.vx_value.specs.Texts.{is_empty}
+use Rattle.vx_plan.specs.declared.class.Class.{Class}
+use Rattle.vx_plan.specs.declared.class.Class.TheVariants.{Source, Transform, Sink}
+use Rattle.vx_plan.specs.declared.component.Component.{Component}
+use Rattle.vx_plan.specs.Components.{is_source, is_sink}
+use Rattle.vx_plan.specs.Options.{has_device}
+use Rattle.vx_status.specs.declared.batch_status.BatchStatus.{BatchStatus}
+use Rattle.vx_record.specs.Records.{Record}
+use Rattle.vx_record.specs.declared.entry.Entry.{Entry}
+use Rattle.vx_record.specs.declared.entry.Entry.TheVariants.{Install, Read, Born, Attempt, Notice, Confirm}
+use Rattle.vx_record.specs.Turns.{is_confirm_of}
+use Rattle.vx_record.specs.Installs.{component_of, source_at, sink_at, device_at}
+use Rattle.vx_record.specs.Confirms.{Birth, births, is_noticed, is_delivered, was_delivered, confirm_prefix, last_of_each, position_of, due, last_confirm, same_positions, is_confirm_due}
+use Rattle.vx_record.specs.Routing.{is_dry, is_sent}
+use Rattle.vx_ends.specs.declared.position.Position.{Position}
+use Rattle.vx_record.specs.Reads.{events_of}
+use Rattle.vx_record.specs.Parcels.{first_copy}
+use Rattle.vx_record.specs.SinkBatches.{failures_with, attempts_allowed}
+use Rattle.vx_record.specs.Owing.{is_decided, unspent_of, fruitful, owes_birth, owes_spends_in, owes, all_noticed, is_source_done, is_worker_done, is_done}
+use Rattle.vx_record.specs.Laws.{times_noticed}
+use Rattle.vx_record.specs.Legal.{IsLegal}
+use Rattle.vx_record.proofs.OnePlace.{conserved}
+use Rattle.vx_record.proofs.Notices.{noticed}
+use Rattle.vx_record.proofs.LegalNotices.{accounted}
+use Rattle.vx_record.proofs.Vacant.{Sent, bears, sent_of, is_sent_of, sent_on}
+use Rattle.vx_record.proofs.Turning.{turn_undry}
+use Rattle.vx_record.proofs.Drying.{dry_on}
+use Rattle.vx_record.proofs.Senders.{installs, same_told, uninstalled, wired_same, source_same}
+
+-- what a source has where it is done
+pub record SourceDone (h : Record) (i : ℕ) : Type 0 where
+  pub source : source_at h i ≡ true
+  pub dry : is_dry h i ≡ true
+  pub settled : owes h i ≡ false
+  pub sent : Sent h i
+  pub noticed : all_noticed h i ≡ true
+  pub undue : is_confirm_due h i ≡ false
+
+-- where the test says so
+pub source_done : (h : Record) (i : ℕ) → source_at h i ≡ true → is_done h i ≡ true → SourceDone h i
+source_done h i source done = record {
+  source = source;
+  dry = (and_parts d o ((and_parts (d && o) s one).0)).0;
+  settled = not-true (owes h i) ((and_parts d o ((and_parts (d && o) s one).0)).1);
+  sent = sent_of h i ((and_parts (d && o) s one).1);
+  noticed = (and_parts (d && o && s) n two).1;
+  undue = not-true (is_confirm_due h i) ((and_parts (d && o && s && n) u all).1);
+}
+  where
+    d : Bool
+    d = is_dry h i
+
+    o : Bool
+    o = not (owes h i)
+
+    s : Bool
+    s = is_sent h i
+
+    n : Bool
+    n = all_noticed h i
+
+    u : Bool
+    u = not (is_confirm_due h i)
+
+    all : (d && o && s && n && u) ≡ true
+    all = ap (λ (b : Bool). if b then is_source_done h i else is_worker_done h i) (sym source) ∙ done
+
+    two : (d && o && s && n) ≡ true
+    two = (and_parts (d && o && s && n) u all).0
+
+    one : (d && o && s) ≡ true
+    one = (and_parts (d && o && s) n two).0
+
+-- and then the test does
+all_five : (d o s n u : Bool) → d ≡ true → o ≡ false → s ≡ true → n ≡ true → u ≡ false → (d && not o && s && n && not u) ≡ true
+all_five false o s n u a b c e f = cc
+all_five true true s n u a b c e f = cc
+all_five true false false n u a b c e f = cc
+all_five true false true false u a b c e f = cc
+all_five true false true true true a b c e f = cc
+all_five true false true true false a b c e f = refl
+
+pub done_source : (h : Record) (i : ℕ) → SourceDone h i → is_done h i ≡ true
+done_source h i is =
+    ap (λ (b : Bool). if b then is_source_done h i else is_worker_done h i) is.source
+    ∙ all_five (is_dry h i) (owes h i) (is_sent h i) (all_noticed h i) (is_confirm_due h i) is.dry is.settled (is_sent_of h i is.sent) is.noticed is.undue
+
+-- WHAT IT OWES
+-- its births stay until it bears
+births_same : (e : Entry) (h : Record) (i : ℕ) → bears i e ≡ false → births (e ∷ h) i ≡ births h i
+births_same (Born j b place copies events waits stream end) h i off =
+    ap (λ (t : Bool). births h i ++ (if t then record { batch = b; waits = waits; stream = stream; end = end } ∷ [] else [])) off ∙ append-nil (births h i)
+births_same e h i off = append-nil (births h i)
+
+-- a dry source reads nothing
+fruitful_same : (e : Entry) (h : Record) (i : ℕ) → IsLegal (e ∷ h) → is_dry h i ≡ true → fruitful (e ∷ h) i ≡ fruitful h i
+fruitful_same (Read j stream took) h i legal dry = go (j == i) refl
+  where
+    go : (b : Bool) → (j == i) ≡ b → fruitful (Read j stream took ∷ h) i ≡ fruitful h i
+    go true is =
+        let same : j ≡ i = eqb-true j i is in
+        let no : true ≡ false = sym dry ∙ subst (λ (k : ℕ). is_dry h k ≡ false) same (turn_undry h j legal.1 legal.0.row) in cc
+    go false is = ap (λ (b : Bool). fruitful h i + (if b && not (is_empty (events_of h i stream took)) then 1 else 0)) is ∙ (omega arith)
+fruitful_same e h i legal dry = refl
+
+-- a component stands in one table
+one_table : (o : Option Component) → (elim o [ None ↦ false | Some c ↦ is_source c ]) ≡ true → (elim o [ None ↦ false | Some c ↦ is_sink c ]) ≡ true → ⊥
+one_table None is also = cc
+one_table (Some c) is also = go c.class is also
+  where
+    go : (k : Class) → (elim k [ Source ↦ true | Transform ↦ false | Sink ↦ false ]) ≡ true → (elim k [ Source ↦ false | Transform ↦ false | Sink ↦ true ]) ≡ true → ⊥
+    go Source is also = cc
+    go Transform is also = cc
+    go Sink is also = cc
+
+-- a source makes no attempt, so it owes no spend
+source_spends : (h whole : Record) (i : ℕ) → IsLegal h → source_at h i ≡ true → owes_spends_in h whole i ≡ false
+source_spends [] whole i legal is = refl
+source_spends (Install version plan once instances now ∷ h) whole i legal is = ap (λ (k : Record). owes_spends_in k whole i) legal.0.row.first
+source_spends (Attempt j copies bytes answer ∷ h) whole i legal is = go (j == i) refl (source_spends h whole i legal.1 is)
+  where
+    go : (b : Bool) → (j == i) ≡ b → owes_spends_in h whole i ≡ false → owes_spends_in (Attempt j copies bytes answer ∷ h) whole i ≡ false
+    go true here rest =
+        let same : j ≡ i = eqb-true j i here in
+        absurd (one_table (component_of h i) is (subst (λ (k : ℕ). sink_at h k ≡ true) same legal.0.row.sink))
+    go false here rest = ap (λ (b : Bool). (b && is_decided answer (failures_with h i (first_copy copies) + 1) (attempts_allowed h i) && unspent_of whole copies) || owes_spends_in h whole i) here ∙ rest
+source_spends (e ∷ h) whole i legal is = source_spends h whole i legal.1 is
+
+-- so it owes nothing more
+settled_on : (h : Record) (e : Entry) (i : ℕ) → IsLegal (e ∷ h) → bears i e ≡ false → source_at (e ∷ h) i ≡ true → is_dry h i ≡ true → owes h i ≡ false → owes (e ∷ h) i ≡ false
+settled_on h e i legal off is dry settled =
+    or_from (owes_birth (e ∷ h) i) (owes_spends_in (e ∷ h) (e ∷ h) i)
+    (ap (λ (bs : List Birth). nat_lt (length bs) (fruitful (e ∷ h) i)) (births_same e h i off)
+    ∙ ap (λ (n : ℕ). nat_lt (length (births h i)) n) (fruitful_same e h i legal dry) ∙ (or_parts (owes_birth h i) (owes_spends_in h h i) settled).0)
+    (source_spends (e ∷ h) (e ∷ h) i legal is)
+
+-- ITS NOTICES
+-- what is noticed stays so
+noticed_more : (e : Entry) (h : Record) (b : ℕ) → is_noticed h b ≡ true → is_noticed (e ∷ h) b ≡ true
+noticed_more (Notice b' status) h b is = or_right (b' == b) (is_noticed h b) is
+noticed_more e h b is = is
+
+each_noticed : (e : Entry) (h : Record) (bs : List Birth) → list_all (λ (birth : Birth). is_noticed h birth.batch) bs ≡ true → list_all (λ (birth : Birth). is_noticed (e ∷ h) birth.batch) bs ≡ true
+each_noticed e h [] all = refl
+each_noticed e h (b ∷ bs) all =
+    and_from (is_noticed (e ∷ h) b.batch) (list_all (λ (birth : Birth). is_noticed (e ∷ h) birth.batch) bs)
+    (noticed_more e h b.batch ((and_parts (is_noticed h b.batch) (list_all (λ (birth : Birth). is_noticed h birth.batch) bs) all).0))
+    (each_noticed e h bs ((and_parts (is_noticed h b.batch) (list_all (λ (birth : Birth). is_noticed h birth.batch) bs) all).1))
+
+noticed_on : (h : Record) (e : Entry) (i : ℕ) → bears i e ≡ false → all_noticed h i ≡ true → all_noticed (e ∷ h) i ≡ true
+noticed_on h e i off all =
+    ap (λ (bs : List Birth). list_all (λ (birth : Birth). is_noticed (e ∷ h) birth.batch) bs) (births_same e h i off) ∙ each_noticed e h (births h i) all
+
+-- ITS CONFIRMS
+-- what is noticed has a notice
+noticed_times : (h : Record) (b : ℕ) → is_noticed h b ≡ true → 0 < times_noticed h b
+noticed_times [] b e = cc
+noticed_times (Notice b' status ∷ h) b e = go (b' == b) (λ d. noticed_times h b d) e
+  where
+    go : (same : Bool) → (is_noticed h b ≡ true → 0 < times_noticed h b) → (same || is_noticed h b) ≡ true → 0 < (if same then 1 else 0) + times_noticed h b
+    go true ih e = omega arith
+    go false ih e = let l = ih e in omega arith
+noticed_times (e ∷ h) b d = noticed_times h b d
+
+-- a batch is noticed once
+unnoticed : (h : Record) (b : ℕ) (status : BatchStatus) → IsLegal (Notice b status ∷ h) → is_noticed h b ≡ false
+unnoticed h b status legal = go (is_noticed h b) refl
+  where
+    go : (t : Bool) → is_noticed h b ≡ t → t ≡ false
+    go true is =
+        let some = noticed_times h b is in
+        let none = (noticed h b (accounted h legal.1)).due legal.0.row.due in
+        absurd (omega (arith, some, none))
+    go false is = refl
+
+-- so a further notice tells nothing of batches that have theirs
+told_same : (h : Record) (b : ℕ) (status : BatchStatus) (bs : List Birth) → is_noticed h b ≡ false → list_all (λ (birth : Birth). is_noticed h birth.batch) bs ≡ true →
+    take_while (λ (birth : Birth). not birth.waits || was_delivered (Notice b status ∷ h) birth.batch) bs ≡ take_while (λ (birth : Birth). not birth.waits || was_delivered h birth.batch) bs
+told_same h b status [] none all = refl
+told_same h b status (x ∷ bs) none all =
+    take_while-cons (λ (birth : Birth). not birth.waits || was_delivered (Notice b status ∷ h) birth.batch) x bs
+    ∙ ap (λ (t : Bool). cond (not x.waits || ((t && is_delivered status) || was_delivered h x.batch)) (x ∷ take_while (λ (birth : Birth). not birth.waits || was_delivered (Notice b status ∷ h) birth.batch) bs) []) (other (b == x.batch) refl)
+    ∙ ap (λ (run : List Birth). cond (not x.waits || was_delivered h x.batch) (x ∷ run) [])
+    (told_same h b status bs none ((and_parts (is_noticed h x.batch) (list_all (λ (birth : Birth). is_noticed h birth.batch) bs) all).1))
+    ∙ sym (take_while-cons (λ (birth : Birth). not birth.waits || was_delivered h birth.batch) x bs)
+  where
+    other : (t : Bool) → (b == x.batch) ≡ t → t ≡ false
+    other true is =
+        let same : b ≡ x.batch = eqb-true b x.batch is in
+        let yes : is_noticed h x.batch ≡ true = (and_parts (is_noticed h x.batch) (list_all (λ (birth : Birth). is_noticed h birth.batch) bs) all).0 in
+        let no : true ≡ false = sym yes ∙ subst (λ (k : ℕ). is_noticed h k ≡ false) same none in cc
+    other false is = refl
+
+-- and what may be confirmed stays
+prefix_same : (h : Record) (e : Entry) (i : ℕ) → IsLegal (e ∷ h) → bears i e ≡ false → all_noticed h i ≡ true → confirm_prefix (e ∷ h) i ≡ confirm_prefix h i
+prefix_same h (Notice b status) i legal off all =
+    ap (λ (bs : List Birth). take_while (λ (birth : Birth). not birth.waits || was_delivered (Notice b status ∷ h) birth.batch) bs) (append-nil (births h i))
+    ∙ told_same h b status (births h i) (unnoticed h b status legal) all
+prefix_same h e i legal off all = ap (λ (bs : List Birth). take_while (λ (birth : Birth). not birth.waits || was_delivered h birth.batch) bs) (births_same e h i off)
+
+-- as what was confirmed does until it confirms
+last_same : (e : Entry) (h : Record) (i : ℕ) → is_confirm_of i e ≡ false → last_confirm (e ∷ h) i ≡ last_confirm h i
+last_same (Confirm j positions made) h i off = ap (λ (b : Bool). if b then positions else last_confirm h i) off
+last_same e h i off = refl
+
+-- so nothing more is due
+undue_on : (h : Record) (e : Entry) (i : ℕ) → IsLegal (e ∷ h) → installs e ≡ false → bears i e ≡ false → is_confirm_of i e ≡ false → all_noticed h i ≡ true → is_confirm_due h i ≡ false → is_confirm_due (e ∷ h) i ≡ false
+undue_on h e i legal kept off unconfirmed all undue =
+    ap (λ (b : Bool). b && not (is_empty (due (e ∷ h) i)) && not (same_positions (due (e ∷ h) i) (last_confirm (e ∷ h) i))) (same_told false (λ (c : Component). has_device c.settings) (e ∷ h) h i (wired_same e h i kept))
+    ∙ ap (λ (run : List Birth). device_at h i && not (is_empty (last_of_each [] (map position_of run))) && not (same_positions (last_of_each [] (map position_of run)) (last_confirm (e ∷ h) i))) (prefix_same h e i legal off all)
+    ∙ ap (λ (ps : List Position). device_at h i && not (is_empty (due h i)) && not (same_positions (due h i) ps)) (last_same e h i unconfirmed)
+    ∙ undue
+
+-- ONE MORE ENTRY
+pub source_on : (h : Record) (e : Entry) (i : ℕ) → IsLegal (e ∷ h) → bears i e ≡ false → is_confirm_of i e ≡ false → SourceDone h i → SourceDone (e ∷ h) i
+source_on h e i legal off unconfirmed done =
+    let kept = uninstalled e h i is_source legal done.source in
+    let is = source_same e h i kept ∙ done.source in
+    record {
+      source = is;
+      dry = dry_on h e i legal done.dry;
+      settled = settled_on h e i legal off is done.dry done.settled;
+      sent = sent_on h e i (conserved (e ∷ h) legal) off done.sent;
+      noticed = noticed_on h e i off done.noticed;
+      undue = undue_on h e i legal kept off unconfirmed done.noticed done.undue;
+    }

@@ -1,0 +1,86 @@
+-- An instance runs the component in its place.
+use Rattle.std.proofs.Common.{◌≡◌, ℕ, zero, suc, ◌+◌, Bool, true, false, List, [], ◌∷◌, Option, Some, None, refl, sym, ap, ◌∙◌, arith}
+use Rattle.std.specs.Prelude.{◌==◌, slice_get}
+use Rattle.std.proofs.lemmas.Bool.Decides.{nat_tests}
+use Rattle.vx_value.specs.Texts.{Word}
+use Rattle.vx_plan.specs.declared.plan.Plan.{Plan}
+use Rattle.vx_plan.specs.declared.component.Component.{Component}
+use Rattle.vx_plan.specs.Components.{component_named}
+use Rattle.vx_record.specs.Records.{Record}
+use Rattle.vx_record.specs.declared.entry.Entry.TheVariants.{Install}
+use Rattle.vx_record.specs.declared.instance.Instance.{Instance}
+use Rattle.vx_record.specs.Starting.{first_instances}
+use Rattle.vx_record.specs.Installs.{Wiring, wiring, name_at, component_of, in_force}
+use Rattle.vx_record.specs.Wirings.{names_differ, begun}
+use Rattle.vx_record.specs.Legal.{IsLegal}
+use Rattle.vx_record.specs.Promises.{ComponentInPlace}
+use Rattle.vx_record.proofs.FirstWiring.{name_of_first, component_of_first}
+
+-- an instance has the name of the component in its place
+pub name_first : (components instances : List _) (k : ℕ) (c : Component) → slice_get components k ≡ Some c → instances ≡ first_instances 0 components → name_at instances k ≡ Some c.name
+name_first components instances k c at are =
+    let zero_on : k ≡ 0 + k = omega arith in
+    ap (λ (is : List Instance). name_at is k) are ∙ ap (name_at (first_instances 0 components)) zero_on ∙ name_of_first 0 components k c at
+
+-- an instance that an Install names is wired by it
+named_wiring : (made : Plan) (instances : List Instance) (name : Word) (o : Option Word) (w : Option Wiring) → o ≡ Some name →
+    ◌≡◌ {A = Option Wiring} (elim o [ None ↦ w | Some n ↦ Some (record { plan = made; instances = instances; name = n }) ]) (Some (record { plan = made; instances = instances; name = name }))
+named_wiring made instances name o w is = ap (λ (x : Option Word). elim x [ None ↦ w | Some n ↦ Some (record { plan = made; instances = instances; name = n }) ]) is
+
+same_wiring : (made plan : Plan) (instances : List Instance) (name : Word) → instances ≡ first_instances 0 made.components → made ≡ plan →
+    ◌≡◌ {A = Option Wiring} (Some (record { plan = made; instances = instances; name = name })) (Some (record { plan = plan; instances = first_instances 0 plan.components; name = name }))
+same_wiring made plan instances name are same =
+    ap (λ (is : List Instance). Some (record { plan = made; instances = is; name = name })) are
+    ∙ ap (λ (p : Plan). Some (record { plan = p; instances = first_instances 0 p.components; name = name })) same
+
+-- and is wired as the plan that is in force has it
+pub wired_so : (h : Record) (plan : Plan) (i : ℕ) (c : Component) → IsLegal h → in_force h ≡ Some plan → slice_get plan.components i ≡ Some c →
+    wiring h i ≡ Some (record { plan = plan; instances = first_instances 0 plan.components; name = c.name })
+wired_so [] plan i c legal force at = cc
+wired_so (Install version made once instances now ∷ h) plan i c legal force at =
+    let same : made ≡ plan = cc in
+    let here : slice_get made.components i ≡ Some c = ap (λ (p : Plan). slice_get p.components i) same ∙ at in
+    named_wiring made instances c.name (name_at instances i) (wiring h i) (name_first made.components instances i c here legal.0.row.all_new)
+    ∙ same_wiring made plan instances c.name legal.0.row.all_new same
+wired_so (e ∷ h) plan i c legal force at = wired_so h plan i c legal.1 force at
+
+-- so it runs the component of that name
+pub component_is : (h : Record) (plan : Plan) (i : ℕ) (c : Component) → IsLegal h → in_force h ≡ Some plan → slice_get plan.components i ≡ Some c → component_of h i ≡ component_named plan c.name
+component_is h plan i c legal force at =
+    ap (λ (o : Option Wiring). elim o [ None ↦ None | Some w ↦ component_named w.plan w.name ]) (wired_so h plan i c legal force at)
+
+-- a record that begins with a plan is legal
+pub begun_legal : (plan : Plan) (once : Bool) (now : ℕ) → IsLegal (begun plan once now)
+begun_legal plan once now = (record { row = record { first = refl; zeroth = refl; all_new = refl }; turn = λ b w. w; still = λ gone. cc }, tt)
+
+-- where names differ, that is the component in its place
+pub component_there : (h : Record) (plan : Plan) (i : ℕ) (c : Component) → IsLegal h → in_force h ≡ Some plan → names_differ plan.components ≡ true → slice_get plan.components i ≡ Some c → component_of h i ≡ Some c
+component_there h plan i c legal force apart at =
+    component_is h plan i c legal force at ∙ sym (component_is (begun plan false 0) plan i c (begun_legal plan false 0) refl at) ∙ component_of_first plan false 0 i c apart at
+
+-- nothing is wired past the components
+name_past : (from : ℕ) (components : List Component) (k : ℕ) → slice_get components k ≡ None → name_at (first_instances from components) (from + k) ≡ None
+name_past from [] k past = refl
+name_past from (c ∷ rest) zero past = cc
+name_past from (c ∷ rest) (suc k) past =
+    let other : (from == from + suc k) ≡ false = grind (arith, nat_tests) in
+    let further : from + suc k ≡ from + 1 + k = omega arith in
+    rw (other, further) (name_past (from + 1) rest k past)
+
+pub unwired_past : (h : Record) (plan : Plan) (i : ℕ) → IsLegal h → in_force h ≡ Some plan → slice_get plan.components i ≡ None → wiring h i ≡ None
+unwired_past [] plan i legal force past = refl
+unwired_past (Install version made once instances now ∷ h) plan i legal force past =
+    let same : made ≡ plan = cc in
+    let row = legal.0.row in
+    let zero_on : i ≡ 0 + i = omega arith in
+    let none : name_at instances i ≡ None = ap (λ is. name_at is i) row.all_new ∙ ap (name_at (first_instances 0 made.components)) zero_on ∙ name_past 0 made.components i (ap (λ (p : Plan). slice_get p.components i) same ∙ past) in
+    ap (λ (o : Option Word). elim o [ None ↦ wiring h i | Some name ↦ Some (record { plan = made; instances = instances; name = name }) ]) none
+    ∙ ap (λ (k : Record). wiring k i) row.first
+unwired_past (e ∷ h) plan i legal force past = unwired_past h plan i legal.1 force past
+
+pub component_in_place : ComponentInPlace
+component_in_place h plan i legal force apart = go (slice_get plan.components i) refl
+  where
+    go : (o : Option Component) → slice_get plan.components i ≡ o → component_of h i ≡ o
+    go None past = ap (λ (o : Option Wiring). elim o [ None ↦ None | Some w ↦ component_named w.plan w.name ]) (unwired_past h plan i legal force past)
+    go (Some c) at = component_there h plan i c legal force apart at

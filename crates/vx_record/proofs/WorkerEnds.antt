@@ -1,0 +1,292 @@
+-- What takes in and is done stays done while nothing is born.
+use Rattle.std.proofs.Common.{◌≡◌, ℕ, ◌+◌, Bool, true, false, List, [], ◌∷◌, ◌++◌, Option, Some, None, refl, sym, ap, subst, ◌∙◌, arith, length}
+use Rattle.std.specs.Prelude.{◌==◌, ◌&&◌, ◌||◌, not, if◌then◌else◌}
+use Rattle.std.specs.List.{list_any, list_all}
+use Rattle.std.proofs.lemmas.Bool.{and_parts, and_from, or_parts, or_from, or_right, not-true, not-false, not_from_false, eqb-true, ne_eqb, eqb-false}
+use Rattle.std.proofs.lemmas.Bool.Decides.{nat_tests}
+use Rattle.std.proofs.lemmas.List.{append-nil}
+use Rattle.vx_value.specs.Texts.{is_empty}
+use Rattle.vx_plan.specs.declared.class.Class.{Class}
+use Rattle.vx_plan.specs.declared.class.Class.TheVariants.{Source, Transform, Sink}
+use Rattle.vx_plan.specs.declared.component.Component.{Component}
+use Rattle.vx_plan.specs.Components.{is_source, class_ports, port_names}
+use Rattle.vx_record.specs.Records.{Record}
+use Rattle.vx_record.specs.declared.child.Child.{Child}
+use Rattle.vx_record.specs.declared.entry.Entry.{Entry}
+use Rattle.vx_record.specs.declared.entry.Entry.TheVariants.{Split, Retired}
+use Rattle.vx_record.specs.Copies.{count, contains, counting, children_of, next_copy}
+use Rattle.vx_record.specs.Places.Place.{Waiting}
+use Rattle.vx_record.specs.Installs.{Wiring, wired, component_of, told, source_at, started, is_retired}
+use Rattle.vx_record.specs.Lists.{and_rest, outputs, waiting, all_waiting, buffered, held}
+use Rattle.vx_record.specs.Moving.{IsConserved, children_for}
+use Rattle.vx_record.specs.Routing.{drains, is_dry, all_dry, is_sent, is_too_long, wired_targets, outlets, routes, all_ports, names, is_named, is_ending}
+use Rattle.vx_record.specs.Owing.{is_source_done, is_worker_done, is_done}
+use Rattle.vx_record.specs.Sending.{IsOldest}
+use Rattle.vx_record.specs.Ceasing.{readers_at}
+use Rattle.vx_record.specs.Legal.{IsLegal}
+use Rattle.vx_record.proofs.Counts.{count-append}
+use Rattle.vx_record.proofs.OnePlace.{conserved}
+use Rattle.vx_record.proofs.Entries.{split_grows, split_stays}
+use Rattle.vx_record.proofs.Ceasing.{unmarked}
+use Rattle.vx_record.proofs.FirstPort.{split_routed}
+use Rattle.vx_record.proofs.Vacant.{Unfilled, bears, empty_is, is_empty_of, sent_of, is_sent_of, sent_on, unfilled_of, unbuffered, unentered, unfilled_on, waits_still, no_oldest}
+use Rattle.vx_record.proofs.Drying.{dry_on}
+use Rattle.vx_record.proofs.Senders.{all_among, none_among, started_source, installs, same_told, uninstalled, wired_same, started_same, source_same, worker_sent, retired_sent}
+
+-- what an instance that takes in has where it is done
+pub record WorkerDone (h : Record) (i : ℕ) : Type 0 where
+  pub worker : told false (λ (c : Component). not (is_source c)) h i ≡ true
+  pub dry : all_dry h ≡ true
+  pub unnamed : is_named h i ≡ false
+  pub empty : Unfilled h i
+
+-- no worker is a source
+unsource : (o : Option Component) → (elim o [ None ↦ false | Some c ↦ not (is_source c) ]) ≡ true → (elim o [ None ↦ false | Some c ↦ is_source c ]) ≡ false
+unsource None e = cc
+unsource (Some c) e = not-true (is_source c) e
+
+pub worker_source : (h : Record) (i : ℕ) → told false (λ (c : Component). not (is_source c)) h i ≡ true → source_at h i ≡ false
+worker_source h i e = unsource (component_of h i) e
+
+-- and it never drains
+undrained : (h : Record) (i : ℕ) → IsLegal h → source_at h i ≡ false → drains h i ≡ false
+undrained h i legal off = ap (λ (m : Bool). m || (source_at h i && (false || is_too_long h))) (unmarked h i legal) ∙ ap (λ (s : Bool). s && (false || is_too_long h)) off
+
+dry_by : (d a : Bool) → d ≡ false → (d || a) ≡ true → a ≡ true
+dry_by true a off e = cc
+dry_by false a off e = e
+
+-- what the test says where it is done
+pub worker_done : (h : Record) (i : ℕ) → IsLegal h → source_at h i ≡ false → is_done h i ≡ true → WorkerDone h i
+worker_done h i legal off done = record {
+  worker = is;
+  dry = dry_by (drains h i) (all_dry h) (undrained h i legal off) ((and_parts w (drains h i || all_dry h) ((and_parts (w && (drains h i || all_dry h)) (not (is_named h i)) ending).0)).1);
+  unnamed = not-true (is_named h i) ((and_parts (w && (drains h i || all_dry h)) (not (is_named h i)) ending).1);
+  empty = unfilled_of h i ((and_parts (is_ending h i) (is_empty (buffered h i)) two).1) ((and_parts (is_ending h i && is_empty (buffered h i) && is_sent h i) (is_empty (held h i)) all).1);
+}
+  where
+    w : Bool
+    w = told false (λ (c : Component). not (is_source c)) h i
+
+    all : is_worker_done h i ≡ true
+    all = ap (λ (b : Bool). if b then is_source_done h i else is_worker_done h i) (sym off) ∙ done
+
+    two : (is_ending h i && is_empty (buffered h i)) ≡ true
+    two = (and_parts (is_ending h i && is_empty (buffered h i)) (is_sent h i) ((and_parts (is_ending h i && is_empty (buffered h i) && is_sent h i) (is_empty (held h i)) all).0)).0
+
+    ending : is_ending h i ≡ true
+    ending = (and_parts (is_ending h i) (is_empty (buffered h i)) two).0
+
+    is : w ≡ true
+    is = (and_parts w (drains h i || all_dry h) ((and_parts (w && (drains h i || all_dry h)) (not (is_named h i)) ending).0)).0
+
+-- and the other way round
+pub done_worker : (h : Record) (i : ℕ) → IsLegal h → WorkerDone h i → is_done h i ≡ true
+done_worker h i legal is =
+    ap (λ (b : Bool). if b then is_source_done h i else is_worker_done h i) off
+    ∙ and_from (is_ending h i && is_empty (buffered h i) && is_sent h i) (is_empty (held h i))
+    (and_from (is_ending h i && is_empty (buffered h i)) (is_sent h i) (and_from (is_ending h i) (is_empty (buffered h i)) ending (unbuffered h i is.empty)) (is_sent_of h i (worker_sent h i legal off)))
+    (is_empty_of (held h i) is.empty.hands)
+  where
+    off : source_at h i ≡ false
+    off = worker_source h i is.worker
+
+    ending : is_ending h i ≡ true
+    ending =
+        and_from (told false (λ (c : Component). not (is_source c)) h i && (drains h i || all_dry h)) (not (is_named h i))
+        (and_from (told false (λ (c : Component). not (is_source c)) h i) (drains h i || all_dry h) is.worker (or_right (drains h i) (all_dry h) is.dry))
+        (not_from_false (is_named h i) is.unnamed)
+
+-- ALL SOURCES
+-- a test that passes where another does passes for all of which that one does
+all_on : (p q : ℕ → Bool) (xs : List ℕ) → ((x : ℕ) → p x ≡ true → q x ≡ true) → list_all p xs ≡ true → list_all q xs ≡ true
+all_on p q [] more all = refl
+all_on p q (x ∷ xs) more all = and_from (q x) (list_all q xs) (more x ((and_parts (p x) (list_all p xs) all).0)) (all_on p q xs more ((and_parts (p x) (list_all p xs) all).1))
+
+-- and for none of which it does for none
+any_on : (p q : ℕ → Bool) (xs : List ℕ) → ((x : ℕ) → p x ≡ false → q x ≡ false) → list_any p xs ≡ false → list_any q xs ≡ false
+any_on p q [] more none = refl
+any_on p q (x ∷ xs) more none = or_from (q x) (list_any q xs) (more x ((or_parts (p x) (list_any p xs) none).0)) (any_on p q xs more ((or_parts (p x) (list_any p xs) none).1))
+
+-- each source is dry
+pub source_dry : (h : Record) (j : ℕ) → IsLegal h → all_dry h ≡ true → source_at h j ≡ true → is_dry h j ≡ true
+source_dry h j legal dry is =
+    ap (λ (b : Bool). not b || is_dry h j) (sym is) ∙ all_among (λ k. not (source_at h k) || is_dry h k) (started h) j dry (started_source h j legal is)
+
+-- and stays so
+all_dry_on : (h : Record) (e : Entry) → IsLegal (e ∷ h) → installs e ≡ false → all_dry h ≡ true → all_dry (e ∷ h) ≡ true
+all_dry_on h e legal kept dry =
+    ap (λ (ns : List ℕ). list_all (λ k. not (source_at (e ∷ h) k) || is_dry (e ∷ h) k) ns) (started_same e h kept)
+    ∙ all_on (λ k. not (source_at h k) || is_dry h k) (λ k. not (source_at (e ∷ h) k) || is_dry (e ∷ h) k) (started h) one dry
+  where
+    go : (j : ℕ) (s : Bool) → (not s || is_dry h j) ≡ true → (not s || is_dry (e ∷ h) j) ≡ true
+    go j true is = dry_on h e j legal is
+    go j false is = refl
+
+    one : (j : ℕ) → (not (source_at h j) || is_dry h j) ≡ true → (not (source_at (e ∷ h) j) || is_dry (e ∷ h) j) ≡ true
+    one j is = ap (λ (s : Bool). not s || is_dry (e ∷ h) j) (source_same e h j kept) ∙ go j (source_at h j) is
+
+-- NAMES
+-- what has no outlet gets none
+outlet_on : (h : Record) (e : Entry) (j i port : ℕ) → IsLegal (e ∷ h) → installs e ≡ false → bears j e ≡ false → count i (outlets h j port) ≡ 0 → count i (outlets (e ∷ h) j port) ≡ 0
+outlet_on h e j i port legal kept off none = go (is_dry h j && is_sent h j) (is_dry (e ∷ h) j && is_sent (e ∷ h) j) shut none
+  where
+    shut : (is_dry h j && is_sent h j) ≡ true → (is_dry (e ∷ h) j && is_sent (e ∷ h) j) ≡ true
+    shut is =
+        and_from (is_dry (e ∷ h) j) (is_sent (e ∷ h) j) (dry_on h e j legal ((and_parts (is_dry h j) (is_sent h j) is).0))
+        (is_sent_of (e ∷ h) j (sent_on h e j (conserved (e ∷ h) legal) off (sent_of h j ((and_parts (is_dry h j) (is_sent h j) is).1))))
+
+    same : wired [] (wired_targets port) (e ∷ h) j ≡ wired [] (wired_targets port) h j
+    same = ap (λ (o : Option Wiring). elim o [ None ↦ [] | Some w ↦ wired_targets port w ]) (wired_same e h j kept)
+
+    go : (b b' : Bool) → (b ≡ true → b' ≡ true) → count i (if b then [] else wired [] (wired_targets port) h j) ≡ 0 → count i (if b' then [] else wired [] (wired_targets port) (e ∷ h) j) ≡ 0
+    go b true more e = refl
+    go true false more e = let no : false ≡ true = more refl in cc
+    go false false more e = ap (λ (ts : List ℕ). count i ts) same ∙ e
+
+-- nor any route
+routes_on : (h : Record) (e : Entry) (j i : ℕ) (ports : List ℕ) → IsLegal (e ∷ h) → installs e ≡ false → bears j e ≡ false → count i (routes h j ports) ≡ 0 → count i (routes (e ∷ h) j ports) ≡ 0
+routes_on h e j i [] legal kept off none = refl
+routes_on h e j i (port ∷ ports) legal kept off none =
+    let before = count-append i (outlets h j port) (routes h j ports) in
+    let after = count-append i (outlets (e ∷ h) j port) (routes (e ∷ h) j ports) in
+    let here = outlet_on h e j i port legal kept off (omega (arith, none, before)) in
+    let rest = routes_on h e j i ports legal kept off (omega (arith, none, before)) in
+    omega (arith, after, here, rest)
+
+-- a source has one port
+source_ports : (o : Option Component) → (elim o [ None ↦ false | Some c ↦ is_source c ]) ≡ true → ◌≡◌ {A = List ℕ} (elim o [ None ↦ [] | Some c ↦ counting 0 (length (port_names c)) ]) (0 ∷ [])
+source_ports None is = cc
+source_ports (Some c) is = go c.class is
+  where
+    go : (k : Class) → (elim k [ Source ↦ true | Transform ↦ false | Sink ↦ false ]) ≡ true → counting 0 (length (class_ports k)) ≡ 0 ∷ []
+    go Source is = refl
+    go Transform is = cc
+    go Sink is = cc
+
+-- of which the outlets are all its readers where it has an output
+open_outlet : (copies : List ℕ) (ps ws : List (List ℕ)) (dry : Bool) (ts : List ℕ) → IsOldest copies ps → (if dry && (is_empty ps && is_empty ws) then [] else ts) ≡ ts
+open_outlet copies [] ws dry ts oldest = absurd oldest
+open_outlet copies (p ∷ ps) ws true ts oldest = refl
+open_outlet copies (p ∷ ps) ws false ts oldest = refl
+
+-- so what no route of it names reads nothing of it
+unread : (h : Record) (j i : ℕ) (copies : List ℕ) → source_at h j ≡ true → IsOldest copies (outputs h j) → count i (routes h j (all_ports h j)) ≡ 0 → count i (readers_at h j) ≡ 0
+unread h j i copies is oldest none =
+    ap (λ (ts : List ℕ). count i ts)
+    (sym (ap (λ (ports : List ℕ). routes h j ports) (source_ports (component_of h j) is) ∙ append-nil (outlets h j 0)
+    ∙ open_outlet copies (outputs h j) (all_waiting h j) (is_dry h j) (readers_at h j) oldest))
+    ∙ none
+
+-- a Split makes no child for what is no target
+childless : (i next m : ℕ) (targets : List ℕ) → count i targets ≡ 0 → children_for i (children_of next m targets) ≡ []
+childless i next m [] none = refl
+childless i next m (t ∷ ts) none = go (t == i) none (childless i (next + m) m ts)
+  where
+    go : (b : Bool) → (if b then 1 else 0) + count i ts ≡ 0 → (count i ts ≡ 0 → children_for i (children_of (next + m) m ts) ≡ []) →
+        (if b then and_rest (counting next m) (children_for i (children_of (next + m) m ts)) else children_for i (children_of (next + m) m ts)) ≡ []
+    go true e rest = absurd (omega (arith, e))
+    go false e rest = rest (omega (arith, e))
+
+-- no child comes to wait for what no outlet names
+unwaited : (h : Record) (e : Entry) (j i : ℕ) → IsLegal (e ∷ h) → count i (routes h j (all_ports h j)) ≡ 0 → waiting h j i ≡ [] → waiting (e ∷ h) j i ≡ []
+unwaited h (Split k ports copies event children) j i legal none empty = go (k == j) refl
+  where
+    kept : IsConserved (Split k ports copies event children ∷ h)
+    kept = conserved (Split k ports copies event children ∷ h) legal
+
+    by : (k ≡ j) → source_at h k ≡ true → waiting (Split k ports copies event children ∷ h) k i ≡ []
+    by same is =
+        split_grows h k ports i copies event children kept
+        ∙ ap (λ (ps : List (List ℕ)). ps ++ children_for i children) (subst (λ (n : ℕ). waiting h n i ≡ []) (sym same) empty)
+        ∙ ap (λ (cs : List Child). children_for i cs) (split_routed h k ports copies event children legal.1 legal.0.row)
+        ∙ childless i (next_copy h) (length copies) (readers_at h k)
+        (unread h k i copies is legal.0.row.split.oldest (subst (λ (n : ℕ). count i (routes h n (all_ports h n)) ≡ 0) (sym same) none))
+
+    source : (b : Bool) → source_at h k ≡ b → source_at h k ≡ true
+    source true is = is
+    source false is = absurd (no_oldest copies (outputs h k) legal.0.row.split.oldest (worker_sent h k legal.1 is).put_out)
+
+    go : (b : Bool) → (k == j) ≡ b → waiting (Split k ports copies event children ∷ h) j i ≡ []
+    go true same =
+        let is : k ≡ j = eqb-true k j same in
+        subst (λ (n : ℕ). waiting (Split k ports copies event children ∷ h) n i ≡ []) is (by is (source (source_at h k) refl))
+    go false other =
+        split_stays h k ports copies event children (Waiting j i) kept refl (ne_eqb j k (λ same. eqb-false k j other (sym same))) ∙ empty
+unwaited h e j i legal none empty = waits_still h e j i (conserved (e ∷ h) legal) refl empty
+
+-- what a list doesn't contain it counts not once
+uncounted : (xs : List ℕ) (i : ℕ) → contains xs i ≡ false → count i xs ≡ 0
+uncounted xs i e = grind (arith, nat_tests, e)
+
+uncontained : (xs : List ℕ) (i : ℕ) → count i xs ≡ 0 → contains xs i ≡ false
+uncontained xs i e = grind (arith, nat_tests, e)
+
+-- what is retired stays so
+retired_on : (e : Entry) (h : Record) (j : ℕ) → is_retired h j ≡ true → is_retired (e ∷ h) j ≡ true
+retired_on (Retired k) h j is = or_right (k == j) (is_retired h j) is
+retired_on e h j is = is
+
+-- who names it not before doesn't afterwards
+unnamed_by : (h : Record) (e : Entry) (j i : ℕ) → IsLegal (e ∷ h) → installs e ≡ false → bears j e ≡ false → names h j i ≡ false → names (e ∷ h) j i ≡ false
+unnamed_by h e j i legal kept off none =
+    let before = uncounted (routes h j (all_ports h j)) i ((or_parts (contains (routes h j (all_ports h j)) i) (not (is_empty (waiting h j i))) none).0) in
+    let empty = empty_is (waiting h j i) (not-false (is_empty (waiting h j i)) ((or_parts (contains (routes h j (all_ports h j)) i) (not (is_empty (waiting h j i))) none).1)) in
+    let ports : all_ports (e ∷ h) j ≡ all_ports h j = same_told [] (λ (c : Component). counting 0 (length (port_names c))) (e ∷ h) h j (wired_same e h j kept) in
+    or_from (contains (routes (e ∷ h) j (all_ports (e ∷ h) j)) i) (not (is_empty (waiting (e ∷ h) j i)))
+    (uncontained (routes (e ∷ h) j (all_ports (e ∷ h) j)) i (ap (λ (ps : List ℕ). count i (routes (e ∷ h) j ps)) ports ∙ routes_on h e j i (all_ports h j) legal kept off before))
+    (ap (λ (ps : List (List ℕ)). not (is_empty ps)) (unwaited h e j i legal before empty))
+
+-- so what nobody names stays unnamed
+unnamed_on : (h : Record) (e : Entry) (i : ℕ) → IsLegal (e ∷ h) → installs e ≡ false → ((j : ℕ) → bears j e ≡ false) → is_named h i ≡ false → is_named (e ∷ h) i ≡ false
+unnamed_on h e i legal kept off none =
+    ap (λ (ns : List ℕ). list_any (λ j. not (is_retired (e ∷ h) j) && names (e ∷ h) j i) ns) (started_same e h kept)
+    ∙ any_on (λ j. not (is_retired h j) && names h j i) (λ j. not (is_retired (e ∷ h) j) && names (e ∷ h) j i) (started h) one none
+  where
+    gone : (r : Bool) (n : Bool) → r ≡ true → (not r && n) ≡ false
+    gone true n is = refl
+    gone false n is = cc
+
+    unsaid : (r n : Bool) → n ≡ false → (not r && n) ≡ false
+    unsaid true n is = refl
+    unsaid false n is = is
+
+    go : (j : ℕ) (r : Bool) → is_retired h j ≡ r → (not r && names h j i) ≡ false → (not (is_retired (e ∷ h) j) && names (e ∷ h) j i) ≡ false
+    go j true is e' = gone (is_retired (e ∷ h) j) (names (e ∷ h) j i) (retired_on e h j is)
+    go j false is e' = unsaid (is_retired (e ∷ h) j) (names (e ∷ h) j i) (unnamed_by h e j i legal kept (off j) e')
+
+    one : (j : ℕ) → (not (is_retired h j) && names h j i) ≡ false → (not (is_retired (e ∷ h) j) && names (e ∷ h) j i) ≡ false
+    one j e' = go j (is_retired h j) refl e'
+
+-- no child waits for what isn't named
+pub unawaited : (h : Record) (j i : ℕ) → IsLegal h → is_named h i ≡ false → waiting h j i ≡ []
+unawaited h j i legal none = go (source_at h j) refl
+  where
+    said : (r n w : Bool) → r ≡ false → (not r && (n || not w)) ≡ false → w ≡ true
+    said true n w off e = cc
+    said false true w off e = cc
+    said false false true off e = refl
+    said false false false off e = cc
+
+    by : (r : Bool) → is_retired h j ≡ r → source_at h j ≡ true → waiting h j i ≡ []
+    by true is source = (retired_sent h j legal is).waits i
+    by false is source =
+        empty_is (waiting h j i)
+        (said (is_retired h j) (contains (routes h j (all_ports h j)) i) (is_empty (waiting h j i)) is
+        (none_among (λ k. not (is_retired h k) && names h k i) (started h) j none (started_source h j legal source)))
+
+    go : (b : Bool) → source_at h j ≡ b → waiting h j i ≡ []
+    go true source = by (is_retired h j) refl source
+    go false off = (worker_sent h j legal off).waits i
+
+-- ONE MORE ENTRY
+pub worker_on : (h : Record) (e : Entry) (i : ℕ) → IsLegal (e ∷ h) → ((j : ℕ) → bears j e ≡ false) → WorkerDone h i → WorkerDone (e ∷ h) i
+worker_on h e i legal off done =
+    let kept = uninstalled e h i (λ (c : Component). not (is_source c)) legal done.worker in
+    let kept_all = conserved (e ∷ h) legal in
+    record {
+      worker = same_told false (λ (c : Component). not (is_source c)) (e ∷ h) h i (wired_same e h i kept) ∙ done.worker;
+      dry = all_dry_on h e legal kept done.dry;
+      unnamed = unnamed_on h e i legal kept off done.unnamed;
+      empty = unfilled_on h e i kept_all (unentered h e i kept_all (λ j. unawaited h j i legal.1 done.unnamed)) done.empty;
+    }

@@ -1,0 +1,46 @@
+//! What every legal record says of its entries beside their rows. A law's function does nothing: what it ensures is proved.
+
+ghost use Rattle.vx_record.specs.Promises.{TurnUnlost, TurnUndry, TurnShort, ClosedTakesNoMore, LeasedRuns, LeasedSpent, ComponentInPlace, RetiredBare, RetiredClosed, UnaskedToStop, SpentAbandoned, NoneFiltered, UnconsumedUnread, DecidedHeld, HeldUntried, SpentFailed, SplitReaders, AttemptNames, AttemptDue, AttemptEncodes};
+
+/// A source wasn't lost and isn't dry where it takes its turn, nor were 2^48 bytes taken when it was leased; one whose port
+/// is closed for good was told the end of all, or was lost, or too many bytes were taken, or the run was given up.
+pub fn source_laws()
+    ensures unlost { TurnUnlost }
+    ensures undry { TurnUndry }
+    ensures short { TurnShort }
+    ensures closed { ClosedTakesNoMore }
+{}
+
+/// What is leased runs a component, which is the one in its place where names differ, and has spent what it attempted.
+pub fn lease_laws()
+    ensures runs { LeasedRuns }
+    ensures in_place { ComponentInPlace }
+    ensures spent { LeasedSpent }
+{}
+
+/// What is retired is bare and has its port closed, and no run is given up for a limit after a stop.
+pub fn end_laws()
+    ensures bare { RetiredBare }
+    ensures retired { RetiredClosed }
+    ensures unasked { UnaskedToStop }
+{}
+
+/// Copies are spent as abandoned behind an abandonment, without a consumer where nobody reads, and held where a device
+/// decided. A split is for the readers of its instance.
+pub fn spend_laws()
+    ensures left { SpentAbandoned }
+    ensures unfiltered { NoneFiltered }
+    ensures unread { UnconsumedUnread }
+    ensures decided { DecidedHeld }
+    ensures readers { SplitReaders }
+{}
+
+/// What is attempted was never attempted before, is due, and has a codec; what is spent as failed was in the last attempt,
+/// which failed.
+pub fn attempt_laws()
+    ensures untried { HeldUntried }
+    ensures failed { SpentFailed }
+    ensures names { AttemptNames }
+    ensures due { AttemptDue }
+    ensures encodes { AttemptEncodes }
+{}
