@@ -8,9 +8,11 @@ import json
 import os
 import random
 import select
+import signal
 import subprocess
 import sys
 import tempfile
+import time
 from pathlib import Path
 
 from running import FIRST, PATIENCE, PROGRAM, TOP, check, go_through, run
@@ -19,6 +21,23 @@ TWO = str(TOP / "examples" / "two_consoles.toml")
 JSON = str(TOP / "examples" / "json_lines.toml")
 ACKNOWLEDGED = str(TOP / "examples" / "acknowledged.toml")
 LONGEST = 102_400
+BUILT = str(TOP / "crates" / "vector" / "out" / "vector")
+
+# A library whose program gets a signal every millisecond, and handles it so that the call which this cuts short fails.
+ALARMS = b"""
+#include <signal.h>
+#include <sys/time.h>
+
+static void ring(int number) { (void)number; }
+
+__attribute__((constructor)) static void start(void)
+{
+    struct sigaction action = {.sa_handler = ring};
+    struct itimerval often = {{0, 1000}, {0, 1000}};
+    sigaction(SIGALRM, &action, 0);
+    setitimer(ITIMER_REAL, &often, 0);
+}
+"""
 
 
 def lines_of(given):
@@ -135,6 +154,113 @@ def ends_that_fail():
         check("a run after one that was killed", seen == (b"a\n", [], (0, b"b\n", b"")), seen)
 
 
+def begun(given, words, blocking, program=None, variables=None):
+    """A run that has just begun on that input; its output and errors are pipes that block, or don't."""
+    environment = {**os.environb, **(variables or {})}
+    with tempfile.TemporaryFile() as source:
+        source.write(given)
+        source.seek(0)
+        return subprocess.Popen(
+            [program or PROGRAM, *words],
+            stdin=source,
+            stdout=subprocess.PIPE,
+            stderr=subprocess.PIPE,
+            env=environment,
+            preexec_fn=lambda: [os.set_blocking(end, blocking) for end in (1, 2)],
+        )
+
+
+def read_late(ran, seconds):
+    """The status, the output and the errors of a run of which nothing is read for some seconds."""
+    time.sleep(seconds)
+    try:
+        out, err = ran.communicate(timeout=PATIENCE)
+    except subprocess.TimeoutExpired:
+        ran.kill()
+        return ("it did not end", *ran.communicate())
+    return ran.returncode, out, err
+
+
+def comes_late(name, given, words, seconds, wanted):
+    """Checks what a run writes to pipes that don't block, and that nobody reads for some seconds."""
+    seen = read_late(begun(given, words, False), seconds)
+    check(name, seen == wanted, (seen[0], len(seen[1]), len(seen[2])))
+
+
+def late_readers():
+    """Nothing is lost, and nothing comes twice, where a pipe takes no more for now."""
+    lines = b"".join(b"%d\n" % i for i in range(200_000))
+    comes_late("an output that would block", lines, ["--config", FIRST], 6, (0, lines, b""))
+    comes_late("two outputs that would block", lines, ["--config", TWO], 1, (0, lines, lines))
+    comes_late("acknowledged, two outputs that would block", lines, ["--config", ACKNOWLEDGED], 1, (0, lines, lines))
+    ran = begun(lines, ["--config", FIRST], False)
+    time.sleep(1)
+    ran.stdout.close()
+    seen = read_late(ran, 0)
+    check("a reader that leaves an output that would block", seen == (0, b"", b""), (seen[0], seen[2][:200]))
+
+
+def catches(ran, number):
+    """Whether a run has a handler for that signal."""
+    told = Path(f"/proc/{ran.pid}/status").read_text().splitlines()
+    caught = next(int(line.split()[1], 16) for line in told if line.startswith("SigCgt:"))
+    return caught >> (number - 1) & 1 == 1
+
+
+def comes_through_signals(name, given, words, wanted, blocking, library):
+    """Checks what a run writes, to pipes that nobody reads for two seconds, while signals cut its calls short."""
+    ran = begun(given, words, blocking, BUILT, {b"LD_PRELOAD": library})
+    time.sleep(2)
+    rings = catches(ran, signal.SIGALRM)
+    seen = read_late(ran, 0)
+    check(name, rings and seen == wanted, (rings, seen[0], len(seen[1]), len(seen[2])))
+
+
+def signals():
+    """Nothing is lost, and nothing comes twice, where signals interrupt writes and waits."""
+    lines = b"".join(b"%d\n" % i for i in range(200_000))
+    with tempfile.TemporaryDirectory() as folder:
+        (Path(folder) / "alarms.c").write_bytes(ALARMS)
+        subprocess.run(["cc", "-shared", "-fPIC", "-o", "alarms.so", "alarms.c"], cwd=folder, check=True)
+        library = os.fsencode(folder) + b"/alarms.so"
+        comes_through_signals("writes that signals interrupt", lines, ["--config", FIRST], (0, lines, b""), True, library)
+        comes_through_signals("waits that signals interrupt", lines, ["--config", TWO], (0, lines, lines), False, library)
+
+
+def full_pipe():
+    """Both ends of a pipe that takes no more and doesn't block, and how many bytes it holds."""
+    output, into = os.pipe()
+    os.set_blocking(into, False)
+    held = 0
+    while select.select([], [into], [], 0)[1]:
+        held += os.write(into, b"." * 4096)
+    return output, into, held
+
+
+def prints_late(name, words, stream, wanted):
+    """Checks what a run prints to a full pipe that is read a second later, and that it waited."""
+    output, into, held = full_pipe()
+    ran = subprocess.Popen([PROGRAM, *words], stdin=subprocess.DEVNULL, **{stream: into})
+    os.close(into)
+    time.sleep(1)
+    waits = ran.poll() is None
+    with open(output, "rb") as pipe:
+        pipe.read(held)
+        try:
+            status = ran.wait(PATIENCE)
+        except subprocess.TimeoutExpired:
+            ran.kill()
+            status = "it did not end"
+        seen = (status, pipe.read())
+    check(name, waits and seen == wanted, (waits, *seen))
+
+
+def late_texts():
+    """What the program prints comes whole, once it can be written."""
+    prints_late("a judgement that would block", ["validate", TWO], "stdout", (0, b"valid: 1 sources, 0 transforms, 2 sinks\n"))
+    prints_late("a fault that would block", ["validate", "/none.toml"], "stderr", (74, b"vector: cannot read /none.toml\n"))
+
+
 def consoles():
     """Several sinks that read one source, and variables of the environment."""
     seen = run(b"a\nb\n", ["--config", TWO])
@@ -236,4 +362,4 @@ def judgements():
 
 
 if __name__ == "__main__":
-    sys.exit(go_through([consoles, acknowledged, judgements, json_lines, inputs, bytes_of_all_kinds, lines_as_they_come, a_reader_that_leaves, ends_that_fail, many_lines]))
+    sys.exit(go_through([consoles, acknowledged, judgements, json_lines, inputs, bytes_of_all_kinds, lines_as_they_come, a_reader_that_leaves, late_readers, signals, late_texts, ends_that_fail, many_lines]))

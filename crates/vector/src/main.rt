@@ -3,6 +3,7 @@
 
 mod environment;
 mod os_clock;
+mod os_output;
 mod os_port;
 mod os_printer;
 mod os_world;

@@ -1,8 +1,9 @@
 ghost use Rattle.std.specs.Prelude.{◌≡◌, ◌<◌, ◌≤◌, ◌^◌, length, None, [], false};
 ghost use Rattle.vx_ends.specs.Told.{Rose};
 
+use crate::os_output::OsOutput;
 use std::io::{ErrorKind, Read, Write};
-use std::rt::{Stderr, Stdin, Stdout};
+use std::rt::Stdin;
 use vx_ends::{Port, PositionList, Took, Trouble};
 
 /// The most bytes that one take reads.
@@ -16,10 +17,8 @@ const MOST_WRITTEN: usize = 0x7fff_ffff;
 pub(crate) enum Stream {
     /// Standard input, to be read.
     Input(Stdin),
-    /// Standard output, to be written.
-    Output(Stdout),
-    /// Standard error, to be written.
-    Errors(Stderr),
+    /// Standard output or standard error, to be written.
+    Output(OsOutput),
 }
 
 impl Stream {
@@ -30,8 +29,7 @@ impl Stream {
     {
         let written = match self {
             Stream::Input(_) => return 0,
-            Stream::Output(stdout) => stdout.write(bytes),
-            Stream::Errors(stderr) => stderr.write(bytes),
+            Stream::Output(output) => output.write(bytes),
         };
         match written {
             Ok(n) => n as u32,
@@ -43,8 +41,7 @@ impl Stream {
     fn flush(&mut self) -> bool {
         match self {
             Stream::Input(_) => false,
-            Stream::Output(stdout) => stdout.flush().is_ok(),
-            Stream::Errors(stderr) => stderr.flush().is_ok(),
+            Stream::Output(output) => output.flush().is_ok(),
         }
     }
 }
@@ -53,7 +50,7 @@ impl Stream {
 ///
 /// Standard input is the one stream 0. A take reads it by one call of the system, in pieces of at most 65,536 bytes as
 /// they come; a read that brings no byte is the end of all for ever. The other two are written by one call of the
-/// system a give, with no buffer between.
+/// system a give, with no buffer between. A give waits while the stream takes nothing.
 #[derive(Drop)]
 pub struct OsPort {
     stream: Stream,

@@ -1,5 +1,6 @@
 ghost use Rattle.std.specs.Prelude.{None};
 
+use crate::os_output::OsOutput;
 use crate::os_port::{OsPort, Stream};
 use std::fs;
 use std::io::ErrorKind;
@@ -41,8 +42,7 @@ impl World for OsWorld {
     fn port(&mut self, spec: &PortSpec) -> Result<OsPort, WantOfMemory> {
         let stream = match spec.form {
             Form::Stdin => Stream::Input(self.rt.stdin()),
-            Form::Console { err: false } => Stream::Output(self.rt.stdout()),
-            Form::Console { err: true } => Stream::Errors(self.rt.stderr()),
+            Form::Console { err } => Stream::Output(OsOutput::new(self.rt, err)),
         };
         Ok(OsPort::new(stream))
     }
