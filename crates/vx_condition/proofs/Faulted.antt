@@ -12,9 +12,8 @@ use Rattle.vx_condition.specs.Conditions.{disjunction_levels, IsCondition}
 use Rattle.vx_condition.specs.Moves.{at, at_some, step, moved, levels_in, held_by, all_branches, stated, with_number, signed}
 use Rattle.vx_condition.specs.Runs.{go_on, run, begun, settled, settle_at}
 use Rattle.vx_condition.specs.Takes.{HasSize, EndsRefused, StopsIn, whole_in, end_at}
-use Rattle.vx_condition.specs.Faults.{Begins, BeginsShallow, IsConditionText, IsSyntaxFault, IsDeepFault, IsBadPattern, IsConditionFault, IsReadFault, HasTree, HasRoom, Halts, fault_of}
+use Rattle.vx_condition.specs.Faults.{Begins, BeginsShallow, IsSyntaxFault, IsDeepFault, IsBadPattern, IsReadFault, HasTree, HasRoom, Halts, fault_of}
 use Rattle.vx_condition.specs.declared.condition_fault.ConditionFault.{ConditionFault}
-use Rattle.vx_condition.specs.declared.condition_fault.ConditionFault.TheVariants as fault
 use Rattle.vx_condition.specs.declared.call.Search.TheVariants as search_for
 use Rattle.vx_condition.specs.declared.expected.Expected.TheVariants as wants
 use Rattle.vx_condition.specs.declared.mode.Mode.{Mode}
@@ -323,12 +322,3 @@ taken_all keeps text i reader whole t = ap (run 32 (begun keeps)) (sym (take_all
 -- ---- both readings
 pub kept_condition : (text : Word) (found : Disjunction) → HasTree true text found → IsCondition found text
 kept_condition text found x = subst (λ t. IsCondition t text) (sym (x.same ∙ kept-disjunction x.tree)) x.condition
-
-pub some_condition : (keeps : Bool) (text : Word) (found : Disjunction) → HasTree keeps text found → IsConditionText text
-some_condition keeps text found x = record { tree = x.tree; condition = x.condition }
-
-pub second_fault : (text : Word) (f : ConditionFault) → IsReadFault false text f → IsConditionFault text f
-second_fault text (fault.Syntax at) x = x
-second_fault text (fault.Deep at) x = x
-second_fault text (fault.BadPattern at) x = let never : false ≡ true = x.0 in absurd (cc)
-second_fault text fault.WantOfMemory x = tt

@@ -1,11 +1,10 @@
 -- How a script is told, step by step.
-use Rattle.std.proofs.Common.{◌≡◌, ℕ, zero, suc, ◌+◌, ◌-◌, ◌<◌, ◌≤◌, ◌==◌, List, [], ◌∷◌, ◌++◌, length, take, drop, get_or, refl, sym, ap, arith, add-one, Bool, true, false, IsTrue, if◌then◌else◌, append_assoc, ◌∙◌, Contains}
+use Rattle.std.proofs.Common.{◌≡◌, ℕ, zero, suc, ◌+◌, ◌<◌, ◌==◌, List, [], ◌∷◌, ◌++◌, length, take, drop, get_or, refl, arith, add-one, true, false, if◌then◌else◌, append_assoc, ◌∙◌}
 use Rattle.std.proofs.lemmas.Grind.{common_steps}
-use Rattle.std.proofs.lemmas.List.{take_all, append-nil}
-use Rattle.std.proofs.Math.Seq.{drop-cons, take-suc, drop-nil}
+use Rattle.std.proofs.Math.Seq.{drop-cons, take-suc}
 use Rattle.vx_ends.specs.declared.step.Step.{Step}
 use Rattle.vx_ends.specs.declared.step.Step.TheVariants.{Bytes, StreamEnded, AllEnded, Idle, Fail}
-use Rattle.vx_ends.specs.Script.{Progress, part_told, part_left, has_ended, bytes_of, left_of, without, ends_of, is_nothing, is_passed, passes_first, upcoming, SameTold}
+use Rattle.vx_ends.specs.Script.{part_told, part_left, has_ended, bytes_of, without, ends_of, is_nothing, passes_first, upcoming}
 
 pub has_ended-append : (stream : ℕ) (xs ys : List Step) → has_ended stream (xs ++ ys) ≡ (if has_ended stream xs then true else has_ended stream ys)
 has_ended-append stream [] ys = refl
@@ -106,11 +105,6 @@ pub is_nothing-drop : (n : ℕ) (bytes : List ℕ) → n < length bytes → is_n
 is_nothing-drop n [] l = grind arith
 is_nothing-drop zero (b ∷ bytes) l = refl
 is_nothing-drop (suc n) (b ∷ bytes) l = grind (arith, common_steps, is_nothing-drop n bytes)
-
-pub is_nothing-all : (n : ℕ) (bytes : List ℕ) → length bytes ≤ n → is_nothing (drop n bytes) ≡ true
-is_nothing-all n [] l = grind (arith, drop-nil {A = ℕ} n)
-is_nothing-all zero (b ∷ bytes) l = grind arith
-is_nothing-all (suc n) (b ∷ bytes) l = grind (arith, common_steps, is_nothing-all n bytes)
 
 -- whether a step with bytes is passed over at a place
 pub passes-bytes : (steps : List Step) (at offset from : ℕ) (bytes : List ℕ) → at < length steps → Bytes from bytes ≡ get_or steps at (Bytes from bytes) →

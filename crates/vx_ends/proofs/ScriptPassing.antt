@@ -1,11 +1,11 @@
 -- What it leaves to pass over a step.
-use Rattle.std.proofs.Common.{◌≡◌, ℕ, zero, suc, ◌+◌, ◌-◌, ◌<◌, ◌≤◌, ◌==◌, List, [], ◌∷◌, ◌++◌, length, take, drop, get_or, refl, sym, ap, arith, add-one, Bool, true, false, if◌then◌else◌, ◌∙◌, subst}
+use Rattle.std.proofs.Common.{◌≡◌, ℕ, zero, suc, ◌+◌, ◌<◌, ◌==◌, List, [], ◌∷◌, ◌++◌, length, take, drop, get_or, refl, sym, ap, arith, add-one, true, if◌then◌else◌, ◌∙◌}
 use Rattle.std.proofs.lemmas.Grind.{common_steps}
 use Rattle.std.proofs.lemmas.List.{append-nil}
 use Rattle.std.proofs.Math.Seq.{drop-cons, take-suc}
 use Rattle.vx_ends.specs.declared.step.Step.{Step}
 use Rattle.vx_ends.specs.declared.step.Step.TheVariants.{Bytes, StreamEnded, AllEnded, Idle, Fail}
-use Rattle.vx_ends.specs.Script.{Progress, progress_of, part_told, part_left, has_ended, bytes_of, left_of, ends_of, is_nothing, is_passed, passes_first, upcoming, SameTold}
+use Rattle.vx_ends.specs.Script.{progress_of, part_told, part_left, has_ended, bytes_of, ends_of, is_nothing, is_passed, passes_first, upcoming, SameTold}
 use Rattle.vx_ends.proofs.ScriptLemmas.{has_ended-append, bytes_of-append, ends_of-end, ends_of-others, has_ended-part, part_told-zero, part_left-zero}
 
 -- the bytes of a part of a step
@@ -64,9 +64,6 @@ same_told-trans a b c g h = record {
   ends = h.ends ∙ g.ends;
 }
 
-pub same_told-refl : (a : List Step) → SameTold a a
-same_told-refl a = record { closed = λ stream. refl; bytes = λ stream. refl; ends = refl }
-
 -- the place behind a step that is passed over
 pub told_passed : (steps : List Step) (at offset : ℕ) → at < length steps → passes_first (progress_of steps at offset).past (progress_of steps at offset).rest ≡ true →
     SameTold (progress_of steps at offset).past (progress_of steps (at + 1) 0).past
@@ -85,10 +82,6 @@ passed_same a b (StreamEnded from) h = h.closed from
 passed_same a b AllEnded h = refl
 passed_same a b Idle h = refl
 passed_same a b Fail h = refl
-
-pub upcoming_same : (a b steps : List Step) → SameTold a b → upcoming b steps ≡ upcoming a steps
-upcoming_same a b [] h = refl
-upcoming_same a b (s ∷ steps) h = grind (arith, passed_same a b s h, upcoming_same a b steps h)
 
 first_passed : (past now steps : List Step) (s : Step) → SameTold past now → is_passed now s ≡ true → upcoming past (s ∷ steps) ≡ upcoming past steps
 first_passed past now steps s same h = grind (arith, passed_same past now s same)
@@ -112,8 +105,3 @@ upcoming_passed steps at offset past l same h =
     ap (upcoming past) (part_left-zero (drop (at + 1) steps))
     ∙ sym (part_passed past now (drop (at + 1) steps) s offset same moved)
     ∙ sym (ap (λ steps. upcoming past (part_left offset steps)) next)
-
--- a step that isn't passed over comes next
-pub upcoming_live : (past steps : List Step) → passes_first past steps ≡ false → upcoming past steps ≡ steps
-upcoming_live past [] h = refl
-upcoming_live past (s ∷ steps) h = grind arith

@@ -1,6 +1,6 @@
 -- What a take tells at each step.
-use Rattle.std.proofs.Common.{◌≡◌, ℕ, zero, suc, ◌+◌, ◌-◌, ◌<◌, ◌≤◌, ◌==◌, List, [], ◌∷◌, ◌++◌, length, take, drop, get_or, refl, sym, ap, arith, add-one, Bool, true, false, if◌then◌else◌, ◌∙◌, Result, Ok, Err, append_assoc, Contains, IfOk, ◌⊎◌, inl, inr}
-use Rattle.std.proofs.lemmas.List.Elements.{Contains-append_cases, Contains-append_left, Contains-append_right, Contains-push_cases, Contains-push}
+use Rattle.std.proofs.Common.{◌≡◌, ℕ, ◌+◌, ◌<◌, ◌==◌, List, [], ◌∷◌, ◌++◌, length, take, drop, get_or, refl, sym, ap, arith, Bool, true, false, if◌then◌else◌, ◌∙◌, Result, Ok, Err, append_assoc, Contains, IfOk, inl, inr}
+use Rattle.std.proofs.lemmas.List.Elements.{Contains-append_cases, Contains-append_left, Contains-append_right, Contains-push_cases}
 use Rattle.std.proofs.lemmas.Grind.{common_steps}
 use Rattle.std.proofs.lemmas.List.{append-nil, take-append-drop}
 use Rattle.std.proofs.Math.Seq.{take-add}
@@ -8,17 +8,13 @@ use Rattle.vx_ends.specs.declared.step.Step.{Step}
 use Rattle.vx_ends.specs.declared.step.Step.TheVariants.{Bytes, StreamEnded, AllEnded, Idle, Fail}
 use Rattle.vx_ends.specs.declared.port.Took.TheVariants as took
 use Rattle.vx_ends.specs.declared.trouble.Trouble.TheVariants as trouble
-use Rattle.vx_ends.specs.Script.{Progress, progress_of, part_told, part_left, has_ended, bytes_of, left_of, without, ends_of, Tells, SameTold, upcoming, is_passed, passes_first, answer_of, rest_after, fitting}
-use Rattle.vx_ends.specs.Told.{piece_of, ended_by, IsWithin, IsOfOpen}
+use Rattle.vx_ends.specs.Script.{Progress, progress_of, part_told, part_left, has_ended, bytes_of, left_of, without, ends_of, Tells, SameTold, upcoming, passes_first, answer_of}
+use Rattle.vx_ends.specs.Told.{IsOfOpen}
 use Rattle.vx_ends.proofs.ScriptLemmas.{has_ended-append, bytes_of-append, ends_of-end, ends_of-others, has_ended-part, part_told-zero, part_left-zero}
 use Rattle.vx_ends.proofs.ScriptLemmas.{drop_next, take_next, left_of-upcoming}
 use Rattle.std.proofs.lemmas.List.{take_all}
 use Rattle.std.proofs.Math.Seq.{drop-length}
 use Rattle.vx_ends.proofs.ScriptPassing.{bytes_of-part, ends_of-part}
-
--- where nothing comes any more
-pub tells-none : (p : Progress) (buffer : List ℕ) → Tells p p (Ok took.AllEnded) buffer
-tells-none p buffer = record { taken = λ stream. sym (append-nil _); left = λ stream. refl; ended = sym (append-nil _) }
 
 -- the end of all
 pub tells-all : (xs steps : List Step) (buffer : List ℕ) →
@@ -112,15 +108,6 @@ pub upcoming_lives : (past steps : List Step) → passes_first past (upcoming pa
 upcoming_lives past [] = refl
 upcoming_lives past (s ∷ steps) = grind (arith, upcoming_lives past steps)
 
-pub answers_within : (room : ℕ) (past steps : List Step) → 0 < room → passes_first past steps ≡ false → IfOk (answer_of room steps) (IsWithin room)
-answers_within room past [] r h = tt
-answers_within room past (Bytes from [] ∷ steps) r h = absurd (grind arith)
-answers_within room past (Bytes from (b ∷ bytes) ∷ steps) r h = (grind (arith, common_steps), grind (arith, common_steps))
-answers_within room past (StreamEnded from ∷ steps) r h = tt
-answers_within room past (AllEnded ∷ steps) r h = tt
-answers_within room past (Idle ∷ steps) r h = tt
-answers_within room past (Fail ∷ steps) r h = tt
-
 contains-one : (y s : ℕ) → Contains (y ∷ []) s → y ≡ s
 contains-one y s h = elim (Contains-push_cases [] y s h) [ inl a ↦ absurd (omega (arith, a.1)) | inr e ↦ e ]
 
@@ -163,18 +150,3 @@ answers_open room past (StreamEnded from ∷ steps) h = λ ended. open_false _ (
 answers_open room past (AllEnded ∷ steps) h = tt
 answers_open room past (Idle ∷ steps) h = tt
 answers_open room past (Fail ∷ steps) h = tt
-
-pub answers_all : (room : ℕ) (steps : List Step) → answer_of room steps ≡ Ok took.AllEnded → rest_after room steps ≡ []
-answers_all room [] h = refl
-answers_all room (Bytes from bytes ∷ steps) h = cc
-answers_all room (StreamEnded from ∷ steps) h = cc
-answers_all room (AllEnded ∷ steps) h = refl
-answers_all room (Idle ∷ steps) h = cc
-answers_all room (Fail ∷ steps) h = cc
-
--- at the end of a stream nothing is left of it
-pub shut_left : (s : ℕ) (old new : Progress) (result : Result took.the_data trouble.the_data) (buffer : List ℕ) → Tells old new result buffer → result ≡ Ok (took.StreamEnded s) → left_of s new ≡ []
-shut_left s old new result buffer h e =
-    let told : ends_of new.past ≡ ends_of old.past ++ s ∷ [] = rw e at h.ended in
-    let ended : has_ended s new.past ≡ true = ends-ended s new.past (rw told (Contains-push (ends_of old.past) s)) in
-    rw ended refl

@@ -1,5 +1,5 @@
 -- What contracts see of a port in memory.
-use Rattle.std.specs.Prelude.{◌≡◌, ℕ, List, [], ◌∷◌, ◌++◌, Bool, true, false, Option, Some, None, Result, Ok, Err, is_ok, if◌then◌else◌}
+use Rattle.std.specs.Prelude.{ℕ, List, [], ◌++◌, Bool, false, Option, Some, Result, Ok, Err, is_ok, if◌then◌else◌}
 use Rattle.vx_ends.specs.Acts.{first_act, later_acts, plain_answer, is_failed, raised}
 use Rattle.vx_ends.specs.declared.trouble.Trouble.{Trouble}
 use Rattle.vx_ends.specs.Script.{Progress, bytes_of, left_of, ends_of}

@@ -7,9 +7,6 @@ take-front : (old more : Word) → take (length old) (old ++ more) ≡ old
 take-front [] more = refl
 take-front (b ∷ old) more = ap (λ r. b ∷ r) (take-front old more)
 
-pub keeps-append : (old more : Word) → Keeps old (old ++ more)
-keeps-append old more = record { front = take-front old more }
-
 take-twice : (a b c : Word) → take (length a) b ≡ a → take (length b) c ≡ b → take (length a) c ≡ a
 take-twice [] b c h k = refl
 take-twice (x ∷ a) [] c h k = cc

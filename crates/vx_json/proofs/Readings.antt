@@ -6,9 +6,7 @@ use Rattle.vx_value.specs.Texts.{Word}
 use Rattle.vx_value.specs.Datum.{Datum, Fields, NamedDatum, named_of, depth}
 use Rattle.vx_json.specs.Grammar.{IsText, BeginsText}
 use Rattle.vx_json.specs.Machine.{Frame, Mode, AtValue, AtEnd, state, step, finish, carry, reached, outcome, height}
-use Rattle.vx_json.specs.Faults.{open_levels, StaysShallow, IsNotJson, IsDeep, IsValue, IsEvent, IsOther, IsNoObject, IsTextFault, IsFault}
-use Rattle.vx_json.specs.declared.json_fault.JsonFault.{JsonFault}
-use Rattle.vx_json.specs.declared.json_fault.JsonFault.TheVariants as fault
+use Rattle.vx_json.specs.Faults.{open_levels, StaysShallow, IsNotJson, IsDeep, IsValue, IsEvent}
 use Rattle.vx_json.proofs.Soundness.{text-of}
 use Rattle.vx_json.proofs.Completeness.{text-outcome}
 use Rattle.vx_json.proofs.Reaching.{reached-append, outcome-append, no-beginning, beginning}
@@ -134,17 +132,6 @@ read-finished bytes i m st v e h n =
 -- a value that is fields is an event
 pub event-of-value : (bytes : Word) (v : Datum) (fs : List NamedDatum) → IsValue bytes v → v ≡ Fields (named_of fs) → IsEvent bytes fs
 event-of-value bytes v fs h e = record { fits = subst (λ d. depth d ≤ 32) e h.fits; text = subst (IsText bytes) e h.text; only = λ w t. h.only w t ∙ e; shallow = h.shallow }
-
--- and any other is none
-pub other-value : (bytes : Word) (v : Datum) → IsValue bytes v → IsNoObject v → IsOther bytes
-other-value bytes v h n = record { value = v; text = h.text; no_object = n; shallow = h.shallow }
-
--- the faults of a text are faults of an event
-pub text-fault : (bytes : Word) (f : JsonFault) → IsTextFault bytes f → IsFault bytes f
-text-fault bytes (fault.NotJson at) h = h
-text-fault bytes (fault.Deep at) h = h
-text-fault bytes fault.NotObject h = absurd h
-text-fault bytes fault.WantOfMemory h = h
 
 -- where something is open no text ends
 pub finish-nonempty : (m : Mode) (st : List Frame) → 0 < length st → finish m st ≡ None

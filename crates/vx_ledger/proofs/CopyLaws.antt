@@ -35,17 +35,6 @@ pub copies_of-renumbered : (batch place first : ℕ) (cs : List Copy) →
 copies_of-renumbered batch place first [] = refl
 copies_of-renumbered batch place first (c ∷ cs) = grind (arith, copies_of-renumbered batch place (first + 1) cs)
 
--- fresh numbers keep the length
-pub length-renumbered : (first : ℕ) (xs : List Copy) → length (renumbered first xs) ≡ length xs
-length-renumbered first [] = refl
-length-renumbered first (x ∷ xs) = grind (arith, length-renumbered (first + 1) xs)
-
--- one more copy renumbered at the end
-pub renumbered_more : (first : ℕ) (xs : List Copy) (c : Copy) →
-    renumbered first (xs ++ c ∷ []) ≡ renumbered first xs ++ record { batch = c.batch; number = first + length xs; place = c.place } ∷ []
-renumbered_more first [] c = grind arith
-renumbered_more first (x ∷ xs) c = grind (arith, renumbered_more (first + 1) xs c)
-
 -- one more copy of the list renumbered in place
 pub renumbered_step : (first i : ℕ) (xs ys : List Copy) (c : Copy) → i < length xs →
     ys ≡ renumbered first (take i xs) ++ drop i xs → c ≡ get_or ys i c →

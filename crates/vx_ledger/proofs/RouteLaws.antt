@@ -1,9 +1,8 @@
 -- Laws on routes.
-use Rattle.std.proofs.Common.{◌≡◌, ℕ, zero, suc, ◌+◌, ◌-◌, ◌*◌, ◌^◌, ◌<◌, min, List, [], ◌∷◌, ◌++◌, length, take, get_or, map, Bool, true, false, inl, inr, subst, ◌∙◌, refl, sym, ap, append_assoc, append-nil, length-append, arith, ◌==◌, if◌then◌else◌}
+use Rattle.std.proofs.Common.{◌≡◌, ℕ, zero, suc, ◌+◌, ◌-◌, ◌*◌, ◌^◌, ◌<◌, List, [], ◌∷◌, ◌++◌, length, take, get_or, map, Bool, true, false, subst, ◌∙◌, refl, sym, ap, append_assoc, append-nil, length-append, arith, ◌==◌, if◌then◌else◌}
 use Rattle.std.specs.List.{All}
 use Rattle.std.specs.Int.{bit_at}
 use Rattle.std.proofs.lemmas.Grind.{common_steps}
-use Rattle.std.proofs.lemmas.Bool.{cases_lt}
 use Rattle.std.proofs.lemmas.List.{take_more}
 use Rattle.std.proofs.lemmas.List.Elements.{All-append, All-nil, All-head, All-tail}
 use Rattle.vx_ledger.specs.declared.child.Child.{Child}
@@ -89,12 +88,6 @@ copies_of-copies_in batch place (t ∷ ts) first parcel =
       copies_of-renumbered batch place first parcel.finalizers,
     )
 
--- the children go to the targets, in order
-pub targets-children_for : (targets : List ℕ) (first : ℕ) (parcel : Parcel) →
-    map (λ child. child.target) (children_for targets first parcel) ≡ targets
-targets-children_for [] first parcel = refl
-targets-children_for (t ∷ ts) first parcel = ap (λ rest. t ∷ rest) (targets-children_for ts (first + length parcel.finalizers) parcel)
-
 -- the children have the copies that a split for their targets gives
 pub finalizers-children_for : (targets : List ℕ) (first : ℕ) (parcel : Parcel) →
     map (λ child. child.parcel.finalizers) (children_for targets first parcel)
@@ -102,18 +95,6 @@ pub finalizers-children_for : (targets : List ℕ) (first : ℕ) (parcel : Parce
 finalizers-children_for [] first parcel = refl
 finalizers-children_for (t ∷ ts) first parcel =
     ap (λ rest. renumbered first parcel.finalizers ∷ rest) (finalizers-children_for ts (first + length parcel.finalizers) parcel)
-
--- a count that passes the greatest number of 64 bits stays there, and so does what is computed of it
-saturated_past : (m k : ℕ) → 2 ^ 64 - 1 < k → min (m * (2 ^ 64 - 1)) (2 ^ 64 - 1) ≡ min (k * m) (2 ^ 64 - 1)
-saturated_past zero k h = omega arith
-saturated_past (suc m) k h = omega arith
-
-pub saturated : (m k : ℕ) → min (m * min k (2 ^ 64 - 1)) (2 ^ 64 - 1) ≡ min (k * m) (2 ^ 64 - 1)
-saturated m k =
-    elim (cases_lt (2 ^ 64 - 1) k) [
-      | inl past ↦ (let most : min k (2 ^ 64 - 1) ≡ 2 ^ 64 - 1 = omega arith in rw most (saturated_past m k past))
-      | inr within ↦ (let same : min k (2 ^ 64 - 1) ≡ k = omega arith in rw same (omega arith))
-    ]
 
 -- a batch has a live copy for each target in the place of each that was routed
 pub exchange_route : (targets : List ℕ) (first batch place : ℕ) (parcel : Parcel) (rs : List OpenBatch) →

@@ -101,22 +101,6 @@ totals_more h i e cut old new is_cut before is = record {
       let a = source_rises.3 e h i in let x = is.undecodable in let b = before.undecodable in let c = is_cut.undecodable in omega (arith, a, b, c, x);
 }
 
--- an entry that is no Read of the instance completes none
-pub none_cut : (h : Record) (i : ℕ) (e : Entry) (cut : Cut) → cut.within ≡ 0 → cut.over ≡ 0 → cut.undecodable ≡ 0 →
-    ((stream : ℕ) (took : Taken) → e ≡ Read i stream took → ⊥) → IsCutIn h i e cut
-none_cut h i (Read j stream took) cut none no_over no_undecodable other = record {
-  within = none ∙ sym (ap (λ b. if b then length (new_lines h i stream took) else 0) elsewhere);
-  over = no_over ∙ sym (ap (λ b. if b then new_overlong h i stream took else 0) elsewhere);
-  undecodable = no_undecodable ∙ sym (ap (λ b. if b then new_undecodable h i stream took else 0) elsewhere);
-}
-  where
-    elsewhere : (j == i) ≡ false
-    elsewhere = elim (cases_eq j i) [
-      | inl same ↦ absurd (other stream took (ap (λ k. Read k stream took) same))
-      | inr apart ↦ grind (arith, nat_tests)
-    ]
-none_cut h i e cut none no_over no_undecodable other = record { within = none; over = no_over; undecodable = no_undecodable }
-
 -- ---- the unfinished lines
 -- what a Read leaves of the stream whose lines it ends, and of another
 pub open_here : (h : Record) (i stream q : ℕ) (took : Taken) → stream_of h i stream took ≡ q →

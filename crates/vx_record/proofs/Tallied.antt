@@ -3,7 +3,6 @@ use Rattle.std.proofs.Common.{◌≡◌, ℕ, zero, suc, ◌+◌, Option, Some, 
 use Rattle.std.proofs.lemmas.List.{map-append}
 use Rattle.vx_ends.specs.declared.position.Position.{Position}
 use Rattle.vx_plan.specs.declared.class.Class.{Class}
-use Rattle.vx_plan.specs.declared.class.Class.TheVariants.{Source, Transform, Sink}
 use Rattle.vx_plan.specs.declared.component.Component.{Component}
 use Rattle.vx_status.specs.declared.outcome.Outcome.{Outcome}
 use Rattle.vx_record.specs.declared.count.Count.{Count}
@@ -102,20 +101,6 @@ of_class : (o : Option Component) (role : Role) (k : Class) (none : Tally) (f : 
     elim o as (λ _. Tally) [ None ↦ none | Some c ↦ f c.class ] ≡ f k
 of_class None role k none f is class = let e = ap (λ (r : Role). r.class) is in absurd (cc)
 of_class (Some c) role k none f is class = let e = ap (λ (r : Role). r.class) is in let same : c.class ≡ k = cc in ap f same
-
-of_none : (o : Option Component) (role : Role) (none : Tally) (f : Class → Tally) → role ≡ role_of o → role.class ≡ None →
-    elim o as (λ _. Tally) [ None ↦ none | Some c ↦ f c.class ] ≡ none
-of_none None role none f is class = refl
-of_none (Some c) role none f is class = let e = ap (λ (r : Role). r.class) is in absurd (cc)
-
-abbrev by_class : Record → ℕ → Class → Tally
-by_class h i k = elim k as (λ _. Tally) [ Source ↦ source_tally h i | Transform ↦ transform_tally h i | Sink ↦ sink_tally h i ]
-
-pub tally_of_class : (h : Record) (i : ℕ) (role : Role) (k : Class) → role ≡ role_of (component_of h i) → role.class ≡ Some k → tally h i ≡ by_class h i k
-tally_of_class h i role k is class = of_class (component_of h i) role k nothing_counted (by_class h i) is class
-
-pub tally_of_none : (h : Record) (i : ℕ) (role : Role) → role ≡ role_of (component_of h i) → role.class ≡ None → tally h i ≡ nothing_counted
-tally_of_none h i role is class = of_none (component_of h i) role nothing_counted (by_class h i) is class
 
 -- ---- one more instance
 counting-last : (from n : ℕ) → counting from (n + 1) ≡ counting from n ++ (from + n) ∷ []

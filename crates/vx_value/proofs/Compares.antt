@@ -59,9 +59,6 @@ data-both-end i xs ys h l = ap₂ data_cmp (data-past i xs h) (data-past i ys l)
 pub data-first-ends : (i : ℕ) (xs ys : List Value) → length xs ≤ i → i < length ys → data_from i xs ys ≡ Less
 data-first-ends i xs ys h l = ap₂ data_cmp (data-past i xs h) (data-more i ys l).2
 
-pub data-other-ends : (i : ℕ) (xs ys : List Value) → i < length xs → length ys ≤ i → data_from i xs ys ≡ Greater
-data-other-ends i xs ys h l = ap₂ data_cmp (data-more i xs h).2 (data-past i ys l)
-
 pub named-both-end : (i : ℕ) (xs ys : List Field) → length xs ≤ i → length ys ≤ i → named_from i xs ys ≡ Equal
 named-both-end i xs ys h l = ap₂ named_cmp (named-past i xs h) (named-past i ys l)
 
@@ -70,17 +67,6 @@ named-first-ends i xs ys h l = ap₂ named_cmp (named-past i xs h) (named-more i
 
 pub named-other-ends : (i : ℕ) (xs ys : List Field) → i < length xs → length ys ≤ i → named_from i xs ys ≡ Greater
 named-other-ends i xs ys h l = ap₂ named_cmp (named-more i xs h).3 (named-past i ys l)
-
--- one place
-pub data-step : (i : ℕ) (xs ys : List Value) (x y : Value) → i < length xs → x ≡ get_or xs i x → i < length ys → y ≡ get_or ys i y
-    → data_from i xs ys ≡ ordering_then (datum_cmp (datum_of x) (datum_of y)) (data_from (suc i) xs ys)
-data-step zero [] ys x y l e m f = absurd (omega arith)
-data-step zero (a ∷ xs) [] x y l e m f = absurd (omega arith)
-data-step zero (a ∷ xs) (b ∷ ys) x y l e m f =
-    λ j. ordering_then (datum_cmp (datum_of (sym e j)) (datum_of (sym f j))) (data_from 1 (a ∷ xs) (b ∷ ys))
-data-step (suc i) [] ys x y l e m f = absurd (omega arith)
-data-step (suc i) (a ∷ xs) [] x y l e m f = absurd (omega arith)
-data-step (suc i) (a ∷ xs) (b ∷ ys) x y l e m f = data-step i xs ys x y (omega arith) e (omega arith) f
 
 pub named-step : (i : ℕ) (xs ys : List Field) (x y : Field) → i < length xs → x ≡ get_or xs i x → i < length ys → y ≡ get_or ys i y
     → named_from i xs ys ≡ ordering_then (field_cmp x y) (named_from (suc i) xs ys)

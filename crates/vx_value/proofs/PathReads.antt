@@ -5,7 +5,7 @@ use Rattle.std.specs.Str.{IsUtf8}
 use Rattle.std.proofs.lemmas.Bool.Decides.{nat_tests}
 use Rattle.std.proofs.lemmas.Str.{IsUtf8-take, IsUtf8-drop, IsUtf8-append, IsCharBoundary-before_ascii, IsCharBoundary-after_ascii}
 use Rattle.std.proofs.lemmas.List.{take-append-drop, take_all}
-use Rattle.std.proofs.Math.Seq.{take-suc, drop-length}
+use Rattle.std.proofs.Math.Seq.{take-suc}
 use Rattle.vx_value.specs.Texts.{Word, is_empty}
 use Rattle.vx_value.specs.Paths.{begins_name, goes_on, name_move, move_of, ends_path, carry, names_from, path_names, BeginsPath, IsLongestBeginning}
 use Rattle.vx_value.specs.Reads.{Moved, HasRead}
@@ -193,8 +193,3 @@ read-unended text i mode name names h not_yet r = (
 
 pub read-ended : (text : List ℕ) (i : ℕ) (mode : PathMode) (name : Word) (names : List Word) → i ≡ length text → ends_path mode ≡ true → HasRead text i mode name names → path_names text ≡ Some (names ++ name ∷ [])
 read-ended text i mode name names h done r = read-all text i mode name names (omega (arith, h)) r ∙ (rw done refl)
-
-pub read-utf8 : (text : List ℕ) (i : ℕ) (mode : PathMode) (name : Word) (names : List Word) → i ≡ length text → HasRead text i mode name names → IsUtf8 name
-read-utf8 text i mode name names h r =
-    let u : IsUtf8 (name ++ drop (length text) text) = subst (λ n. IsUtf8 (name ++ drop n text)) h r.utf8 in
-    let v : IsUtf8 (name ++ []) = rw drop-length at u in rw append-nil at v

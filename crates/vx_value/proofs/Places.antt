@@ -1,6 +1,6 @@
 -- A search for a name among fields.
 use Rattle.std.proofs.Common.{◌≡◌, ℕ, ◌+◌, ◌<◌, suc, zero, true, false, List, [], ◌∷◌, ◌++◌, length, take, drop, get_or, set, Some, None, IsTrue, arith, refl, sym, ◌∙◌, ap, drop-cons, append_assoc, add-one}
-use Rattle.std.proofs.Math.Seq.{take-suc, drop-length}
+use Rattle.std.proofs.Math.Seq.{take-suc}
 use Rattle.std.proofs.lemmas.List.{take-append-drop, take-set, drop-set, get_or_default}
 use Rattle.std.proofs.lemmas.Grind.{common_steps}
 use Rattle.vx_value.specs.Datum.{Datum, NamedDatum}
@@ -68,12 +68,4 @@ gap-found fs name f i h e more other not_less rise b = record {
   within = omega arith;
   none = b.under ∙ (let r = names_rise-drop fs i rise in rw (drop-cons fs i f, e) (none-past f (drop (suc i) fs) name more (rw (drop-cons fs i f, e) at r)));
   put = λ value. b.put value ∙ rw (drop-cons fs i f, e, cons-more-put f (drop (suc i) fs) name value not_less other) refl;
-}
-
--- the search ends behind all
-pub gap-last : (fs : List NamedDatum) (name : Word) → IsBefore fs name (length fs) → IsGap fs name (length fs)
-gap-last fs name b = record {
-  within = omega arith;
-  none = b.under ∙ rw drop-length refl;
-  put = λ value. b.put value ∙ rw drop-length refl;
 }

@@ -1,4 +1,4 @@
-use Rattle.std.proofs.Common.{arith, sym, ◌∙◌}
+use Rattle.std.proofs.Common.{sym, ◌∙◌}
 use Rattle.vx_ends.proofs.ScriptLemmas.{ended_at, open_on}
 use Rattle.vx_ends.proofs.script.ends_within.Goals as goal
 

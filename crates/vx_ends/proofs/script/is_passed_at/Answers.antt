@@ -1,6 +1,4 @@
-use Rattle.std.proofs.Common.{arith, sym, refl, ◌∙◌, ◌≡◌, length, ◌<◌, false}
-use Rattle.vx_ends.specs.Script.{is_nothing}
-use Rattle.std.proofs.Common.{drop}
+use Rattle.std.proofs.Common.{arith, sym, refl, ◌∙◌, length, ◌<◌}
 use Rattle.vx_ends.proofs.ScriptLemmas.{passes-bytes, is_nothing-drop}
 use Rattle.vx_ends.proofs.script.is_passed_at.Goals as goal
 

@@ -1,4 +1,4 @@
-use Rattle.std.proofs.Common.{arith, sym, ◌∙◌, length, ◌<◌, ◌+◌}
+use Rattle.std.proofs.Common.{sym, ◌∙◌}
 use Rattle.vx_ends.proofs.ScriptPassing.{same_told-trans, told_passed, upcoming_passed}
 use Rattle.vx_ends.specs.Script.{progress_of}
 use Rattle.vx_ends.proofs.script.live_place.Goals as goal

@@ -1,5 +1,5 @@
-use Rattle.std.proofs.Common.{arith, sym, ◌∙◌, length, ◌<◌, ◌+◌, take, drop, ◌≡◌}
-use Rattle.vx_ends.specs.declared.step.Step.TheVariants.{Bytes, StreamEnded, AllEnded, Idle, Fail}
+use Rattle.std.proofs.Common.{arith, sym, ◌∙◌, length, ◌<◌, ◌+◌, take, drop}
+use Rattle.vx_ends.specs.declared.step.Step.TheVariants.{StreamEnded, Idle, Fail}
 use Rattle.vx_ends.proofs.ScriptLemmas.{passes-end, live-bytes}
 use Rattle.vx_ends.proofs.ScriptTelling.{tells-end, tells-idle, tells-fail, tells_behind, tells_all_at, tells_bytes_at}
 use Rattle.vx_ends.proofs.script.play.Goals as goal

@@ -1,5 +1,4 @@
-use Rattle.std.proofs.Common.{sym, ◌∙◌, length, ◌≡◌, List, ap}
-use Rattle.vx_ends.specs.declared.step.Step.{Step}
+use Rattle.std.proofs.Common.{◌∙◌, length, ◌≡◌, ap}
 use Rattle.vx_ends.specs.Script.{Progress, progress_of, upcoming, answer_of}
 use Rattle.vx_ends.proofs.ScriptTelling.{tells_from, upcoming_lives, answers_open}
 use Rattle.vx_ends.proofs.script.Script.take.Goals as goal
