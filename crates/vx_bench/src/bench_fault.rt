@@ -38,7 +38,10 @@ impl From<WantOfMemory> for BenchFault {
 impl fmt::Display for BenchFault {
     fn fmt<W: fmt::Write>(&self, f: &mut fmt::Formatter<W>) -> fmt::Result {
         match self {
-            BenchFault::Usage => write!(f, "call it with one word: lines, read, copy or text"),
+            BenchFault::Usage => write!(
+                f,
+                "call it with one word: lines, read, copy, text or layers"
+            ),
             BenchFault::Input => write!(f, "cannot read standard input"),
             BenchFault::Output => write!(f, "cannot write"),
             BenchFault::Refused(fault) => write!(f, "the input is no event: {fault:?}"),

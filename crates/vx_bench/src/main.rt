@@ -1,8 +1,9 @@
-//! The program `vx_bench`: it cuts, reads or copies what standard input brings, so that this can be timed.
+//! The program `vx_bench`: it cuts, reads or copies what standard input brings, or judges a plan of many layers, so that this can be timed.
 #![tactic(auto)]
 
 mod batch;
 mod bench_fault;
+mod layers;
 mod run;
 mod task;
 

@@ -1,5 +1,6 @@
 use crate::batch::{copy_lines, count_events};
 use crate::bench_fault::BenchFault;
+use crate::layers::judged;
 use crate::task::Task;
 use std::io;
 use std::io::{Read, Write};
@@ -44,6 +45,16 @@ pub fn run(rt: &HostRuntime, task: Task) -> Result<(), BenchFault> {
         Task::Lines | Task::Read => tell(rt, counted(rt, task)?),
         Task::Copy => copy(rt),
         Task::Text => tell(rt, fields_of_all(rt)?),
+        Task::Layers => tell_layers(rt),
+    }
+}
+
+/// Prints how a plan of many layers was judged.
+fn tell_layers(rt: &HostRuntime) -> Result<(), BenchFault> {
+    let (targets, waits, silent) = judged(rt.alloc())?;
+    match println!(rt; "{targets} targets, waits: {waits}, where no sink acknowledges: {silent}") {
+        Ok(()) => Ok(()),
+        Err(_) => Err(BenchFault::Output),
     }
 }
 

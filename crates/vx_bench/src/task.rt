@@ -9,6 +9,8 @@ pub enum Task {
     Copy,
     /// All of it is read as one event, whose fields are counted.
     Text,
+    /// None of it: a plan of many layers is judged.
+    Layers,
 }
 
 impl Task {
@@ -19,6 +21,7 @@ impl Task {
             "read" => Some(Task::Read),
             "copy" => Some(Task::Copy),
             "text" => Some(Task::Text),
+            "layers" => Some(Task::Layers),
             _ => None,
         }
     }

@@ -18,11 +18,11 @@ legal1 = (record { row = record { first = refl; zeroth = refl; all_new = refl };
 
 pub legal2 : IsLegal after2
 unfolding utf8_lossy utf8_valid_len is_utf8 chars port_list lib.Utf8.encode
-legal2 = (record { row = record { home = refl; unretired = refl; settled = refl; ready = refl; later = lit≤ tt; unpolled = refl }; turn = λ b w. absurd w; still = λ a. cc }, legal1)
+legal2 = (record { row = record { home = refl; unretired = refl; settled = refl; ready = inl refl; later = lit≤ tt; unpolled = refl }; turn = λ b w. absurd w; still = λ a. cc }, legal1)
 
 pub legal3 : IsLegal after3
 unfolding utf8_lossy utf8_valid_len is_utf8 chars port_list lib.Utf8.encode
-legal3 = (record { row = record { source = refl; out = refl; readable = refl; once = refl }; turn = λ b w. absurd w; still = λ a. cc }, legal2)
+legal3 = (record { row = record { turn = record { source = refl; out = refl; readable = refl; once = refl }; generated = λ demo e. absurd (cc) }; turn = λ b w. absurd w; still = λ a. cc }, legal2)
 
 pub legal4 : IsLegal after4
 unfolding utf8_lossy utf8_valid_len is_utf8 chars port_list lib.Utf8.encode
@@ -30,7 +30,7 @@ legal4 = (record { row = record { out = refl }; turn = λ b w. absurd w; still =
 
 pub legal5 : IsLegal after5
 unfolding utf8_lossy utf8_valid_len is_utf8 chars port_list lib.Utf8.encode
-legal5 = (record { row = record { home = refl; unretired = refl; settled = refl; ready = refl; later = lit≤ tt; unpolled = refl }; turn = λ b w. absurd w; still = λ a. cc }, legal4)
+legal5 = (record { row = record { home = refl; unretired = refl; settled = refl; ready = inl refl; later = lit≤ tt; unpolled = refl }; turn = λ b w. absurd w; still = λ a. cc }, legal4)
 
 pub legal6 : IsLegal after6
 unfolding utf8_lossy utf8_valid_len is_utf8 chars port_list lib.Utf8.encode
@@ -46,7 +46,7 @@ legal8 = (record { row = record { known = refl; home = refl; unretired = refl; p
 
 pub legal9 : IsLegal after9
 unfolding utf8_lossy utf8_valid_len is_utf8 chars port_list lib.Utf8.encode
-legal9 = (record { row = record { home = refl; unretired = refl; settled = refl; ready = refl; later = lit≤ tt; unpolled = refl }; turn = λ b w. absurd w; still = λ a. cc }, legal8)
+legal9 = (record { row = record { home = refl; unretired = refl; settled = refl; ready = inl refl; later = lit≤ tt; unpolled = refl }; turn = λ b w. absurd w; still = λ a. cc }, legal8)
 
 pub legal10 : IsLegal after10
 unfolding utf8_lossy utf8_valid_len is_utf8 chars port_list lib.Utf8.encode

@@ -23,11 +23,11 @@ legal1 = (record { row = record { first = refl; zeroth = refl; all_new = refl };
 
 pub legal2 : IsLegal after2
 unfolding utf8_lossy utf8_valid_len is_utf8 chars port_list lib.Utf8.encode
-legal2 = (record { row = record { home = refl; unretired = refl; settled = refl; ready = refl; later = lit≤ tt; unpolled = refl }; turn = λ b w. absurd w; still = λ a. cc }, legal1)
+legal2 = (record { row = record { home = refl; unretired = refl; settled = refl; ready = inl refl; later = lit≤ tt; unpolled = refl }; turn = λ b w. absurd w; still = λ a. cc }, legal1)
 
 pub legal3 : IsLegal after3
 unfolding utf8_lossy utf8_valid_len is_utf8 chars port_list lib.Utf8.encode
-legal3 = (record { row = record { source = refl; out = refl; readable = refl; once = refl }; turn = λ b w. absurd w; still = λ a. cc }, legal2)
+legal3 = (record { row = record { turn = record { source = refl; out = refl; readable = refl; once = refl }; generated = λ demo e. absurd (cc) }; turn = λ b w. absurd w; still = λ a. cc }, legal2)
 
 pub legal4 : IsLegal after4
 unfolding utf8_lossy utf8_valid_len is_utf8 chars port_list lib.Utf8.encode
@@ -47,15 +47,15 @@ legal7 = (record { row = record { home = refl; oldest = refl; room = refl }; tur
 
 pub legal8 : IsLegal after8
 unfolding utf8_lossy utf8_valid_len is_utf8 chars port_list lib.Utf8.encode
-legal8 = (record { row = record { home = refl; unretired = refl; settled = refl; ready = refl; later = lit≤ tt; unpolled = refl }; turn = λ b w. absurd w; still = λ a. cc }, legal7)
+legal8 = (record { row = record { home = refl; unretired = refl; settled = refl; ready = inl refl; later = lit≤ tt; unpolled = refl }; turn = λ b w. absurd w; still = λ a. cc }, legal7)
 
 pub legal9 : IsLegal after9
 unfolding utf8_lossy utf8_valid_len is_utf8 chars port_list lib.Utf8.encode
-legal9 = (record { row = record { out = refl; only_takes = refl; few = lit< tt; first = refl; oldest = refl; unclosed = λ s. refl; room = λ s. refl }; turn = λ b w. absurd w; still = λ a. cc }, legal8)
+legal9 = (record { row = record { out = refl; only_takes = refl; few = lit< tt; first = refl; oldest = refl; unclosed = λ s. refl; room = λ s. refl; unticked = λ t. refl }; turn = λ b w. absurd w; still = λ a. cc }, legal8)
 
 pub legal10 : IsLegal after10
 unfolding utf8_lossy utf8_valid_len is_utf8 chars port_list lib.Utf8.encode
-legal10 = (record { row = record { sink = refl; out = refl; once = refl; all = refl; batch_closed = refl; waited = lit≤ tt; given = refl; whole = λ e. refl }; turn = λ b w. absurd w; still = λ a. cc }, legal9)
+legal10 = (record { row = record { sink = refl; out = refl; once = refl; all = refl; batch_closed = refl; waited = lit≤ tt; given = refl; whole = λ e. refl; swallowed = λ e. cc }; turn = λ b w. absurd w; still = λ a. cc }, legal9)
 
 pub legal11 : IsLegal after11
 unfolding utf8_lossy utf8_valid_len is_utf8 chars port_list lib.Utf8.encode
@@ -71,7 +71,7 @@ legal13 = (record { row = record { out = refl }; turn = λ b w. absurd w; still 
 
 pub legal14 : IsLegal after14
 unfolding utf8_lossy utf8_valid_len is_utf8 chars port_list lib.Utf8.encode
-legal14 = (record { row = record { home = refl; unretired = refl; settled = refl; ready = refl; later = lit≤ tt; unpolled = refl }; turn = λ b w. absurd w; still = λ a. cc }, legal13)
+legal14 = (record { row = record { home = refl; unretired = refl; settled = refl; ready = inl refl; later = lit≤ tt; unpolled = refl }; turn = λ b w. absurd w; still = λ a. cc }, legal13)
 
 pub legal15 : IsLegal after15
 unfolding utf8_lossy utf8_valid_len is_utf8 chars port_list lib.Utf8.encode
@@ -87,7 +87,7 @@ legal17 = (record { row = record { out = refl }; turn = λ b w. absurd w; still 
 
 pub legal18 : IsLegal after18
 unfolding utf8_lossy utf8_valid_len is_utf8 chars port_list lib.Utf8.encode
-legal18 = (record { row = record { home = refl; unretired = refl; settled = refl; ready = refl; later = lit≤ tt; unpolled = refl }; turn = λ b w. absurd w; still = λ a. cc }, legal17)
+legal18 = (record { row = record { home = refl; unretired = refl; settled = refl; ready = inl refl; later = lit≤ tt; unpolled = refl }; turn = λ b w. absurd w; still = λ a. cc }, legal17)
 
 pub legal19 : IsLegal after19
 unfolding utf8_lossy utf8_valid_len is_utf8 chars port_list lib.Utf8.encode
@@ -103,7 +103,7 @@ legal21 = (record { row = record { known = refl; home = refl; unretired = refl; 
 
 pub legal22 : IsLegal after22
 unfolding utf8_lossy utf8_valid_len is_utf8 chars port_list lib.Utf8.encode
-legal22 = (record { row = record { home = refl; unretired = refl; settled = refl; ready = refl; later = lit≤ tt; unpolled = refl }; turn = λ b w. absurd w; still = λ a. cc }, legal21)
+legal22 = (record { row = record { home = refl; unretired = refl; settled = refl; ready = inl refl; later = lit≤ tt; unpolled = refl }; turn = λ b w. absurd w; still = λ a. cc }, legal21)
 
 pub legal23 : IsLegal after23
 unfolding utf8_lossy utf8_valid_len is_utf8 chars port_list lib.Utf8.encode

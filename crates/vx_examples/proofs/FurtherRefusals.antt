@@ -1,15 +1,17 @@
 -- Why each of these records is not legal.
-use Rattle.std.proofs.Common.{◌≡◌, true, false, refl, arith, inl, inr}
+use Rattle.std.proofs.Common.{refl, arith, inl, inr}
 use Rattle.std.specs.Str.{chars, is_utf8}
 use Rattle.std.specs.Str.Lossy.{utf8_lossy, utf8_valid_len}
 use Rattle.vx_record.specs.Legal.{IsLegal}
+use Rattle.vx_record.proofs.Ticks.{not_ready}
 use Rattle.vx_record.specs.Parcels.{port_list}
+use Rattle.std.specs.Prelude.{◌∷◌}
+use Rattle.vx_record.specs.declared.taken.Taken.TheVariants.{AllEnded}
+use Rattle.vx_record.specs.declared.entry.Entry.TheVariants.{Lease, Home, Read}
+use Rattle.vx_examples.specs.Waiting as waiting
 use Rattle.vx_examples.specs.Refused.{NeverLegal}
 use Rattle.vx_examples.specs.RefusedMore.{born_of_nothing, born_of_too_few, confirm_at_home, confirm_of_a_sink, retired_stranger, second_notice, push_to_a_later_stage, idle_of_a_sink, lost_at_home, split_after_an_abandon, attempt_of_nothing, closed_before_its_confirm, closed_with_a_parcel, closed_with_a_held_parcel, lease_before_its_notice, lease_without_its_birth, given_up_elsewhere, closed_at_home}
 use Rattle.vx_examples.proofs.Refusals.{never}
-
-not_true : false ≡ true → ⊥
-not_true e = cc
 
 born_of_nothing_is_refused : IsLegal born_of_nothing → ⊥
 unfolding utf8_lossy utf8_valid_len is_utf8 chars port_list lib.Utf8.encode
@@ -111,7 +113,7 @@ never_closed_with_a_held_parcel = never closed_with_a_held_parcel closed_with_a_
 
 lease_before_its_notice_is_refused : IsLegal lease_before_its_notice → ⊥
 unfolding utf8_lossy utf8_valid_len is_utf8 chars port_list lib.Utf8.encode
-lease_before_its_notice_is_refused l = not_true l.0.row.ready
+lease_before_its_notice_is_refused l = not_ready (Home 0 ∷ Read 0 0 AllEnded ∷ Lease 0 0 0 0 ∷ waiting.after20) 0 0 refl refl l.0.row.ready
 
 pub never_lease_before_its_notice : NeverLegal lease_before_its_notice
 never_lease_before_its_notice = never lease_before_its_notice lease_before_its_notice_is_refused

@@ -16,3 +16,11 @@ mod ThreeTargetsLegal
 mod FanOutRefusals
 mod JsonLinesLegal
 mod JsonLinesRefusals
+pub mod Conditions
+pub mod FilteredLegal
+pub mod RoutedLegal
+pub mod JoinedLegal
+pub mod OverflowingLegal
+pub mod GeneratedLegal
+pub mod TransformRefusals
+pub mod ChainedLegal

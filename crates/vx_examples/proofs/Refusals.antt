@@ -13,10 +13,12 @@ use Rattle.std.proofs.Math.Dec.{lit<}
 use Rattle.std.specs.Str.{chars, is_utf8}
 use Rattle.std.specs.Str.Lossy.{utf8_lossy, utf8_valid_len}
 use Rattle.vx_record.specs.Legal.{IsLegal}
+use Rattle.vx_record.proofs.Ticks.{not_ready}
 use Rattle.vx_record.specs.Parcels.{port_list}
 use Rattle.vx_record.specs.Records.{Record}
 use Rattle.vx_record.proofs.OnePlace.{legal_before}
 use Rattle.vx_examples.specs.Refused.{NeverLegal, second_install, lease_without_work, lease_of_one_out, second_read, lost_line, wrong_position, needless_wait, used_number, split_of_the_younger, split_while_out, shared_copy, child_for_another, changed_event, push_past_room, pushed_twice, take_of_the_younger, take_past_the_batch, part_answered_ok, other_bytes, delivered_after_a_failure, spent_twice, spent_elsewhere, early_notice, late_notice, wrong_status, early_confirm, confirm_of_less, lease_of_a_debtor, read_past_the_end, close_too_soon, retired_with_its_port_open, grace_without_a_stop, lease_after_an_abandon, delivered_after_an_abandon}
+use Rattle.vx_examples.specs.FirstRun.{after1}
 use Rattle.vx_examples.proofs.Legal.{none_live}
 
 pub never : (h : Record) → (IsLegal h → ⊥) → NeverLegal h
@@ -35,7 +37,7 @@ never_second_install = never second_install second_install_is_refused
 
 lease_without_work_is_refused : IsLegal lease_without_work → ⊥
 unfolding utf8_lossy utf8_valid_len is_utf8 chars port_list lib.Utf8.encode
-lease_without_work_is_refused l = let e = l.0.row.ready in cc
+lease_without_work_is_refused l = not_ready after1 1 0 refl refl l.0.row.ready
 
 pub never_lease_without_work : NeverLegal lease_without_work
 never_lease_without_work = never lease_without_work lease_without_work_is_refused
@@ -49,7 +51,7 @@ never_lease_of_one_out = never lease_of_one_out lease_of_one_out_is_refused
 
 second_read_is_refused : IsLegal second_read → ⊥
 unfolding utf8_lossy utf8_valid_len is_utf8 chars port_list lib.Utf8.encode
-second_read_is_refused l = let e = l.0.row.once in cc
+second_read_is_refused l = let e = l.0.row.turn.once in cc
 
 pub never_second_read : NeverLegal second_read
 never_second_read = never second_read second_read_is_refused
@@ -224,7 +226,7 @@ never_lease_of_a_debtor = never lease_of_a_debtor lease_of_a_debtor_is_refused
 
 read_past_the_end_is_refused : IsLegal read_past_the_end → ⊥
 unfolding utf8_lossy utf8_valid_len is_utf8 chars port_list lib.Utf8.encode
-read_past_the_end_is_refused l = let e = l.0.row.readable in cc
+read_past_the_end_is_refused l = let e = l.0.row.turn.readable in cc
 
 pub never_read_past_the_end : NeverLegal read_past_the_end
 never_read_past_the_end = never read_past_the_end read_past_the_end_is_refused

@@ -25,11 +25,11 @@ legal1 = (record { row = record { first = refl; zeroth = refl; all_new = refl };
 
 pub legal2 : IsLegal after2
 unfolding utf8_lossy utf8_valid_len is_utf8 chars port_list lib.Utf8.encode
-legal2 = (record { row = record { home = refl; unretired = refl; settled = refl; ready = refl; later = lit≤ tt; unpolled = refl }; turn = λ b w. absurd w; still = λ a. cc }, legal1)
+legal2 = (record { row = record { home = refl; unretired = refl; settled = refl; ready = inl refl; later = lit≤ tt; unpolled = refl }; turn = λ b w. absurd w; still = λ a. cc }, legal1)
 
 pub legal3 : IsLegal after3
 unfolding utf8_lossy utf8_valid_len is_utf8 chars port_list lib.Utf8.encode
-legal3 = (record { row = record { source = refl; out = refl; readable = refl; once = refl }; turn = λ b w. absurd w; still = λ a. cc }, legal2)
+legal3 = (record { row = record { turn = record { source = refl; out = refl; readable = refl; once = refl }; generated = λ demo e. absurd (cc) }; turn = λ b w. absurd w; still = λ a. cc }, legal2)
 
 pub legal4 : IsLegal after4
 unfolding utf8_lossy utf8_valid_len is_utf8 chars port_list lib.Utf8.encode
@@ -57,15 +57,15 @@ legal9 = (record { row = record { home = refl; oldest = refl; room = refl }; tur
 
 pub legal10 : IsLegal after10
 unfolding utf8_lossy utf8_valid_len is_utf8 chars port_list lib.Utf8.encode
-legal10 = (record { row = record { home = refl; unretired = refl; settled = refl; ready = refl; later = lit≤ tt; unpolled = refl }; turn = λ b w. absurd w; still = λ a. cc }, legal9)
+legal10 = (record { row = record { home = refl; unretired = refl; settled = refl; ready = inl refl; later = lit≤ tt; unpolled = refl }; turn = λ b w. absurd w; still = λ a. cc }, legal9)
 
 pub legal11 : IsLegal after11
 unfolding utf8_lossy utf8_valid_len is_utf8 chars port_list lib.Utf8.encode
-legal11 = (record { row = record { out = refl; only_takes = refl; few = lit< tt; first = refl; oldest = refl; unclosed = λ s. refl; room = λ s. refl }; turn = λ b w. absurd w; still = λ a. cc }, legal10)
+legal11 = (record { row = record { out = refl; only_takes = refl; few = lit< tt; first = refl; oldest = refl; unclosed = λ s. refl; room = λ s. refl; unticked = λ t. refl }; turn = λ b w. absurd w; still = λ a. cc }, legal10)
 
 pub legal12 : IsLegal after12
 unfolding utf8_lossy utf8_valid_len is_utf8 chars port_list lib.Utf8.encode
-legal12 = (record { row = record { sink = refl; out = refl; once = refl; all = refl; batch_closed = refl; waited = lit≤ tt; given = refl; whole = λ e. refl }; turn = λ b w. absurd w; still = λ a. cc }, legal11)
+legal12 = (record { row = record { sink = refl; out = refl; once = refl; all = refl; batch_closed = refl; waited = lit≤ tt; given = refl; whole = λ e. refl; swallowed = λ e. cc }; turn = λ b w. absurd w; still = λ a. cc }, legal11)
 
 pub legal13 : IsLegal after13
 unfolding utf8_lossy utf8_valid_len is_utf8 chars port_list lib.Utf8.encode
@@ -77,15 +77,15 @@ legal14 = (record { row = record { out = refl }; turn = λ b w. w.1 3 w.0 (lit< 
 
 pub legal15 : IsLegal after15
 unfolding utf8_lossy utf8_valid_len is_utf8 chars port_list lib.Utf8.encode
-legal15 = (record { row = record { home = refl; unretired = refl; settled = refl; ready = refl; later = lit≤ tt; unpolled = refl }; turn = λ b w. absurd w; still = λ a. cc }, legal14)
+legal15 = (record { row = record { home = refl; unretired = refl; settled = refl; ready = inl refl; later = lit≤ tt; unpolled = refl }; turn = λ b w. absurd w; still = λ a. cc }, legal14)
 
 pub legal16 : IsLegal after16
 unfolding utf8_lossy utf8_valid_len is_utf8 chars port_list lib.Utf8.encode
-legal16 = (record { row = record { out = refl; only_takes = refl; few = lit< tt; first = refl; oldest = refl; unclosed = λ s. refl; room = λ s. refl }; turn = λ b w. absurd w; still = λ a. cc }, legal15)
+legal16 = (record { row = record { out = refl; only_takes = refl; few = lit< tt; first = refl; oldest = refl; unclosed = λ s. refl; room = λ s. refl; unticked = λ t. refl }; turn = λ b w. absurd w; still = λ a. cc }, legal15)
 
 pub legal17 : IsLegal after17
 unfolding utf8_lossy utf8_valid_len is_utf8 chars port_list lib.Utf8.encode
-legal17 = (record { row = record { sink = refl; out = refl; once = refl; all = refl; batch_closed = refl; waited = lit≤ tt; given = refl; whole = λ e. cc }; turn = λ b w. absurd w; still = λ a. cc }, legal16)
+legal17 = (record { row = record { sink = refl; out = refl; once = refl; all = refl; batch_closed = refl; waited = lit≤ tt; given = refl; whole = λ e. cc; swallowed = λ e. cc }; turn = λ b w. absurd w; still = λ a. cc }, legal16)
 
 pub legal18 : IsLegal after18
 unfolding utf8_lossy utf8_valid_len is_utf8 chars port_list lib.Utf8.encode
@@ -97,15 +97,15 @@ legal19 = (record { row = record { out = refl }; turn = λ b w. w.1 3 w.0 (lit< 
 
 pub legal20 : IsLegal after20
 unfolding utf8_lossy utf8_valid_len is_utf8 chars port_list lib.Utf8.encode
-legal20 = (record { row = record { home = refl; unretired = refl; settled = refl; ready = refl; later = lit≤ tt; unpolled = refl }; turn = λ b w. absurd w; still = λ a. cc }, legal19)
+legal20 = (record { row = record { home = refl; unretired = refl; settled = refl; ready = inl refl; later = lit≤ tt; unpolled = refl }; turn = λ b w. absurd w; still = λ a. cc }, legal19)
 
 pub legal21 : IsLegal after21
 unfolding utf8_lossy utf8_valid_len is_utf8 chars port_list lib.Utf8.encode
-legal21 = (record { row = record { out = refl; only_takes = refl; few = lit< tt; first = refl; oldest = refl; unclosed = λ s. refl; room = λ s. refl }; turn = λ b w. absurd w; still = λ a. cc }, legal20)
+legal21 = (record { row = record { out = refl; only_takes = refl; few = lit< tt; first = refl; oldest = refl; unclosed = λ s. refl; room = λ s. refl; unticked = λ t. refl }; turn = λ b w. absurd w; still = λ a. cc }, legal20)
 
 pub legal22 : IsLegal after22
 unfolding utf8_lossy utf8_valid_len is_utf8 chars port_list lib.Utf8.encode
-legal22 = (record { row = record { sink = refl; out = refl; once = refl; all = refl; batch_closed = refl; waited = lit≤ tt; given = refl; whole = λ e. refl }; turn = λ b w. absurd w; still = λ a. cc }, legal21)
+legal22 = (record { row = record { sink = refl; out = refl; once = refl; all = refl; batch_closed = refl; waited = lit≤ tt; given = refl; whole = λ e. refl; swallowed = λ e. cc }; turn = λ b w. absurd w; still = λ a. cc }, legal21)
 
 pub legal23 : IsLegal after23
 unfolding utf8_lossy utf8_valid_len is_utf8 chars port_list lib.Utf8.encode
@@ -121,7 +121,7 @@ legal25 = (record { row = record { out = refl }; turn = λ b w. absurd w; still 
 
 pub legal26 : IsLegal after26
 unfolding utf8_lossy utf8_valid_len is_utf8 chars port_list lib.Utf8.encode
-legal26 = (record { row = record { home = refl; unretired = refl; settled = refl; ready = refl; later = lit≤ tt; unpolled = refl }; turn = λ b w. absurd w; still = λ a. cc }, legal25)
+legal26 = (record { row = record { home = refl; unretired = refl; settled = refl; ready = inl refl; later = lit≤ tt; unpolled = refl }; turn = λ b w. absurd w; still = λ a. cc }, legal25)
 
 pub legal27 : IsLegal after27
 unfolding utf8_lossy utf8_valid_len is_utf8 chars port_list lib.Utf8.encode
@@ -129,7 +129,7 @@ legal27 = (record { row = record { source = refl; device = refl; out = refl; onc
 
 pub legal28 : IsLegal after28
 unfolding utf8_lossy utf8_valid_len is_utf8 chars port_list lib.Utf8.encode
-legal28 = (record { row = record { source = refl; out = refl; readable = refl; once = refl }; turn = λ b w. absurd w; still = λ a. cc }, legal27)
+legal28 = (record { row = record { turn = record { source = refl; out = refl; readable = refl; once = refl }; generated = λ demo e. absurd (cc) }; turn = λ b w. absurd w; still = λ a. cc }, legal27)
 
 pub legal29 : IsLegal after29
 unfolding utf8_lossy utf8_valid_len is_utf8 chars port_list lib.Utf8.encode
@@ -137,7 +137,7 @@ legal29 = (record { row = record { out = refl }; turn = λ b w. absurd w; still 
 
 pub legal30 : IsLegal after30
 unfolding utf8_lossy utf8_valid_len is_utf8 chars port_list lib.Utf8.encode
-legal30 = (record { row = record { home = refl; unretired = refl; settled = refl; ready = refl; later = lit≤ tt; unpolled = refl }; turn = λ b w. absurd w; still = λ a. cc }, legal29)
+legal30 = (record { row = record { home = refl; unretired = refl; settled = refl; ready = inl refl; later = lit≤ tt; unpolled = refl }; turn = λ b w. absurd w; still = λ a. cc }, legal29)
 
 pub legal31 : IsLegal after31
 unfolding utf8_lossy utf8_valid_len is_utf8 chars port_list lib.Utf8.encode
@@ -153,7 +153,7 @@ legal33 = (record { row = record { known = refl; home = refl; unretired = refl; 
 
 pub legal34 : IsLegal after34
 unfolding utf8_lossy utf8_valid_len is_utf8 chars port_list lib.Utf8.encode
-legal34 = (record { row = record { home = refl; unretired = refl; settled = refl; ready = refl; later = lit≤ tt; unpolled = refl }; turn = λ b w. absurd w; still = λ a. cc }, legal33)
+legal34 = (record { row = record { home = refl; unretired = refl; settled = refl; ready = inl refl; later = lit≤ tt; unpolled = refl }; turn = λ b w. absurd w; still = λ a. cc }, legal33)
 
 pub legal35 : IsLegal after35
 unfolding utf8_lossy utf8_valid_len is_utf8 chars port_list lib.Utf8.encode
@@ -169,7 +169,7 @@ legal37 = (record { row = record { known = refl; home = refl; unretired = refl; 
 
 pub legal38 : IsLegal after38
 unfolding utf8_lossy utf8_valid_len is_utf8 chars port_list lib.Utf8.encode
-legal38 = (record { row = record { home = refl; unretired = refl; settled = refl; ready = refl; later = lit≤ tt; unpolled = refl }; turn = λ b w. absurd w; still = λ a. cc }, legal37)
+legal38 = (record { row = record { home = refl; unretired = refl; settled = refl; ready = inl refl; later = lit≤ tt; unpolled = refl }; turn = λ b w. absurd w; still = λ a. cc }, legal37)
 
 pub legal39 : IsLegal after39
 unfolding utf8_lossy utf8_valid_len is_utf8 chars port_list lib.Utf8.encode
@@ -185,7 +185,7 @@ legal41 = (record { row = record { known = refl; home = refl; unretired = refl; 
 
 pub legal42 : IsLegal after42
 unfolding utf8_lossy utf8_valid_len is_utf8 chars port_list lib.Utf8.encode
-legal42 = (record { row = record { home = refl; unretired = refl; settled = refl; ready = refl; later = lit≤ tt; unpolled = refl }; turn = λ b w. absurd w; still = λ a. cc }, legal41)
+legal42 = (record { row = record { home = refl; unretired = refl; settled = refl; ready = inl refl; later = lit≤ tt; unpolled = refl }; turn = λ b w. absurd w; still = λ a. cc }, legal41)
 
 pub legal43 : IsLegal after43
 unfolding utf8_lossy utf8_valid_len is_utf8 chars port_list lib.Utf8.encode

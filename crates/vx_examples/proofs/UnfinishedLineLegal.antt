@@ -23,11 +23,11 @@ legal1 = (record { row = record { first = refl; zeroth = refl; all_new = refl };
 
 pub legal2 : IsLegal after2
 unfolding utf8_lossy utf8_valid_len is_utf8 chars port_list lib.Utf8.encode
-legal2 = (record { row = record { home = refl; unretired = refl; settled = refl; ready = refl; later = lit≤ tt; unpolled = refl }; turn = λ b w. absurd w; still = λ a. cc }, legal1)
+legal2 = (record { row = record { home = refl; unretired = refl; settled = refl; ready = inl refl; later = lit≤ tt; unpolled = refl }; turn = λ b w. absurd w; still = λ a. cc }, legal1)
 
 pub legal3 : IsLegal after3
 unfolding utf8_lossy utf8_valid_len is_utf8 chars port_list lib.Utf8.encode
-legal3 = (record { row = record { source = refl; out = refl; readable = refl; once = refl }; turn = λ b w. absurd w; still = λ a. cc }, legal2)
+legal3 = (record { row = record { turn = record { source = refl; out = refl; readable = refl; once = refl }; generated = λ demo e. absurd (cc) }; turn = λ b w. absurd w; still = λ a. cc }, legal2)
 
 pub legal4 : IsLegal after4
 unfolding utf8_lossy utf8_valid_len is_utf8 chars port_list lib.Utf8.encode
@@ -35,11 +35,11 @@ legal4 = (record { row = record { out = refl }; turn = λ b w. absurd w; still =
 
 pub legal5 : IsLegal after5
 unfolding utf8_lossy utf8_valid_len is_utf8 chars port_list lib.Utf8.encode
-legal5 = (record { row = record { home = refl; unretired = refl; settled = refl; ready = refl; later = lit≤ tt; unpolled = refl }; turn = λ b w. absurd w; still = λ a. cc }, legal4)
+legal5 = (record { row = record { home = refl; unretired = refl; settled = refl; ready = inl refl; later = lit≤ tt; unpolled = refl }; turn = λ b w. absurd w; still = λ a. cc }, legal4)
 
 pub legal6 : IsLegal after6
 unfolding utf8_lossy utf8_valid_len is_utf8 chars port_list lib.Utf8.encode
-legal6 = (record { row = record { source = refl; out = refl; readable = refl; once = refl }; turn = λ b w. absurd w; still = λ a. cc }, legal5)
+legal6 = (record { row = record { turn = record { source = refl; out = refl; readable = refl; once = refl }; generated = λ demo e. absurd (cc) }; turn = λ b w. absurd w; still = λ a. cc }, legal5)
 
 pub legal7 : IsLegal after7
 unfolding utf8_lossy utf8_valid_len is_utf8 chars port_list lib.Utf8.encode
@@ -59,15 +59,15 @@ legal10 = (record { row = record { home = refl; oldest = refl; room = refl }; tu
 
 pub legal11 : IsLegal after11
 unfolding utf8_lossy utf8_valid_len is_utf8 chars port_list lib.Utf8.encode
-legal11 = (record { row = record { home = refl; unretired = refl; settled = refl; ready = refl; later = lit≤ tt; unpolled = refl }; turn = λ b w. absurd w; still = λ a. cc }, legal10)
+legal11 = (record { row = record { home = refl; unretired = refl; settled = refl; ready = inl refl; later = lit≤ tt; unpolled = refl }; turn = λ b w. absurd w; still = λ a. cc }, legal10)
 
 pub legal12 : IsLegal after12
 unfolding utf8_lossy utf8_valid_len is_utf8 chars port_list lib.Utf8.encode
-legal12 = (record { row = record { out = refl; only_takes = refl; few = lit< tt; first = refl; oldest = refl; unclosed = λ s. refl; room = λ s. refl }; turn = λ b w. absurd w; still = λ a. cc }, legal11)
+legal12 = (record { row = record { out = refl; only_takes = refl; few = lit< tt; first = refl; oldest = refl; unclosed = λ s. refl; room = λ s. refl; unticked = λ t. refl }; turn = λ b w. absurd w; still = λ a. cc }, legal11)
 
 pub legal13 : IsLegal after13
 unfolding utf8_lossy utf8_valid_len is_utf8 chars port_list lib.Utf8.encode
-legal13 = (record { row = record { sink = refl; out = refl; once = refl; all = refl; batch_closed = refl; waited = lit≤ tt; given = refl; whole = λ e. refl }; turn = λ b w. absurd w; still = λ a. cc }, legal12)
+legal13 = (record { row = record { sink = refl; out = refl; once = refl; all = refl; batch_closed = refl; waited = lit≤ tt; given = refl; whole = λ e. refl; swallowed = λ e. cc }; turn = λ b w. absurd w; still = λ a. cc }, legal12)
 
 pub legal14 : IsLegal after14
 unfolding utf8_lossy utf8_valid_len is_utf8 chars port_list lib.Utf8.encode
@@ -83,7 +83,7 @@ legal16 = (record { row = record { out = refl }; turn = λ b w. absurd w; still 
 
 pub legal17 : IsLegal after17
 unfolding utf8_lossy utf8_valid_len is_utf8 chars port_list lib.Utf8.encode
-legal17 = (record { row = record { home = refl; unretired = refl; settled = refl; ready = refl; later = lit≤ tt; unpolled = refl }; turn = λ b w. absurd w; still = λ a. cc }, legal16)
+legal17 = (record { row = record { home = refl; unretired = refl; settled = refl; ready = inl refl; later = lit≤ tt; unpolled = refl }; turn = λ b w. absurd w; still = λ a. cc }, legal16)
 
 pub legal18 : IsLegal after18
 unfolding utf8_lossy utf8_valid_len is_utf8 chars port_list lib.Utf8.encode
@@ -99,7 +99,7 @@ legal20 = (record { row = record { known = refl; home = refl; unretired = refl; 
 
 pub legal21 : IsLegal after21
 unfolding utf8_lossy utf8_valid_len is_utf8 chars port_list lib.Utf8.encode
-legal21 = (record { row = record { home = refl; unretired = refl; settled = refl; ready = refl; later = lit≤ tt; unpolled = refl }; turn = λ b w. absurd w; still = λ a. cc }, legal20)
+legal21 = (record { row = record { home = refl; unretired = refl; settled = refl; ready = inl refl; later = lit≤ tt; unpolled = refl }; turn = λ b w. absurd w; still = λ a. cc }, legal20)
 
 pub legal22 : IsLegal after22
 unfolding utf8_lossy utf8_valid_len is_utf8 chars port_list lib.Utf8.encode
@@ -111,7 +111,7 @@ legal23 = (record { row = record { out = refl }; turn = λ b w. absurd w; still 
 
 pub legal24 : IsLegal after24
 unfolding utf8_lossy utf8_valid_len is_utf8 chars port_list lib.Utf8.encode
-legal24 = (record { row = record { home = refl; unretired = refl; settled = refl; ready = refl; later = lit≤ tt; unpolled = refl }; turn = λ b w. absurd w; still = λ a. cc }, legal23)
+legal24 = (record { row = record { home = refl; unretired = refl; settled = refl; ready = inl refl; later = lit≤ tt; unpolled = refl }; turn = λ b w. absurd w; still = λ a. cc }, legal23)
 
 pub legal25 : IsLegal after25
 unfolding utf8_lossy utf8_valid_len is_utf8 chars port_list lib.Utf8.encode

@@ -1,9 +1,10 @@
 -- What the definitions say of closed things.
 use Rattle.std.specs.Prelude.{◌≡◌, ◌-◌, ◌^◌, Some, true, false, [], ◌∷◌, codes, map}
 use Rattle.std.specs.Str.Lossy.{utf8_lossy}
+use Rattle.vx_value.specs.Texts.{Word}
 use Rattle.vx_plan.specs.declared.component.Component.{Component}
-use Rattle.vx_plan.specs.declared.class.Class.TheVariants.{Sink}
-use Rattle.vx_plan.specs.declared.settings.Settings.TheVariants.{Console}
+use Rattle.vx_plan.specs.declared.class.Class.TheVariants.{Transform, Sink}
+use Rattle.vx_plan.specs.declared.settings.Settings.TheVariants.{Filter, Console}
 use Rattle.vx_json.specs.declared.codec.Codec.TheVariants as codec
 use Rattle.vx_plan.specs.declared.console_target.ConsoleTarget.TheVariants.{Stdout}
 use Rattle.vx_plan.specs.declared.plan.Plan.{Plan}
@@ -12,9 +13,10 @@ use Rattle.vx_plan.specs.Targets.{is_like, targets, acknowledged}
 use Rattle.vx_frame.specs.Frames.{frames}
 use Rattle.vx_ends.specs.declared.trouble.Reply.TheVariants.{Failed}
 use Rattle.vx_record.specs.declared.taken.Taken.TheVariants.{Bytes}
-use Rattle.vx_record.specs.declared.entry.Entry.TheVariants.{Lease, Read, Take, Attempt}
+use Rattle.vx_record.specs.declared.entry.Entry.TheVariants.{Lease, Home, Read, Idle, Take, Attempt}
 use Rattle.vx_record.specs.Records.{Record}
 use Rattle.vx_record.specs.SinkBatches.{is_timed_out, retry_from}
+use Rattle.vx_record.specs.Ready.{rests_until}
 use Rattle.vx_record.specs.Reads.{taken, last_stream}
 use Rattle.vx_record.specs.Encoding.{given}
 use Rattle.vx_record.specs.Confirms.{confirmed}
@@ -27,6 +29,12 @@ use Rattle.vx_examples.specs.Lost as lost
 use Rattle.vx_examples.specs.FanOut as fan_out
 use Rattle.vx_examples.specs.FailedTake as failed_take
 use Rattle.vx_examples.specs.JsonLines as json_lines
+use Rattle.vx_examples.specs.Filtered as filtered
+use Rattle.vx_examples.specs.Routed as routed
+use Rattle.vx_examples.specs.Joined as joined
+use Rattle.vx_examples.specs.Overflowing as overflowing
+use Rattle.vx_examples.specs.Generated as generated
+use Rattle.vx_examples.specs.RefusedTransforms.{failed_once}
 
 -- the counts of the first run
 abbrev pub SourceCounts : Type 0
@@ -69,6 +77,29 @@ abbrev pub UndecodableCounts : Type 0
 UndecodableCounts =
     tally json_lines.run 0
     ≡ record nothing_counted { read = 11; lines = 3; undecodable = 1; events = 1; batches = 1; delivered = 1; confirmed = 11 }
+
+-- the counts of transforms: a parcel is put out once whatever its ports, and a joined one is one
+abbrev pub FilterCounts : Type 0
+FilterCounts = tally filtered.run 1 ≡ record nothing_counted { taken = 2; sent = 1; dropped = 1 }
+
+abbrev pub RouteCounts : Type 0
+RouteCounts = tally routed.run 1 ≡ record nothing_counted { taken = 2; sent = 2; unread = 1 }
+
+abbrev pub ReduceCounts : Type 0
+ReduceCounts = tally joined.run 1 ≡ record nothing_counted { taken = 3; sent = 1 }
+
+-- a parcel of three copies is one
+abbrev pub JoinedCounts : Type 0
+JoinedCounts = tally joined.run 2 ≡ record nothing_counted { taken = 1; attempts = 1; delivered = 1; bytes = 2 }
+
+abbrev pub TwoBatchCounts : Type 0
+TwoBatchCounts = tally joined.run 0 ≡ record nothing_counted { read = 6; lines = 3; events = 3; batches = 2; delivered = 2; confirmed = 6 }
+
+abbrev pub OverflowCounts : Type 0
+OverflowCounts = tally overflowing.run 1 ≡ record nothing_counted { taken = 2; newest = 1; attempts = 2; delivered = 2; bytes = 4 }
+
+abbrev pub GeneratorCounts : Type 0
+GeneratorCounts = tally generated.run 0 ≡ record nothing_counted { read = 4; lines = 2; events = 2; batches = 2; delivered = 2 }
 
 -- lines and their ends; the last one counts where the stream ended; overlong ones are left out
 abbrev pub Cut : Type 0
@@ -114,9 +145,47 @@ Waits = acknowledged (plan_with (source (codes "in") ∷ source (codes "out") �
 abbrev pub NoWait : Type 0
 NoWait = acknowledged (plan_with (source (codes "in") ∷ source (codes "out") ∷ acknowledging ∷ [])) (codes "out") ≡ false
 
+-- a filter that reads two inputs
+abbrev pub layer : Word → Word → Word → Component
+layer name left right = record { name = name; class = Transform; inputs = left ∷ right ∷ []; settings = Filter (codes ".message == \"k\"") }
+
+-- two transforms in each of eight layers, each of which reads both of the layer before, and a sink
+abbrev pub layered : Component → Plan
+layered last = plan_with (
+    source (codes "in") ∷ layer (codes "a1") (codes "in") (codes "in") ∷ layer (codes "b1") (codes "in") (codes "in")
+    ∷ layer (codes "a2") (codes "a1") (codes "b1") ∷ layer (codes "b2") (codes "a1") (codes "b1")
+    ∷ layer (codes "a3") (codes "a2") (codes "b2") ∷ layer (codes "b3") (codes "a2") (codes "b2")
+    ∷ layer (codes "a4") (codes "a3") (codes "b3") ∷ layer (codes "b4") (codes "a3") (codes "b3")
+    ∷ layer (codes "a5") (codes "a4") (codes "b4") ∷ layer (codes "b5") (codes "a4") (codes "b4")
+    ∷ layer (codes "a6") (codes "a5") (codes "b5") ∷ layer (codes "b6") (codes "a5") (codes "b5")
+    ∷ layer (codes "a7") (codes "a6") (codes "b6") ∷ layer (codes "b7") (codes "a6") (codes "b6")
+    ∷ layer (codes "a8") (codes "a7") (codes "b7") ∷ layer (codes "b8") (codes "a7") (codes "b7")
+    ∷ last ∷ []
+    )
+
+-- batches wait behind many layers too
+abbrev pub LayersWait : Type 0
+LayersWait = acknowledged (layered (record acknowledging { inputs = codes "a8" ∷ [] })) (codes "in") ≡ true
+
+abbrev pub LayersDontWait : Type 0
+LayersDontWait = acknowledged (layered (sink (codes "k") (codes "b8") block)) (codes "in") ≡ false
+
 -- the waits of a sink with initial 1 and greatest 2
 abbrev pub RetryWaits : Type 0
 RetryWaits = map (retry_wait acknowledging.settings) (1 ∷ 2 ∷ 3 ∷ 4 ∷ []) ≡ 1000 ∷ 1000 ∷ 2000 ∷ 2000 ∷ []
+
+-- how long sources rest, and when a sink tries again, once runs can wait
+abbrev pub RestsBehindARead : Type 0
+RestsBehindARead = rests_until generated.after13 0 ≡ 1000
+
+abbrev pub RestsBehindAnIdle : Type 0
+RestsBehindAnIdle = rests_until (Idle 0 false ∷ filtered.after2) 0 ≡ 20
+
+abbrev pub RestsBehindAFailedStart : Type 0
+RestsBehindAFailedStart = rests_until (Idle 0 true ∷ filtered.after2) 0 ≡ 1000
+
+abbrev pub RetryMoment : Type 0
+RetryMoment = retry_from (Home 2 ∷ failed_once) 2 ≡ 2000
 
 -- ill-formed bytes
 abbrev pub Replaced : Type 0

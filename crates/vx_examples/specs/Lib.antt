@@ -18,3 +18,10 @@ pub mod ThreeTargets
 pub mod RefusedFanOuts
 pub mod JsonLines
 pub mod RefusedJsonLines
+pub mod Filtered
+pub mod Routed
+pub mod Joined
+pub mod Overflowing
+pub mod Generated
+pub mod RefusedTransforms
+pub mod Chained

@@ -8,10 +8,10 @@ use Rattle.vx_record.specs.declared.instance.Instance.{Instance}
 use Rattle.vx_record.specs.declared.taken.Taken.TheVariants.{Bytes}
 use Rattle.vx_record.specs.declared.entry.Entry.TheVariants.{Install, Lease, Home, Read, SourceLost, Born, Split, Push, Take, Attempt, Spent, Notice, Confirm, Closed, Retired}
 use Rattle.vx_record.specs.Records.{Record}
-use Rattle.vx_examples.specs.Parts.{source, sink, block, plan_with, new_instance, event_with, child}
+use Rattle.vx_examples.specs.Parts.{source, retrying, block, plan_with, new_instance, event_with, child}
 
 abbrev pub plan : Plan
-plan = plan_with (source (codes "in") ∷ sink (codes "out") (codes "in") block ∷ [])
+plan = plan_with (source (codes "in") ∷ retrying (codes "out") (codes "in") block 0 ∷ [])
 
 abbrev pub instances : List Instance
 instances = new_instance 0 (codes "in") ∷ new_instance 1 (codes "out") ∷ []

@@ -25,7 +25,7 @@ abbrev pub after4 : Record
 after4 = Home 0 ∷ after3
 
 abbrev pub after5 : Record
-after5 = Lease 0 0 0 0 ∷ after4
+after5 = Lease 0 0 1000 0 ∷ after4
 
 abbrev pub after6 : Record
 after6 = Idle 0 true ∷ after5
@@ -34,7 +34,7 @@ abbrev pub after7 : Record
 after7 = Home 0 ∷ after6
 
 abbrev pub after8 : Record
-after8 = Lease 0 0 0 0 ∷ after7
+after8 = Lease 0 0 2000 0 ∷ after7
 
 abbrev pub after9 : Record
 after9 = Idle 0 true ∷ after8
@@ -43,7 +43,7 @@ abbrev pub after10 : Record
 after10 = Home 0 ∷ after9
 
 abbrev pub after11 : Record
-after11 = Lease 0 0 0 0 ∷ after10
+after11 = Lease 0 0 3000 0 ∷ after10
 
 abbrev pub after12 : Record
 after12 = Idle 0 true ∷ after11
@@ -52,7 +52,7 @@ abbrev pub after13 : Record
 after13 = Home 0 ∷ after12
 
 abbrev pub after14 : Record
-after14 = Lease 0 0 0 0 ∷ after13
+after14 = Lease 0 0 4000 0 ∷ after13
 
 abbrev pub after15 : Record
 after15 = SourceLost 0 0 true ∷ after14
@@ -61,7 +61,7 @@ abbrev pub after16 : Record
 after16 = Home 0 ∷ after15
 
 abbrev pub after17 : Record
-after17 = Lease 0 0 0 0 ∷ after16
+after17 = Lease 0 0 4000 0 ∷ after16
 
 abbrev pub after18 : Record
 after18 = Closed 0 ∷ after17
@@ -73,7 +73,7 @@ abbrev pub after20 : Record
 after20 = Retired 0 ∷ after19
 
 abbrev pub after21 : Record
-after21 = Lease 1 0 0 0 ∷ after20
+after21 = Lease 1 0 4000 0 ∷ after20
 
 abbrev pub after22 : Record
 after22 = Closed 1 ∷ after21

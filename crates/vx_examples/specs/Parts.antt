@@ -47,6 +47,15 @@ sink name input stage = record {
   settings = Console Stdout codec.Text (options false (stage ∷ []) 1 (2 ^ 63 - 1) 30);
 }
 
+-- the same, with as many retries of a failed attempt
+abbrev pub retrying : Word → Word → Stage → ℕ → Component
+retrying name input stage retries = record {
+  name = name;
+  class = Sink;
+  inputs = input ∷ [];
+  settings = Console Stdout codec.Text (options false (stage ∷ []) 1 retries 30);
+}
+
 abbrev pub overflow : Stage
 overflow = record { max_events = 1; when_full = Overflow }
 
@@ -62,13 +71,13 @@ batching name input = record {
   settings = Console Stdout codec.Text (options false (overflow ∷ pair ∷ []) 2 (2 ^ 63 - 1) 30);
 }
 
--- a sink that makes batches wait
+-- a sink that makes batches wait, and tries nothing again
 abbrev pub acknowledging : Word → Word → Component
 acknowledging name input = record {
   name = name;
   class = Sink;
   inputs = input ∷ [];
-  settings = Console Stdout codec.Text (options true (block ∷ []) 1 (2 ^ 63 - 1) 30);
+  settings = Console Stdout codec.Text (options true (block ∷ []) 1 0 30);
 }
 
 abbrev pub plan_with : List Component → Plan

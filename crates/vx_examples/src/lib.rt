@@ -15,8 +15,15 @@ ghost use Rattle.vx_examples.specs.Batched.{run as batched};
 ghost use Rattle.vx_examples.specs.Waiting.{run as waiting};
 ghost use Rattle.vx_examples.specs.ThreeTargets.{run as three_targets};
 ghost use Rattle.vx_examples.specs.JsonLines.{run as json_lines};
+ghost use Rattle.vx_examples.specs.Filtered.{run as filtered};
+ghost use Rattle.vx_examples.specs.Routed.{run as routed};
+ghost use Rattle.vx_examples.specs.Joined.{run as joined};
+ghost use Rattle.vx_examples.specs.Overflowing.{run as overflowing};
+ghost use Rattle.vx_examples.specs.Generated.{run as generated};
+ghost use Rattle.vx_examples.specs.Chained.{run as chained};
+ghost use Rattle.vx_examples.specs.RefusedTransforms.{answer_at_home, answer_of_a_sink, answer_that_loses, answer_that_doubles, answer_of_another_copy, answer_in_another_order, filter_that_keeps, lease_owing_an_answer, lease_owing_a_discard, second_answer, filtered_though_passed, take_behind_an_answer, split_of_another_port, split_of_another_event, tick_of_a_filter, lease_of_an_idle_transform, retired_with_a_kept_parcel, unread_though_a_way_is_read, split_of_an_unread_port, no_such_port, lease_before_the_tick, tick_at_another_moment, second_tick, flush_too_soon, joined_in_another_order, joined_with_another_event, young_group_put_out, split_of_a_part, notice_of_another_batch, other_lines, lines_past_the_count, refused_by_a_hole, push_past_the_first_stage, dropped_with_room_behind, take_past_the_first_stage, answer_after_an_abandon, tick_after_an_abandon, tick_at_home, flush_with_contents, ended_with_lines_left, lines_of_another_stream, bytes_into_a_hole, host_that_loses, repeat_put_out, second_put_out, host_without_a_copy, host_on_no_port, host_past_the_last_port, two_ticks, take_behind_a_tick, flush_that_keeps, ended_on_another_stream, retried_lease};
 ghost use Rattle.vx_examples.specs.RefusedJsonLines.{born_of_no_object, born_before_the_last_line, written_as_text};
-ghost use Rattle.vx_examples.specs.Facts.{SourceCounts, SinkCounts, SourceBytes, SinkBytes, Positions, NewestCounts, UnreadCounts, FailedCounts, UnconfirmedCounts, RefusedCounts, UndecodableCounts, Cut, CutOpen, CutShort, Likeness, Readers, NoReaders, Waits, NoWait, RetryWaits, Replaced, EmptyRead, RetryAtTheEnd, TimeoutAtTheEnd};
+ghost use Rattle.vx_examples.specs.Facts.{SourceCounts, SinkCounts, SourceBytes, SinkBytes, Positions, NewestCounts, UnreadCounts, FailedCounts, UnconfirmedCounts, RefusedCounts, UndecodableCounts, FilterCounts, RouteCounts, ReduceCounts, JoinedCounts, TwoBatchCounts, OverflowCounts, GeneratorCounts, LayersWait, LayersDontWait, RestsBehindARead, RestsBehindAnIdle, RestsBehindAFailedStart, RetryMoment, Cut, CutOpen, CutShort, Likeness, Readers, NoReaders, Waits, NoWait, RetryWaits, Replaced, EmptyRead, RetryAtTheEnd, TimeoutAtTheEnd};
 ghost use Rattle.vx_examples.specs.RefusedFanOuts.{swapped_targets, copy_of_another_child, notice_before_the_third, delivered_past_a_refusal, errored_by_a_refusal};
 ghost use Rattle.vx_examples.specs.RefusedMore.{born_of_nothing, born_of_too_few, confirm_at_home, confirm_of_a_sink, retired_stranger, second_notice, push_to_a_later_stage, idle_of_a_sink, lost_at_home, split_after_an_abandon, attempt_of_nothing, closed_before_its_confirm, closed_with_a_parcel, closed_with_a_held_parcel, lease_before_its_notice, lease_without_its_birth, given_up_elsewhere, closed_at_home};
 ghost use Rattle.vx_examples.specs.RefusedToo.{no_install, later_version, missing_instances, polled_lease, falling_moment, lease_of_the_retired, fifth_idle, lost_too_soon, lost_at_another_byte, take_of_a_later_stage, take_after_an_attempt, early_attempt, second_attempt, attempt_of_a_part, spent_by_no_failure, filtered_by_a_sink, unread_though_read, newest_with_room, given_up_without_an_abandon, spent_after_a_split, confirmed_again, retired_with_a_copy, second_abandon, waiting_missed, confirmed_before_its_notice, confirmed_past_an_error, home_twice, read_at_home, read_of_a_sink, born_by_another, born_of_another_stream, born_late, split_while_a_child_waits, split_on_another_port, split_to_nobody, push_while_out, take_at_home, attempt_at_home, confirmed_twice, closed_twice, retired_while_out, retired_twice, numbers_not_used_up};
@@ -117,6 +124,15 @@ pub fn facts()
     ensures unconfirmed_counts { UnconfirmedCounts }
     ensures refused_counts { RefusedCounts }
     ensures undecodable_counts { UndecodableCounts }
+    ensures filter_counts { FilterCounts }
+    ensures route_counts { RouteCounts }
+    ensures reduce_counts { ReduceCounts }
+    ensures joined_counts { JoinedCounts }
+    ensures two_batch_counts { TwoBatchCounts }
+    ensures overflow_counts { OverflowCounts }
+    ensures generator_counts { GeneratorCounts }
+    ensures layers_wait { LayersWait }
+    ensures layers_do_not_wait { LayersDontWait }
     ensures cut { Cut }
     ensures cut_open { CutOpen }
     ensures cut_short { CutShort }
@@ -126,6 +142,10 @@ pub fn facts()
     ensures waits { Waits }
     ensures no_wait { NoWait }
     ensures retry_waits { RetryWaits }
+    ensures rests_behind_a_read { RestsBehindARead }
+    ensures rests_behind_an_idle { RestsBehindAnIdle }
+    ensures rests_behind_a_failed_start { RestsBehindAFailedStart }
+    ensures retry_moment { RetryMoment }
     ensures replaced { Replaced }
     ensures empty_read { EmptyRead }
     ensures retry_at_the_end { RetryAtTheEnd }
@@ -215,4 +235,77 @@ pub fn refused_json_lines()
     ensures born_of_no_object { NeverLegal born_of_no_object }
     ensures born_before_the_last_line { NeverLegal born_before_the_last_line }
     ensures written_as_text { NeverLegal written_as_text }
+{}
+
+/// Runs with transforms, with a buffer of two stages, with a retry, and with generated lines.
+pub fn transforming_runs()
+    ensures filtered_legal { IsLegal filtered }
+    ensures filtered_closed { IsClosed filtered }
+    ensures routed_legal { IsLegal routed }
+    ensures routed_closed { IsClosed routed }
+    ensures joined_legal { IsLegal joined }
+    ensures joined_closed { IsClosed joined }
+    ensures overflowing_legal { IsLegal overflowing }
+    ensures overflowing_closed { IsClosed overflowing }
+    ensures generated_legal { IsLegal generated }
+    ensures generated_closed { IsClosed generated }
+    ensures chained_legal { IsLegal chained }
+    ensures chained_closed { IsClosed chained }
+{}
+
+/// And records each of which differs from one of these runs in one entry.
+pub fn refused_transforms()
+    ensures answer_at_home { NeverLegal answer_at_home }
+    ensures answer_of_a_sink { NeverLegal answer_of_a_sink }
+    ensures answer_that_loses { NeverLegal answer_that_loses }
+    ensures answer_that_doubles { NeverLegal answer_that_doubles }
+    ensures answer_of_another_copy { NeverLegal answer_of_another_copy }
+    ensures answer_in_another_order { NeverLegal answer_in_another_order }
+    ensures filter_that_keeps { NeverLegal filter_that_keeps }
+    ensures lease_owing_an_answer { NeverLegal lease_owing_an_answer }
+    ensures lease_owing_a_discard { NeverLegal lease_owing_a_discard }
+    ensures second_answer { NeverLegal second_answer }
+    ensures filtered_though_passed { NeverLegal filtered_though_passed }
+    ensures take_behind_an_answer { NeverLegal take_behind_an_answer }
+    ensures split_of_another_port { NeverLegal split_of_another_port }
+    ensures split_of_another_event { NeverLegal split_of_another_event }
+    ensures tick_of_a_filter { NeverLegal tick_of_a_filter }
+    ensures lease_of_an_idle_transform { NeverLegal lease_of_an_idle_transform }
+    ensures retired_with_a_kept_parcel { NeverLegal retired_with_a_kept_parcel }
+    ensures unread_though_a_way_is_read { NeverLegal unread_though_a_way_is_read }
+    ensures split_of_an_unread_port { NeverLegal split_of_an_unread_port }
+    ensures no_such_port { NeverLegal no_such_port }
+    ensures lease_before_the_tick { NeverLegal lease_before_the_tick }
+    ensures tick_at_another_moment { NeverLegal tick_at_another_moment }
+    ensures second_tick { NeverLegal second_tick }
+    ensures flush_too_soon { NeverLegal flush_too_soon }
+    ensures joined_in_another_order { NeverLegal joined_in_another_order }
+    ensures joined_with_another_event { NeverLegal joined_with_another_event }
+    ensures young_group_put_out { NeverLegal young_group_put_out }
+    ensures split_of_a_part { NeverLegal split_of_a_part }
+    ensures notice_of_another_batch { NeverLegal notice_of_another_batch }
+    ensures other_lines { NeverLegal other_lines }
+    ensures lines_past_the_count { NeverLegal lines_past_the_count }
+    ensures refused_by_a_hole { NeverLegal refused_by_a_hole }
+    ensures push_past_the_first_stage { NeverLegal push_past_the_first_stage }
+    ensures dropped_with_room_behind { NeverLegal dropped_with_room_behind }
+    ensures take_past_the_first_stage { NeverLegal take_past_the_first_stage }
+    ensures answer_after_an_abandon { NeverLegal answer_after_an_abandon }
+    ensures tick_after_an_abandon { NeverLegal tick_after_an_abandon }
+    ensures tick_at_home { NeverLegal tick_at_home }
+    ensures flush_with_contents { NeverLegal flush_with_contents }
+    ensures ended_with_lines_left { NeverLegal ended_with_lines_left }
+    ensures lines_of_another_stream { NeverLegal lines_of_another_stream }
+    ensures bytes_into_a_hole { NeverLegal bytes_into_a_hole }
+    ensures host_that_loses { NeverLegal host_that_loses }
+    ensures repeat_put_out { NeverLegal repeat_put_out }
+    ensures second_put_out { NeverLegal second_put_out }
+    ensures host_without_a_copy { NeverLegal host_without_a_copy }
+    ensures host_on_no_port { NeverLegal host_on_no_port }
+    ensures host_past_the_last_port { NeverLegal host_past_the_last_port }
+    ensures two_ticks { NeverLegal two_ticks }
+    ensures take_behind_a_tick { NeverLegal take_behind_a_tick }
+    ensures flush_that_keeps { NeverLegal flush_that_keeps }
+    ensures ended_on_another_stream { NeverLegal ended_on_another_stream }
+    ensures retried_lease { NeverLegal retried_lease }
 {}

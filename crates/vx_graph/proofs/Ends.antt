@@ -32,7 +32,6 @@ not_same a b n = elim (eqb_tells a b) [
 
 -- a form that ends in a byte is unlike nothing at all
 unlike_none : (q : Word) (a : ℕ) → a ≢ star → is_like (q ++ a ∷ []) [] ≡ false
-unfolding is_like
 unlike_none [] a n = ap (leaves a [] []) (not_star a n)
 unlike_none (c ∷ q) a n = elim (which (c == star)) [
   | inl e ↦ ap (leaves c (q ++ a ∷ []) []) e ∙ or_none (is_like (q ++ a ∷ []) []) (unlike_none q a n)
@@ -47,7 +46,6 @@ no_end f b each none (x ∷ u) = ap₂ (λ x y. x || y) (each (x ∷ u)) (no_end
 
 -- a pattern and a text that end in two bytes, of which the first is no `*`
 pub unlike_ends : (q : Word) (a b : ℕ) → a ≢ star → a ≢ b → (u : Word) → is_like (q ++ a ∷ []) (u ++ b ∷ []) ≡ false
-unfolding is_like
 unlike_ends [] a b n m [] =
     ap (leaves a [] (b ∷ [])) (not_star a n) ∙ ap (goes_on [] []) (not_same a b m)
 unlike_ends [] a b n m (x ∷ u) =

@@ -1,8 +1,10 @@
 pub mod Cycles
 pub mod Ends
 pub mod Likeness
+pub mod Comparing
 pub mod Lists
 pub mod Names
 pub mod Places
+pub mod Ranks
 pub mod Rounds
 pub mod Sorting

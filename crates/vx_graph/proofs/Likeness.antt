@@ -8,8 +8,7 @@ use Rattle.vx_value.specs.Texts.{Word, is_empty}
 use Rattle.vx_graph.specs.Patterns.{star, ends, behind, is_like, shared, some_end, starts}
 
 -- a byte that isn't `*` is itself
-literal : (c d : ℕ) (p t : Word) → ((c == d) && not (c == star)) ≡ true → is_like (c ∷ p) (d ∷ t) ≡ is_like p t
-unfolding is_like
+pub literal : (c d : ℕ) (p t : Word) → ((c == d) && not (c == star)) ≡ true → is_like (c ∷ p) (d ∷ t) ≡ is_like p t
 literal c d p t h =
     elim (eqb_tells c star) [
       | inl s ↦ absurd (false≢true (both_false c d s.0 ∙ h))
@@ -79,7 +78,6 @@ from_end p (x ∷ t) (suc k) le h =
 -- what follows a first byte that is no `*`, in an end that is of the pattern's form
 behind_literal : (c : ℕ) (p s : Word) → (c == star) ≡ false → is_like (c ∷ p) s ≡ true
     → (r : Word) × (s ≡ c ∷ r) × (is_like p r ≡ true)
-unfolding is_like
 behind_literal c p [] n h = absurd (false≢true (ap (λ z. list_any (is_like p) (if z then ends [] else behind c [])) (sym n) ∙ h))
 behind_literal c p (d ∷ r) n h =
     let as_behind : list_any (is_like p) (behind c (d ∷ r)) ≡ true =
@@ -97,7 +95,7 @@ rest_same : (x y : ℕ) (xs ys : Word) → x ∷ xs ≡ y ∷ ys → xs ≡ ys
 rest_same x y xs ys h = cc
 
 -- a pattern that begins with `*` shares nothing
-shared_star : (c : ℕ) (p t : Word) → (c == star) ≡ true → shared (c ∷ p) t ≡ 0
+pub shared_star : (c : ℕ) (p t : Word) → (c == star) ≡ true → shared (c ∷ p) t ≡ 0
 shared_star c p [] s = refl
 shared_star c p (d ∷ t) s =
     ap (λ z. if (c == d) && not z then suc (shared p t) else 0) s ∙ ap (λ z. if z then suc (shared p t) else 0) (and_false (c == d))
@@ -108,7 +106,6 @@ shared_star c p (d ∷ t) s =
 
 -- a pattern that begins with `*` is like a text with an end like the rest
 star_end : (c : ℕ) (p s : Word) → (c == star) ≡ true → is_like (c ∷ p) s ≡ some_end p s
-unfolding is_like
 star_end c p s e = ap (λ z. list_any (is_like p) (if z then ends s else behind c s)) e
 
 -- where the first byte is no `*`, the text goes on likewise or shares nothing
@@ -195,8 +192,7 @@ end_at_star p t rest e =
     ]
 
 -- where neither a `*` nor the end of both follows what is shared, the text is not of the pattern's form
-differs : (c d : ℕ) (p t : Word) → (c == star) ≡ false → ((c == d) && not (c == star)) ≡ false → is_like (c ∷ p) (d ∷ t) ≡ false
-unfolding is_like
+pub differs : (c d : ℕ) (p t : Word) → (c == star) ≡ false → ((c == d) && not (c == star)) ≡ false → is_like (c ∷ p) (d ∷ t) ≡ false
 differs c d p t n h =
     let apart : (c == d) ≡ false = and_true (c == d) (ap (λ z. (c == d) && not z) (sym n) ∙ h) in
     ap (λ z. list_any (is_like p) (if z then ends (d ∷ t) else behind c (d ∷ t))) n
@@ -208,7 +204,6 @@ differs c d p t n h =
 
 pub unlike : (p t : Word) → starts star (drop (shared p t) p) ≡ false
     → (is_empty (drop (shared p t) p) && is_empty (drop (shared p t) t)) ≡ false → is_like p t ≡ false
-unfolding is_like
 unlike [] [] n h = h
 unlike [] (x ∷ t) n h = refl
 unlike (c ∷ p) [] n h = ap (λ z. list_any (is_like p) (if z then ends [] else behind c [])) n
@@ -233,7 +228,6 @@ end_last p h = ap (λ z. z || false) h
 
 -- where both end, the text is of the pattern's form
 both_end : (x y : Word) → (is_empty x && is_empty y) ≡ true → is_like x y ≡ true
-unfolding is_like
 both_end [] y h = h
 both_end (c ∷ x) y h = absurd (false≢true h)
 

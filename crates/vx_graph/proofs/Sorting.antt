@@ -14,7 +14,7 @@ use Rattle.vx_graph.proofs.Likeness.{which}
 use Rattle.vx_graph.proofs.Names.{enter_is, le_alike, le_apart}
 
 -- of two texts one comes no later than the other
-le_total : (s t : Word) → text_le s t ≡ false → text_le t s ≡ true
+pub le_total : (s t : Word) → text_le s t ≡ false → text_le t s ≡ true
 le_total [] t h = absurd (false≢true (sym h))
 le_total (a ∷ s) [] h = refl
 le_total (a ∷ s) (b ∷ t) h = elim (eqb_tells a b) [
@@ -26,7 +26,7 @@ le_total (a ∷ s) (b ∷ t) h = elim (eqb_tells a b) [
     above a b n h = grind (arith, nat_tests)
 
 -- a text that comes no later than one, which comes no later than a third, comes no later than the third
-le_trans : (s t u : Word) → text_le s t ≡ true → text_le t u ≡ true → text_le s u ≡ true
+pub le_trans : (s t u : Word) → text_le s t ≡ true → text_le t u ≡ true → text_le s u ≡ true
 le_trans [] t u h g = refl
 le_trans (a ∷ s) [] u h g = absurd (false≢true h)
 le_trans (a ∷ s) (b ∷ t) [] h g = absurd (false≢true g)
@@ -49,7 +49,7 @@ le_trans (a ∷ s) (b ∷ t) (c ∷ u) h g = elim (eqb_tells a b) [
     below a b c h g = grind (arith, nat_tests)
 
 -- each component comes no later than those behind it
-abbrev Ascending : List Node → Type 0
+abbrev pub Ascending : List Node → Type 0
 Ascending [] = Unit {0}
 Ascending (node ∷ rest) = All (λ later. node_le node later ≡ true) rest × Ascending rest
 
@@ -75,7 +75,7 @@ enter_ascends node (first ∷ rest) h = elim (which (node_le node first)) [
   )
 ]
 
-order_ascends : (xs : List Node) → Ascending (in_order xs)
+pub order_ascends : (xs : List Node) → Ascending (in_order xs)
 unfolding in_order
 order_ascends [] = tt
 order_ascends (x ∷ xs) = enter_ascends x (in_order xs) (order_ascends xs)

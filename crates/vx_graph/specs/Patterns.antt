@@ -18,7 +18,7 @@ behind c [] = []
 behind c (d ∷ t) = if c == d then t ∷ [] else []
 
 -- whether a text is of a pattern's form, in which each `*` stands for any text
-unfoldable pub is_like : Word → Word → Bool
+abbrev pub is_like : Word → Word → Bool
 is_like [] t = is_empty t
 is_like (c ∷ pattern) t = list_any (is_like pattern) (if c == star then ends t else behind c t)
 

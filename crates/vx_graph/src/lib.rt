@@ -14,3 +14,4 @@ mod round;
 pub use graph::{Graph, check};
 pub use graph_fault::GraphFault;
 pub use node::{Class, Node, NodeList};
+pub use outputs::reads_port;

@@ -1,11 +1,12 @@
 ghost use Rattle.std.specs.Prelude.{◌≡◌, IfOk, OnOk, ◌++◌, ◌∷◌, [], map};
 ghost use Rattle.std.specs.List.{list_any};
 ghost use Rattle.vx_graph.specs.Outputs.{output_text, outputs_of, is_met, reads_output, reads_from, readers, readers_of, is_known, row_of, rows_of};
+ghost use Rattle.vx_graph.specs.Turns.{left_text};
 ghost use Rattle.vx_graph.specs.declared.node.Node.{Node};
 
 use crate::node::Node;
 use crate::order::{push, same_text};
-use crate::pattern::{has_star, is_like};
+use crate::pattern::{Left, has_star, is_like, output_pieces, whole};
 use std::alloc::Global;
 use vx_value::{ItemList, Text, TextList, WantOfMemory};
 
@@ -55,12 +56,25 @@ pub fn all_outputs(alloc: Global, nodes: &[Node]) -> Result<OutputLists, WantOfM
     Ok(lists)
 }
 
+/// Whether a reader's input means an output of an owner, whose text comes in pieces.
+fn is_meant(reader: &str, owner: &str, input: &str, text: Left) -> bool
+    ensures { result ≡ is_met reader.now owner.now input.now (left_text text.entry) }
+{
+    is_like(input.as_bytes(), text) && !(has_star(input.as_bytes()) && same_text(reader, owner))
+}
+
 /// Whether a reader's input means an output of an owner.
 fn is_met(reader: &str, owner: &str, input: &str, text: &str) -> bool
     ensures { result ≡ is_met reader.now owner.now input.now text.now }
 {
-    is_like(input.as_bytes(), text.as_bytes())
-        && !(has_star(input.as_bytes()) && same_text(reader, owner))
+    is_meant(reader, owner, input, whole(text))
+}
+
+/// Whether a reader's input means a port of an owner. It takes no memory.
+pub fn reads_port(reader: &str, owner: &str, port: &str, input: &str) -> bool
+    ensures { result ≡ is_met reader.now owner.now input.now (output_text owner.now port.now) }
+{
+    is_meant(reader, owner, input, output_pieces(owner, port))
 }
 
 /// Whether a component reads an output of an owner.

@@ -22,7 +22,7 @@ use Rattle.vx_hub.specs.Notices.{IsPrefixKnown, judged_by, progress_at}
 use Rattle.vx_hub.specs.declared.parts.Named.{Named}
 use Rattle.vx_hub.specs.Stands.{Stands, IsTold, IsKnown, IsRecorded, HasRooms, facts_at, spec_of, HasFew}
 use Rattle.vx_hub.specs.Beginning.{Begins, HasFirst}
-use Rattle.vx_hub.specs.Order.{IsLegalWithReturns}
+use Rattle.vx_hub.specs.Order.{IsLegalWithReturns, all_ported}
 use Rattle.vx_hub.proofs.Moments.{least}
 use Rattle.vx_hub.specs.declared.hub.Hub.{Hub}
 use Rattle.vx_hub.specs.Collecting.{IsSince}
@@ -247,9 +247,9 @@ both_mapped A B C None f a b = tt
 both_mapped A B C (Some x) f a b = f x a b
 
 -- a hub whose instances were all seated stands for the record of their install
-pub begun_stands : {P : Type 0} (told_by : P → Told) (plan : Plan) (hub : Hub P) → Begins told_by plan hub → hub.plan ≡ plan → names_differ plan.components ≡ true → HasFirst plan hub.log.history → hub.ports.items ≡ [] → length hub.rows.items ≤ hub.ports.room → length hub.rows.items < 2 ^ 32 → HasFew plan → length hub.rows.items ≡ length plan.components →
+pub begun_stands : {P : Type 0} (told_by : P → Told) (plan : Plan) (hub : Hub P) → Begins told_by plan hub → hub.plan ≡ plan → names_differ plan.components ≡ true → all_ported plan.components ≡ true → HasFirst plan hub.log.history → hub.ports.items ≡ [] → length hub.rows.items ≤ hub.ports.room → length hub.rows.items < 2 ^ 32 → HasFew plan → length hub.rows.items ≡ length plan.components →
     Stands told_by hub [] hub.log.history
-begun_stands told_by plan hub b mine named first none room few small count = record {
+begun_stands told_by plan hub b mine named ported first none room few small count = record {
   history = refl;
   balanced = λ batch place. let live : live_count batch place hub.batches.open_rows ≡ 0 = ap (live_count batch place) b.batches in omega (arith, b.copies batch place);
   recorded = λ sound. subst (λ (h : Record). IsRecorded told_by hub [] h) (sym first.alone) (record {
@@ -257,7 +257,7 @@ begun_stands told_by plan hub b mine named first none room few small count = rec
     facts = λ i. both_mapped _ _ _ (facts_at hub.facts.items i) (λ f n fit. new_known f plan first.once first.now i (slice_get plan.components i) refl n fit) (b.facts i) (b.fitted i);
     bytes = b.bytes;
     next = b.next;
-    order = begun_orderly plan first.once first.now named;
+    order = begun_orderly plan first.once first.now named ported;
     said = b.said first.once first.now;
     outs = λ i l none. absurd (home_some (port_at hub.rows.items i) (b.home i l) none);
     noticeless = λ b w. w;
@@ -278,7 +278,7 @@ begun_stands told_by plan hub b mine named first none room few small count = rec
   rooms = subst (λ (p : Plan). HasRooms p hub.rows.items) (sym mine) b.rooms;
   few = subst (λ (p : Plan). HasFew p) (sym mine) small;
   count = count ∙ sym (ap (λ (p : Plan). length p.components) mine);
-  order = subst (λ (h : Record). IsLegalWithReturns h) (sym first.alone) (begun_orderly plan first.once first.now named);
+  order = subst (λ (h : Record). IsLegalWithReturns h) (sym first.alone) (begun_orderly plan first.once first.now named ported);
   fed = λ whole. b.fed;
 }
 

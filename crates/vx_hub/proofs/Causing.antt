@@ -1,5 +1,5 @@
 -- What is spent has the cause of its outcome.
-use Rattle.std.proofs.Common.{◌≡◌, ℕ, ◌+◌, ◌<◌, ◌≤◌, Bool, true, false, List, [], ◌∷◌, ◌++◌, length, Some, refl, sym, ap, subst, ◌∙◌, arith, inl, inr}
+use Rattle.std.proofs.Common.{◌≡◌, ℕ, ◌+◌, ◌<◌, ◌≤◌, Bool, true, false, List, [], ◌∷◌, ◌++◌, length, Option, Some, None, refl, sym, ap, subst, ◌∙◌, arith, inl, inr}
 use Rattle.std.specs.Prelude.{if◌then◌else◌, nat_lt, ◌==◌, map, ◌&&◌}
 use Rattle.std.proofs.lemmas.Bool.Decides.{nat_tests}
 use Rattle.std.proofs.lemmas.Bool.{cases_lt}
@@ -7,19 +7,21 @@ use Rattle.vx_ends.specs.declared.trouble.Reply.{Reply}
 use Rattle.vx_ends.specs.declared.trouble.Reply.TheVariants as reply
 use Rattle.vx_status.specs.declared.outcome.Outcome.{Outcome}
 use Rattle.vx_status.specs.declared.outcome.Outcome.TheVariants.{Delivered, Attempts, Refusal, Abandoned, NoConsumer, Filtered, NewestDropped}
+use Rattle.vx_plan.specs.declared.component.Component.{Component}
 use Rattle.vx_record.specs.Records.{Record}
 use Rattle.vx_record.specs.declared.child.Child.{Child}
-use Rattle.vx_record.specs.declared.entry.Entry.TheVariants.{Born, Split, Push, Take, Attempt}
+use Rattle.vx_record.specs.declared.entry.Entry.TheVariants.{Born, Split, Push, Take, Answer, Attempt}
 use Rattle.vx_record.specs.Copies.{count, joined, contains, next_copy}
 use Rattle.vx_record.specs.Places.{Place, Put, Kind, kind, same_place, puts, one_each, all_puts, left, owner}
 use Rattle.vx_record.specs.Places.Place.{Outputs, Waiting, Held}
 use Rattle.vx_record.specs.Lists.{without, unless_empty, standing, stands, parcels_at, outputs, places, times_among}
-use Rattle.vx_record.specs.Installs.{wired}
+use Rattle.vx_record.specs.Installs.{component_of, wired}
 use Rattle.vx_record.specs.Parcels.{ports_of, first_copy, parcel_ports, port_list}
 use Rattle.vx_record.specs.Routing.{routes, is_dry, is_sent, wired_targets}
-use Rattle.vx_record.specs.SinkBatches.{failures_with, is_failed}
+use Rattle.vx_record.specs.SinkBatches.{failures_with, attempts_allowed, retries_made, is_failed}
 use Rattle.vx_record.specs.Spending.{HasCause, WasAnswered, last_attempted, last_reply, oldest}
 use Rattle.vx_record.specs.Moving.{IsConserved}
+use Rattle.vx_record.specs.Ceasing.{no_answer}
 use Rattle.vx_record.proofs.Counts.{count-append, count-without, counting_before, counting_after}
 use Rattle.vx_record.proofs.Changes.{places_meant, same_place_is}
 use Rattle.vx_hub.specs.Order.{AreSpentFrom, readers_at, IsPlaceFor}
@@ -105,49 +107,50 @@ port_now : (c n before : ℕ) → n ≤ c → (if nat_lt c n then before else 1)
 port_now c n before l = grind (arith, nat_tests)
 
 -- what was put out was born, on the first port
-born_port : (h : Record) (i c : ℕ) → IsConserved h → 0 < count c (joined (parcels_at (Outputs i) (all_puts h))) → (c < next_copy h) × (ports_of h c ≡ 1)
-born_port [] i c kept l = absurd (omega (arith, l))
-born_port (Born j b place copies events waits stream end ∷ h) i c kept l =
+born_port : (h : Record) (i c : ℕ) → IsConserved h → no_answer h ≡ true → 0 < count c (joined (parcels_at (Outputs i) (all_puts h))) → (c < next_copy h) × (ports_of h c ≡ 1)
+born_port [] i c kept silent l = absurd (omega (arith, l))
+born_port (Born j b place copies events waits stream end ∷ h) i c kept silent l =
     let all = parcels-more c (Outputs i) (all_puts h) (one_each (Outputs j) copies) in
     let new = put_out c i j copies in
     let counts = ap (count c) kept.0 in
     elim (cases_lt c (next_copy h)) [
       | inl below ↦
           let none = counting_before c (next_copy h) (length copies) below in
-          let before = born_port h i c kept.1 (omega (arith, l, all, new, counts, none)) in
+          let before = born_port h i c kept.1 silent (omega (arith, l, all, new, counts, none)) in
           (omega (arith, below), port_before c (next_copy h) (ports_of h c) 1 below before.1)
       | inr above ↦ (
         elim (cases_lt c (next_copy h + length copies)) [
           | inl within ↦ within
           | inr past ↦
               let none = counting_after c (next_copy h) (length copies) past in
-              let before = born_port h i c kept.1 (omega (arith, l, all, new, counts, none)) in
+              let before = born_port h i c kept.1 silent (omega (arith, l, all, new, counts, none)) in
               omega (arith, before.0)
         ],
         port_now c (next_copy h) (ports_of h c) above,
       )
     ]
-born_port (Split j ports copies event children ∷ h) i c kept l =
+born_port (Split j ports copies event children ∷ h) i c kept silent l =
     let all = parcels-more c (Outputs i) (all_puts h) (puts (Split j ports copies event children)) in
     let none = ap (λ (ps : List (List ℕ)). count c (joined ps)) (split_out i j children) in
-    let before = born_port h i c kept.1 (omega (arith, l, all, none)) in
+    let before = born_port h i c kept.1 silent (omega (arith, l, all, none)) in
     (omega (arith, before.0), before.1)
-born_port (Push j t s copies ∷ h) i c kept l =
+born_port (Push j t s copies ∷ h) i c kept silent l =
     let all = parcels-more c (Outputs i) (all_puts h) (puts (Push j t s copies)) in
-    let before = born_port h i c kept.1 (omega (arith, l, all)) in
+    let before = born_port h i c kept.1 silent (omega (arith, l, all)) in
     (omega (arith, before.0), before.1)
-born_port (Take j s copies ∷ h) i c kept l =
+born_port (Take j s copies ∷ h) i c kept silent l =
     let all = parcels-more c (Outputs i) (all_puts h) (puts (Take j s copies)) in
-    let before = born_port h i c kept.1 (omega (arith, l, all)) in
+    let before = born_port h i c kept.1 silent (omega (arith, l, all)) in
     (omega (arith, before.0), before.1)
-born_port (e ∷ h) i c kept l =
+born_port (Answer j outputs discarded keeps ∷ h) i c kept silent l = cc
+born_port (e ∷ h) i c kept silent l =
     let all = parcels-more c (Outputs i) (all_puts h) [] in
-    let before = born_port h i c kept.1 (omega (arith, l, all)) in
+    let before = born_port h i c kept.1 silent (omega (arith, l, all)) in
     (omega (arith, before.0), before.1)
 
 -- the oldest output is on the first port
-pub oldest_port : (h : Record) (i c : ℕ) → IsConserved h → 0 < count c (oldest (outputs h i)) → parcel_ports h (oldest (outputs h i)) ≡ 1
-oldest_port h i c kept l = go (outputs h i) l (λ d some. (born_port h i d kept (let less = stood d (Outputs i) (left h) (all_puts h) in omega (arith, less, some))).1)
+pub oldest_port : (h : Record) (i c : ℕ) → IsConserved h → no_answer h ≡ true → 0 < count c (oldest (outputs h i)) → parcel_ports h (oldest (outputs h i)) ≡ 1
+oldest_port h i c kept silent l = go (outputs h i) l (λ d some. (born_port h i d kept silent (let less = stood d (Outputs i) (left h) (all_puts h) in omega (arith, less, some))).1)
   where
     go : (ps : List (List ℕ)) → 0 < count c (oldest ps) → ((d : ℕ) → 0 < count d (joined ps) → ports_of h d ≡ 1) → ports_of h (first_copy (oldest ps)) ≡ 1
     go [] some all = absurd (omega (arith, some))
@@ -175,23 +178,23 @@ held_answered : (h : Record) (i c : ℕ) (answer : Reply) (place : Place) → pl
 held_answered h i c answer place at a l = record { had = a.had c (subst (λ (p : Place). 0 < count c (joined (parcels_at p (stands h)))) at l); answered = a.answered }
 
 -- a copy that may be spent where it stands has its cause
-pub caused : (h : Record) (i c : ℕ) (outcome : Outcome) → IsConserved h → IsSpentFor h i outcome → AreSpentFrom h i outcome (c ∷ []) → HasCause h i c outcome
-caused h i c Delivered kept s from = held_answered h i c reply.Ok from.place from.meant (s.replied reply.Ok refl) (from.there c (itself c))
-caused h i c Refusal kept s from = held_answered h i c reply.Refused from.place from.meant (s.replied reply.Refused refl) (from.there c (itself c))
-caused h i c Attempts kept s from =
+pub caused : (h : Record) (i c : ℕ) (outcome : Outcome) → IsConserved h → no_answer h ≡ true → IsSpentFor h i outcome → AreSpentFrom h i outcome (c ∷ []) → HasCause h i c outcome
+caused h i c Delivered kept silent s from = held_answered h i c reply.Ok from.place from.meant (s.replied reply.Ok refl) (from.there c (itself c))
+caused h i c Refusal kept silent s from = held_answered h i c reply.Refused from.place from.meant (s.replied reply.Refused refl) (from.there c (itself c))
+caused h i c Attempts kept silent s from =
     let was = held_answered h i c reply.Failed from.place from.meant (s.replied reply.Failed refl) (from.there c (itself c)) in
     let one = attempts_one h i in
     let some = failures_some h i c was.had was.answered in
     omega (arith, one, some)
-caused h i c NoConsumer kept s from =
+caused h i c NoConsumer kept silent s from =
     let next = from.next refl c (itself c) in record {
       next = next;
       none_waits = waiting_puts (stands h) i (s.none_waits refl);
-      no_target = no_routes h i (parcel_ports h (oldest (outputs h i))) (oldest_port h i c kept next) (s.unread refl);
+      no_target = no_routes h i (parcel_ports h (oldest (outputs h i))) (oldest_port h i c kept silent next) (s.unread refl);
     }
-caused h i c Abandoned kept s from = (has_abandoned h (s.given_up refl), s.home refl)
-caused h i c Filtered kept s from = absurd s.given
-caused h i c NewestDropped kept s from = absurd s.given
+caused h i c Abandoned kept silent s from = (has_abandoned h (s.given_up refl), s.home refl)
+caused h i c Filtered kept silent s from = absurd s.given
+caused h i c NewestDropped kept silent s from = absurd s.given
 
 -- WHERE IT STANDS
 -- what stands at a place of an instance stands at the instance

@@ -131,7 +131,7 @@ noticed_none h i none = all_covered h i (births h i) none (covered h i)
 -- BIRTHS
 read_source : (h : Record) (i : ℕ) → IsLegalWithReturns h → IsReadBy h i → IsOfClass h i Source
 read_source [] i o read = absurd read
-read_source (Read j stream took ∷ h) i o read = subst (λ (k : ℕ). IsOfClass h k Source) read (placed_source h j (earlier _ _ o) o.legal.0.row.source)
+read_source (Read j stream took ∷ h) i o read = subst (λ (k : ℕ). IsOfClass h k Source) read (placed_source h j (earlier _ _ o) o.legal.0.row.turn.source)
 read_source (e ∷ h) i o read = absurd read
 
 -- only a source bears

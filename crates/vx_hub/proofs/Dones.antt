@@ -1,5 +1,5 @@
 -- An instance that has nothing more to do by what the hub knows is done, by the record's own word.
-use Rattle.std.proofs.Common.{◌≡◌, ℕ, zero, suc, ◌<◌, Bool, true, false, ◌&&◌, ◌||◌, List, [], ◌∷◌, length, Option, Some, None, IfSome, IsSome, IsSomeAnd, refl, sym, ap, subst, ◌∙◌, arith, inl, inr}
+use Rattle.std.proofs.Common.{◌≡◌, ℕ, zero, suc, ◌<◌, Bool, true, false, ◌&&◌, List, [], ◌∷◌, length, Option, Some, None, IfSome, IsSome, IsSomeAnd, refl, sym, ap, subst, ◌∙◌, arith, inl, inr}
 use Rattle.std.specs.Prelude.{◌⊎◌, if◌then◌else◌, not, slice_get}
 use Rattle.vx_ends.specs.Told.{Told}
 use Rattle.vx_ledger.specs.Copies.{Copy}
@@ -8,7 +8,7 @@ use Rattle.vx_plan.specs.declared.class.Class.TheVariants.{Source, Transform, Si
 use Rattle.vx_record.specs.declared.abandon_cause.AbandonCause.{AbandonCause}
 use Rattle.vx_record.specs.Abandoning.{abandoned}
 use Rattle.vx_record.specs.Confirms.{is_confirm_due}
-use Rattle.vx_record.specs.Owing.{owes_birth, owes_spends_in, owes, all_noticed, is_source_done, is_worker_done}
+use Rattle.vx_record.specs.Owing.{owes, all_noticed, is_source_done, is_worker_done}
 use Rattle.vx_record.specs.Routing.{is_dry, is_sent}
 use Rattle.vx_hub.specs.declared.facts.Facts.{Facts}
 use Rattle.vx_hub.specs.declared.progress.Progress.{Progress}
@@ -24,11 +24,8 @@ use Rattle.vx_hub.proofs.Concluding.{both, not_of, dry_so, sent_so, source_so, s
 use Rattle.vx_hub.proofs.Covering.{noticed_known}
 use Rattle.vx_hub.proofs.Feeding.{Runs}
 use Rattle.vx_hub.proofs.Offspring.{owes_no_birth}
+use Rattle.vx_hub.proofs.Ported.{owes_else}
 use Rattle.vx_hub.proofs.Settling.{owes_none, settled_home, known_at_home}
-
-no_or : (a b : Bool) → a ≡ false → b ≡ false → (a || b) ≡ false
-no_or true b e k = cc
-no_or false b e k = k
 
 -- an instance of which something is known is there
 within_facts : (fs : List Facts) (i : ℕ) (f : Facts) → facts_at fs i ≡ Some f → i < length fs
@@ -52,7 +49,7 @@ owes_nothing told_by hub hand i s running going home fine =
     let r = s.recorded fine in
     let at_home = known_at_home told_by hub hand i s home fine in
     let kept : abandoned h ≡ false = unabandoned h (going_on told_by hub hand s going fine) in
-    no_or (owes_birth h i) (owes_spends_in h h i) (owes_no_birth h i (r.bore running i at_home kept)) (owes_none h h i (settled_home h i r.order at_home kept))
+    owes_else h i r.order (owes_no_birth h i (r.bore running i at_home kept)) (owes_none h h i (settled_home h i r.order at_home kept))
 
 -- no confirm is due where nothing is to be confirmed
 prefix_undue : {P : Type 0} (told_by : P → Told) (hub : Hub P) (i : ℕ) → Stands told_by hub [] hub.log.history → IsSound hub → i < length hub.rows.items → is_out hub.log.history i ≡ false → IfSome (progress_at hub.progress.items i) (λ p. p.prefix.due ≡ None) → is_confirm_due hub.log.history i ≡ false

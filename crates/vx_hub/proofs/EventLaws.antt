@@ -15,7 +15,7 @@ use Rattle.vx_record.specs.Records.{Record}
 use Rattle.vx_record.specs.Noted.{Noted}
 use Rattle.vx_record.specs.Copies.{next_copy}
 use Rattle.vx_record.specs.Encoding.{encode, encode_event, encoded, is_prefix}
-use Rattle.vx_record.specs.Installs.{in_force, sink_at}
+use Rattle.vx_record.specs.Installs.{in_force, sink_at, device_at}
 use Rattle.vx_record.specs.Lists.{held}
 use Rattle.vx_record.specs.SinkBatches.{is_batch_closed, retry_from}
 use Rattle.vx_record.specs.Turns.{is_out, lease_now, since_lease, is_attempt_of}
@@ -31,6 +31,7 @@ use Rattle.vx_hub.specs.Births.{IsSaidBy}
 use Rattle.vx_hub.specs.Abreast.{HasCome, HasComeHome}
 use Rattle.vx_hub.specs.Events.{written, written_by, IsPartOf, IsSaid, Each, EachChild, HasEach, IsSaidAt, AreSaid, ArePaired}
 use Rattle.vx_hub.specs.Numbers.{numbers_in}
+use Rattle.vx_plan.specs.declared.class.Class.TheVariants.{Sink}
 use Rattle.vx_record.specs.Sinking.{MayAttempt}
 use Rattle.vx_hub.specs.Order.{component_in}
 use Rattle.vx_hub.specs.Places.{parcel_numbers}
@@ -38,7 +39,7 @@ use Rattle.vx_hub.specs.Rows.{task_parcels, role_parcels, role_copies}
 use Rattle.vx_hub.proofs.Homing.{held_numbers}
 use Rattle.vx_hub.proofs.Ordering.{sound_before}
 use Rattle.vx_hub.proofs.RowLaws.{rows_keep, row_has}
-use Rattle.vx_hub.proofs.Saids.{chosen_false, above, each_on}
+use Rattle.vx_hub.proofs.Saids.{IsNoAnswer, chosen_false, above, each_on}
 
 -- LISTS
 pub each-append : (F : Parcel → Type 0) (xs ys : List Parcel) → Each F xs → Each F ys → Each F (xs ++ ys)
@@ -103,9 +104,9 @@ rows_said {P} h rows i row new l at all comes here =
     rows_keep (λ j (r : Option (Row P)). IfSome r (IsSaidAt h j)) rows i new l (record { parcels = here; come = comes (row_said h rows i row l at all).come }) (λ j other. all j)
 
 -- what a role holds
-pub said_by_on : {P : Type 0} (d e : Hub P) (entry : Entry) (role : Role) → Noted d.log entry e.log → e.starved ≡ d.starved → IsSaidBy d role → IsSaidBy e role
-said_by_on d e entry role noted starved said sound =
-    subst (λ (h : Record). Each (IsSaid h) (role_parcels role)) (sym (noted.whole sound.whole).1) (each_on d.log.history entry (role_parcels role) (said (sound_before d e entry noted starved sound)))
+pub said_by_on : {P : Type 0} (d e : Hub P) (entry : Entry) (role : Role) → IsNoAnswer entry → Noted d.log entry e.log → e.starved ≡ d.starved → IsSaidBy d role → IsSaidBy e role
+said_by_on d e entry role silent noted starved said sound =
+    subst (λ (h : Record). Each (IsSaid h) (role_parcels role)) (sym (noted.whole sound.whole).1) (each_on d.log.history entry (role_parcels role) silent (said (sound_before d e entry noted starved sound)))
 
 -- BIRTHS
 seam : (pre es : List Event) (e : Event) → slice_index_or (pre ++ e ∷ es) (length pre) no_event ≡ e
@@ -186,9 +187,9 @@ pub record IsWriter (h : Record) (i : ℕ) (role : Role) : Type 0 where
   pub writes : written_by role ≡ written codec (role_parcels role)
   pub encoded_is : (parcels : List (List ℕ)) → encoded h i parcels ≡ encode codec (map (parcel_event h) parcels)
 
-pub attempt_in_order : (h : Record) (i : ℕ) (role : Role) (bytes : List ℕ) (reply : Reply) → is_out h i ≡ true → list_any (is_attempt_of i) (since_lease h i) ≡ false → held h i ≡ parcel_numbers (role_parcels role) → Each (IsSaid h) (role_parcels role) → IsPartOf (written_by role) bytes reply → is_batch_closed h i (lease_now h i) ≡ true → retry_from h i ≤ lease_now h i → sink_at h i ≡ true → IsWriter h i role →
+pub attempt_in_order : (h : Record) (i : ℕ) (role : Role) (bytes : List ℕ) (reply : Reply) → is_out h i ≡ true → list_any (is_attempt_of i) (since_lease h i) ≡ false → held h i ≡ parcel_numbers (role_parcels role) → Each (IsSaid h) (role_parcels role) → IsPartOf (written_by role) bytes reply → is_batch_closed h i (lease_now h i) ≡ true → retry_from h i ≤ lease_now h i → sink_at h i ≡ true → device_at h i ≡ true → IsWriter h i role →
     MayAttempt h i (numbers_in (role_copies role)) bytes reply
-attempt_in_order h i role bytes reply out once is said part closed waited sink writer =
+attempt_in_order h i role bytes reply out once is said part closed waited sink device writer =
     let all : encode writer.codec (map (parcel_event h) (held h i)) ≡ written_by role =
     ap (λ (ps : List (List ℕ)). encode writer.codec (map (parcel_event h) ps)) is ∙ written_events writer.codec h (role_parcels role) said ∙ sym writer.writes in
     record {
@@ -200,4 +201,5 @@ attempt_in_order h i role bytes reply out once is said part closed waited sink w
       waited = waited;
       given = subst (λ (w : List ℕ). is_prefix bytes w ≡ true) (sym (writer.encoded_is (held h i) ∙ all)) part.given;
       whole = λ ok. part.whole ok ∙ sym (writer.encoded_is (held h i) ∙ all);
+      swallowed = λ none. cc;
     }

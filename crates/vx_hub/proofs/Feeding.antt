@@ -4,23 +4,26 @@ use Rattle.std.specs.Prelude.{◌==◌, if◌then◌else◌, not, nat_lt, map, f
 use Rattle.std.specs.List.{list_any, list_all}
 use Rattle.std.proofs.lemmas.Bool.Decides.{nat_tests}
 use Rattle.std.proofs.lemmas.List.{append-nil}
-use Rattle.vx_value.specs.Texts.{is_empty}
+use Rattle.vx_value.specs.Texts.{Word, is_empty}
 use Rattle.vx_plan.specs.declared.class.Class.{Class}
 use Rattle.vx_plan.specs.declared.class.Class.TheVariants.{Source, Transform, Sink}
 use Rattle.vx_plan.specs.declared.component.Component.{Component}
 use Rattle.vx_plan.specs.declared.plan.Plan.{Plan}
-use Rattle.vx_plan.specs.Components.{class_ports, port_names}
+use Rattle.vx_plan.specs.declared.settings.Settings.{Settings}
+use Rattle.vx_plan.specs.Components.{is_transform, port_names}
+use Rattle.vx_plan.specs.Options.{transform_ports}
 use Rattle.vx_record.specs.Records.{Record}
 use Rattle.vx_record.specs.declared.entry.Entry.{Entry}
-use Rattle.vx_record.specs.declared.entry.Entry.TheVariants.{Install, Born, Split, Push, Take}
+use Rattle.vx_record.specs.declared.entry.Entry.TheVariants.{Install, Born, Split, Push, Take, Answer}
 use Rattle.vx_record.specs.declared.instance.Instance.{Instance}
 use Rattle.vx_record.specs.declared.child.Child.{Child}
+use Rattle.vx_record.specs.declared.output.Output.{Output}
 use Rattle.vx_record.specs.Copies.{count, contains, counting, children_of, next_copy}
 use Rattle.vx_record.specs.Places.{Place, Put, Kind, kind, same_place, one_each, puts, all_puts, left}
 use Rattle.vx_record.specs.Places.Place.{Outputs, Waiting, Contents, Held}
 use Rattle.vx_record.specs.Lists.{without, unless_empty, standing, parcels_at, waiting}
 use Rattle.vx_record.specs.Starting.{first_instances}
-use Rattle.vx_record.specs.Installs.{wired, in_force, component_of, is_new, started}
+use Rattle.vx_record.specs.Installs.{wired, in_force, component_of, transform_at, is_new, started}
 use Rattle.vx_record.specs.Routing.{is_dry, is_sent, outlets, routes, all_ports, names, wired_targets}
 use Rattle.vx_record.proofs.Changes.{same_place_is}
 use Rattle.vx_hub.specs.declared.facts.Facts.{Facts}
@@ -28,6 +31,7 @@ use Rattle.vx_record.specs.Legal.{Allows}
 use Rattle.vx_hub.specs.Order.{IsLegalWithReturns, component_in, readers_at}
 use Rattle.vx_hub.specs.Stands.{IsKnown}
 use Rattle.vx_hub.proofs.Runners.{component_there}
+use Rattle.vx_hub.proofs.Ported.{untransformed, unanswered}
 use Rattle.vx_record.proofs.FirstPort.{split_routed}
 use Rattle.vx_hub.proofs.Silence.{same_test}
 use Rattle.vx_hub.proofs.Allowed.{earlier}
@@ -107,6 +111,10 @@ outputs_for : (h : Record) (i : ℕ) (cs : List ℕ) → AreForReaders h (one_ea
 outputs_for h i [] = tt
 outputs_for h i (c ∷ cs) = (tt, outputs_for h i cs)
 
+answers_for : (h : Record) (i : ℕ) (made : List Output) → AreForReaders h (map (λ (output : Output). record { place = Outputs i; copies = output.copies }) made)
+answers_for h i [] = tt
+answers_for h i (output ∷ made) = (tt, answers_for h i made)
+
 count_head : (t : ℕ) (ts : List ℕ) → 0 < count t (t ∷ ts)
 count_head t ts = let e = ap (λ b. (if b then 1 else 0) + count t ts) (same_test t) in omega (arith, e)
 
@@ -119,10 +127,11 @@ children_for h i next m (t ∷ ts) all = (all t (count_head t ts), children_for 
 entry_for : (h : Record) (e : Entry) → IsLegalWithReturns h → Allows h e → AreForReaders (e ∷ h) (puts e)
 entry_for h (Born i b place copies events waits stream end) before order = outputs_for (Born i b place copies events waits stream end ∷ h) i copies
 entry_for h (Split i ports copies event children) before order =
-    subst (λ (cs : List Child). AreForReaders (Split i ports copies event children ∷ h) (map (λ (child : Child). record { place = Waiting i child.target; copies = child.copies }) cs)) (sym (split_routed h i ports copies event children before.legal order))
+    subst (λ (cs : List Child). AreForReaders (Split i ports copies event children ∷ h) (map (λ (child : Child). record { place = Waiting i child.target; copies = child.copies }) cs)) (sym (split_routed h i ports copies event children before.legal (unanswered h before) order))
     (children_for (Split i ports copies event children ∷ h) i (next_copy h) (length copies) (readers_at h i) (λ t l. l))
 entry_for h (Push i t s copies) before order = (tt, tt)
 entry_for h (Take i s copies) before order = (tt, tt)
+entry_for h (Answer i made discarded kept) before order = answers_for (Answer i made discarded kept ∷ h) i made
 entry_for h e before order = tt
 
 for_readers : (h : Record) → IsLegalWithReturns h → AreForReaders h (all_puts h)
@@ -156,10 +165,14 @@ by_ports h j i ports are none wait =
     ap (λ (ps : List ℕ). contains (routes h j ps) i || not (is_empty (waiting h j i))) are
     ∙ ap (λ b. b || not (is_empty (waiting h j i))) none ∙ ap (λ (ws : List (List ℕ)). not (is_empty ws)) wait
 
-ports_so : (h : Record) (j : ℕ) (class : Class) → Runs h j class → all_ports h j ≡ counting 0 (length (class_ports class))
+-- the names of the ports that a component of some class has
+abbrev names_as : Class → Settings → List Word
+names_as class settings = elim class [ Source ↦ [] ∷ [] | Transform ↦ transform_ports settings | Sink ↦ [] ]
+
+ports_so : (h : Record) (j : ℕ) (class : Class) → (runs : Runs h j class) → all_ports h j ≡ counting 0 (length (names_as class runs.component.settings))
 ports_so h j class runs =
     ap (λ (o : Option Component). elim o [ None ↦ [] | Some c ↦ counting 0 (length (port_names c)) ]) runs.there
-    ∙ ap (λ (x : Class). counting 0 (length (class_ports x))) (sym runs.class_is)
+    ∙ ap (λ (x : Class). counting 0 (length (names_as x runs.component.settings))) (sym runs.class_is)
 
 -- a sink has no port
 pub unnamed_by_sink : (h : Record) (j i : ℕ) → Runs h j Sink → waiting h j i ≡ [] → names h j i ≡ false
@@ -169,14 +182,22 @@ unnamed_on_one : (h : Record) (j i : ℕ) → all_ports h j ≡ 0 ∷ [] → con
 unnamed_on_one h j i ports none wait =
     by_ports h j i (0 ∷ []) ports (ap (λ (ts : List ℕ). contains ts i) (append-nil (outlets h j 0)) ∙ none) wait
 
-unnamed_by : (h : Record) (j i : ℕ) (class : Class) → Runs h j class → contains (outlets h j 0) i ≡ false → waiting h j i ≡ [] → names h j i ≡ false
-unnamed_by h j i Source runs none wait = unnamed_on_one h j i (ports_so h j Source runs) none wait
-unnamed_by h j i Transform runs none wait = unnamed_on_one h j i (ports_so h j Transform runs) none wait
-unnamed_by h j i Sink runs none wait = unnamed_by_sink h j i runs wait
+-- nor has a source another than the first
+unnamed_by_source : (h : Record) (j i : ℕ) → Runs h j Source → contains (outlets h j 0) i ≡ false → waiting h j i ≡ [] → names h j i ≡ false
+unnamed_by_source h j i runs none wait = unnamed_on_one h j i (ports_so h j Source runs) none wait
+
+unnamed_by : (h : Record) (j i : ℕ) (class : Class) → IsLegalWithReturns h → Runs h j class → contains (outlets h j 0) i ≡ false → waiting h j i ≡ [] → names h j i ≡ false
+unnamed_by h j i Source order runs none wait = unnamed_by_source h j i runs none wait
+unnamed_by h j i Transform order runs none wait =
+    let is : is_transform runs.component ≡ true = ap (λ (x : Class). elim x [ Source ↦ false | Transform ↦ true | Sink ↦ false ]) (sym runs.class_is) in
+    let no : transform_at h j ≡ false = untransformed h j order in
+    let so : transform_at h j ≡ is_transform runs.component = ap (λ (o : Option Component). elim o [ None ↦ false | Some c ↦ is_transform c ]) runs.there in
+    cc
+unnamed_by h j i Sink order runs none wait = unnamed_by_sink h j i runs wait
 
 -- an instance that isn't among the readers isn't named
 pub unnamed_unread : (h : Record) (j i : ℕ) (class : Class) → IsLegalWithReturns h → Runs h j class → contains (readers_at h j) i ≡ false → names h j i ≡ false
-unnamed_unread h j i class order runs off = unnamed_by h j i class runs (go (is_dry h j && is_sent h j)) (waits_none h j i order off)
+unnamed_unread h j i class order runs off = unnamed_by h j i class order runs (go (is_dry h j && is_sent h j)) (waits_none h j i order off)
   where
     go : (b : Bool) → contains (if b then [] else wired [] (wired_targets 0) h j) i ≡ false
     go true = refl
@@ -184,7 +205,7 @@ unnamed_unread h j i class order runs off = unnamed_by h j i class runs (go (is_
 
 -- a source that is dry and sent everything names nobody
 pub unnamed_dry : (h : Record) (j i : ℕ) → Runs h j Source → is_dry h j ≡ true → is_sent h j ≡ true → waiting h j i ≡ [] → names h j i ≡ false
-unnamed_dry h j i runs dry sent wait = unnamed_by h j i Source runs (go (is_dry h j && is_sent h j) (both_true (is_dry h j) (is_sent h j) dry sent)) wait
+unnamed_dry h j i runs dry sent wait = unnamed_by_source h j i runs (go (is_dry h j && is_sent h j) (both_true (is_dry h j) (is_sent h j) dry sent)) wait
   where
     go : (b : Bool) → b ≡ true → contains (if b then [] else wired [] (wired_targets 0) h j) i ≡ false
     go true e = refl

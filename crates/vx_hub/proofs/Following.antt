@@ -14,7 +14,7 @@ use Rattle.vx_record.specs.Installs.{component_of}
 use Rattle.vx_record.specs.Sourcing.{IsYieldOf}
 use Rattle.vx_record.specs.Reads.{taken, all_ended, last_stream, open_bytes, still_open, stream_of, ended_streams, ended_by, has_bytes, is_end, new_lines, last_end}
 use Rattle.vx_record.specs.declared.entry.Entry.{Entry}
-use Rattle.vx_record.specs.declared.entry.Entry.TheVariants.{Install, Read, Take}
+use Rattle.vx_record.specs.declared.entry.Entry.TheVariants.{Install, Read, Take, Answer}
 use Rattle.vx_record.specs.declared.taken.Taken.{Taken}
 use Rattle.vx_record.specs.declared.taken.Taken.TheVariants as taken
 use Rattle.vx_hub.specs.declared.source.SourceCore.{SourceCore}
@@ -344,11 +344,12 @@ abreast_other h e i j core touch other a = record {
   ended = λ s there. a.ended s (with_none (ended_streams h j) s there);
 }
 
--- an entry that is no install, no read and no take
+-- an entry that is no install, no read, no take and no answer
 abbrev pub IsAside : Entry → Type 0
 IsAside (Install version plan once instances now) = ⊥
 IsAside (Read i stream took) = ⊥
 IsAside (Take i s copies) = ⊥
+IsAside (Answer i outputs discarded kept) = ⊥
 IsAside other = Unit {0}
 
 aside_unread : (e : Entry) → IsAside e → IsUnread e

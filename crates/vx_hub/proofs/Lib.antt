@@ -8,6 +8,7 @@ mod Finding
 mod Noticing
 pub mod Allowed
 mod Runners
+pub mod Ported
 mod Prefixing
 mod Counting
 mod Covering

@@ -1,19 +1,21 @@
 -- Which component an instance runs: that of the name that its component in the plan has.
-use Rattle.std.proofs.Common.{◌≡◌, ℕ, zero, suc, Bool, true, false, List, [], ◌∷◌, Option, Some, None, refl, ap, ◌∙◌, eq-eqb}
-use Rattle.std.specs.Prelude.{◌==◌, IsSomeAnd, is_some, slice_get, find, if◌then◌else◌}
+use Rattle.std.proofs.Common.{◌≡◌, ℕ, zero, suc, ◌+◌, Bool, true, false, List, [], ◌∷◌, Option, Some, None, refl, ap, ◌∙◌, arith, eq-eqb}
+use Rattle.std.specs.Prelude.{◌==◌, not, IsSomeAnd, is_some, slice_get, find, if◌then◌else◌}
+use Rattle.std.proofs.lemmas.Bool.Decides.{nat_tests}
 use Rattle.vx_value.specs.Texts.{Word, same_text}
 use Rattle.vx_plan.specs.declared.plan.Plan.{Plan}
 use Rattle.vx_plan.specs.declared.component.Component.{Component}
-use Rattle.vx_plan.specs.declared.settings.Settings.{Settings}
-use Rattle.vx_plan.specs.declared.settings.Settings.TheVariants.{Stdin, Console}
-use Rattle.vx_plan.specs.Components.{component_named}
+use Rattle.vx_plan.specs.Components.{component_named, is_transform}
 use Rattle.vx_plan.specs.Options.{has_device}
 use Rattle.vx_record.specs.Records.{Record}
+use Rattle.vx_record.specs.declared.entry.Entry.TheVariants.{Install}
+use Rattle.vx_record.specs.declared.instance.Instance.{Instance}
 use Rattle.vx_record.specs.Starting.{first_instances}
-use Rattle.vx_record.specs.Installs.{wiring, component_of, device_at, in_force}
+use Rattle.vx_record.specs.Installs.{Wiring, wiring, name_at, component_of, device_at, in_force}
 use Rattle.vx_hub.specs.declared.facts.Facts.{Facts}
-use Rattle.vx_hub.specs.Order.{IsLegalWithReturns, component_in}
+use Rattle.vx_hub.specs.Order.{IsLegalWithReturns, component_in, is_ported}
 use Rattle.vx_hub.specs.Stands.{IsKnown}
+use Rattle.vx_hub.proofs.Ported.{component_ported, and_left}
 use Rattle.vx_record.proofs.Wired.{wired_so as legal_wired, component_is as legal_component}
 
 -- an instance is wired as the plan that is in force has it
@@ -54,14 +56,13 @@ there_known h i f order known = go (in_force h) refl known.class
     go None force class = absurd class
     go (Some plan) force class = found plan force (slice_get plan.components i) refl class
 
-pub works_with_one : (settings : Settings) → has_device settings ≡ true
-works_with_one (Stdin max_length codec) = refl
-works_with_one (Console target codec sink) = refl
+works_with_one : (c : Component) → is_ported c ≡ true → has_device c.settings ≡ true
+works_with_one c is = and_left (has_device c.settings) (not (is_transform c)) is
 
 -- and works with a port
 pub device_known : (h : Record) (i : ℕ) (f : Facts) → IsLegalWithReturns h → IsKnown f h i → device_at h i ≡ true
-device_known h i f order known = go (component_of h i) (there_known h i f order known)
+device_known h i f order known = go (component_of h i) refl (there_known h i f order known)
   where
-    go : (o : Option Component) → is_some o ≡ true → (elim o [ None ↦ false | Some c ↦ has_device c.settings ]) ≡ true
-    go None there = cc
-    go (Some c) there = works_with_one c.settings
+    go : (o : Option Component) → component_of h i ≡ o → is_some o ≡ true → (elim o [ None ↦ false | Some c ↦ has_device c.settings ]) ≡ true
+    go None at there = cc
+    go (Some c) at there = works_with_one c (component_ported h i c order at)

@@ -62,7 +62,7 @@ yield_read (e ∷ h) i events stream end yield = absurd yield
 -- who read just now is out
 read_out : (h : Record) (i : ℕ) → IsLegalWithReturns h → IsReadBy h i → is_out h i ≡ true
 read_out [] i order read = absurd read
-read_out (Read j stream took ∷ h) i order read = subst (λ (k : ℕ). is_out h k ≡ true) read order.legal.0.row.out
+read_out (Read j stream took ∷ h) i order read = subst (λ (k : ℕ). is_out h k ≡ true) read order.legal.0.row.turn.out
 read_out (e ∷ h) i order read = absurd read
 
 -- nobody at home owes a birth behind an entry, where what comes home owes none
@@ -74,7 +74,7 @@ born_on h (Home j) order so owes all i home going = go (j == i) refl home
     go true e at = let same : j ≡ i = grind (arith, nat_tests) in even_on h i (Home j) refl (subst (λ (k : ℕ). AreBorn h k) same owes going)
     go false e at = even_on h i (Home j) refl (all i at going)
 born_on h (Read j stream took) order so owes all i home going =
-    not_read (j == i) (not (is_empty (events_of h i stream took))) (fruitful h i) (apart h i j so.out home) ∙ even_on h i (Read j stream took) refl (all i home going)
+    not_read (j == i) (not (is_empty (events_of h i stream took))) (fruitful h i) (apart h i j so.turn.out home) ∙ even_on h i (Read j stream took) refl (all i home going)
 born_on h (Born j b place copies events waits stream end) order so owes all i home going =
     even_on h i (Born j b place copies events waits stream end) (not_mine (j == i) _ (apart h i j (read_out h j order (yield_read h j events stream end so.yield)) home)) (all i home going)
 born_on h (Abandon cause) order so owes all i home going = cc
@@ -150,7 +150,7 @@ not_sink h i j source sink = other_test j i (λ e. two_classes (component_in (in
 -- who read just now is a source
 read_source : (h : Record) (i : ℕ) → IsLegalWithReturns h → IsReadBy h i → IsOfClass h i Source
 read_source [] i order read = absurd read
-read_source (Read j stream took ∷ h) i order read = subst (λ (k : ℕ). IsOfClass h k Source) read (placed_source h j (earlier _ _ order) order.legal.0.row.source)
+read_source (Read j stream took ∷ h) i order read = subst (λ (k : ℕ). IsOfClass h k Source) read (placed_source h j (earlier _ _ order) order.legal.0.row.turn.source)
 read_source (e ∷ h) i order read = absurd read
 
 -- a sink neither reads nor bears
@@ -161,7 +161,7 @@ sink_barren (Install version plan once instances now ∷ h) i order sink =
     (ap (λ (k : Record). fruitful k i) first, same_births h i (Install version plan once instances now) refl ∙ ap (λ (k : Record). length (births k i)) first)
 sink_barren (Read j stream took ∷ h) i order sink =
     let before = sink_barren h i (earlier _ _ order) sink in
-    (not_read (j == i) (not (is_empty (events_of h i stream took))) (fruitful h i) (not_sink h i j (placed_source h j (earlier _ _ order) order.legal.0.row.source) sink) ∙ before.0, same_births h i (Read j stream took) refl ∙ before.1)
+    (not_read (j == i) (not (is_empty (events_of h i stream took))) (fruitful h i) (not_sink h i j (placed_source h j (earlier _ _ order) order.legal.0.row.turn.source) sink) ∙ before.0, same_births h i (Read j stream took) refl ∙ before.1)
 sink_barren (Born j b place copies events waits stream end ∷ h) i order sink =
     let before = sink_barren h i (earlier _ _ order) sink in
     let off : (j == i) ≡ false = not_sink h i j (read_source h j (earlier _ _ order) (yield_read h j events stream end order.legal.0.row.yield)) sink in

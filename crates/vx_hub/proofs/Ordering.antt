@@ -44,6 +44,7 @@ use Rattle.vx_record.specs.Sourcing.{IsYield, MayBear}
 use Rattle.vx_hub.specs.Abreast.{AreNamedApart}
 use Rattle.vx_hub.specs.Stands.{Stands, IsSound, IsBalanced}
 use Rattle.vx_record.proofs.FirstPort.{output_on_first, first_routes}
+use Rattle.vx_hub.proofs.Ported.{unanswered}
 use Rattle.vx_hub.proofs.StandsLaws.{unmade}
 use Rattle.vx_hub.proofs.Shrinking.{answered_on, waits_none}
 use Rattle.vx_record.specs.Sourcing.{must_wait}
@@ -112,7 +113,7 @@ split_in_order h i next targets parcel children order home waits routed oldest n
         home = home;
         none_waits = waits;
         oldest = oldest;
-        on_ports = output_on_first h i (numbers_in parcel.finalizers) order.legal oldest;
+        on_ports = output_on_first h i (numbers_in parcel.finalizers) order.legal (unanswered h order) oldest;
         same_event = said.event;
         some = omega (arith, count, some);
         made = made ∙ ap (λ (ts : List ℕ). children_of (next_copy h) (length (numbers_in parcel.finalizers)) ts) (routed ∙ sym (first_routes h i (numbers_in parcel.finalizers) oldest));

@@ -15,7 +15,7 @@ use Rattle.vx_record.specs.Installs.{device_at, is_closed}
 use Rattle.vx_record.specs.Lists.{stands, contents, held, buffered}
 use Rattle.vx_record.specs.Owing.{is_done}
 use Rattle.vx_record.specs.Places.Place.{Contents, Held}
-use Rattle.vx_record.specs.Ready.{can_read, is_close_due, is_source_ready, is_attempt_due, can_take, is_sink_ready, is_ready}
+use Rattle.vx_record.specs.Ready.{can_read, is_close_due, is_source_ready, is_attempt_due, can_take, is_sink_ready, is_transform_ready, is_ready}
 use Rattle.vx_record.specs.SinkBatches.{is_full_batch, is_timed_out, is_last_batch, was_attempted, is_batch_closed, retry_from}
 use Rattle.vx_record.specs.Turns.{is_out}
 use Rattle.vx_hub.specs.declared.facts.Facts.{Facts}
@@ -65,14 +65,14 @@ on_right false b e = e
 -- an instance has work where one of its class has
 source_ready : (h : Record) (i now : ℕ) → Runs h i Source → is_source_ready h i now ≡ true → is_ready h i now ≡ true
 source_ready h i now runs is =
-    ap (λ (o : Option Component). elim o [ None ↦ false | Some c ↦ elim c.class [ Source ↦ is_source_ready h i now | Transform ↦ false | Sink ↦ is_sink_ready h i now ] ]) runs.there
-    ∙ ap (λ (x : Class). elim x [ Source ↦ is_source_ready h i now | Transform ↦ false | Sink ↦ is_sink_ready h i now ]) (sym runs.class_is)
+    ap (λ (o : Option Component). elim o [ None ↦ false | Some c ↦ elim c.class [ Source ↦ is_source_ready h i now | Transform ↦ is_transform_ready h i | Sink ↦ is_sink_ready h i now ] ]) runs.there
+    ∙ ap (λ (x : Class). elim x [ Source ↦ is_source_ready h i now | Transform ↦ is_transform_ready h i | Sink ↦ is_sink_ready h i now ]) (sym runs.class_is)
     ∙ is
 
 sink_ready : (h : Record) (i now : ℕ) → Runs h i Sink → is_sink_ready h i now ≡ true → is_ready h i now ≡ true
 sink_ready h i now runs is =
-    ap (λ (o : Option Component). elim o [ None ↦ false | Some c ↦ elim c.class [ Source ↦ is_source_ready h i now | Transform ↦ false | Sink ↦ is_sink_ready h i now ] ]) runs.there
-    ∙ ap (λ (x : Class). elim x [ Source ↦ is_source_ready h i now | Transform ↦ false | Sink ↦ is_sink_ready h i now ]) (sym runs.class_is)
+    ap (λ (o : Option Component). elim o [ None ↦ false | Some c ↦ elim c.class [ Source ↦ is_source_ready h i now | Transform ↦ is_transform_ready h i | Sink ↦ is_sink_ready h i now ] ]) runs.there
+    ∙ ap (λ (x : Class). elim x [ Source ↦ is_source_ready h i now | Transform ↦ is_transform_ready h i | Sink ↦ is_sink_ready h i now ]) (sym runs.class_is)
     ∙ is
 
 -- an instance at home of which something is known, and whose port isn't closed

@@ -7,6 +7,7 @@ use Rattle.vx_record.specs.Records.{Record}
 use Rattle.vx_hub.specs.declared.facts.Facts.{Facts}
 use Rattle.vx_hub.specs.declared.row.Row.{Row}
 use Rattle.vx_hub.specs.declared.task.Task.{Task}
+use Rattle.vx_hub.specs.declared.parts.Numbered.{Numbered}
 use Rattle.vx_hub.specs.Rows.{IsBare, row_at, task_port, port_at}
 use Rattle.vx_hub.specs.Stands.{IsGone, IsShut, IsTold, IsKnown, facts_at}
 use Rattle.vx_record.specs.Places.{Place, owner}

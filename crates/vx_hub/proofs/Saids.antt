@@ -8,7 +8,7 @@ use Rattle.vx_record.specs.Records.{Record}
 use Rattle.vx_record.specs.Copies.{next_copy}
 use Rattle.vx_record.specs.Parcels.{no_event, event_of, first_copy}
 use Rattle.vx_record.specs.declared.entry.Entry.{Entry}
-use Rattle.vx_record.specs.declared.entry.Entry.TheVariants.{Born, Split}
+use Rattle.vx_record.specs.declared.entry.Entry.TheVariants.{Born, Split, Answer}
 use Rattle.vx_hub.specs.declared.row.Row.{Row}
 use Rattle.vx_hub.specs.declared.task.Task.{Task}
 use Rattle.vx_hub.specs.Abreast.{HasComeHome}
@@ -32,44 +32,58 @@ below c n l = grind (arith, nat_tests)
 pub above : (c n : ℕ) → n ≤ c → nat_lt c n ≡ false
 above c n l = grind (arith, nat_tests)
 
+-- an entry that is no answer
+abbrev pub IsNoAnswer : Entry → Type 0
+IsNoAnswer (Answer i outputs discarded kept) = ⊥
+IsNoAnswer other = Unit {0}
+
 -- a copy keeps the event that it was made with
-event_on : (h : Record) (e : Entry) (c : ℕ) → c < next_copy h → event_of (e ∷ h) c ≡ event_of h c
-event_on h (Born i b place copies events waits stream end) c l = chosen_true (nat_lt c (next_copy h)) (event_of h c) (slice_index_or events (c - next_copy h) no_event) (below c (next_copy h) l)
-event_on h (Split i ports copies event children) c l = chosen_true (nat_lt c (next_copy h)) (event_of h c) event (below c (next_copy h) l)
-event_on h e c l = refl
+event_on : (h : Record) (e : Entry) (c : ℕ) → IsNoAnswer e → c < next_copy h → event_of (e ∷ h) c ≡ event_of h c
+event_on h (Born i b place copies events waits stream end) c n l = chosen_true (nat_lt c (next_copy h)) (event_of h c) (slice_index_or events (c - next_copy h) no_event) (below c (next_copy h) l)
+event_on h (Split i ports copies event children) c n l = chosen_true (nat_lt c (next_copy h)) (event_of h c) event (below c (next_copy h) l)
+event_on h (Answer i outputs discarded kept) c n l = absurd n
+event_on h e c n l = refl
 
 made_on : (h : Record) (e : Entry) (c : ℕ) → c < next_copy h → c < next_copy (e ∷ h)
 made_on h e c l = omega arith
 
-pub said_on : (h : Record) (e : Entry) (p : Parcel) → IsSaid h p → IsSaid (e ∷ h) p
-said_on h e p s = record {
+pub said_on : (h : Record) (e : Entry) (p : Parcel) → IsNoAnswer e → IsSaid h p → IsSaid (e ∷ h) p
+said_on h e p n s = record {
   made = made_on h e (first_copy (numbers_in p.finalizers)) s.made;
-  event = s.event ∙ sym (event_on h e (first_copy (numbers_in p.finalizers)) s.made);
+  event = s.event ∙ sym (event_on h e (first_copy (numbers_in p.finalizers)) n s.made);
 }
 
-pub each_on : (h : Record) (e : Entry) (ps : List Parcel) → Each (IsSaid h) ps → Each (IsSaid (e ∷ h)) ps
-each_on h e [] all = tt
-each_on h e (p ∷ ps) all = (said_on h e p all.0, each_on h e ps all.1)
+pub each_on : (h : Record) (e : Entry) (ps : List Parcel) → IsNoAnswer e → Each (IsSaid h) ps → Each (IsSaid (e ∷ h)) ps
+each_on h e [] n all = tt
+each_on h e (p ∷ ps) n all = (said_on h e p n all.0, each_on h e ps n all.1)
 
-child_on : (h : Record) (e : Entry) (cs : List Child) → EachChild (IsSaid h) cs → EachChild (IsSaid (e ∷ h)) cs
-child_on h e [] all = tt
-child_on h e (c ∷ cs) all = (said_on h e c.parcel all.0, child_on h e cs all.1)
+child_on : (h : Record) (e : Entry) (cs : List Child) → IsNoAnswer e → EachChild (IsSaid h) cs → EachChild (IsSaid (e ∷ h)) cs
+child_on h e [] n all = tt
+child_on h e (c ∷ cs) n all = (said_on h e c.parcel n all.0, child_on h e cs n all.1)
 
-pub parcels_on : {P : Type 0} (h : Record) (e : Entry) (row : Row P) → HasEach (IsSaid h) row → HasEach (IsSaid (e ∷ h)) row
-parcels_on h e row a = record {
-  outputs = each_on h e row.outputs.items a.outputs;
-  waiting = child_on h e row.waiting.items a.waiting;
-  buffer = each_on h e row.buffer.items a.buffer;
-  held = each_on h e (task_parcels row.task) a.held;
+pub parcels_on : {P : Type 0} (h : Record) (e : Entry) (row : Row P) → IsNoAnswer e → HasEach (IsSaid h) row → HasEach (IsSaid (e ∷ h)) row
+parcels_on h e row n a = record {
+  outputs = each_on h e row.outputs.items n a.outputs;
+  waiting = child_on h e row.waiting.items n a.waiting;
+  buffer = each_on h e row.buffer.items n a.buffer;
+  held = each_on h e (task_parcels row.task) n a.held;
 }
 
--- an entry that is no install, no read and no take
+aside_silent : (e : Entry) → IsAside e → IsNoAnswer e
+aside_silent (Answer i outputs discarded kept) a = a
+aside_silent e a = tt
+
+touched_silent : (e : Entry) (i : ℕ) → touched e ≡ Some i → IsNoAnswer e
+touched_silent (Answer j outputs discarded kept) i touch = cc
+touched_silent e i touch = tt
+
+-- an entry that is no install, no read, no take and no answer
 pub rows_on : {P : Type 0} (h : Record) (e : Entry) → IsAside e → (rows : List (Row P)) → AreSaid h rows → AreSaid (e ∷ h) rows
 rows_on {P} h e u rows all i = go (row_at rows i) (all i)
   where
     go : (r : Option (Row P)) → IfSome r (IsSaidAt h i) → IfSome r (IsSaidAt (e ∷ h) i)
     go None a = tt
-    go (Some row) a = record { parcels = parcels_on h e row a.parcels; come = home_on h e i row.task u a.come }
+    go (Some row) a = record { parcels = parcels_on h e row (aside_silent e u) a.parcels; come = home_on h e i row.task u a.come }
 
 -- an entry of an instance that is out
 pub rows_told : {P : Type 0} (h : Record) (e : Entry) (i : ℕ) (rows : List (Row P)) → touched e ≡ Some i → IsOutAt rows i → AreSaid h rows → AreSaid (e ∷ h) rows
@@ -77,7 +91,7 @@ rows_told {P} h e i rows touch out all j = go (row_at rows j) refl (all j)
   where
     go : (r : Option (Row P)) → row_at rows j ≡ r → IfSome r (IsSaidAt h j) → IfSome r (IsSaidAt (e ∷ h) j)
     go None is a = tt
-    go (Some row) is a = record { parcels = parcels_on h e row a.parcels; come = by_instance (decided i j) row.task refl a.come }
+    go (Some row) is a = record { parcels = parcels_on h e row (touched_silent e i touch) a.parcels; come = by_instance (decided i j) row.task refl a.come }
       where
         by_instance : (i ≡ j) ⊎ (i ≢ j) → (t : Option (Task P)) → row.task ≡ t → HasComeHome h j t → HasComeHome (e ∷ h) j t
         by_instance same None at come = tt

@@ -5,13 +5,15 @@ use Rattle.std.proofs.lemmas.List.{append-nil}
 use Rattle.vx_value.specs.declared.event.Event.{Event}
 use Rattle.vx_ends.specs.Told.{Told}
 use Rattle.vx_ends.specs.declared.position.Position.{Position}
+use Rattle.vx_ends.specs.declared.trouble.Reply.{Reply}
 use Rattle.vx_record.specs.Records.{Record, capped}
 use Rattle.vx_record.specs.Reads.{taken, all_ended, ended_streams, ended_by as ended_in_entry}
 use Rattle.vx_record.specs.Encoding.{given, given_in}
 use Rattle.vx_record.specs.Confirms.{confirmed, confirmed_in}
 use Rattle.vx_record.specs.Growth.{taken_in}
 use Rattle.vx_record.specs.Noted.{Noted}
-use Rattle.vx_record.specs.PortCounts.{fault_count, refusal_count, idle_count, faults_in, refusals_in, idles_in}
+use Rattle.vx_record.specs.PortCounts.{fault_count, refusal_count, idle_count, faults_in, refusals_in, idles_in, is_refused}
+use Rattle.vx_record.specs.SinkBatches.{is_failed}
 use Rattle.vx_record.proofs.Grows.{taken_grows}
 use Rattle.vx_record.specs.declared.log.Log.{Log}
 use Rattle.vx_record.specs.declared.entry.Entry.{Entry}

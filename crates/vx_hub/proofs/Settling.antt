@@ -1,5 +1,5 @@
 -- What was attempted is held or spent, and spent where its instance is at home.
-use Rattle.std.proofs.Common.{◌≡◌, ℕ, ◌+◌, ◌<◌, ◌≤◌, Bool, true, false, List, [], ◌∷◌, length, refl, sym, ap, subst, ◌∙◌, arith, inl, inr}
+use Rattle.std.proofs.Common.{◌≡◌, ℕ, zero, suc, ◌+◌, ◌<◌, ◌≤◌, Bool, true, false, List, [], ◌∷◌, ◌++◌, length, refl, sym, ap, subst, ◌∙◌, arith, inl, inr}
 use Rattle.std.specs.Prelude.{if◌then◌else◌, nat_lt, ◌==◌, ◌&&◌, ◌||◌, IsTrue, IfSome, IsSomeAnd, Option, Some, None}
 use Rattle.std.specs.List.{list_any}
 use Rattle.std.proofs.lemmas.Bool.Decides.{nat_tests}
@@ -8,17 +8,21 @@ use Rattle.vx_ends.specs.Told.{Told}
 use Rattle.vx_ledger.specs.Copies.{Copy}
 use Rattle.vx_record.specs.Records.{Record}
 use Rattle.vx_record.specs.declared.entry.Entry.{Entry}
-use Rattle.vx_record.specs.declared.entry.Entry.TheVariants.{Lease, Home, Attempt, Abandon}
+use Rattle.vx_record.specs.declared.entry.Entry.TheVariants.{Lease, Home, Attempt, Spent, Abandon}
 use Rattle.vx_record.specs.Copies.{count, contains, joined, spends, all_of, times_spent}
+use Rattle.vx_record.specs.Places.{kind, leaves, puts}
 use Rattle.vx_record.specs.Places.Place.{Held}
-use Rattle.vx_record.specs.Lists.{held}
+use Rattle.vx_record.specs.Lists.{shrunk, held}
 use Rattle.vx_record.specs.Abandoning.{abandoned}
 use Rattle.vx_record.specs.Turns.{is_out, since_lease, is_attempt_of, worker_now}
 use Rattle.vx_record.specs.SinkBatches.{attempts_with, failures_with, attempts_allowed}
 use Rattle.vx_record.specs.Parcels.{first_copy}
 use Rattle.vx_record.specs.Owing.{is_decided, unspent_of, owes_spends_in, owes_birth}
 use Rattle.vx_record.specs.Ready.{is_ready}
+use Rattle.vx_record.specs.Moving.{IsConserved}
 use Rattle.vx_record.proofs.Counts.{count-append}
+use Rattle.vx_record.proofs.Changes.{parcels_after, put_at}
+use Rattle.vx_record.proofs.Hands.{stands_still}
 use Rattle.vx_hub.specs.declared.facts.Facts.{Facts}
 use Rattle.vx_hub.specs.declared.hub.Hub.{Hub}
 use Rattle.vx_record.specs.Starting.{MayLease}
@@ -30,8 +34,11 @@ use Rattle.vx_hub.specs.Stands.{Stands, IsKnown, IsSound, IsAtHome, facts_at}
 use Rattle.vx_hub.proofs.Silence.{same_test, other_test}
 use Rattle.vx_hub.proofs.Placing.{places_all}
 use Rattle.vx_hub.proofs.Touching.{out_port}
+use Rattle.vx_record.specs.Legal.{IsLegal}
+use Rattle.vx_record.proofs.OnePlace.{conserved as legal_conserved}
 use Rattle.vx_record.proofs.Attempted.{attempted_held}
 use Rattle.vx_hub.proofs.Allowed.{earlier}
+use Rattle.vx_hub.proofs.Ported.{owes_else}
 
 -- a run that wasn't given up wasn't before
 went_on : (h : Record) (e : Entry) → abandoned (e ∷ h) ≡ false → abandoned h ≡ false
@@ -151,11 +158,11 @@ owes_none (e ∷ h) whole i all = owes_none h whole i all
 pub unclosed_unretired : (h : Record) (f : Facts) (i worker now : ℕ) (gone : IsTrue f.retired → IsTrue f.closed) → f.closed ≡ false → f.leased ≡ false → IsKnown f h i → IsLegalWithReturns h → abandoned h ≡ false → owes_birth h i ≡ false → worker_now h worker ≤ now → is_ready h i now ≡ true → MayLease h i worker now 0
 unclosed_unretired h f i worker now gone unclosed unleased k orderly going born later ready = record {
   home = sym k.leased ∙ unleased;
-  settled = ap (λ (b : Bool). b || owes_spends_in h h i) born ∙ owes_none h h i (settled_home h i orderly (sym k.leased ∙ unleased) going);
+  settled = owes_else h i orderly born (owes_none h h i (settled_home h i orderly (sym k.leased ∙ unleased) going));
   unretired = sym k.retired ∙ go f.retired refl;
   unpolled = refl;
   later = later;
-  ready = ready;
+  ready = inl ready;
 }
   where
     go : (b : Bool) → f.retired ≡ b → b ≡ false

@@ -18,7 +18,7 @@ use Rattle.vx_plan.specs.Targets.{enter, in_order, names_reading, reads, readers
 use Rattle.vx_record.specs.Records.{Record}
 use Rattle.vx_record.specs.declared.child.Child.{Child as NotedChild}
 use Rattle.vx_record.specs.declared.entry.Entry.{Entry}
-use Rattle.vx_record.specs.declared.entry.Entry.TheVariants.{Born, Split, Push, Take}
+use Rattle.vx_record.specs.declared.entry.Entry.TheVariants.{Born, Split, Push, Take, Answer}
 use Rattle.vx_record.specs.declared.instance.Instance.{Instance}
 use Rattle.vx_record.specs.declared.instance.Start.TheVariants.{New}
 use Rattle.vx_record.specs.Copies.{count, joined, children_of, next_copy}
@@ -32,6 +32,7 @@ use Rattle.vx_record.specs.Installs.{Wiring, works, numbers_of, in_force}
 use Rattle.vx_record.specs.Routing.{routes, wired_targets}
 use Rattle.vx_record.specs.Turns.{is_out}
 use Rattle.vx_record.specs.Wirings.{names_differ}
+use Rattle.vx_record.specs.Ceasing.{no_answer}
 use Rattle.vx_record.specs.Ending.{SplitWants}
 use Rattle.vx_record.proofs.Changes.{same_place_is}
 use Rattle.vx_record.proofs.Steps.{length-children_of}
@@ -48,6 +49,8 @@ use Rattle.vx_hub.proofs.Naming.{wired_so}
 use Rattle.vx_record.proofs.FirstPort.{output_on_first, first_routes}
 use Rattle.vx_hub.proofs.Runners.{names_so}
 use Rattle.vx_hub.proofs.Ordering.{length_numbers}
+use Rattle.vx_hub.proofs.Ported.{unanswered}
+use Rattle.vx_hub.proofs.Saids.{IsNoAnswer}
 use Rattle.vx_hub.proofs.Touching.{facts_has}
 
 -- COPIES
@@ -68,16 +71,18 @@ children_elsewhere : (i : ℕ) (children : List NotedChild) → AreSingle (map (
 children_elsewhere i [] = tt
 children_elsewhere i (child ∷ rest) = (λ j is. cc, children_elsewhere i rest)
 
-entry_single : (e : Entry) → AreSingle (puts e)
-entry_single (Born i b place copies events waits stream end) = each_single i copies
-entry_single (Split i ports copies event children) = children_elsewhere i children
-entry_single (Push i t s copies) = (λ j is. cc, tt)
-entry_single (Take i s copies) = (λ j is. cc, tt)
-entry_single e = tt
+entry_single : (e : Entry) → IsNoAnswer e → AreSingle (puts e)
+entry_single (Born i b place copies events waits stream end) silent = each_single i copies
+entry_single (Split i ports copies event children) silent = children_elsewhere i children
+entry_single (Push i t s copies) silent = (λ j is. cc, tt)
+entry_single (Take i s copies) silent = (λ j is. cc, tt)
+entry_single (Answer i outputs discarded kept) silent = absurd silent
+entry_single e silent = tt
 
-all_single : (h : Record) → AreSingle (all_puts h)
-all_single [] = tt
-all_single (e ∷ h) = single-append (all_puts h) (puts e) (all_single h) (entry_single e)
+all_single : (h : Record) → no_answer h ≡ true → AreSingle (all_puts h)
+all_single [] silent = tt
+all_single (Answer i outputs discarded kept ∷ h) silent = cc
+all_single (e ∷ h) silent = single-append (all_puts h) (puts e) (all_single h silent) (entry_single e tt)
 
 -- what is left of some copies
 fewer : (gone xs : List ℕ) → length (without gone xs) ≤ length xs
@@ -108,8 +113,8 @@ standing_single gone i (put ∷ ps) copies rest single is = go (without (gone (k
     go (c ∷ cs) is e later = here (c ∷ cs) (same_place put.place (Outputs i)) (let n = ap length is in let m = fewer (gone (kind put.place)) put.copies in omega (arith, n, m)) refl e later
 
 -- an instance puts out each copy alone
-pub output_single : (h : Record) (i : ℕ) (copies : List ℕ) → IsOldest copies (outputs h i) → length copies ≤ 1
-output_single h i copies oldest = go (outputs h i) oldest (λ rest is. standing_single (left h) i (all_puts h) copies rest (all_single h) is)
+pub output_single : (h : Record) (i : ℕ) (copies : List ℕ) → no_answer h ≡ true → IsOldest copies (outputs h i) → length copies ≤ 1
+output_single h i copies silent oldest = go (outputs h i) oldest (λ rest is. standing_single (left h) i (all_puts h) copies rest (all_single h silent) is)
   where
     go : (ps : List (List ℕ)) → IsOldest copies ps → ((rest : List (List ℕ)) → ps ≡ copies ∷ rest → length copies ≤ 1) → length copies ≤ 1
     go [] none one = absurd none
@@ -271,7 +276,7 @@ split_wants h i targets parcel order home waits routed oldest said some =
         home = home;
         none_waits = waits;
         oldest = oldest;
-        on_ports = output_on_first h i copies order.legal oldest;
+        on_ports = output_on_first h i copies order.legal (unanswered h order) oldest;
         same_event = said.event;
         some = omega (arith, many, some);
         made = refl;
@@ -280,9 +285,9 @@ split_wants h i targets parcel order home waits routed oldest said some =
     }
 
 -- and wants fewer than 2^64
-pub split_few : (h : Record) (i most : ℕ) (targets : List ℕ) (parcel : Parcel) → length targets ≤ most → IsOldest (numbers_in parcel.finalizers) (outputs h i) → length targets * length parcel.finalizers ≤ most
-split_few h i most targets parcel few oldest =
-    let one = output_single h i (numbers_in parcel.finalizers) oldest in
+pub split_few : (h : Record) (i most : ℕ) (targets : List ℕ) (parcel : Parcel) → IsLegalWithReturns h → length targets ≤ most → IsOldest (numbers_in parcel.finalizers) (outputs h i) → length targets * length parcel.finalizers ≤ most
+split_few h i most targets parcel order few oldest =
+    let one = output_single h i (numbers_in parcel.finalizers) (unanswered h order) oldest in
     let n = length_numbers parcel.finalizers in
     times_one (length targets) (length parcel.finalizers) most few (omega (arith, one, n))
 

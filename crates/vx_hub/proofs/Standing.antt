@@ -1,5 +1,5 @@
 -- Copies are spent where they stand.
-use Rattle.std.proofs.Common.{◌≡◌, ℕ, ◌<◌, ◌≤◌, List, [], ◌∷◌, ◌++◌, Option, Some, None, IfSome, refl, sym, ap, ◌∙◌, subst, arith}
+use Rattle.std.proofs.Common.{◌≡◌, ℕ, ◌+◌, ◌<◌, ◌≤◌, true, List, [], ◌∷◌, ◌++◌, Option, Some, None, IfSome, refl, sym, ap, ◌∙◌, subst, arith}
 use Rattle.std.specs.Prelude.{IsTrue}
 use Rattle.vx_ends.specs.Told.{Told}
 use Rattle.vx_ends.specs.declared.trouble.Reply.{Reply}
@@ -12,11 +12,11 @@ use Rattle.vx_record.specs.Noted.{Noted}
 use Rattle.vx_record.specs.Copies.{count, joined, IsLive}
 use Rattle.vx_record.specs.Places.{Place}
 use Rattle.vx_record.specs.Places.Place.{Outputs, Waiting, Held}
-use Rattle.vx_record.specs.Lists.{stands, shrunk, parcels_at, outputs}
+use Rattle.vx_record.specs.Lists.{stands, without, and_rest, shrunk, parcels_at, outputs}
 use Rattle.vx_record.specs.Spending.{oldest}
 use Rattle.vx_record.specs.Moving.{IsConserved}
 use Rattle.vx_record.specs.declared.entry.Entry.TheVariants.{Spent, Notice}
-use Rattle.vx_record.proofs.Counts.{count-append}
+use Rattle.vx_record.proofs.Counts.{count-append, count-without, unless}
 use Rattle.vx_record.proofs.Hands.{shrunk_by_none, stands_still, parcel_is_at, spent_from_hand}
 use Rattle.vx_hub.specs.declared.hub.Hub.{Hub}
 use Rattle.vx_hub.specs.Numbers.{numbers_in}
@@ -25,6 +25,7 @@ use Rattle.vx_hub.specs.Order.{AreSpentFrom, IsPlaceFor, reply_behind}
 use Rattle.vx_hub.specs.Places.{TakesFrom, TakesOldest, copies_at, all_numbers}
 use Rattle.vx_hub.specs.Spending.{IsSpentFor, ComeFrom}
 use Rattle.vx_hub.specs.Stands.{Stands, IsSound}
+use Rattle.vx_record.specs.Ceasing.{no_answer}
 use Rattle.vx_hub.proofs.Causing.{caused, spent_here}
 use Rattle.vx_record.proofs.Attempted.{count_shrunk}
 use Rattle.vx_hub.proofs.Shrinking.{shrinks, oldest_left}
@@ -118,10 +119,10 @@ reply_place Abandoned reply i behind = cc
 reply_place outcome reply i behind = refl
 
 -- a copy of the hand may be spent
-pub spending : (h : Record) (i : ℕ) (f : Copy) (n : ℕ) (outcome : Outcome) → n ≡ f.number → IsConserved h → IsLive h n → IsSpentFor h i outcome → AreSpentFrom h i outcome (f.number ∷ []) → MaySpend h i n outcome
-spending h i f n outcome same kept live cause from =
+pub spending : (h : Record) (i : ℕ) (f : Copy) (n : ℕ) (outcome : Outcome) → n ≡ f.number → IsConserved h → no_answer h ≡ true → IsLive h n → IsSpentFor h i outcome → AreSpentFrom h i outcome (f.number ∷ []) → MaySpend h i n outcome
+spending h i f n outcome same kept silent live cause from =
     let alone : AreSpentFrom h i outcome (n ∷ []) = subst (λ (k : ℕ). AreSpentFrom h i outcome (k ∷ [])) (sym same) from in
-    record { live = live; here = spent_here h i n outcome alone; cause = caused h i n outcome kept cause alone }
+    record { live = live; here = spent_here h i n outcome alone; cause = caused h i n outcome kept silent cause alone }
 
 -- a record behind which a copy of the hand is spent
 kept_spent : {P : Type 0} (told_by : P → Told) (d : Hub P) (i : ℕ) (rest : List Copy) (f : Copy) (n : ℕ) (outcome : Outcome) → n ≡ f.number → Stands told_by d (rest ++ f ∷ []) d.log.history → IsSound d →

@@ -10,7 +10,7 @@ use Rattle.vx_record.specs.Records.{Record}
 use Rattle.vx_record.specs.Noted.{Noted}
 use Rattle.vx_record.specs.declared.log.Log.{Log}
 use Rattle.vx_record.specs.declared.entry.Entry.{Entry}
-use Rattle.vx_record.specs.declared.entry.Entry.TheVariants.{Install, Home, Read, Idle, SourceLost, Attempt, Spent, Notice, Confirm, Abandon}
+use Rattle.vx_record.specs.declared.entry.Entry.TheVariants.{Install, Lease, Home, Read, Idle, SourceLost, Born, Answer, Attempt, Spent, Notice, Confirm, Closed, Retired, Abandon}
 use Rattle.vx_record.specs.declared.abandon_cause.AbandonCause.{AbandonCause}
 use Rattle.vx_hub.proofs.Known.{known_far, quiet_far}
 use Rattle.vx_hub.specs.declared.facts.Facts.{Facts}
@@ -61,6 +61,7 @@ mute_of_quiet (Install version plan once instances now) q = absurd q
 mute_of_quiet (Read j stream took) q = absurd q
 mute_of_quiet (Idle j failed) q = absurd q
 mute_of_quiet (SourceLost j at failed) q = absurd q
+mute_of_quiet (Answer j outputs discarded kept) q = absurd q
 mute_of_quiet (Attempt j copies bytes reply) q = absurd q
 mute_of_quiet (Confirm j positions made) q = absurd q
 mute_of_quiet e q = tt

@@ -15,7 +15,7 @@ use Rattle.vx_plan.specs.declared.component.Component.{Component}
 use Rattle.vx_plan.specs.Components.{component_named, batch_max_events, batch_timeout}
 use Rattle.vx_record.specs.Records.{Record, capped}
 use Rattle.vx_record.specs.declared.entry.Entry.{Entry}
-use Rattle.vx_record.specs.declared.entry.Entry.TheVariants.{Install, Read, Take, Attempt}
+use Rattle.vx_record.specs.declared.entry.Entry.TheVariants.{Install, Read, Take, Answer, Attempt}
 use Rattle.vx_record.specs.declared.abandon_cause.AbandonCause.{AbandonCause}
 use Rattle.vx_record.specs.Abandoning.{abandoned}
 use Rattle.vx_record.specs.Copies.{count, contains, joined, times_spent}
@@ -97,12 +97,13 @@ rows_taken {P} h j s copies rows hand placed kept all i = go (row_at rows i) (pl
 
     go : (r : Option (Row P)) → shrunk hand (held h i) ≡ all_numbers (copies_if (Held i) r) → IfSome r (IsSaidAt h i) → IfSome r (IsSaidAt (Take j s copies ∷ h) i)
     go None is a = tt
-    go (Some row) is a = record { parcels = parcels_on h (Take j s copies) row a.parcels; come = by_task row.task is a.come }
+    go (Some row) is a = record { parcels = parcels_on h (Take j s copies) row tt a.parcels; come = by_task row.task is a.come }
 
 -- an entry that tells nothing of any port
 pub rows_marked : {P : Type 0} (h : Record) (e : Entry) → IsMute e → (rows : List (Row P)) (hand : List ℕ) → IsThere rows hand h → IsConserved (e ∷ h) → AreSaid h rows → AreSaid (e ∷ h) rows
 rows_marked h (Install version plan once instances now) m rows hand placed kept all = absurd m
 rows_marked h (Read i stream took) m rows hand placed kept all = absurd m
+rows_marked h (Answer i outputs discarded keeps) m rows hand placed kept all = absurd m
 rows_marked h (Take j s copies) m rows hand placed kept all = rows_taken h j s copies rows hand placed kept all
 rows_marked h e m rows hand placed kept all = rows_on h e tt rows all
 

@@ -1,5 +1,5 @@
 -- What a source brings home, behind the entries that tell it.
-use Rattle.std.proofs.Common.{◌≡◌, ℕ, ◌<◌, length, Bool, List, [], ◌∷◌, ◌++◌, subst, sym}
+use Rattle.std.proofs.Common.{◌≡◌, ℕ, ◌<◌, length, Bool, List, [], ◌∷◌, ◌++◌, inl, inr, true, subst, sym}
 use Rattle.std.specs.Prelude.{Contains}
 use Rattle.std.proofs.lemmas.List.{append-nil}
 use Rattle.vx_ends.specs.declared.position.Position.{Position}
@@ -10,6 +10,7 @@ use Rattle.vx_record.specs.Noted.{Noted}
 use Rattle.vx_record.specs.Reads.{ended_streams, ended_by}
 use Rattle.vx_record.specs.declared.entry.Entry.{Entry}
 use Rattle.vx_record.specs.declared.entry.Entry.TheVariants.{Read, Confirm}
+use Rattle.vx_record.specs.declared.entry.Entry.TheVariants as entry
 use Rattle.vx_record.specs.declared.taken.Taken.{Taken}
 use Rattle.vx_record.specs.declared.taken.Taken.TheVariants as taken
 use Rattle.vx_hub.specs.declared.hub.Hub.{Hub}
@@ -22,6 +23,7 @@ use Rattle.vx_hub.specs.declared.work.Done.{Done}
 use Rattle.vx_hub.specs.declared.work.Done.TheVariants as done
 use Rattle.vx_hub.specs.Abreast.{AreNamedApart, IsAbreast, HasCome, HasDone, HasTurned, RoleHasTurned, Yields, Gives}
 use Rattle.vx_hub.specs.Births.{HasComeBy, HasDoneBy}
+use Rattle.vx_hub.specs.Failures.{IsFailureOf}
 use Rattle.vx_hub.specs.Stands.{IsSound}
 use Rattle.vx_hub.specs.Spending.{HasYielded}
 use Rattle.vx_record.specs.Sourcing.{IsYield}

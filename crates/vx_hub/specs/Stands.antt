@@ -12,7 +12,7 @@ use Rattle.vx_record.specs.Turns.{is_out, worker_now}
 use Rattle.vx_record.specs.PortCounts.{fault_count, refusal_count, idle_count}
 use Rattle.vx_record.specs.Encoding.{given}
 use Rattle.vx_record.specs.declared.entry.Entry.{Entry}
-use Rattle.vx_record.specs.declared.entry.Entry.TheVariants.{Install, Lease, Home, Read, Idle, SourceLost, Born, Attempt, Confirm, Closed, Retired, Abandon}
+use Rattle.vx_record.specs.declared.entry.Entry.TheVariants.{Install, Lease, Home, Read, Idle, SourceLost, Born, Answer, Attempt, Confirm, Closed, Retired, Abandon}
 use Rattle.vx_record.specs.declared.abandon_cause.AbandonCause.{AbandonCause}
 use Rattle.vx_hub.specs.declared.facts.Facts.{Facts}
 use Rattle.vx_hub.specs.declared.row.Row.{Row}
@@ -173,18 +173,19 @@ pub record Stands {P : Type 0} (told_by : P → Told) (hub : Hub P) (hand : List
   pub order : IsLegalWithReturns h
   pub fed : IsTrue hub.log.whole → hub.starved ≡ false
 
--- an entry that installs nothing and tells nothing of any port
+-- an entry that installs nothing, tells nothing of any port and answers nothing
 abbrev pub IsMute : Entry → Type 0
 IsMute (Install version plan once instances now) = ⊥
 IsMute (Read i stream took) = ⊥
 IsMute (Idle i failed) = ⊥
 IsMute (SourceLost i at failed) = ⊥
+IsMute (Answer i outputs discarded kept) = ⊥
 IsMute (Attempt i copies bytes reply) = ⊥
 IsMute (Confirm i positions made) = ⊥
 IsMute other = Unit {0}
 
--- an entry that installs nothing, leases nobody and brings nobody home, tells nothing of any port, bears no batch, abandons
--- nothing and ends no instance
+-- an entry that installs nothing, leases nobody and brings nobody home, tells nothing of any port, answers nothing, bears no
+-- batch, abandons nothing and ends no instance
 abbrev pub IsQuiet : Entry → Type 0
 IsQuiet (Lease i worker now polls) = ⊥
 IsQuiet (Home i) = ⊥
@@ -193,6 +194,7 @@ IsQuiet (Read i stream took) = ⊥
 IsQuiet (Idle i failed) = ⊥
 IsQuiet (SourceLost i at failed) = ⊥
 IsQuiet (Born i batch place copies events waits stream end) = ⊥
+IsQuiet (Answer i outputs discarded kept) = ⊥
 IsQuiet (Attempt i copies bytes reply) = ⊥
 IsQuiet (Confirm i positions made) = ⊥
 IsQuiet (Closed i) = ⊥

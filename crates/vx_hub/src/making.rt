@@ -5,6 +5,7 @@ ghost use Rattle.vx_record.specs.Starting.{first_instances};
 ghost use Rattle.vx_record.specs.Wirings.{names_differ, begun};
 ghost use Rattle.vx_hub.specs.Stands.{Stands, spec_of};
 ghost use Rattle.vx_hub.specs.Beginning.{HasRoomFor, HasSeats, Begins};
+ghost use Rattle.vx_hub.specs.Order.{all_ported};
 ghost use Rattle.vx_hub.specs.Making.{IsUnused, AreUnused, IsSeatOf, AreFitted, IsUntouched, AreUntouched};
 
 use crate::facts::Facts;
@@ -42,6 +43,7 @@ impl<P: Port> Hub<P> {
         requires few { length parts.plan.components < 2 ^ 32 }
         requires untouched { AreUntouched P.told parts.plan.components parts.ports }
         requires named { names_differ parts.plan.components ≡ true }
+        requires ported { all_ported parts.plan.components ≡ true }
         ensures stands { IfOk result (λ hub. Stands P.told hub [] hub.log.history) }
         ensures size { IfOk result (λ hub. length hub.rows.items ≡ length parts.plan.components) }
         ensures installed { IfOk result (λ hub. in_force hub.log.history ≡ Some parts.plan) }
@@ -154,6 +156,7 @@ fn seated<P: Port>(
     requires small { length plan.components < 2 ^ 32 }
     requires untouched { AreUntouched P.told plan.components ports.items }
     requires named { names_differ plan.components ≡ true }
+    requires ported { all_ported plan.components ≡ true }
     requires count { length seats.items ≡ length plan.components }
     ensures stands { Stands P.told result [] result.log.history }
     ensures installed { in_force result.log.history ≡ Some plan }

@@ -1,6 +1,8 @@
-ghost use Rattle.std.specs.Prelude.{◌≡◌, ◌++◌, ◌∷◌, [], length, IfOk};
+ghost use Rattle.std.specs.Prelude.{◌≡◌, ◌++◌, ◌∷◌, [], true, length, IfOk};
 ghost use Rattle.vx_plan.specs.Numbers.{reader_numbers};
 ghost use Rattle.vx_plan.specs.Components.{stages, sink_stages};
+ghost use Rattle.vx_plan.specs.Options.{has_device};
+ghost use Rattle.vx_hub.specs.Order.{all_ported};
 ghost use Rattle.vx_hub.specs.Making.{IsUnused, AreUnused, IsSeatOf, AreFitted, first_size, room_named, IsBegun};
 ghost use Rattle.vx_hub.specs.Rows.{role_parcels};
 
@@ -32,6 +34,7 @@ pub struct Seat {
 
 /// What each component of a plan begins with, in order.
 pub(crate) fn seats(alloc: Global, plan: &Plan) -> Result<Vec<Seat>, WantOfMemory>
+    requires { all_ported plan.now.components ≡ true }
     ensures unused { IfOk result (λ seats. AreUnused seats.items) }
     ensures count { IfOk result (λ seats. length seats.items ≡ length plan.now.components) }
     ensures fitted { IfOk result (λ seats. AreFitted plan.now plan.now.components seats.items) }
@@ -51,6 +54,7 @@ pub(crate) fn seats(alloc: Global, plan: &Plan) -> Result<Vec<Seat>, WantOfMemor
 
 /// What a component begins with.
 fn make_seat(alloc: Global, plan: &Plan, component: &Component) -> Result<Seat, WantOfMemory>
+    requires { has_device component.now.settings ≡ true }
     ensures unused { IfOk result IsUnused }
     ensures fitted { IfOk result (IsSeatOf plan.now component.now) }
 {
@@ -137,6 +141,7 @@ fn sink_room(settings: &Settings) -> usize
 
 /// What a component does with its port.
 fn role(alloc: Global, settings: &Settings) -> Result<Role, WantOfMemory>
+    requires { has_device settings.now ≡ true }
     ensures none { IfOk result (λ role. role_parcels role ≡ []) }
     ensures begun { IfOk result (IsBegun settings.now) }
 {

@@ -2,8 +2,7 @@
 use Rattle.std.specs.Prelude.{ℕ, ◌*◌, Bool, true, false, Option, Some, None, List, [], ◌∷◌, find, unwrap_or}
 use Rattle.vx_value.specs.Texts.{Word, same_text}
 use Rattle.vx_json.specs.Waits.{wait_after}
-use Rattle.vx_plan.specs.Options.{sink_options, line_limit}
-use Rattle.vx_plan.specs.declared.class.Class.{Class}
+use Rattle.vx_plan.specs.Options.{sink_options, line_limit, transform_ports}
 use Rattle.vx_plan.specs.declared.class.Class.TheVariants.{Source, Transform, Sink}
 use Rattle.vx_plan.specs.declared.component.Component.{Component}
 use Rattle.vx_plan.specs.declared.plan.Plan.{Plan}
@@ -20,19 +19,17 @@ component_named plan name = find (λ (c : Component). same_text c.name name) pla
 abbrev pub is_source : Component → Bool
 is_source c = elim c.class [ Source ↦ true | Transform ↦ false | Sink ↦ false ]
 
+-- whether it stands in the table of transforms
+abbrev pub is_transform : Component → Bool
+is_transform c = elim c.class [ Source ↦ false | Transform ↦ true | Sink ↦ false ]
+
 -- whether it stands in the table of sinks
 abbrev pub is_sink : Component → Bool
 is_sink c = elim c.class [ Source ↦ false | Transform ↦ false | Sink ↦ true ]
 
--- the names of the ports of a class, in order; the only port of most components has the empty name
-abbrev pub class_ports : Class → List Word
-class_ports Source = [] ∷ []
-class_ports Transform = [] ∷ []
-class_ports Sink = []
-
--- the names of a component's ports
+-- the names of a component's ports, in order; the only port of most components has the empty name
 abbrev pub port_names : Component → List Word
-port_names c = class_ports c.class
+port_names c = elim c.class [ Source ↦ [] ∷ [] | Transform ↦ transform_ports c.settings | Sink ↦ [] ]
 
 -- what a component's sink options say, or a value where it has none
 abbrev pub of_sink : {X : Type 0} → X → (SinkSettings → X) → Settings → X

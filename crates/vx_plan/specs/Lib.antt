@@ -1,6 +1,11 @@
 pub mod Options
 pub mod Components
 pub mod Targets
+pub mod Walks
+pub mod Chains
+pub mod Graphs
+pub mod GraphTargets
+pub mod Accepted
 pub mod Numbers
 pub mod Ports
 pub mod First

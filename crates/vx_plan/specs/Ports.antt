@@ -21,6 +21,7 @@ is_stderr Stderr = true
 abbrev pub form_of : Settings → Option Form
 form_of (Stdin max_length codec) = Some form.Stdin
 form_of (Console target codec sink) = Some (form.Console (is_stderr target))
+form_of other = None
 
 -- a component's port: its name and form
 abbrev pub port_of : Component → Option PortSpec

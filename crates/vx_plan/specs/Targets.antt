@@ -1,39 +1,16 @@
 -- Which components read which output.
-use Rattle.std.specs.Prelude.{ℕ, zero, suc, Bool, false, not, ◌&&◌, ◌||◌, Some, None, List, [], ◌∷◌, ◌++◌, map, length, if◌then◌else◌, ◌==◌, filter, slice_index_or}
+use Rattle.std.specs.Prelude.{ℕ, zero, suc, Bool, false, ◌||◌, Some, None, List, [], ◌∷◌, map, length, if◌then◌else◌, filter, slice_index_or}
 use Rattle.std.specs.List.{list_any}
-use Rattle.vx_value.specs.Texts.{Word, same_text, text_le, is_empty}
+use Rattle.vx_value.specs.Texts.{Word, same_text, text_le}
+pub use Rattle.vx_graph.specs.Patterns.{star, ends, behind, is_like}
+pub use Rattle.vx_graph.specs.Outputs.{output_text, is_met}
 use Rattle.vx_plan.specs.declared.component.Component.{Component}
 use Rattle.vx_plan.specs.declared.plan.Plan.{Plan}
 use Rattle.vx_plan.specs.Components.{component_named, port_names, acknowledges}
 
--- every end of a text, the whole text among them
-abbrev pub ends : Word → List Word
-ends [] = [] ∷ []
-ends (c ∷ t) = (c ∷ t) ∷ ends t
-
--- what follows a first byte
-abbrev pub behind : ℕ → Word → List Word
-behind c [] = []
-behind c (d ∷ t) = if c == d then t ∷ [] else []
-
--- the byte `*`
-abbrev pub star : ℕ
-star = 42
-
--- whether a text is of a pattern's form, in which each `*` stands for any text
-abbrev pub is_like : Word → Word → Bool
-is_like [] t = is_empty t
-is_like (c ∷ pattern) t = list_any (is_like pattern) (if c == star then ends t else behind c t)
-
--- the text by which inputs name a component's port
-abbrev pub output_text : Word → Word → Word
-output_text name [] = name
-output_text name (c ∷ port) = name ++ 46 ∷ c ∷ port
-
--- a pattern with `*` never means the outputs of the component that reads
+-- whether a component reads a port of another by an input, as the graph says
 abbrev pub reads_by : Component → Word → Word → Word → Bool
-reads_by reader name port input =
-    is_like input (output_text name port) && not (list_any (λ c. c == star) input && same_text reader.name name)
+reads_by reader name port input = is_met reader.name name input (output_text name port)
 
 -- whether a component reads a port
 abbrev pub reads : Component → Word → Word → Bool
@@ -65,13 +42,32 @@ all_targets plan name = elim (component_named plan name) [ None ↦ [] | Some c 
 abbrev pub targets : Plan → Word → ℕ → List Word
 targets plan name port = slice_index_or (all_targets plan name) port []
 
--- whether a walk of at most so many steps along targets leads to a sink that acknowledges
+-- whether the component of a name is a sink that acknowledges
+abbrev pub acknowledges_named : Plan → Word → Bool
+acknowledges_named plan name = elim (component_named plan name) [ None ↦ false | Some c ↦ acknowledges c ]
+
+-- whether a walk of at most so many steps along targets leads to a sink that acknowledges: what `acknowledged` says, step by step and for one component
 abbrev pub leads : ℕ → Plan → Word → Bool
 leads zero plan name = false
-leads (suc steps) plan name =
-    (elim (component_named plan name) [ None ↦ false | Some c ↦ acknowledges c ])
-    || list_any (list_any (leads steps plan)) (all_targets plan name)
+leads (suc steps) plan name = acknowledges_named plan name || list_any (list_any (leads steps plan)) (all_targets plan name)
+
+-- whether a text is among some
+abbrev pub is_among : List Word → Word → Bool
+is_among names name = list_any (same_text name) names
+
+-- whether a component acknowledges, or one of its targets is among some
+abbrev pub leads_into : Plan → List Word → Word → Bool
+leads_into plan reached name = acknowledges_named plan name || list_any (list_any (is_among reached)) (all_targets plan name)
+
+-- the components from which one step leads to some, or that acknowledge
+abbrev pub led : Plan → List Word → List Word
+led plan reached = filter (leads_into plan reached) (map (λ (c : Component). c.name) plan.components)
+
+-- the components from which a walk of at most so many steps leads to a sink that acknowledges. Each step looks once at each component and its targets
+abbrev pub leading : ℕ → Plan → List Word
+leading zero plan = []
+leading (suc steps) plan = led plan (leading steps plan)
 
 -- whether the batches of a source wait; no walk needs more components than there are
 abbrev pub acknowledged : Plan → Word → Bool
-acknowledged plan source = leads (length plan.components) plan source
+acknowledged plan source = is_among (leading (length plan.components) plan) source

@@ -1,4 +1,6 @@
-ghost use Rattle.std.specs.Prelude.{◌≡◌, IfOk};
+ghost use Rattle.std.specs.Prelude.{◌≡◌, ◌<◌, [], length, slice_index_or, IfOk};
+ghost use Rattle.vx_plan.specs.Components.{port_names};
+ghost use Rattle.vx_plan.specs.Options.{transform_ports};
 ghost use Rattle.vx_plan.specs.Ports.{port_of};
 
 use crate::class::Class;
@@ -43,6 +45,28 @@ impl Component {
                 name: self.name.copy(alloc)?,
                 form,
             })),
+        }
+    }
+
+    /// How many ports the component has.
+    pub fn ports(&self) -> usize
+        ensures { result ≡ length (port_names self.now) }
+    {
+        match self.class {
+            Class::Source => 1,
+            Class::Transform => self.settings.ports(),
+            Class::Sink => 0,
+        }
+    }
+
+    /// The name of one of its ports, which is empty where the component has no other.
+    pub fn port_name(&self, port: usize) -> &str
+        requires { port < length (port_names self.now) }
+        ensures { result.now ≡ slice_index_or (port_names self.now) port [] }
+    {
+        match self.class {
+            Class::Transform => self.settings.port_name(port),
+            _ => "",
         }
     }
 }

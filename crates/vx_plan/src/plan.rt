@@ -1,9 +1,9 @@
-ghost use Rattle.std.specs.Prelude.{◌≡◌, IfOk};
+ghost use Rattle.std.specs.Prelude.{◌≡◌, length, IfOk};
 ghost use Rattle.std.specs.Option.{option_copied};
 ghost use Rattle.vx_plan.specs.Components.{component_named};
 ghost use Rattle.vx_plan.specs.Numbers.{reader_numbers};
 ghost use Rattle.vx_plan.specs.Ports.{port_spec};
-ghost use Rattle.vx_plan.specs.Targets.{targets, acknowledged};
+ghost use Rattle.vx_plan.specs.Targets.{targets, acknowledged, leads as walks_lead};
 
 use crate::component::{Component, ComponentList};
 use crate::global::Global;
@@ -46,8 +46,9 @@ impl Plan {
         ensures { IfOk result (λ names. names ≡ targets self.now name.now port) }
     {
         match self.component(name) {
-            Some(component) if component.class.has_port(port) => {
-                readers(alloc, self.components.as_slice(), name)
+            Some(component) if (port as usize) < component.ports() => {
+                let port = component.port_name(port as usize);
+                readers(alloc, self.components.as_slice(), name, port)
             }
             _ => Ok(TextList::new(alloc)),
         }
@@ -70,9 +71,10 @@ impl Plan {
 
     /// Whether the batches of a source wait: whether a walk along targets leads from it to a sink that acknowledges.
     pub fn acknowledged(&self, source: &str) -> bool
-        ensures { result ≡ acknowledged self.now source.now }
+        ensures way { result ≡ acknowledged self.now source.now }
+        ensures walk { result ≡ walks_lead (length self.now.components) self.now source.now }
     {
-        leads(self, self.components.len(), source)
+        leads(self, source)
     }
 
     /// The port that a component needs; `None` exactly where it has no device, or isn't in the plan.

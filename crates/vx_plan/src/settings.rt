@@ -1,16 +1,21 @@
-ghost use Rattle.std.specs.Prelude.{◌≡◌, false, IfOk};
+ghost use Rattle.std.specs.Prelude.{◌≡◌, ◌<◌, [], length, slice_index_or, false, IfOk};
 ghost use Rattle.std.specs.Option.{option_copied};
 ghost use Rattle.vx_plan.specs.Components.{of_sink};
 ghost use Rattle.vx_plan.specs.declared.sink_settings.SinkSettings.{SinkSettings};
 ghost use Rattle.vx_plan.specs.Ports.{form_of};
-ghost use Rattle.vx_plan.specs.Options.{sink_options, line_limit, decoding, encoding, has_device};
+ghost use Rattle.vx_plan.specs.Options.{sink_options, line_limit, decoding, encoding, has_device, transform_ports};
 
 use crate::console_target::ConsoleTarget;
+use crate::copies::{
+    copy_demo, copy_fields, copy_optional, copy_paths, copy_routes, copy_strategies,
+};
+use crate::route::RouteList;
 use crate::sink_settings::SinkSettings;
 use std::alloc::Global;
+use vx_condition::{DedupeFields, PathList, StrategyList};
 use vx_ends::Form;
-use vx_json::{Codec, Decoding};
-use vx_value::WantOfMemory;
+use vx_json::{Codec, Decoding, DemoSettings};
+use vx_value::{Text, WantOfMemory};
 
 /// The options of a component, one variant for each type.
 #[derive(Drop)]
@@ -21,10 +26,56 @@ pub enum Settings {
         max_length: u32,
         decoding_codec: Decoding,
     },
+    /// A source that makes its lines itself.
+    DemoLogs {
+        demo: DemoSettings,
+        /// How many seconds lie between two lines: 0 to 86,400. With 0 it makes 64 lines at once.
+        interval: u32,
+    },
+    /// A transform that passes what its condition accepts.
+    Filter {
+        condition: Text,
+    },
+    /// A transform that puts events out by conditions.
+    Route {
+        /// 1 to 64 of them.
+        routes: RouteList,
+        /// Whether what no condition accepts is put out on a port of its own, or else discarded.
+        reroute_unmatched: bool,
+    },
+    /// A transform that passes each event whose number is a multiple of a rate.
+    Sample {
+        rate: u64,
+        /// The condition of what passes uncounted.
+        exclude: Option<Text>,
+    },
+    /// A transform that discards repeats.
+    Dedupe {
+        fields: DedupeFields,
+        /// How many keys it keeps: 1 to 1,000,000.
+        cache_num_events: u32,
+    },
+    /// A transform that merges events.
+    Reduce {
+        group_by: PathList,
+        starts_when: Option<Text>,
+        ends_when: Option<Text>,
+        expire_after_ms: u64,
+        flush_period_ms: u64,
+        merge_strategies: StrategyList,
+    },
+    /// A transform that is handed in.
+    Host,
     /// A sink that writes to standard output or standard error.
     Console {
         target: ConsoleTarget,
         encoding_codec: Codec,
+        sink: SinkSettings,
+    },
+    /// A sink that writes nothing.
+    Blackhole {
+        /// Without effect.
+        print_interval_secs: u64,
         sink: SinkSettings,
     },
 }
@@ -35,8 +86,8 @@ impl Settings {
         ensures { option_copied result ≡ sink_options self.now }
     {
         match self {
-            Settings::Stdin { .. } => None,
-            Settings::Console { sink, .. } => Some(sink),
+            Settings::Console { sink, .. } | Settings::Blackhole { sink, .. } => Some(sink),
+            _ => None,
         }
     }
 
@@ -46,7 +97,8 @@ impl Settings {
     {
         match self {
             Settings::Stdin { max_length, .. } => Some(*max_length),
-            Settings::Console { .. } => None,
+            Settings::DemoLogs { .. } => Some(u32::MAX),
+            _ => None,
         }
     }
 
@@ -56,7 +108,8 @@ impl Settings {
     {
         match self {
             Settings::Stdin { decoding_codec, .. } => Some(*decoding_codec),
-            Settings::Console { .. } => None,
+            Settings::DemoLogs { .. } => Some(Decoding::Bytes),
+            _ => None,
         }
     }
 
@@ -65,8 +118,8 @@ impl Settings {
         ensures { result ≡ encoding self.now }
     {
         match self {
-            Settings::Stdin { .. } => None,
             Settings::Console { encoding_codec, .. } => Some(*encoding_codec),
+            _ => None,
         }
     }
 
@@ -86,6 +139,7 @@ impl Settings {
     {
         match self {
             Settings::Stdin { .. } | Settings::Console { .. } => true,
+            _ => false,
         }
     }
 
@@ -98,6 +152,31 @@ impl Settings {
             Settings::Console { target, .. } => Some(Form::Console {
                 err: *target == ConsoleTarget::Stderr,
             }),
+            _ => None,
+        }
+    }
+
+    // How many ports a transform has.
+    pub(crate) fn ports(&self) -> usize
+        ensures { result ≡ length (transform_ports self.now) }
+    {
+        match self {
+            Settings::Route { routes, .. } => routes.as_slice().len() + 1,
+            _ => 1,
+        }
+    }
+
+    // The name of a transform's port.
+    pub(crate) fn port_name(&self, port: usize) -> &str
+        requires { port < length (transform_ports self.now) }
+        ensures { result.now ≡ slice_index_or (transform_ports self.now) port [] }
+    {
+        match self {
+            Settings::Route { routes, .. } => match routes.get(port) {
+                Some(route) => route.name.as_str(),
+                None => "_unmatched",
+            },
+            _ => "",
         }
     }
 
@@ -122,6 +201,54 @@ impl Settings {
                 encoding_codec: *encoding_codec,
                 sink: sink.copy(alloc)?,
             }),
+            Settings::Blackhole {
+                print_interval_secs,
+                sink,
+            } => Ok(Settings::Blackhole {
+                print_interval_secs: *print_interval_secs,
+                sink: sink.copy(alloc)?,
+            }),
+            Settings::DemoLogs { demo, interval } => Ok(Settings::DemoLogs {
+                demo: copy_demo(alloc, demo)?,
+                interval: *interval,
+            }),
+            Settings::Filter { condition } => Ok(Settings::Filter {
+                condition: condition.copy(alloc)?,
+            }),
+            Settings::Route {
+                routes,
+                reroute_unmatched,
+            } => Ok(Settings::Route {
+                routes: copy_routes(alloc, routes)?,
+                reroute_unmatched: *reroute_unmatched,
+            }),
+            Settings::Sample { rate, exclude } => Ok(Settings::Sample {
+                rate: *rate,
+                exclude: copy_optional(alloc, exclude)?,
+            }),
+            Settings::Dedupe {
+                fields,
+                cache_num_events,
+            } => Ok(Settings::Dedupe {
+                fields: copy_fields(alloc, fields)?,
+                cache_num_events: *cache_num_events,
+            }),
+            Settings::Reduce {
+                group_by,
+                starts_when,
+                ends_when,
+                expire_after_ms,
+                flush_period_ms,
+                merge_strategies,
+            } => Ok(Settings::Reduce {
+                group_by: copy_paths(alloc, group_by)?,
+                starts_when: copy_optional(alloc, starts_when)?,
+                ends_when: copy_optional(alloc, ends_when)?,
+                expire_after_ms: *expire_after_ms,
+                flush_period_ms: *flush_period_ms,
+                merge_strategies: copy_strategies(alloc, merge_strategies)?,
+            }),
+            Settings::Host => Ok(Settings::Host),
         }
     }
 }

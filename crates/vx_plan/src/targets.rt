@@ -3,53 +3,47 @@ ghost use Rattle.std.specs.List.{list_any};
 ghost use Rattle.vx_value.specs.Texts.{Word};
 ghost use Rattle.vx_plan.specs.declared.component.Component.{Component};
 ghost use Rattle.vx_plan.specs.Numbers.{numbers_named, numbers_of_names};
-ghost use Rattle.vx_plan.specs.Targets.{star, names_reading, reads_by, in_order, enter};
+ghost use Rattle.vx_plan.specs.Targets.{names_reading, reads_by, in_order, enter};
 
 use crate::component::Component;
 use crate::names::{same_text, text_le};
-use crate::patterns::is_like;
 use std::alloc::Global;
+use vx_graph::reads_port;
 use vx_value::{NumberList, Text, TextList, WantOfMemory};
 
-/// Whether a component reads the only port of another by one of its inputs.
-fn reads_by(reader: &Component, name: &str, input: &Text) -> bool
-    ensures { result ≡ reads_by reader.now name.now [] input.now }
+/// Whether a component reads a port of another by one of its inputs.
+fn reads_by(reader: &Component, name: &str, port: &str, input: &Text) -> bool
+    ensures { result ≡ reads_by reader.now name.now port.now input.now }
 {
-    let pattern = input.as_str().as_bytes();
-    is_like(pattern, name.as_bytes())
-        && !(has_star(pattern) && same_text(reader.name.as_str(), name))
+    reads_port(reader.name.as_str(), name, port, input.as_str())
 }
 
-/// Whether a pattern has a `*`.
-fn has_star(pattern: &[u8]) -> bool
-    ensures { result ≡ list_any (λ c. c == star) pattern.now }
-{
-    pattern.iter().any(|c| *c == b'*')
-}
-
-/// Whether one of some inputs reads the only port of a component.
-pub(crate) fn any_reads(reader: &Component, name: &str, inputs: &[Text]) -> bool
-    ensures { result ≡ list_any (reads_by reader.now name.now []) inputs.now }
+/// Whether one of some inputs reads a port of a component.
+pub(crate) fn any_reads(reader: &Component, name: &str, port: &str, inputs: &[Text]) -> bool
+    ensures { result ≡ list_any (reads_by reader.now name.now port.now) inputs.now }
 {
     match inputs {
         [] => false,
-        [input, rest @ ..] => reads_by(reader, name, input) || any_reads(reader, name, rest),
+        [input, rest @ ..] => {
+            reads_by(reader, name, port, input) || any_reads(reader, name, port, rest)
+        }
     }
 }
 
-/// The names of the components that read the only port of a component, in byte order.
+/// The names of the components that read a port of a component, in byte order.
 pub(crate) fn readers(
     alloc: Global,
     components: &[Component],
     name: &str,
+    port: &str,
 ) -> Result<TextList, WantOfMemory>
-    ensures { IfOk result (λ names. names ≡ in_order (names_reading name.now [] components.now)) }
+    ensures { IfOk result (λ names. names ≡ in_order (names_reading name.now port.now components.now)) }
 {
     match components {
         [] => Ok(TextList::new(alloc)),
         [first, rest @ ..] => {
-            let names = readers(alloc, rest, name)?;
-            if any_reads(first, name, first.inputs.as_slice()) {
+            let names = readers(alloc, rest, name, port)?;
+            if any_reads(first, name, port, first.inputs.as_slice()) {
                 entered(alloc, &first.name, names.as_slice())
             } else {
                 Ok(names)

@@ -6,3 +6,5 @@ pub mod Examples
 pub mod FirstRead
 pub mod Few
 pub mod Apart
+pub mod Accepted
+pub mod Ported

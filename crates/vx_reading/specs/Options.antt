@@ -2,7 +2,8 @@
 use Rattle.std.specs.Prelude.{ℕ, Bool, true, false, ◌&&◌, Option, List, [], ◌∷◌, ◌++◌, codes, find}
 use Rattle.vx_value.specs.Texts.{Word, same_text}
 use Rattle.vx_plan.specs.declared.class.Class.{Class}
-use Rattle.vx_plan.specs.declared.class.Class.TheVariants.{Source, Transform, Sink}
+use Rattle.vx_plan.specs.declared.class.Class.TheVariants.{Source, Sink}
+pub use Rattle.vx_plan.specs.Accepted.{same_class}
 use Rattle.vx_reading.specs.declared.kind.Kind.{Kind}
 use Rattle.vx_reading.specs.declared.kind.Kind.TheVariants.{Stdin, Console}
 
@@ -98,13 +99,6 @@ kind_class Console = Sink
 abbrev pub kind_name : Kind → Word
 kind_name Stdin = codes "stdin"
 kind_name Console = codes "console"
-
--- whether two classes are the same
-abbrev pub same_class : Class → Class → Bool
-same_class Source Source = true
-same_class Transform Transform = true
-same_class Sink Sink = true
-same_class _ _ = false
 
 -- the type of that name in a table
 abbrev pub kind_named : Class → Word → Option Kind

@@ -1,17 +1,12 @@
 -- The plan of a document without faults.
-use Rattle.std.specs.Prelude.{ℕ, Bool, Option, Some, None, option_and_then, unwrap_or, List, [], ◌∷◌, map, codes, if◌then◌else◌, false, ◌^◌, ◌-◌}
+use Rattle.std.specs.Prelude.{ℕ, Bool, Option, Some, None, option_and_then, unwrap_or, List, [], ◌∷◌, codes, if◌then◌else◌, false, ◌^◌, ◌-◌}
 use Rattle.std.specs.List.{flat_map}
 use Rattle.vx_value.specs.Texts.{Word, same_text}
 use Rattle.toml.specs.Data.{Data, Items, get, as_str, as_array, as_bool}
-use Rattle.vx_graph.specs.declared.node.Class as graph_class
-use Rattle.vx_graph.specs.declared.node.Class.TheVariants as graph
-use Rattle.vx_graph.specs.declared.node.Node.{Node}
 use Rattle.vx_json.specs.declared.codec.Codec.{Codec}
 use Rattle.vx_json.specs.declared.codec.Codec.TheVariants as codec
 use Rattle.vx_json.specs.declared.decoding.Decoding.{Decoding}
 use Rattle.vx_json.specs.declared.decoding.Decoding.TheVariants as decoding
-use Rattle.vx_plan.specs.declared.class.Class.{Class}
-use Rattle.vx_plan.specs.declared.class.Class.TheVariants.{Source, Transform, Sink}
 use Rattle.vx_plan.specs.declared.component.Component.{Component}
 use Rattle.vx_plan.specs.declared.console_target.ConsoleTarget.{ConsoleTarget}
 use Rattle.vx_plan.specs.declared.console_target.ConsoleTarget.TheVariants.{Stdout, Stderr}
@@ -21,7 +16,7 @@ use Rattle.vx_plan.specs.declared.settings.Settings.{Settings}
 use Rattle.vx_plan.specs.declared.settings.Settings.TheVariants as settings
 use Rattle.vx_plan.specs.declared.sink_settings.SinkSettings.{SinkSettings}
 use Rattle.vx_plan.specs.declared.when_full.WhenFull.TheVariants.{Block}
-use Rattle.vx_plan.specs.Components.{class_ports}
+pub use Rattle.vx_plan.specs.Graphs.{nodes_of}
 use Rattle.vx_reading.specs.declared.kind.Kind.{Kind}
 use Rattle.vx_reading.specs.declared.kind.Kind.TheVariants.{Stdin, Console}
 use Rattle.vx_reading.specs.Components.{Part, parts, kind_of}
@@ -118,10 +113,15 @@ settings_of global value Stdin =
 settings_of global value Console =
     settings.Console (target_named (text_at (codes "target") value)) (codec_named (text_within (codes "encoding") (codes "codec") value)) (sink_of global value)
 
+-- the inputs of a component of a type; a source has none
+abbrev pub inputs_for : Kind → Data → List Word
+inputs_for Stdin value = []
+inputs_for Console value = inputs_of value
+
 -- the component of a type
 abbrev pub component : Global → Part → Kind → Component
 component global part kind =
-    record { name = part.name; class = part.class; inputs = inputs_of part.value; settings = settings_of global part.value kind }
+    record { name = part.name; class = part.class; inputs = inputs_for kind part.value; settings = settings_of global part.value kind }
 
 abbrev pub component_of : Global → Part → List Component
 component_of global part = elim (kind_of part) [ None ↦ [] | Some kind ↦ component global part kind ∷ [] ]
@@ -129,16 +129,3 @@ component_of global part = elim (kind_of part) [ None ↦ [] | Some kind ↦ com
 -- what a document stands for
 abbrev pub plan_of : Data → Plan
 plan_of root = record { global = global_of root; components = flat_map (component_of (global_of root)) (parts root) }
-
--- the class of a component in the graph
-abbrev pub node_class : Class → graph_class.Class
-node_class Source = graph.Source
-node_class Transform = graph.Transform
-node_class Sink = graph.Sink
-
-abbrev pub node_of : Component → Node
-node_of c = record { name = c.name; class = node_class c.class; ports = class_ports c.class; inputs = c.inputs }
-
--- the graph of a plan
-abbrev pub nodes_of : Plan → List Node
-nodes_of plan = map node_of plan.components

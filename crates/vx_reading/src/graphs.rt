@@ -1,6 +1,6 @@
 ghost use Rattle.std.specs.Prelude.{◌≡◌, ◌++◌, IfOk, OnOk, map};
-ghost use Rattle.vx_plan.specs.Components.{class_ports};
-ghost use Rattle.vx_reading.specs.Plans.{node_class, node_of, nodes_of};
+ghost use Rattle.vx_plan.specs.Components.{port_names};
+ghost use Rattle.vx_plan.specs.Graphs.{node_class, node_of, nodes_of};
 
 use std::alloc::Global;
 use vx_graph::{Node, NodeList};
@@ -18,20 +18,18 @@ fn node_class(class: Class) -> vx_graph::Class
     }
 }
 
-/// The names of the ports of a class.
-fn class_ports(alloc: Global, class: Class) -> Result<TextList, WantOfMemory>
-    ensures { IfOk result (λ ports. ports ≡ class_ports class) }
+/// The names of a component's ports.
+fn ports_of(alloc: Global, component: &Component) -> Result<TextList, WantOfMemory>
+    ensures { IfOk result (λ ports. ports ≡ port_names component.now) }
 {
     let mut ports = TextList::new(alloc);
-    match class {
-        Class::Source | Class::Transform => {
-            match ports.push(Text::copy_of(alloc, "")?) {
-                Ok(()) => Ok(ports),
-                Err(_) => Err(WantOfMemory),
-            }
+    for i in 0..component.ports() {
+        match ports.push(Text::copy_of(alloc, component.port_name(i))?) {
+            Ok(()) => {}
+            Err(_) => return Err(WantOfMemory),
         }
-        Class::Sink => Ok(ports),
     }
+    Ok(ports)
 }
 
 /// A component as the graph has it.
@@ -41,7 +39,7 @@ fn node_of(alloc: Global, component: &Component) -> Result<Node, WantOfMemory>
     Ok(Node {
         name: component.name.copy(alloc)?,
         class: node_class(component.class),
-        ports: class_ports(alloc, component.class)?,
+        ports: ports_of(alloc, component)?,
         inputs: component.inputs.copy(alloc)?,
     })
 }

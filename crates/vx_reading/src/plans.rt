@@ -4,7 +4,7 @@ ghost use Rattle.std.specs.List.{flat_map};
 ghost use Rattle.toml.specs.View.{view, items_view};
 ghost use Rattle.vx_reading.specs.Judging.{items_in};
 ghost use Rattle.vx_reading.specs.Components.{parts};
-ghost use Rattle.vx_reading.specs.Plans.{text_at, text_within, truth_at, truth_in, truth_either, acknowledgements_of, global_of, text_of, inputs_of, target_named, length_of, decoding_named, codec_named, sink_defaults, sink_of, settings_of, component, component_of, plan_of};
+ghost use Rattle.vx_reading.specs.Plans.{text_at, text_within, truth_at, truth_in, truth_either, acknowledgements_of, global_of, text_of, inputs_of, inputs_for, target_named, length_of, decoding_named, codec_named, sink_defaults, sink_of, settings_of, component, component_of, plan_of};
 ghost use Rattle.vx_reading.specs.Views.{part_view, parts_view};
 
 use crate::judging::whole_in;
@@ -137,6 +137,16 @@ fn inputs_of(alloc: Allocator, table: &Value) -> Result<TextList, WantOfMemory>
     }
 }
 
+/// The inputs of a component of a type; a source has none.
+fn inputs_for(alloc: Allocator, kind: Kind, table: &Value) -> Result<TextList, WantOfMemory>
+    ensures { IfOk result (λ inputs. inputs ≡ inputs_for kind (view table.now)) }
+{
+    match kind {
+        Kind::Stdin => Ok(TextList::new(alloc)),
+        Kind::Console => inputs_of(alloc, table),
+    }
+}
+
 /// Where a console writes: to standard output where it doesn't say.
 fn target_named(name: Option<&str>) -> ConsoleTarget
     ensures { result ≡ target_named (option_map (λ t. t.now) name.entry) }
@@ -245,7 +255,7 @@ fn make_component(
     Ok(Component {
         name: Text::copy_of(alloc, part.name)?,
         class: part.class,
-        inputs: inputs_of(alloc, part.value)?,
+        inputs: inputs_for(alloc, kind, part.value)?,
         settings: settings_of(alloc, global, part.value, kind)?,
     })
 }

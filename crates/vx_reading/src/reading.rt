@@ -1,5 +1,6 @@
 ghost use Rattle.std.specs.Prelude.{◌≡◌, IfOk};
 ghost use Rattle.toml.specs.View.{view};
+ghost use Rattle.vx_plan.specs.Accepted.{IsPlan};
 ghost use Rattle.vx_reading.specs.Components.{parts};
 ghost use Rattle.vx_reading.specs.Names.{AreApart, names_of};
 ghost use Rattle.vx_reading.specs.Views.{parts_view};
@@ -22,6 +23,7 @@ use vx_value::VariableList;
 fn read_root(alloc: Global, root: &Value) -> Result<Plan, PlanFault>
     ensures judged { IsJudged (view root.now) result }
     ensures apart { IfOk result (λ plan. AreApart (names_of plan.components)) }
+    ensures accepted { IfOk result (λ plan. IsPlan plan) }
 {
     let all = parts(alloc, root)?;
     read_parts(alloc, root, all.as_slice())
@@ -49,6 +51,7 @@ fn read_parts(alloc: Global, root: &Value, all: &[Part<'_>]) -> Result<Plan, Pla
 fn read_text(alloc: Global, text: &str, environment: &VariableList) -> Result<Plan, PlanFault>
     ensures read { IsTextRead environment.now text.now result }
     ensures apart { IfOk result (λ plan. AreApart (names_of plan.components)) }
+    ensures accepted { IfOk result (λ plan. IsPlan plan) }
 {
     let replaced = match replace(alloc, text, environment) {
         Ok(replaced) => replaced,
@@ -68,10 +71,11 @@ fn read_text(alloc: Global, text: &str, environment: &VariableList) -> Result<Pl
 ///
 /// A refusal is the first fault in the order of `PlanFault`. Within one kind the options of the whole come first, then
 /// sources, transforms and sinks, each by the bytes of the component's name, and then by the bytes of the path. Want of
-/// memory comes at any text. The components of a plan have different names.
+/// memory comes at any text. The components of a plan have different names, and the plan may be installed.
 pub fn read_plan(alloc: Global, bytes: &[u8], environment: &VariableList) -> Result<Plan, PlanFault>
     ensures read { IsReading environment.now bytes.now result }
     ensures apart { IfOk result (λ plan. AreApart (names_of plan.components)) }
+    ensures accepted { IfOk result (λ plan. IsPlan plan) }
 {
     match std::str::from_utf8(bytes) {
         Ok(text) => read_text(alloc, text, environment),

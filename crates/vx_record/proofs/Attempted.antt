@@ -5,19 +5,21 @@ use Rattle.std.proofs.lemmas.Bool.Decides.{nat_tests}
 use Rattle.std.proofs.lemmas.Bool.{cases_lt}
 use Rattle.vx_plan.specs.declared.component.Component.{Component}
 use Rattle.vx_record.specs.Records.{Record}
+use Rattle.vx_record.specs.declared.output.Output.{Output}
 use Rattle.vx_record.specs.declared.entry.Entry.{Entry}
-use Rattle.vx_record.specs.declared.entry.Entry.TheVariants.{Attempt, Spent}
+use Rattle.vx_record.specs.declared.entry.Entry.TheVariants.{Install, Answer, Attempt, Spent}
 use Rattle.vx_record.specs.Copies.{count, contains, joined, spends, all_of, times_spent}
-use Rattle.vx_record.specs.Places.{kind, leaves, puts}
+use Rattle.vx_record.specs.Places.{kind, leaves, put_out, puts}
 use Rattle.vx_record.specs.Places.Place.{Held}
 use Rattle.vx_record.specs.Lists.{without, and_rest, shrunk, held}
-use Rattle.vx_record.specs.Installs.{component_of}
+use Rattle.vx_record.specs.Installs.{component_of, sink_at}
 use Rattle.vx_record.specs.SinkBatches.{attempts_with, attempts_allowed, retries_made}
 use Rattle.vx_record.specs.Moving.{IsConserved}
 use Rattle.vx_record.specs.Legal.{IsLegal}
 use Rattle.vx_record.proofs.Counts.{count-append, count-without, unless}
 use Rattle.vx_record.proofs.Changes.{parcels_after, put_at}
-use Rattle.vx_record.proofs.Hands.{stands_still}
+use Rattle.vx_record.proofs.Hands.{not_there, stands_still}
+use Rattle.vx_record.proofs.Answerers.{sink_untransforming, unanswering}
 use Rattle.vx_record.proofs.OnePlace.{conserved as legal_conserved}
 
 -- one attempt is allowed, until the driver rests
@@ -45,7 +47,8 @@ count_shrunk d gone (p ∷ ps) none =
     let e = count-append d p (joined ps) in
     omega (arith, a, b, c, e)
 
-joined_more : (c : ℕ) (xs ys : List (List ℕ)) → count c (joined (xs ++ ys)) ≡ count c (joined xs) + count c (joined ys)
+-- and what is in two lists of parcels
+pub joined_more : (c : ℕ) (xs ys : List (List ℕ)) → count c (joined (xs ++ ys)) ≡ count c (joined xs) + count c (joined ys)
 joined_more c [] ys = omega arith
 joined_more c (x ∷ xs) ys =
     let a = count-append c x (joined (xs ++ ys)) in
@@ -54,12 +57,33 @@ joined_more c (x ∷ xs) ys =
     omega (arith, a, b, ih)
 
 -- what is held stays held, but for what leaves
-held_stays : (h : Record) (e : Entry) (i c : ℕ) → IsConserved (e ∷ h) → count c (leaves (kind (Held i)) e) ≡ 0 → 0 < count c (joined (held h i)) → 0 < count c (joined (held (e ∷ h) i))
+pub held_stays : (h : Record) (e : Entry) (i c : ℕ) → IsConserved (e ∷ h) → count c (leaves (kind (Held i)) e) ≡ 0 → 0 < count c (joined (held h i)) → 0 < count c (joined (held (e ∷ h) i))
 held_stays h e i c kept none l =
     let now = ap (λ (ps : List (List ℕ)). count c (joined ps)) (parcels_after h e (Held i) kept) in
     let more = joined_more c (shrunk (leaves (kind (Held i)) e) (held h i)) (put_at (Held i) (puts e)) in
     let same = count_shrunk c (leaves (kind (Held i)) e) (held h i) none in
     omega (arith, l, now, more, same)
+
+-- what was attempted a sink attempted
+pub attempts_sink : (h : Record) (i c : ℕ) → IsLegal h → 0 < attempts_with h i c → sink_at h i ≡ true
+attempts_sink [] i c legal some = absurd (omega (arith, some))
+attempts_sink (Install version plan once instances now ∷ h) i c legal some = let none = ap (λ (k : Record). attempts_with k i c) legal.0.row.first in absurd (omega (arith, some, none))
+attempts_sink (Attempt j copies bytes reply ∷ h) i c legal some = go (j == i) refl some (attempts_sink h i c legal.1)
+  where
+    go : (b : Bool) → (j == i) ≡ b → 0 < attempts_with h i c + (if b && contains copies c then 1 else 0) → (0 < attempts_with h i c → sink_at h i ≡ true) → sink_at h i ≡ true
+    go true e l rest = let same : j ≡ i = grind (arith, nat_tests) in subst (λ (k : ℕ). sink_at h k ≡ true) same legal.0.row.sink
+    go false e l rest = rest (omega (arith, l))
+attempts_sink (e ∷ h) i c legal some = attempts_sink h i c legal.1 some
+
+-- what another instance holds no answer puts out
+pub unreleased : (h : Record) (i j c : ℕ) (made : List Output) (discarded kept : List ℕ) → IsConserved (Answer j made discarded kept ∷ h) → (j == i) ≡ false → 0 < count c (joined (held h i)) → count c (put_out made) ≡ 0
+unreleased h i j c made discarded kept sound other some =
+    let none = not_there h (Held i) (Held j) c sound.1 (apart other) some in
+    let most = sound.0 c in
+    omega (arith, none, most)
+  where
+    apart : (j == i) ≡ false → (i == j) ≡ false
+    apart e = grind (arith, nat_tests, e)
 
 -- what was attempted and isn't spent is held
 pub attempted_held : (h : Record) (i c : ℕ) → IsLegal h → 0 < attempts_with h i c → times_spent h c ≡ 0 → 0 < count c (joined (held h i))
@@ -84,6 +108,11 @@ attempted_held (Attempt j copies bytes reply ∷ h) i c o l none =
           subst (λ (k : ℕ). 0 < count c (joined (held h k))) same here
     ]
     go false e some rest = rest (omega (arith, some)) before
+attempted_held (Answer j made discarded kept ∷ h) i c o l none =
+    let all = count-append c (all_of spends h) [] in
+    let here = attempted_held h i c o.1 l (omega (arith, none, all)) in
+    let sound = legal_conserved (Answer j made discarded kept ∷ h) o in
+    held_stays h (Answer j made discarded kept) i c sound (unreleased h i j c made discarded kept sound (unanswering h i j made discarded kept o (sink_untransforming h i (attempts_sink h i c o.1 l))) here) here
 attempted_held (Spent j d outcome ∷ h) i c o l none =
     let all = count-append c (all_of spends h) (d ∷ []) in
     held_stays h (Spent j d outcome) i c (legal_conserved (Spent j d outcome ∷ h) o) (omega (arith, none, all)) (attempted_held h i c o.1 l (omega (arith, none, all)))

@@ -9,7 +9,7 @@ use Rattle.vx_plan.specs.declared.settings.Settings.{Settings}
 use Rattle.vx_plan.specs.declared.settings.Settings.TheVariants.{Stdin, Console}
 use Rattle.vx_plan.specs.declared.stage.Stage.{Stage}
 use Rattle.vx_plan.specs.Components.{stages, is_sink, transform_stages, sink_stages}
-use Rattle.vx_plan.specs.Options.{encoding}
+use Rattle.vx_plan.specs.Options.{encoding, has_device}
 use Rattle.vx_record.specs.Copies.{count, joined}
 use Rattle.vx_record.specs.Places.{all_puts, left}
 use Rattle.vx_record.specs.Places.Place.{Held}
@@ -54,19 +54,20 @@ attempt_due h i copies bytes answer legal row =
     last_off (is_full_batch h i || is_timed_out h i (lease_now h i) || is_last_batch h i) (was_attempted h i) fresh
     (and_right (not (is_empty (held h i))) (is_full_batch h i || is_timed_out h i (lease_now h i) || is_last_batch h i || was_attempted h i) row.batch_closed)
 
--- a sink that can hold something has a codec
-has_codec : (class : Class) (settings : Settings) → (elim class [ Source ↦ false | Transform ↦ false | Sink ↦ true ]) ≡ true →
+-- a sink with a port that can hold something has a codec
+has_codec : (class : Class) (settings : Settings) → (elim class [ Source ↦ false | Transform ↦ false | Sink ↦ true ]) ≡ true → has_device settings ≡ true →
     (◌≡◌ {A = List Stage} (elim class [ Source ↦ [] | Transform ↦ transform_stages | Sink ↦ sink_stages settings ]) [] → ⊥) → is_some (encoding settings) ≡ true
-has_codec Source settings is some = cc
-has_codec Transform settings is some = cc
-has_codec Sink (Stdin max_length codec) is some = absurd (some refl)
-has_codec Sink (Console target codec sink) is some = refl
+has_codec Source settings is device some = cc
+has_codec Transform settings is device some = cc
+has_codec Sink (Stdin max_length codec) is device some = absurd (some refl)
+has_codec Sink (Console target codec sink) is device some = refl
+has_codec Sink settings is device some = cc
 
 off_on : false ≡ true → ⊥
 off_on e = cc
 
 pub attempt_encodes : AttemptEncodes
-attempt_encodes h i copies bytes answer legal row = go (component_of h i) row.sink unstaged
+attempt_encodes h i copies bytes answer legal row device = go (component_of h i) row.sink device unstaged
   where
     some : not (is_empty (held h i)) ≡ true
     some = and_left (not (is_empty (held h i))) (is_full_batch h i || is_timed_out h i (lease_now h i) || is_last_batch h i || was_attempted h i) row.batch_closed
@@ -74,6 +75,6 @@ attempt_encodes h i copies bytes answer legal row = go (component_of h i) row.si
     unstaged : stages_of h i ≡ [] → ⊥
     unstaged none = off_on (subst (λ (ps : List (List ℕ)). not (is_empty ps) ≡ true) (none_held h i legal none) some)
 
-    go : (o : Option Component) → (elim o [ None ↦ false | Some c ↦ is_sink c ]) ≡ true → (◌≡◌ {A = List Stage} (elim o [ None ↦ [] | Some c ↦ stages c ]) [] → ⊥) → (elim o [ None ↦ false | Some c ↦ is_some (encoding c.settings) ]) ≡ true
-    go None is staged = cc
-    go (Some c) is staged = has_codec c.class c.settings is staged
+    go : (o : Option Component) → (elim o [ None ↦ false | Some c ↦ is_sink c ]) ≡ true → (elim o [ None ↦ false | Some c ↦ has_device c.settings ]) ≡ true → (◌≡◌ {A = List Stage} (elim o [ None ↦ [] | Some c ↦ stages c ]) [] → ⊥) → (elim o [ None ↦ false | Some c ↦ is_some (encoding c.settings) ]) ≡ true
+    go None is works staged = cc
+    go (Some c) is works staged = has_codec c.class c.settings is works staged

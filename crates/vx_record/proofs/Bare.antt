@@ -11,7 +11,8 @@ use Rattle.vx_plan.specs.declared.stage.Stage.{Stage}
 use Rattle.vx_plan.specs.Components.{stages, is_source, transform_stages, sink_stages}
 use Rattle.vx_record.specs.Records.{Record}
 use Rattle.vx_record.specs.declared.child.Child.{Child}
-use Rattle.vx_record.specs.declared.entry.Entry.TheVariants.{Install, Born, Split, Push, Take}
+use Rattle.vx_record.specs.declared.output.Output.{Output}
+use Rattle.vx_record.specs.declared.entry.Entry.TheVariants.{Install, Born, Split, Push, Take, Answer}
 use Rattle.vx_record.specs.Places.{Place, Put, Kind, kind, owner, same_place, puts, one_each, all_puts, left}
 use Rattle.vx_record.specs.Places.Place.{Outputs, Waiting, Contents, Held}
 use Rattle.vx_record.specs.Lists.{without, unless_empty, standing, stands, parcels_at, parcels_where, is_child_of, is_stage_of, outputs, held, all_waiting, buffered, is_bare}
@@ -73,6 +74,13 @@ split_elsewhere test j (child ∷ rest) off =
     ap (λ (b : Bool). if b then child.copies ∷ parcels_where test (map (λ (c : Child). record { place = Waiting j c.target; copies = c.copies }) rest) else parcels_where test (map (λ (c : Child). record { place = Waiting j c.target; copies = c.copies }) rest)) (off child.target)
     ∙ split_elsewhere test j rest off
 
+answer_elsewhere : (test : Place → Bool) (j : ℕ) (made : List Output) → test (Outputs j) ≡ false →
+    parcels_where test (map (λ (output : Output). record { place = Outputs j; copies = output.copies }) made) ≡ []
+answer_elsewhere test j [] off = refl
+answer_elsewhere test j (output ∷ rest) off =
+    ap (λ (b : Bool). if b then output.copies ∷ parcels_where test (map (λ (o : Output). record { place = Outputs j; copies = o.copies }) rest) else parcels_where test (map (λ (o : Output). record { place = Outputs j; copies = o.copies }) rest)) off
+    ∙ answer_elsewhere test j rest off
+
 one_elsewhere : (b : Bool) (x : List ℕ) → b ≡ false → ◌≡◌ {A = List (List ℕ)} (if b then x ∷ [] else []) []
 one_elsewhere true x off = cc
 one_elsewhere false x off = refl
@@ -103,6 +111,8 @@ none_within (Push j t s copies ∷ h) i legal none =
 none_within (Take j s copies ∷ h) i legal none =
     none_put (is_within i) (all_puts h) (puts (Take j s copies)) (none_within h i legal.1 none)
     (one_elsewhere (j == i) copies (not_same j i (λ same. let filled : first_filled h i ≡ Some s = subst (λ (k : ℕ). first_filled h k ≡ Some s) same legal.0.row.first in let no = (staged h i none).1 in cc)))
+none_within (Answer j made discarded kept ∷ h) i legal none =
+    none_put (is_within i) (all_puts h) (puts (Answer j made discarded kept)) (none_within h i legal.1 none) (answer_elsewhere (is_within i) j made refl)
 none_within (e ∷ h) i legal none = none_put (is_within i) (all_puts h) [] (none_within h i legal.1 none) refl
 
 -- a part of a test that finds nothing finds nothing

@@ -12,12 +12,12 @@ use Rattle.vx_record.specs.Places.Kind.{AnOutput, AChild, AStage, AHold}
 use Rattle.vx_record.specs.Places.Place.{Outputs, Waiting, Contents, Held}
 use Rattle.vx_record.specs.Lists.{without, and_rest, shrunk, unless_empty, standing, stands, parcels_at, places_in, times_among}
 use Rattle.vx_record.specs.Laws.{PlacesMeant}
-use Rattle.vx_record.specs.declared.entry.Entry.TheVariants.{Born, Split, Push, Take}
+use Rattle.vx_record.specs.declared.entry.Entry.TheVariants.{Born, Split, Push, Take, Answer}
 use Rattle.vx_record.specs.Moving.{IsConserved}
 use Rattle.vx_record.specs.Sending.{IsOldest}
 use Rattle.vx_record.proofs.Counts.{count-append, count-without, unless-add, only, put_count, stand_count}
 use Rattle.vx_record.proofs.Tracked.{Tracked, Moves, put_in, gone_from, stand_in, stand_cases, born}
-use Rattle.vx_record.proofs.Steps.{moves, put_count-children}
+use Rattle.vx_record.proofs.Steps.{moves, put_count-children, put_count-outputs}
 use Rattle.vx_record.proofs.OnePlace.{tracked}
 use Rattle.vx_record.proofs.Place.{count-parcels_at, count-oldest, one_more, unless-only}
 
@@ -143,6 +143,8 @@ apart (Push i t s copies) AChild c l = absurd (omega arith)
 apart (Push i t s copies) k c l = refl
 apart (Take i s copies) AStage c l = absurd (omega arith)
 apart (Take i s copies) k c l = refl
+apart (Answer i made discarded kept) AHold c l = let e = put_count-outputs AHold i c made in absurd (omega arith)
+apart (Answer i made discarded kept) k c l = refl
 apart e k c l = absurd (omega arith)
 
 -- what an entry puts has never left a place of that kind
@@ -295,7 +297,7 @@ count-two_places c p q gone (put ∷ rest) other same =
         let z = stands_more in
         omega arith
 
-stand_count-le : (h : Record) (c : ℕ) (k : Kind) → IsConserved h → stand_in k h c ≤ 1
+pub stand_count-le : (h : Record) (c : ℕ) (k : Kind) → IsConserved h → stand_in k h c ≤ 1
 stand_count-le h c k kept = go k (stand_cases k h c)
   where
     t : Tracked h c

@@ -7,14 +7,15 @@ use Rattle.vx_record.specs.declared.entry.Entry.{Entry}
 use Rattle.vx_value.specs.declared.event.Event.{Event}
 use Rattle.vx_record.specs.Records.{Record}
 use Rattle.vx_record.specs.declared.child.Child.{Child}
+use Rattle.vx_record.specs.declared.output.Output.{Output}
 use Rattle.vx_status.specs.declared.outcome.Outcome.{Outcome}
-use Rattle.vx_record.specs.declared.entry.Entry.TheVariants.{Born, Split, Push, Take, Spent}
+use Rattle.vx_record.specs.declared.entry.Entry.TheVariants.{Born, Split, Push, Take, Answer, Spent}
 use Rattle.vx_record.specs.Copies.{count, joined}
-use Rattle.vx_record.specs.Places.{Place, Kind, kind, same_place, one_each, puts, leaves}
+use Rattle.vx_record.specs.Places.{Place, Kind, kind, same_place, one_each, put_out, puts, leaves, left, all_puts}
 use Rattle.vx_record.specs.Places.Place.{Outputs, Waiting, Contents, Held}
 use Rattle.vx_record.specs.Lists.{stands, and_rest, shrunk, parcels_at, is_child_of, outputs, waiting, contents, held}
-use Rattle.vx_record.specs.Moving.{IsConserved, children_for, singles}
-use Rattle.vx_record.proofs.Changes.{put_at, same_place_self, parcels_after, place_pops, place_grows, elsewhere, oldest_full}
+use Rattle.vx_record.specs.Moving.{IsConserved, Releases, children_for, singles, parcels_of}
+use Rattle.vx_record.proofs.Changes.{stand_count-le, count-two_places, put_at, same_place_self, parcels_after, place_pops, place_grows, elsewhere, oldest_full}
 
 -- a place that an entry neither adds to nor takes from
 pub place_stays : (h : Record) (e : Entry) (p : Place) → IsConserved (e ∷ h) → put_at p (puts e) ≡ [] →
@@ -93,6 +94,53 @@ split_grows h i ports t copies event children kept =
     these (child ∷ rest) =
         ap (λ ps. if same_place (Waiting i child.target) (Waiting i t) then and_rest child.copies ps else ps) (these rest)
         ∙ ap (λ b. if b then and_rest child.copies (children_for t rest) else children_for t rest) (grind (arith, nat_tests))
+
+-- ANSWER: what is put out leaves what was held, and comes to the outputs
+pub answer_shrinks : (h : Record) (i : ℕ) (made : List Output) (discarded kept : List ℕ) → IsConserved (Answer i made discarded kept ∷ h) →
+    held (Answer i made discarded kept ∷ h) i ≡ shrunk (put_out made) (held h i)
+answer_shrinks h i made discarded kept kept_so =
+    parcels_after h (Answer i made discarded kept) (Held i) kept_so ∙ ap (λ ps. shrunk (put_out made) (held h i) ++ ps) (none made)
+    ∙ append-nil (shrunk (put_out made) (held h i))
+  where
+    none : (made : List Output) → put_at (Held i) (puts (Answer i made discarded kept)) ≡ []
+    none [] = refl
+    none (output ∷ rest) = none rest
+
+pub answer_grows : (h : Record) (i : ℕ) (made : List Output) (discarded kept : List ℕ) → IsConserved (Answer i made discarded kept ∷ h) →
+    outputs (Answer i made discarded kept ∷ h) i ≡ outputs h i ++ parcels_of made
+answer_grows h i made discarded kept kept_so =
+    place_grows h (Answer i made discarded kept) (Outputs i) (parcels_of made) kept_so (these made) (λ c l. refl)
+  where
+    these : (made : List Output) → put_at (Outputs i) (puts (Answer i made discarded kept)) ≡ parcels_of made
+    these [] = refl
+    these (output ∷ rest) =
+        ap (λ b. if b then and_rest output.copies (put_at (Outputs i) (puts (Answer i rest discarded kept))) else put_at (Outputs i) (puts (Answer i rest discarded kept)))
+        (same_place_self (Outputs i))
+        ∙ ap (λ ps. and_rest output.copies ps) (these rest)
+
+-- what another instance holds isn't put out
+held_elsewhere : (h : Record) (i j : ℕ) (made : List Output) → IsConserved h → same_place (Held i) (Held j) ≡ false → Releases h i made →
+    (c : ℕ) → 0 < count c (joined (held h j)) → count c (put_out made) ≡ 0
+held_elsewhere h i j made kept other released c l =
+    let a = count-two_places c (Held i) (Held j) (left h) (all_puts h) other refl in
+    let b = stand_count-le h c (kind (Held i)) kept in
+    let d = released c in
+    omega arith
+
+pub answer_stays : (h : Record) (i : ℕ) (made : List Output) (discarded kept : List ℕ) (p : Place) → IsConserved (Answer i made discarded kept ∷ h) →
+    same_place (Outputs i) p ≡ false → same_place (Held i) p ≡ false →
+    parcels_at p (stands (Answer i made discarded kept ∷ h)) ≡ parcels_at p (stands h)
+answer_stays h i made discarded kept p kept_so a b = place_stays h (Answer i made discarded kept) p kept_so (none made) (stay p b)
+  where
+    none : (made : List Output) → put_at p (puts (Answer i made discarded kept)) ≡ []
+    none [] = refl
+    none (output ∷ rest) =
+        ap (λ b. if b then and_rest output.copies (put_at p (puts (Answer i rest discarded kept))) else put_at p (puts (Answer i rest discarded kept))) a ∙ none rest
+
+    stay : (p : Place) → same_place (Held i) p ≡ false → (c : ℕ) → 0 < count c (joined (parcels_at p (stands h))) →
+        count c (leaves (kind p) (Answer i made discarded kept)) ≡ 0
+    stay (Held j) b c l = held_elsewhere h i j made kept_so.1 b kept_so.0 c l
+    stay p b c l = refl
 
 -- SPENT: the copy leaves its parcel, wherever that stands
 pub spent_shrinks : (h : Record) (i c : ℕ) (outcome : Outcome) (p : Place) → IsConserved (Spent i c outcome ∷ h) →

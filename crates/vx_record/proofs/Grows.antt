@@ -3,7 +3,7 @@ use Rattle.std.proofs.Common.{◌≡◌, ℕ, true, ◌∷◌, refl, sym, arith,
 use Rattle.std.proofs.lemmas.List.{append-nil}
 use Rattle.std.proofs.lemmas.List.{length-append}
 use Rattle.vx_record.specs.declared.entry.Entry.{Entry}
-use Rattle.vx_record.specs.declared.entry.Entry.TheVariants.{Lease, Home, Read, Idle, SourceLost, Born, Take, Attempt, Notice, Closed, Retired, Abandon}
+use Rattle.vx_record.specs.declared.entry.Entry.TheVariants.{Lease, Home, Read, Idle, SourceLost, Born, Take, Tick, Answer, Attempt, Notice, Closed, Retired, Abandon}
 use Rattle.vx_plan.specs.declared.class.Class.{Class}
 use Rattle.vx_plan.specs.declared.class.Class.TheVariants.{Source, Transform, Sink}
 use Rattle.vx_plan.specs.declared.component.Component.{Component}
@@ -16,9 +16,9 @@ use Rattle.vx_record.specs.Growth.{counts_for_nobody}
 use Rattle.vx_record.specs.Reads.{taken}
 use Rattle.vx_record.specs.Confirms.{births, births_in}
 use Rattle.vx_record.specs.Reads.{bytes_taken}
-use Rattle.vx_record.specs.Tallies.{lines_read, overlong_read, undecodable_read, events_born, notices, takes, attempts_made, bytes_sent}
+use Rattle.vx_record.specs.Tallies.{lines_read, overlong_read, undecodable_read, events_born, notices, takes, sent_parcels, dropped_parcels, attempts_made, bytes_sent}
 use Rattle.vx_status.specs.declared.batch_status.BatchStatus.{BatchStatus}
-use Rattle.vx_record.specs.Growth.{Rises, bytes_in, lines_in, overlong_in, undecodable_in, events_in, batches_in, notices_in, takes_in, attempts_in, sent_in, TakenGrows, GivenGrows, ConfirmedGrows, EndedGrows, SourceRises, SinkRises, TallyStays}
+use Rattle.vx_record.specs.Growth.{Rises, bytes_in, lines_in, overlong_in, undecodable_in, events_in, batches_in, notices_in, takes_in, outputs_in, dropped_in, attempts_in, sent_in, TakenGrows, GivenGrows, ConfirmedGrows, EndedGrows, SourceRises, TransformRises, SinkRises, TallyStays}
 
 pub taken_grows : TakenGrows
 taken_grows (Read j stream' took) h i stream = refl
@@ -57,6 +57,14 @@ takes_rise : Rises takes takes_in
 takes_rise (Take j stage copies) h i = refl
 takes_rise e h i = omega arith
 
+outputs_rise : Rises sent_parcels outputs_in
+outputs_rise (Answer j made discarded kept) h i = refl
+outputs_rise e h i = omega arith
+
+dropped_rise : Rises dropped_parcels dropped_in
+dropped_rise (Answer j made discarded kept) h i = refl
+dropped_rise e h i = omega arith
+
 attempts_rise : Rises attempts_made attempts_in
 attempts_rise (Attempt j copies bytes reply) h i = refl
 attempts_rise e h i = omega arith
@@ -75,6 +83,9 @@ notices_rise status e h i = omega arith
 pub source_rises : SourceRises
 source_rises = (bytes_rise, lines_rise, overlong_rises, undecodable_rises, events_rise, batches_rise, notices_rise)
 
+pub transform_rises : TransformRises
+transform_rises = (takes_rise, outputs_rise, dropped_rise)
+
 pub sink_rises : SinkRises
 sink_rises = (takes_rise, attempts_rise, sent_rise)
 
@@ -83,6 +94,7 @@ source_stays (Lease j worker now polls) h i q = simp append-nil
 source_stays (Home j) h i q = simp append-nil
 source_stays (Idle j failed) h i q = simp append-nil
 source_stays (SourceLost j at failed) h i q = simp append-nil
+source_stays (Tick j now) h i q = simp append-nil
 source_stays (Closed j) h i q = simp append-nil
 source_stays (Retired j) h i q = simp append-nil
 source_stays (Abandon cause) h i q = simp append-nil
@@ -93,6 +105,7 @@ transform_stays (Lease j worker now polls) h i q = simp append-nil
 transform_stays (Home j) h i q = simp append-nil
 transform_stays (Idle j failed) h i q = simp append-nil
 transform_stays (SourceLost j at failed) h i q = simp append-nil
+transform_stays (Tick j now) h i q = simp append-nil
 transform_stays (Closed j) h i q = simp append-nil
 transform_stays (Retired j) h i q = simp append-nil
 transform_stays (Abandon cause) h i q = simp append-nil
@@ -103,6 +116,7 @@ sink_stays (Lease j worker now polls) h i q = simp append-nil
 sink_stays (Home j) h i q = simp append-nil
 sink_stays (Idle j failed) h i q = simp append-nil
 sink_stays (SourceLost j at failed) h i q = simp append-nil
+sink_stays (Tick j now) h i q = simp append-nil
 sink_stays (Closed j) h i q = simp append-nil
 sink_stays (Retired j) h i q = simp append-nil
 sink_stays (Abandon cause) h i q = simp append-nil
@@ -122,6 +136,7 @@ tally_stays (Lease j worker now polls) h i q = λ t. told nothing_counted (λ (c
 tally_stays (Home j) h i q = λ t. told nothing_counted (λ (c : Component). class_stays c.class (Home j) h i q t) h i
 tally_stays (Idle j failed) h i q = λ t. told nothing_counted (λ (c : Component). class_stays c.class (Idle j failed) h i q t) h i
 tally_stays (SourceLost j at failed) h i q = λ t. told nothing_counted (λ (c : Component). class_stays c.class (SourceLost j at failed) h i q t) h i
+tally_stays (Tick j now) h i q = λ t. told nothing_counted (λ (c : Component). class_stays c.class (Tick j now) h i q t) h i
 tally_stays (Closed j) h i q = λ t. told nothing_counted (λ (c : Component). class_stays c.class (Closed j) h i q t) h i
 tally_stays (Retired j) h i q = λ t. told nothing_counted (λ (c : Component). class_stays c.class (Retired j) h i q t) h i
 tally_stays (Abandon cause) h i q = λ t. told nothing_counted (λ (c : Component). class_stays c.class (Abandon cause) h i q t) h i

@@ -8,7 +8,7 @@ use Rattle.vx_record.specs.declared.entry.Entry.{Entry}
 use Rattle.vx_value.specs.declared.event.Event.{Event}
 use Rattle.vx_record.specs.Records.{Record}
 use Rattle.vx_status.specs.declared.outcome.Outcome.{Outcome}
-use Rattle.vx_record.specs.declared.entry.Entry.TheVariants.{Born, Split, Push, Take, Spent}
+use Rattle.vx_record.specs.declared.entry.Entry.TheVariants.{Born, Split, Push, Take, Answer, Spent}
 use Rattle.vx_record.specs.Copies.{count, counting, joined, next_copy, IsLive}
 use Rattle.vx_record.specs.Places.{Place, kind, same_place, leaves, all_puts, left}
 use Rattle.vx_record.specs.Places.Place.{Outputs}
@@ -28,6 +28,7 @@ still_moves (Born i b place copies events waits stream end) s = absurd s
 still_moves (Split i ports copies event children) s = absurd s
 still_moves (Push i t stage copies) s = absurd s
 still_moves (Take i stage copies) s = absurd s
+still_moves (Answer i made discarded kept) s = absurd s
 still_moves (Spent i c outcome) s = absurd s
 still_moves e s = record { puts = refl; births = refl; leaves = λ k. refl; spends = refl; splits = refl; makes = refl }
 
@@ -36,6 +37,7 @@ still_conserves h (Born i b place copies events waits stream end) s = absurd s
 still_conserves h (Split i ports copies event children) s = absurd s
 still_conserves h (Push i t stage copies) s = absurd s
 still_conserves h (Take i stage copies) s = absurd s
+still_conserves h (Answer i made discarded kept) s = absurd s
 still_conserves h (Spent i c outcome) s = absurd s
 still_conserves h e s = tt
 

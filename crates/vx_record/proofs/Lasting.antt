@@ -7,22 +7,27 @@ use Rattle.vx_value.specs.declared.event.Event.{Event}
 use Rattle.vx_plan.specs.declared.class.Class.{Class}
 use Rattle.vx_plan.specs.declared.class.Class.TheVariants.{Source, Transform, Sink}
 use Rattle.vx_plan.specs.declared.component.Component.{Component}
+use Rattle.vx_plan.specs.declared.settings.Settings.{Settings}
+use Rattle.vx_plan.specs.declared.settings.Settings.TheVariants.{Stdin, Console}
 use Rattle.vx_plan.specs.declared.stage.Stage.{Stage}
+use Rattle.vx_plan.specs.Options.{has_device}
+use Rattle.vx_condition.specs.Steps.{Test}
 use Rattle.vx_plan.specs.Components.{is_source, transform_stages, sink_stages, stages}
 use Rattle.vx_record.specs.Records.{Record}
 use Rattle.vx_record.specs.declared.entry.Entry.{Entry}
-use Rattle.vx_record.specs.declared.entry.Entry.TheVariants.{Lease, Home, Read, Born, Push, Confirm, Closed, Retired, Abandon}
+use Rattle.vx_record.specs.declared.entry.Entry.TheVariants.{Install, Lease, Home, Read, Born, Push, Confirm, Closed, Retired, Abandon}
 use Rattle.vx_record.specs.Turns.{is_out, at_lease, is_confirm_of}
 use Rattle.vx_record.specs.Installs.{component_of, source_at, device_at, is_closed, is_retired}
 use Rattle.vx_record.specs.Lists.{is_bare, buffered, held}
 use Rattle.vx_record.specs.Stages.{room_from}
 use Rattle.vx_record.specs.Abandoning.{abandoned}
-use Rattle.vx_record.specs.Routing.{is_dry, is_sent}
+use Rattle.vx_record.specs.Routing.{is_dry, is_sent, is_ending}
 use Rattle.vx_record.specs.Confirms.{is_confirm_due}
 use Rattle.vx_record.specs.SinkBatches.{is_full_batch, is_timed_out, is_last_batch, was_attempted, is_batch_closed, retry_from}
 use Rattle.vx_record.specs.Owing.{is_done}
-use Rattle.vx_record.specs.Ready.{reading_moment, is_heir, can_read, is_close_due, is_source_ready, is_attempt_due, can_take, is_sink_ready, is_ready}
+use Rattle.vx_record.specs.Ready.{reading_moment, is_heir, can_read, is_close_due, is_source_ready, is_attempt_due, can_take, is_transform_ready, is_sink_ready, is_ready, IsTickReady, IsReady}
 use Rattle.vx_record.specs.Sourcing.{IsYield}
+use Rattle.vx_record.specs.Transforms.{Rule, rule_of}
 use Rattle.vx_record.specs.Legal.{IsLegal}
 use Rattle.vx_record.specs.Finality.{DoneStays, LeasedUnclosed, StaysBare}
 use Rattle.vx_record.proofs.OnePlace.{conserved}
@@ -104,17 +109,17 @@ quiet_on : (h : Record) (e : Entry) (i : ℕ) → IsLegal (e ∷ h) → is_done 
 quiet_on h (Read j stream took) i legal done = (source (source_at h i) refl, other (j == i) refl)
   where
     undry : is_dry h j ≡ false
-    undry = turn_undry h j legal.1 legal.0.row
+    undry = turn_undry h j legal.1 legal.0.row.turn
 
     source : (b : Bool) → source_at h i ≡ b → source_at h i ≡ true
     source true is = is
     source false is =
-        let no : true ≡ false = sym (source_dry h j legal.1 (worker_done h i legal.1 is done).dry legal.0.row.source) ∙ undry in cc
+        let no : true ≡ false = sym (source_dry h j legal.1 (worker_done h i legal.1 is done).dry legal.0.row.turn.source) ∙ undry in cc
 
     other : (b : Bool) → (j == i) ≡ b → b ≡ false
     other true here =
         let same : j ≡ i = eqb-true j i here in
-        let is : source_at h i ≡ true = subst (λ (k : ℕ). source_at h k ≡ true) same legal.0.row.source in
+        let is : source_at h i ≡ true = subst (λ (k : ℕ). source_at h k ≡ true) same legal.0.row.turn.source in
         let no : true ≡ false = sym (source_done h i is done).dry ∙ subst (λ (k : ℕ). is_dry h k ≡ false) same undry in cc
     other false here = refl
 quiet_on h e i legal done = tt
@@ -197,20 +202,27 @@ none_to_take true b e = refl
 none_to_take false true e = refl
 none_to_take false false e = cc
 
-ready_by : (o : Option Component) (s k : Bool) → ((elim o [ None ↦ false | Some c ↦ is_source c ]) ≡ true → s ≡ false) → ((elim o [ None ↦ false | Some c ↦ is_source c ]) ≡ false → k ≡ false) →
-    (elim o [ None ↦ false | Some c ↦ elim c.class [ Source ↦ s | Transform ↦ false | Sink ↦ k ] ]) ≡ false
-ready_by None s k source sink = refl
-ready_by (Some c) s k source sink = go c.class source sink
+unflowing : (s b e n : Bool) → b ≡ true → n ≡ true → (s && (not b || (e && b && not n))) ≡ false
+unflowing false b e n x y = refl
+unflowing true false e n x y = cc
+unflowing true true e false x y = cc
+unflowing true true true true x y = refl
+unflowing true true false true x y = refl
+
+ready_by : (o : Option Component) (s t k : Bool) → ((elim o [ None ↦ false | Some c ↦ is_source c ]) ≡ true → s ≡ false) → ((elim o [ None ↦ false | Some c ↦ is_source c ]) ≡ false → (t ≡ false) × (k ≡ false)) →
+    (elim o [ None ↦ false | Some c ↦ elim c.class [ Source ↦ s | Transform ↦ t | Sink ↦ k ] ]) ≡ false
+ready_by None s t k source worker = refl
+ready_by (Some c) s t k source worker = go c.class source worker
   where
-    go : (t : Class) → ((elim t [ Source ↦ true | Transform ↦ false | Sink ↦ false ]) ≡ true → s ≡ false) → ((elim t [ Source ↦ true | Transform ↦ false | Sink ↦ false ]) ≡ false → k ≡ false) →
-        (elim t [ Source ↦ s | Transform ↦ false | Sink ↦ k ]) ≡ false
-    go Source source sink = source refl
-    go Transform source sink = refl
-    go Sink source sink = sink refl
+    go : (class : Class) → ((elim class [ Source ↦ true | Transform ↦ false | Sink ↦ false ]) ≡ true → s ≡ false) → ((elim class [ Source ↦ true | Transform ↦ false | Sink ↦ false ]) ≡ false → (t ≡ false) × (k ≡ false)) →
+        (elim class [ Source ↦ s | Transform ↦ t | Sink ↦ k ]) ≡ false
+    go Source source worker = source refl
+    go Transform source worker = (worker refl).0
+    go Sink source worker = (worker refl).1
 
 -- what is done and closed has no work
 unready : (h : Record) (i now : ℕ) → IsLegal h → is_done h i ≡ true → is_closed h i ≡ true → is_ready h i now ≡ false
-unready h i now legal done is = ready_by (component_of h i) (is_source_ready h i now) (is_sink_ready h i now) source sink
+unready h i now legal done is = ready_by (component_of h i) (is_source_ready h i now) (is_transform_ready h i) (is_sink_ready h i now) source (λ off. (transform off, sink off))
   where
     closing : is_close_due h i ≡ false
     closing = unclosing (device_at h i) (is_closed h i) (is_done h i) is
@@ -222,6 +234,11 @@ unready h i now legal done is = ready_by (component_of h i) (is_source_ready h i
         (or_from (can_read h i now) (is_confirm_due h i) (unreadable (is_sent h i) (is_dry h i) (nat_le (reading_moment h i) now) (is_heir h i) was.dry) was.undue)
         closing
 
+    transform : source_at h i ≡ false → is_transform_ready h i ≡ false
+    transform off =
+        let was = worker_done h i legal off done in
+        unflowing (is_sent h i) (is_empty (buffered h i)) (is_ending h i) (is_empty (held h i)) (unbuffered h i was.empty) (is_empty_of (held h i) was.empty.hands)
+
     sink : source_at h i ≡ false → is_sink_ready h i now ≡ false
     sink off =
         let was = worker_done h i legal off done in
@@ -231,6 +248,29 @@ unready h i now legal done is = ready_by (component_of h i) (is_source_ready h i
         (none_to_take (is_batch_closed h i now) (is_empty (buffered h i)) (unbuffered h i was.empty)))
         closing
 
+-- what is closed has a port
+closed_device : (h : Record) (i : ℕ) → IsLegal h → is_closed h i ≡ true → device_at h i ≡ true
+closed_device [] i legal is = cc
+closed_device (Install version plan once instances now ∷ h) i legal is = let no : is_closed [] i ≡ true = subst (λ (k : Record). is_closed k i ≡ true) legal.0.row.first is in cc
+closed_device (Closed j ∷ h) i legal is = go (j == i) refl is (closed_device h i legal.1)
+  where
+    go : (b : Bool) → (j == i) ≡ b → (b || is_closed h i) ≡ true → (is_closed h i ≡ true → device_at h i ≡ true) → device_at h i ≡ true
+    go true here e rest = let same : j ≡ i = eqb-true j i here in subst (λ (k : ℕ). device_at h k ≡ true) same legal.0.row.device
+    go false here e rest = rest e
+closed_device (e ∷ h) i legal is = closed_device h i legal.1 is
+
+-- and nothing that has one acts by itself
+ruleless : (settings : Settings) (tests : List Test) (rule : Rule) → has_device settings ≡ true → rule_of settings tests ≡ Some rule → ⊥
+ruleless (Stdin max_length codec) tests rule device ruled = cc
+ruleless (Console target codec sink) tests rule device ruled = cc
+ruleless settings tests rule device ruled = cc
+
+unticked : (h : Record) (i now : ℕ) → device_at h i ≡ true → IsTickReady h i now → ⊥
+unticked h i now device tick =
+    let follows = tick.due.follows in
+    let works : has_device follows.component.settings ≡ true = sym (ap (λ (o : Option Component). elim o [ None ↦ false | Some c ↦ has_device c.settings ]) follows.runs) ∙ device in
+    ruleless follows.component.settings follows.tests tick.due.rule works follows.ruled
+
 -- so it isn't leased
 pub leased_unclosed : LeasedUnclosed
 leased_unclosed h i worker now polls legal = go (is_closed h i) refl
@@ -239,10 +279,13 @@ leased_unclosed h i worker now polls legal = go (is_closed h i) refl
     kept true gone = let no : false ≡ true = legal.0.still gone in cc
     kept false is = is
 
+    by : Final h i → is_closed h i ≡ true → IsReady h i now → true ≡ false
+    by final is (inl ready) = sym ready ∙ unready h i now legal.1 final.done is
+    by final is (inr tick) = absurd (unticked h i now (closed_device h i legal.1 is) tick)
+
     go : (b : Bool) → is_closed h i ≡ b → b ≡ false
     go true is =
-        let final = closed_final h i legal.1 (kept (abandoned h) refl) is in
-        let no : true ≡ false = sym legal.0.row.ready ∙ unready h i now legal.1 final.done is in cc
+        by (closed_final h i legal.1 (kept (abandoned h) refl) is) is legal.0.row.ready
     go false is = refl
 
 -- RETIRED

@@ -7,32 +7,34 @@ use Rattle.vx_status.specs.declared.outcome.Outcome.TheVariants.{Delivered, Atte
 use Rattle.vx_plan.specs.declared.class.Class.TheVariants.{Source, Transform, Sink}
 use Rattle.vx_plan.specs.declared.component.Component.{Component}
 use Rattle.vx_plan.specs.Components.{component_named, is_source}
-use Rattle.vx_plan.specs.Options.{has_device}
-use Rattle.vx_plan.specs.declared.settings.Settings.{Settings}
-use Rattle.vx_plan.specs.declared.settings.Settings.TheVariants.{Stdin, Console}
 use Rattle.vx_record.specs.Records.{Record}
-use Rattle.vx_record.specs.declared.entry.Entry.TheVariants.{Install, Lease, Home, Read, Idle, SourceLost, Attempt}
-use Rattle.vx_record.specs.Copies.{count, contains}
-use Rattle.vx_record.specs.Lists.{outputs}
+use Rattle.vx_record.specs.declared.entry.Entry.TheVariants.{Install, Lease, Home, Read, Idle, SourceLost, Answer, Attempt, Spent}
+use Rattle.vx_record.specs.Copies.{count, contains, joined, spends, all_of, times_spent}
+use Rattle.vx_record.specs.Lists.{held, outputs}
 use Rattle.vx_record.specs.Turns.{is_out, at_lease, since_lease, lease_now, is_turn_of}
-use Rattle.vx_record.specs.Installs.{Wiring, wiring, component_of, source_at, is_marked}
+use Rattle.vx_record.specs.Installs.{Wiring, wiring, component_of, source_at, transform_at, is_marked}
 use Rattle.vx_record.specs.Reads.{all_ended, bytes_of_all, is_lost}
 use Rattle.vx_record.specs.Abandoning.{abandoned}
-use Rattle.vx_record.specs.Parcels.{port_list}
-use Rattle.vx_record.specs.Routing.{drains, is_dry, is_sent, is_out_from_before, is_too_long, routes}
-use Rattle.vx_record.specs.Owing.{owes, is_done, is_worker_done, is_source_done, all_noticed}
+use Rattle.vx_record.specs.Parcels.{parcel_ports, port_list}
+use Rattle.vx_record.specs.Routing.{drains, is_dry, is_sent, is_out_from_before, is_too_long}
+use Rattle.vx_record.specs.Owing.{last_discarded, owes, is_done, is_worker_done, is_source_done, all_noticed}
 use Rattle.vx_record.specs.Confirms.{is_confirm_due}
-use Rattle.vx_record.specs.Ready.{is_heir, reading_moment, is_source_ready, is_sink_ready}
+use Rattle.vx_record.specs.Ready.{is_heir, reading_moment, is_source_ready, is_transform_ready, is_sink_ready, IsReady}
 use Rattle.vx_record.specs.SinkBatches.{attempts_with, failures_with, is_failed}
 use Rattle.vx_record.specs.Spending.{last_attempted, oldest}
 use Rattle.vx_record.specs.Sending.{IsOldest}
+use Rattle.vx_record.specs.Moving.{IsConserved}
 use Rattle.vx_record.specs.Sourcing.{MayTurn}
 use Rattle.vx_record.specs.Legal.{IsLegal}
-use Rattle.vx_record.specs.Ceasing.{lost_at, TakesNoMore}
-use Rattle.vx_record.specs.Promises.{TurnUnlost, ClosedTakesNoMore, LeasedRuns, RetiredClosed, UnaskedToStop, SpentAbandoned, NoneFiltered, UnconsumedUnread, DecidedHeld}
-use Rattle.vx_record.proofs.Attempted.{attempts_one, attempted_held}
+use Rattle.vx_record.specs.Ceasing.{lost_at, readers_on, TakesNoMore}
+use Rattle.vx_record.specs.Promises.{TurnUnlost, ClosedTakesNoMore, LeasedRuns, UnaskedToStop, SpentAbandoned, TransformsFilter, UnconsumedUnread, SourceUnread, DecidedHeld}
+use Rattle.vx_record.proofs.Counts.{count-append}
+use Rattle.vx_record.proofs.OnePlace.{conserved}
+use Rattle.vx_record.proofs.Answers.{answer_holds}
+use Rattle.vx_record.proofs.Answerers.{answerer}
+use Rattle.vx_record.proofs.Attempted.{attempts_one, attempted_held, held_stays, unreleased}
 use Rattle.vx_record.proofs.Ceasing.{has_cause, more_on, unmarked}
-use Rattle.vx_record.proofs.FirstPort.{first_routes, output_on_first}
+use Rattle.vx_record.proofs.FirstPort.{open_routes, first_readers, source_on_first}
 
 pub or_left : (a b : Bool) → (a || b) ≡ false → a ≡ false
 or_left true b e = cc
@@ -192,23 +194,16 @@ closed_takes_no_more h i legal row source = go row.over
     go (inr gone) = inr (inr (inr (has_cause h gone)))
 
 -- LEASES AND ENDS
-works_with_one : (settings : Settings) → has_device settings ≡ true
-works_with_one (Stdin max_length codec) = refl
-works_with_one (Console target codec sink) = refl
-
 pub leased_runs : LeasedRuns
-leased_runs h i worker now polls row = go (component_of h i) row.ready
+leased_runs h i worker now polls row = by row.ready
   where
-    go : (o : Option Component) → (elim o [ None ↦ false | Some c ↦ elim c.class [ Source ↦ is_source_ready h i now | Transform ↦ false | Sink ↦ is_sink_ready h i now ] ]) ≡ true → is_some o ≡ true
+    go : (o : Option Component) → (elim o [ None ↦ false | Some c ↦ elim c.class [ Source ↦ is_source_ready h i now | Transform ↦ is_transform_ready h i | Sink ↦ is_sink_ready h i now ] ]) ≡ true → is_some o ≡ true
     go None ready = cc
     go (Some c) ready = refl
 
-pub retired_closed : RetiredClosed
-retired_closed h i row = row.port_closed (go (component_of h i) row.known)
-  where
-    go : (o : Option Component) → is_some o ≡ true → (elim o [ None ↦ false | Some c ↦ has_device c.settings ]) ≡ true
-    go None there = cc
-    go (Some c) there = works_with_one c.settings
+    by : IsReady h i now → is_some (component_of h i) ≡ true
+    by (inl ready) = go (component_of h i) ready
+    by (inr tick) = ap (λ (o : Option Component). is_some o) tick.due.follows.runs
 
 pub unasked_to_stop : UnaskedToStop
 unasked_to_stop h stopped now limit row = let no : None ≡ Some stopped = row.reason.0 in cc
@@ -223,19 +218,60 @@ spent_abandoned h i c NoConsumer legal gone = let no : false ≡ true = legal.0.
 spent_abandoned h i c Filtered legal gone = let no : false ≡ true = legal.0.still gone in cc
 spent_abandoned h i c NewestDropped legal gone = let no : false ≡ true = legal.0.still gone in cc
 
-pub none_filtered : NoneFiltered
-none_filtered h i c row = row.cause
+-- what an answer discarded a transform discarded
+pub discarded_by : (h : Record) (i c : ℕ) → IsLegal h → 0 < count c (last_discarded h i) → transform_at h i ≡ true
+discarded_by [] i c legal some = absurd (omega (arith, some))
+discarded_by (Install version plan once instances now ∷ h) i c legal some =
+    let none = ap (λ (k : Record). count c (last_discarded k i)) legal.0.row.first in absurd (omega (arith, some, none))
+discarded_by (Answer j made discarded kept ∷ h) i c legal some = go (j == i) refl some (discarded_by h i c legal.1)
+  where
+    go : (b : Bool) → (j == i) ≡ b → 0 < count c (if b then discarded else last_discarded h i) → (0 < count c (last_discarded h i) → transform_at h i ≡ true) → transform_at h i ≡ true
+    go true here l rest = let same : j ≡ i = grind (arith, nat_tests) in subst (λ (k : ℕ). transform_at h k ≡ true) same (answerer h j made discarded kept legal)
+    go false here l rest = rest l
+discarded_by (e ∷ h) i c legal some = discarded_by h i c legal.1 some
+
+pub transforms_filter : TransformsFilter
+transforms_filter h i c legal row = discarded_by h i c legal row.cause
+
+-- and is held until it is spent
+pub discarded_held : (h : Record) (i c : ℕ) → IsLegal h → 0 < count c (last_discarded h i) → times_spent h c ≡ 0 → 0 < count c (joined (held h i))
+discarded_held [] i c legal some none = absurd (omega (arith, some))
+discarded_held (Answer j made discarded kept ∷ h) i c legal some none = go (j == i) refl some (discarded_held h i c legal.1)
+  where
+    sound : IsConserved (Answer j made discarded kept ∷ h)
+    sound = conserved (Answer j made discarded kept ∷ h) legal
+
+    before : times_spent h c ≡ 0
+    before = let all = count-append c (all_of spends h) [] in omega (arith, none, all)
+
+    go : (b : Bool) → (j == i) ≡ b → 0 < count c (if b then discarded else last_discarded h i) → (0 < count c (last_discarded h i) → times_spent h c ≡ 0 → 0 < count c (joined (held h i))) →
+        0 < count c (joined (held (Answer j made discarded kept ∷ h) i))
+    go true here l rest =
+        let same : j ≡ i = grind (arith, nat_tests) in
+        let holds = answer_holds h j made discarded kept legal c in
+        subst (λ (k : ℕ). 0 < count c (joined (held (Answer j made discarded kept ∷ h) k))) same (omega (arith, holds, l))
+    go false here l rest =
+        let stood = rest l before in
+        held_stays h (Answer j made discarded kept) i c sound (unreleased h i j c made discarded kept sound here stood) stood
+discarded_held (Spent j d outcome ∷ h) i c legal some none =
+    let all = count-append c (all_of spends h) (d ∷ []) in
+    held_stays h (Spent j d outcome) i c (conserved (Spent j d outcome ∷ h) legal) (omega (arith, none, all)) (discarded_held h i c legal.1 some (omega (arith, none, all)))
+discarded_held (e ∷ h) i c legal some none =
+    let all = count-append c (all_of spends h) [] in
+    held_stays h e i c (conserved (e ∷ h) legal) refl (discarded_held h i c legal.1 some (omega (arith, none, all)))
 
 is_oldest : (ps : List (List ℕ)) (c : ℕ) → 0 < count c (oldest ps) → IsOldest (oldest ps) ps
 is_oldest [] c some = absurd (omega (arith, some))
 is_oldest (p ∷ ps) c some = refl
 
 pub unconsumed_unread : UnconsumedUnread
-unconsumed_unread h i c legal row =
-    let oldest_one = is_oldest (outputs h i) c row.cause.next in
-    let first = output_on_first h i (oldest (outputs h i)) legal oldest_one in
-    sym (first_routes h i (oldest (outputs h i)) oldest_one)
-    ∙ ap (λ n. routes h i (port_list n)) first ∙ row.cause.no_target
+unconsumed_unread h i c row =
+    sym (open_routes h i (oldest (outputs h i)) (port_list (parcel_ports h (oldest (outputs h i)))) (is_oldest (outputs h i) c row.cause.next)) ∙ row.cause.no_target
+
+pub source_unread : SourceUnread
+source_unread h i c legal source row =
+    let first = source_on_first h i (oldest (outputs h i)) legal source (is_oldest (outputs h i) c row.cause.next) in
+    sym (first_readers h i) ∙ ap (λ n. readers_on h i (port_list n)) first ∙ unconsumed_unread h i c row
 
 -- what was attempted last was attempted
 last_counts : (h : Record) (i c : ℕ) → 0 < count c (last_attempted h i) → 0 < attempts_with h i c
@@ -268,5 +304,5 @@ decided_held h i c Attempts legal is row =
     attempted_held h i c legal (omega (arith, one, many, more)) row.live.2
 decided_held h i c NoConsumer legal is row = absurd is
 decided_held h i c Abandoned legal is row = absurd is
-decided_held h i c Filtered legal is row = absurd is
+decided_held h i c Filtered legal is row = discarded_held h i c legal row.cause row.live.2
 decided_held h i c NewestDropped legal is row = absurd is

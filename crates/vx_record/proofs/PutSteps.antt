@@ -10,8 +10,9 @@ use Rattle.vx_status.specs.declared.event_status.EventStatus.TheVariants as even
 use Rattle.vx_status.specs.Tables.{status_of}
 use Rattle.vx_value.specs.declared.event.Event.{Event}
 use Rattle.vx_record.specs.declared.child.Child.{Child}
+use Rattle.vx_record.specs.declared.output.Output.{Output}
 use Rattle.vx_record.specs.declared.entry.Entry.{Entry}
-use Rattle.vx_record.specs.declared.entry.Entry.TheVariants.{Born, Split, Take}
+use Rattle.vx_record.specs.declared.entry.Entry.TheVariants.{Born, Split, Take, Answer}
 use Rattle.vx_record.specs.declared.put_counts.PutCounts.{PutCounts}
 use Rattle.vx_record.specs.Records.{Record, capped}
 use Rattle.vx_record.specs.Places.{Place, Put, one_each, puts, all_puts}
@@ -122,6 +123,42 @@ split_noted o i j ports copies put_out children h old newest before rises = reco
     entry : Entry
     entry = Split j ports copies put_out children
 
+-- ---- an answer
+none_output : (test : List ℕ → Bool) (here : Place → Bool) (j : ℕ) (made : List Output) → here (Outputs j) ≡ false →
+    count_puts (λ (put : Put). here put.place && test put.copies) (map (λ (output : Output). record { place = Outputs j; copies = output.copies }) made) ≡ 0
+none_output test here j [] out = refl
+none_output test here j (output ∷ rest) out =
+    ap (λ b. one_if (b && test output.copies) + count_puts (λ (put : Put). here put.place && test put.copies) (map (λ (output : Output). record { place = Outputs j; copies = output.copies }) rest)) out
+    ∙ (let ih = none_output test here j rest out in omega (arith, ih))
+
+unread_put_out : (o : ℕ → Option Outcome) (i j : ℕ) (made : List Output) → j ≡ i →
+    count_by (λ (output : Output). any_in is_unread o output.copies) made
+    ≡ count_puts (λ (put : Put). is_output i put.place && any_in is_unread o put.copies) (map (λ (output : Output). record { place = Outputs j; copies = output.copies }) made)
+unread_put_out o i j [] own = refl
+unread_put_out o i j (output ∷ rest) own =
+    sum_by-cons (λ (output : Output). cond (any_in is_unread o output.copies) 1 0) output rest
+    ∙ go (any_in is_unread o output.copies) (j == i) (grind (arith, nat_tests)) (unread_put_out o i j rest own)
+  where
+    go : (b s : Bool) → s ≡ true → {m n : ℕ} → m ≡ n → (cond b 1 0) + m ≡ one_if (s && b) + n
+    go true true e f = omega arith
+    go false true e f = omega arith
+    go b false e f = absurd (cc)
+
+pub answer_noted : (o : ℕ → Option Outcome) (i j : ℕ) (made : List Output) (discarded held : List ℕ) (h : Record) (old : PutCounts) (unread : ℕ) →
+    j ≡ i → ArePuts o i h old → unread ≡ capped (old.unread + count_by (λ (output : Output). any_in is_unread o output.copies) made) →
+    ArePuts o i (Answer j made discarded held ∷ h) (record old { unread = unread })
+answer_noted o i j made discarded held h old unread own before rises = record {
+  unread = raised (any_in is_unread o) (is_output i) entry h old.unread unread (count_by (λ (output : Output). any_in is_unread o output.copies) made) before.unread rises
+      (unread_put_out o i j made own);
+  newest = kept (any_in is_newest o) (is_child_for i) entry h old.newest before.newest (none_output (any_in is_newest o) (is_child_for i) j made refl);
+  delivered = kept (first_in event.Delivered o) (is_held_by i) entry h old.delivered before.delivered (none_output (first_in event.Delivered o) (is_held_by i) j made refl);
+  errored = kept (first_in event.Errored o) (is_held_by i) entry h old.errored before.errored (none_output (first_in event.Errored o) (is_held_by i) j made refl);
+  rejected = kept (first_in event.Rejected o) (is_held_by i) entry h old.rejected before.rejected (none_output (first_in event.Rejected o) (is_held_by i) j made refl);
+}
+  where
+    entry : Entry
+    entry = Answer j made discarded held
+
 -- ---- a take
 abbrev pub is_of : EventStatus → Option EventStatus → Bool
 is_of status None = false
@@ -217,12 +254,21 @@ nothing_noted o i e h old before outs children helds = record {
 pub other_noted : (o : ℕ → Option Outcome) (i : ℕ) (e : Entry) (h : Record) (old : PutCounts) → ArePuts o i h old →
     ((j b place : ℕ) (copies : List ℕ) (events : List Event) (waits : Bool) (stream end : ℕ) → e ≡ Born j b place copies events waits stream end → ⊥) →
     ((j ports : ℕ) (copies : List ℕ) (put_out : Event) (children : List Child) → e ≡ Split j ports copies put_out children → ⊥) →
-    ((j stage : ℕ) (copies : List ℕ) → e ≡ Take j stage copies → ⊥) → ArePuts o i (e ∷ h) old
-other_noted o i (Born j b place copies events waits stream end) h old before no_birth no_split no_take =
+    ((j stage : ℕ) (copies : List ℕ) → e ≡ Take j stage copies → ⊥) →
+    ((j : ℕ) (made : List Output) (discarded held : List ℕ) → e ≡ Answer j made discarded held → ⊥) → ArePuts o i (e ∷ h) old
+other_noted o i (Born j b place copies events waits stream end) h old before no_birth no_split no_take no_answer =
     absurd (no_birth j b place copies events waits stream end refl)
-other_noted o i (Split j ports copies put_out children) h old before no_birth no_split no_take = absurd (no_split j ports copies put_out children refl)
-other_noted o i (Take j stage copies) h old before no_birth no_split no_take = absurd (no_take j stage copies refl)
-other_noted o i e h old before no_birth no_split no_take = nothing_noted o i e h old before (λ t. refl) (λ t. refl) (λ t. refl)
+other_noted o i (Split j ports copies put_out children) h old before no_birth no_split no_take no_answer = absurd (no_split j ports copies put_out children refl)
+other_noted o i (Take j stage copies) h old before no_birth no_split no_take no_answer = absurd (no_take j stage copies refl)
+other_noted o i (Answer j made discarded held) h old before no_birth no_split no_take no_answer = absurd (no_answer j made discarded held refl)
+other_noted o i e h old before no_birth no_split no_take no_answer = nothing_noted o i e h old before (λ t. refl) (λ t. refl) (λ t. refl)
+
+-- an answer of another instance
+pub other_answer : (o : ℕ → Option Outcome) (i j : ℕ) (made : List Output) (discarded held : List ℕ) (h : Record) (old : PutCounts) → (j == i) ≡ false →
+    ArePuts o i h old → ArePuts o i (Answer j made discarded held ∷ h) old
+other_answer o i j made discarded held h old other before =
+    nothing_noted o i (Answer j made discarded held) h old before (λ test. none_output test (is_output i) j made other)
+    (λ test. none_output test (is_child_for i) j made refl) (λ test. none_output test (is_held_by i) j made refl)
 
 -- a take of another instance
 pub other_take : (o : ℕ → Option Outcome) (i j stage : ℕ) (copies : List ℕ) (h : Record) (old : PutCounts) → (j == i) ≡ false → ArePuts o i h old → ArePuts o i (Take j stage copies ∷ h) old

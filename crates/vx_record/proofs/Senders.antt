@@ -1,27 +1,28 @@
--- Who sends: only sources put out and have children that wait, and nobody who is retired.
-use Rattle.std.proofs.Common.{◌≡◌, ℕ, ◌+◌, ◌<◌, Bool, true, false, List, [], ◌∷◌, Option, Some, None, refl, sym, ap, subst, ◌∙◌, arith, map, filter}
-use Rattle.std.specs.Prelude.{◌==◌, ◌&&◌, ◌||◌, if◌then◌else◌}
+-- Who sends: only sources and transforms put out and have children that wait, and nobody who is retired.
+use Rattle.std.proofs.Common.{◌≡◌, ℕ, ◌+◌, ◌<◌, Bool, true, false, List, [], ◌∷◌, Option, Some, None, refl, sym, ap, subst, ◌∙◌, arith, map, filter, inl, inr}
+use Rattle.std.specs.Prelude.{◌==◌, ◌&&◌, ◌||◌, ◌⊎◌, if◌then◌else◌}
 use Rattle.std.specs.List.{list_any, list_all}
 use Rattle.std.proofs.lemmas.Bool.{eqb-true}
 use Rattle.std.proofs.lemmas.List.{append-nil}
 use Rattle.vx_value.specs.Texts.{Word}
 use Rattle.vx_value.specs.declared.event.Event.{Event}
 use Rattle.vx_plan.specs.declared.component.Component.{Component}
-use Rattle.vx_plan.specs.Components.{component_named, is_source}
+use Rattle.vx_plan.specs.Components.{component_named, is_source, is_transform}
 use Rattle.vx_record.specs.declared.instance.Instance.{Instance}
 use Rattle.vx_record.specs.Records.{Record}
 use Rattle.vx_record.specs.declared.entry.Entry.{Entry}
-use Rattle.vx_record.specs.declared.entry.Entry.TheVariants.{Install, Lease, Home, Read, Born, Retired}
+use Rattle.vx_record.specs.declared.entry.Entry.TheVariants.{Install, Lease, Home, Read, Born, Answer, Retired}
 use Rattle.vx_record.specs.Copies.{count}
 use Rattle.vx_record.specs.Turns.{is_out}
-use Rattle.vx_record.specs.Installs.{Wiring, wiring, name_at, is_new, started, told, source_at, is_retired}
+use Rattle.vx_record.specs.Installs.{Wiring, wiring, name_at, is_new, started, told, source_at, transform_at, is_retired}
 use Rattle.vx_record.specs.Starting.{first_instances}
 use Rattle.vx_record.specs.Sourcing.{IsYield}
 use Rattle.vx_record.specs.Legal.{IsLegal}
 use Rattle.vx_record.proofs.Counts.{count-append}
 use Rattle.vx_record.proofs.OnePlace.{conserved}
+use Rattle.vx_record.proofs.Answerers.{source_untransforming, answerer, unanswering}
 use Rattle.vx_record.proofs.Bare.{retired_bare}
-use Rattle.vx_record.proofs.Vacant.{Sent, bears, bare_sent, sent_on}
+use Rattle.vx_record.proofs.Vacant.{Sent, bears, puts_out, bare_sent, sent_on}
 
 -- what a wiring tells
 abbrev pub told_by : {X : Type 0} → X → (Component → X) → Option Wiring → X
@@ -64,10 +65,10 @@ named_new from (c ∷ rest) i name is = go (from == i) is (named_new (from + 1) 
     go true e later = omega arith
     go false e later = let l = later e in omega (arith, l)
 
--- a source is started
-pub started_source : (h : Record) (i : ℕ) → IsLegal h → source_at h i ≡ true → 0 < count i (started h)
-started_source [] i legal is = cc
-started_source (Install version plan once instances now ∷ h) i legal is = go (name_at instances i) refl
+-- whoever runs a component is started
+pub started_told : (h : Record) (i : ℕ) (f : Component → Bool) → IsLegal h → told false f h i ≡ true → 0 < count i (started h)
+started_told [] i f legal is = cc
+started_told (Install version plan once instances now ∷ h) i f legal is = go (name_at instances i) refl
   where
     numbers : List Instance → List ℕ
     numbers all = map (λ (instance : Instance). instance.number) (filter is_new all)
@@ -85,9 +86,9 @@ started_source (Install version plan once instances now ∷ h) i legal is = go (
     go None e =
         let same : wiring (Install version plan once instances now ∷ h) i ≡ wiring [] i =
         ap (λ (o : Option Word). elim o [ None ↦ wiring h i | Some name ↦ Some (record { plan = plan; instances = instances; name = name }) ]) e ∙ ap (λ (k : Record). wiring k i) legal.0.row.first in
-        let no : false ≡ true = sym (same_told false is_source (Install version plan once instances now ∷ h) [] i same) ∙ is in cc
-started_source (e ∷ h) i legal is =
-    let l = started_source h i legal.1 is in
+        let no : false ≡ true = sym (same_told false f (Install version plan once instances now ∷ h) [] i same) ∙ is in cc
+started_told (e ∷ h) i f legal is =
+    let l = started_told h i f legal.1 is in
     let all = count-append i (started h) [] in
     omega (arith, l, all)
 
@@ -117,36 +118,53 @@ uninstalled e h i f legal is = refl
 -- who bears a batch is a source, and out
 pub bearer : (h : Record) (i : ℕ) (events : List Event) (stream end : ℕ) → IsLegal h → IsYield h i events stream end → (source_at h i ≡ true) × (is_out h i ≡ true)
 bearer (Read j s took ∷ h) i events stream end legal yield =
-    (subst (λ (k : ℕ). source_at h k ≡ true) yield.reader legal.0.row.source, subst (λ (k : ℕ). is_out h k ≡ true) yield.reader legal.0.row.out)
+    (subst (λ (k : ℕ). source_at h k ≡ true) yield.reader legal.0.row.turn.source, subst (λ (k : ℕ). is_out h k ≡ true) yield.reader legal.0.row.turn.out)
 bearer h i events stream end legal yield = absurd yield
 
--- an instance of which this can't be said bears nothing
-unborn_by : (h : Record) (e : Entry) (i : ℕ) → IsLegal (e ∷ h) → ((source_at h i ≡ true) × (is_out h i ≡ true) → ⊥) → bears i e ≡ false
-unborn_by h (Born j b place copies events waits stream end) i legal never = go (j == i) refl
+-- an instance of which neither this nor that it is a transform, and out, can be said puts nothing out
+unput_by : (h : Record) (e : Entry) (i : ℕ) → IsLegal (e ∷ h) → (is_out h i ≡ true → (source_at h i ≡ true) ⊎ (transform_at h i ≡ true) → ⊥) → puts_out i e ≡ false
+unput_by h (Born j b place copies events waits stream end) i legal never = go (j == i) refl
   where
     go : (b : Bool) → (j == i) ≡ b → b ≡ false
     go true is =
         let same : j ≡ i = eqb-true j i is in
         let of = bearer h j events stream end legal.1 legal.0.row.yield in
-        absurd (never (subst (λ (k : ℕ). source_at h k ≡ true) same of.0, subst (λ (k : ℕ). is_out h k ≡ true) same of.1))
+        absurd (never (subst (λ (k : ℕ). is_out h k ≡ true) same of.1) (inl (subst (λ (k : ℕ). source_at h k ≡ true) same of.0)))
     go false is = refl
-unborn_by h e i legal never = refl
+unput_by h (Answer j made discarded kept) i legal never = go (j == i) refl
+  where
+    go : (b : Bool) → (j == i) ≡ b → b ≡ false
+    go true is =
+        let same : j ≡ i = eqb-true j i is in
+        absurd (never (subst (λ (k : ℕ). is_out h k ≡ true) same legal.0.row.out) (inr (subst (λ (k : ℕ). transform_at h k ≡ true) same (answerer h j made discarded kept legal))))
+    go false is = refl
+unput_by h e i legal never = refl
 
--- who is no source bears nothing
-pub unborn_worker : (h : Record) (e : Entry) (i : ℕ) → IsLegal (e ∷ h) → source_at h i ≡ false → bears i e ≡ false
-unborn_worker h e i legal off = unborn_by h e i legal (λ is. let no : true ≡ false = sym is.0 ∙ off in cc)
+-- who is neither puts nothing out
+unput_other : (h : Record) (e : Entry) (i : ℕ) → IsLegal (e ∷ h) → source_at h i ≡ false → transform_at h i ≡ false → puts_out i e ≡ false
+unput_other h e i legal off other = unput_by h e i legal (λ out. never)
+  where
+    never : (source_at h i ≡ true) ⊎ (transform_at h i ≡ true) → ⊥
+    never (inl is) = let no : true ≡ false = sym is ∙ off in cc
+    never (inr is) = let no : true ≡ false = sym is ∙ other in cc
 
--- who is no source was none before
-source_before : (e : Entry) (h : Record) (i : ℕ) → IsLegal (e ∷ h) → source_at (e ∷ h) i ≡ false → source_at h i ≡ false
-source_before (Install version plan once instances now) h i legal off = ap (λ (k : Record). source_at k i) legal.0.row.first
-source_before e h i legal off = off
+-- nor does a source that bears nothing
+pub unput_source : (h : Record) (e : Entry) (i : ℕ) → IsLegal (e ∷ h) → source_at h i ≡ true → bears i e ≡ false → puts_out i e ≡ false
+unput_source h (Answer j made discarded kept) i legal is off = unanswering h i j made discarded kept legal (source_untransforming h i is)
+unput_source h e i legal is off = off
 
--- so only sources send
-pub worker_sent : (h : Record) (i : ℕ) → IsLegal h → source_at h i ≡ false → Sent h i
-worker_sent [] i legal off = record { put_out = refl; waits = λ t. refl }
-worker_sent (e ∷ h) i legal off =
-    let before = source_before e h i legal off in
-    sent_on h e i (conserved (e ∷ h) legal) (unborn_worker h e i legal before) (worker_sent h i legal.1 before)
+-- who runs no such component ran none before
+told_before : (e : Entry) (h : Record) (i : ℕ) (f : Component → Bool) → IsLegal (e ∷ h) → told false f (e ∷ h) i ≡ false → told false f h i ≡ false
+told_before (Install version plan once instances now) h i f legal off = ap (λ (k : Record). told false f k i) legal.0.row.first
+told_before e h i f legal off = off
+
+-- so only sources and transforms send
+pub other_sent : (h : Record) (i : ℕ) → IsLegal h → source_at h i ≡ false → transform_at h i ≡ false → Sent h i
+other_sent [] i legal off other = record { put_out = refl; waits = λ t. refl }
+other_sent (e ∷ h) i legal off other =
+    let no_source = told_before e h i is_source legal off in
+    let no_transform = told_before e h i is_transform legal other in
+    sent_on h e i (conserved (e ∷ h) legal) (unput_other h e i legal no_source no_transform) (other_sent h i legal.1 no_source no_transform)
 
 -- WHO IS RETIRED
 -- who is retired is at home
@@ -171,9 +189,9 @@ retired_home (Retired j ∷ h) i legal is = go (j == i) refl is (retired_home h 
     go false here e rest = rest e
 retired_home (e ∷ h) i legal is = retired_home h i legal.1 is
 
--- and bears nothing
-unborn_retired : (h : Record) (e : Entry) (i : ℕ) → IsLegal (e ∷ h) → is_retired h i ≡ true → bears i e ≡ false
-unborn_retired h e i legal is = unborn_by h e i legal (λ of. let no : true ≡ false = sym of.1 ∙ retired_home h i legal.1 is in cc)
+-- and puts nothing out
+unput_retired : (h : Record) (e : Entry) (i : ℕ) → IsLegal (e ∷ h) → is_retired h i ≡ true → puts_out i e ≡ false
+unput_retired h e i legal is = unput_by h e i legal (λ out of. let no : true ≡ false = sym out ∙ retired_home h i legal.1 is in cc)
 
 -- so nothing that a retired instance put out stands anywhere
 pub retired_sent : (h : Record) (i : ℕ) → IsLegal h → is_retired h i ≡ true → Sent h i
@@ -183,4 +201,4 @@ retired_sent (Retired j ∷ h) i legal is = sent_on h (Retired j) i (conserved (
     go : (b : Bool) → (j == i) ≡ b → (b || is_retired h i) ≡ true → (is_retired h i ≡ true → Sent h i) → Sent h i
     go true here e rest = let same : j ≡ i = eqb-true j i here in subst (λ (k : ℕ). Sent h k) same (bare_sent h j (retired_bare h j legal.1 legal.0.row))
     go false here e rest = rest e
-retired_sent (e ∷ h) i legal is = sent_on h e i (conserved (e ∷ h) legal) (unborn_retired h e i legal is) (retired_sent h i legal.1 is)
+retired_sent (e ∷ h) i legal is = sent_on h e i (conserved (e ∷ h) legal) (unput_retired h e i legal is) (retired_sent h i legal.1 is)

@@ -14,7 +14,7 @@ use Rattle.vx_plan.specs.Options.{has_device}
 use Rattle.vx_status.specs.declared.batch_status.BatchStatus.{BatchStatus}
 use Rattle.vx_record.specs.Records.{Record}
 use Rattle.vx_record.specs.declared.entry.Entry.{Entry}
-use Rattle.vx_record.specs.declared.entry.Entry.TheVariants.{Install, Read, Born, Attempt, Notice, Confirm}
+use Rattle.vx_record.specs.declared.entry.Entry.TheVariants.{Install, Read, Born, Answer, Attempt, Notice, Confirm}
 use Rattle.vx_record.specs.Turns.{is_confirm_of}
 use Rattle.vx_record.specs.Installs.{component_of, source_at, sink_at, device_at}
 use Rattle.vx_record.specs.Confirms.{Birth, births, is_noticed, is_delivered, was_delivered, confirm_prefix, last_of_each, position_of, due, last_confirm, same_positions, is_confirm_due}
@@ -23,16 +23,17 @@ use Rattle.vx_ends.specs.declared.position.Position.{Position}
 use Rattle.vx_record.specs.Reads.{events_of}
 use Rattle.vx_record.specs.Parcels.{first_copy}
 use Rattle.vx_record.specs.SinkBatches.{failures_with, attempts_allowed}
-use Rattle.vx_record.specs.Owing.{is_decided, unspent_of, fruitful, owes_birth, owes_spends_in, owes, all_noticed, is_source_done, is_worker_done, is_done}
+use Rattle.vx_record.specs.Owing.{is_decided, unspent_of, fruitful, last_discarded, took_since, owes_birth, owes_spends_in, owes_discards, owes_answer, owes, all_noticed, is_source_done, is_worker_done, is_done}
 use Rattle.vx_record.specs.Laws.{times_noticed}
 use Rattle.vx_record.specs.Legal.{IsLegal}
 use Rattle.vx_record.proofs.OnePlace.{conserved}
 use Rattle.vx_record.proofs.Notices.{noticed}
 use Rattle.vx_record.proofs.LegalNotices.{accounted}
 use Rattle.vx_record.proofs.Vacant.{Sent, bears, sent_of, is_sent_of, sent_on}
+use Rattle.vx_record.proofs.Answerers.{source_untransforming, unanswering}
 use Rattle.vx_record.proofs.Turning.{turn_undry}
 use Rattle.vx_record.proofs.Drying.{dry_on}
-use Rattle.vx_record.proofs.Senders.{installs, same_told, uninstalled, wired_same, source_same}
+use Rattle.vx_record.proofs.Senders.{unput_source, installs, same_told, uninstalled, wired_same, source_same}
 
 -- what a source has where it is done
 pub record SourceDone (h : Record) (i : ℕ) : Type 0 where
@@ -106,7 +107,7 @@ fruitful_same (Read j stream took) h i legal dry = go (j == i) refl
     go : (b : Bool) → (j == i) ≡ b → fruitful (Read j stream took ∷ h) i ≡ fruitful h i
     go true is =
         let same : j ≡ i = eqb-true j i is in
-        let no : true ≡ false = sym dry ∙ subst (λ (k : ℕ). is_dry h k ≡ false) same (turn_undry h j legal.1 legal.0.row) in cc
+        let no : true ≡ false = sym dry ∙ subst (λ (k : ℕ). is_dry h k ≡ false) same (turn_undry h j legal.1 legal.0.row.turn) in cc
     go false is = ap (λ (b : Bool). fruitful h i + (if b && not (is_empty (events_of h i stream took)) then 1 else 0)) is ∙ (omega arith)
 fruitful_same e h i legal dry = refl
 
@@ -133,13 +134,31 @@ source_spends (Attempt j copies bytes answer ∷ h) whole i legal is = go (j == 
     go false here rest = ap (λ (b : Bool). (b && is_decided answer (failures_with h i (first_copy copies) + 1) (attempts_allowed h i) && unspent_of whole copies) || owes_spends_in h whole i) here ∙ rest
 source_spends (e ∷ h) whole i legal is = source_spends h whole i legal.1 is
 
+-- nor has it discarded anything
+source_discards : (h : Record) (i : ℕ) → IsLegal h → source_at h i ≡ true → last_discarded h i ≡ []
+source_discards [] i legal is = refl
+source_discards (Install version plan once instances now ∷ h) i legal is = ap (λ (k : Record). last_discarded k i) legal.0.row.first
+source_discards (Answer j made discarded kept ∷ h) i legal is =
+    ap (λ (b : Bool). if b then discarded else last_discarded h i) (unanswering h i j made discarded kept legal (source_untransforming h i is)) ∙ source_discards h i legal.1 is
+source_discards (e ∷ h) i legal is = source_discards h i legal.1 is
+
 -- so it owes nothing more
 settled_on : (h : Record) (e : Entry) (i : ℕ) → IsLegal (e ∷ h) → bears i e ≡ false → source_at (e ∷ h) i ≡ true → is_dry h i ≡ true → owes h i ≡ false → owes (e ∷ h) i ≡ false
 settled_on h e i legal off is dry settled =
-    or_from (owes_birth (e ∷ h) i) (owes_spends_in (e ∷ h) (e ∷ h) i)
+    or_from (owes_birth (e ∷ h) i || owes_spends_in (e ∷ h) (e ∷ h) i || owes_discards (e ∷ h) i) (owes_answer (e ∷ h) i)
+    (or_from (owes_birth (e ∷ h) i || owes_spends_in (e ∷ h) (e ∷ h) i) (owes_discards (e ∷ h) i)
+    (or_from (owes_birth (e ∷ h) i) (owes_spends_in (e ∷ h) (e ∷ h) i)
     (ap (λ (bs : List Birth). nat_lt (length bs) (fruitful (e ∷ h) i)) (births_same e h i off)
-    ∙ ap (λ (n : ℕ). nat_lt (length (births h i)) n) (fruitful_same e h i legal dry) ∙ (or_parts (owes_birth h i) (owes_spends_in h h i) settled).0)
-    (source_spends (e ∷ h) (e ∷ h) i legal is)
+    ∙ ap (λ (n : ℕ). nat_lt (length (births h i)) n) (fruitful_same e h i legal dry) ∙ birth_settled)
+    (source_spends (e ∷ h) (e ∷ h) i legal is))
+    (ap (λ (cs : List ℕ). unspent_of (e ∷ h) cs) (source_discards (e ∷ h) i legal is)))
+    (ap (λ (b : Bool). b && took_since (e ∷ h) i) (source_untransforming (e ∷ h) i is))
+  where
+    birth_settled : owes_birth h i ≡ false
+    birth_settled =
+        (or_parts (owes_birth h i) (owes_spends_in h h i)
+        ((or_parts (owes_birth h i || owes_spends_in h h i) (owes_discards h i)
+        ((or_parts (owes_birth h i || owes_spends_in h h i || owes_discards h i) (owes_answer h i) settled).0)).0)).0
 
 -- ITS NOTICES
 -- what is noticed stays so
@@ -227,7 +246,7 @@ source_on h e i legal off unconfirmed done =
       source = is;
       dry = dry_on h e i legal done.dry;
       settled = settled_on h e i legal off is done.dry done.settled;
-      sent = sent_on h e i (conserved (e ∷ h) legal) off done.sent;
+      sent = sent_on h e i (conserved (e ∷ h) legal) (unput_source h e i legal done.source off) done.sent;
       noticed = noticed_on h e i off done.noticed;
       undue = undue_on h e i legal kept off unconfirmed done.noticed done.undue;
     }

@@ -7,14 +7,16 @@ use Rattle.vx_status.specs.declared.outcome.Outcome.{Outcome}
 use Rattle.vx_status.specs.declared.event_status.EventStatus.{EventStatus}
 use Rattle.vx_status.specs.Tables.{status_of}
 use Rattle.vx_record.specs.declared.child.Child.{Child}
+use Rattle.vx_record.specs.declared.output.Output.{Output}
 use Rattle.vx_record.specs.declared.entry.Entry.{Entry}
-use Rattle.vx_record.specs.declared.entry.Entry.TheVariants.{Born, Split, Push, Take, Spent}
+use Rattle.vx_record.specs.declared.entry.Entry.TheVariants.{Born, Split, Push, Take, Answer, Spent}
 use Rattle.vx_record.specs.Records.{Record}
 use Rattle.vx_record.specs.Copies.{count, counting, children_of, all_of, spends, next_copy, times_spent, IsLive}
-use Rattle.vx_record.specs.Places.{Place, Put, all_puts, puts, one_each}
+use Rattle.vx_record.specs.Places.{Place, Put, put_out, all_puts, puts, one_each}
 use Rattle.vx_record.specs.Places.Place.{Outputs, Waiting, Contents, Held}
 use Rattle.vx_record.specs.Lists.{stands, parcels_at, places}
 use Rattle.vx_record.specs.Parcels.{first_copy}
+use Rattle.vx_record.specs.Moving.{Releases}
 use Rattle.vx_record.specs.Legal.{IsLegal}
 use Rattle.vx_record.specs.Tallies.{outcome_of, was_spent, any_copy, is_unread, is_newest, is_output, is_child_for, is_held_by, same_status, spent_as, one_if, count_puts, parcels_that, unread_parcels, newest_parcels, parcels_spent}
 use Rattle.vx_record.specs.Growth.{has_copy, passing_now, unread_in, newest_in, spent_in, RisesLegally, SpentRises}
@@ -165,6 +167,28 @@ split_none test h here i next m (t ∷ rest) none =
     let others = split_none test h here i (next + m) m rest (λ c l. none c (omega arith)) in
     omega arith
 
+-- outputs of copies that aren't spent
+answer_none : (test : Outcome → Bool) (h : Record) (here : Place → Bool) (i : ℕ) (made : List Output) → ((c : ℕ) → 0 < count c (put_out made) → was_spent test h c ≡ false) →
+    count_puts (λ (put : Put). here put.place && any_copy test h put.copies)
+    (map (λ (output : Output). record { place = Outputs i; copies = output.copies }) made) ≡ 0
+answer_none test h here i [] none = refl
+answer_none test h here i (output ∷ rest) none =
+    let first : any_copy test h output.copies ≡ false = none_passes test h output.copies (λ c l. none c (let e = count-append c output.copies (put_out rest) in omega arith)) in
+    let fails = (ap (λ b. one_if (here (Outputs i) && b)) first) ∙ ap one_if (and_false (here (Outputs i))) in
+    let others = answer_none test h here i rest (λ c l. none c (let e = count-append c output.copies (put_out rest) in omega arith)) in
+    omega arith
+
+times_some : (p : Place) (ps : List Place) → 0 < times_among p ps → 0 < length ps
+times_some p [] l = absurd (omega arith)
+times_some p (q ∷ ps) l = omega arith
+
+-- a copy that is put out is live until then
+released_live : (h : Record) (i : ℕ) (made : List Output) → IsLegal h → Releases h i made → (c : ℕ) → 0 < count c (put_out made) → IsLive h c
+released_live h i made legal released c l =
+    let r = released c in
+    let meant = places_meant h c (Held i) in
+    (live_stands h legal c).1 (times_some (Held i) (places h c) (omega arith))
+
 -- what a test counts, among what stood there and some new puts of which none passes
 pub still : (test : Put → Bool) (old new : List Put) → count_puts test new ≡ 0 → count_puts test (old ++ new) ≡ count_puts test old + 0
 still test old new none = let both = count_puts-append test old new in omega arith
@@ -197,6 +221,10 @@ any_rises test here in_stage in_hold (Push i t s copies) h legal =
 any_rises test here in_stage in_hold (Take i s copies) h legal =
     still (λ (put : Put). here put.place && any_copy test h put.copies) (all_puts h) (puts (Take i s copies))
     (ap (λ b. one_if (b && any_copy test h copies) + 0) (in_hold i))
+any_rises test here in_stage in_hold (Answer i made discarded kept) h legal =
+    still (λ (put : Put). here put.place && any_copy test h put.copies) (all_puts h) (puts (Answer i made discarded kept))
+    (answer_none test h here i made
+    (λ c l. not_spent test h c (released_live h i made legal.1 (conserved (Answer i made discarded kept ∷ h) legal).0 c l).2))
 any_rises test here in_stage in_hold (Spent i c outcome) h legal =
     let none = not_spent test h c legal.0.row.live.2 in
     let after = λ (put : Put). here put.place && any_copy test (Spent i c outcome ∷ h) put.copies in
@@ -218,9 +246,11 @@ split_elsewhere : (test : List ℕ → Bool) (i j : ℕ) (children : List Child)
 split_elsewhere test i j [] = refl
 split_elsewhere test i j (child ∷ rest) = let others = split_elsewhere test i j rest in omega arith
 
-times_some : (p : Place) (ps : List Place) → 0 < times_among p ps → 0 < length ps
-times_some p [] l = absurd (omega arith)
-times_some p (q ∷ ps) l = omega arith
+answer_elsewhere : (test : List ℕ → Bool) (i j : ℕ) (made : List Output) →
+    count_puts (λ (put : Put). is_held_by i put.place && test put.copies)
+    (map (λ (output : Output). record { place = Outputs j; copies = output.copies }) made) ≡ 0
+answer_elsewhere test i j [] = refl
+answer_elsewhere test i j (output ∷ rest) = let others = answer_elsewhere test i j rest in omega arith
 
 -- the first copy of a parcel that stands at a place is live
 first_live : (h : Record) (p : Place) (copies : List ℕ) → IsLegal h → IsOldest copies (parcels_at p (stands h)) → IsLive h (first_copy copies)
@@ -245,6 +275,9 @@ held_rises status (Take j s copies) h i legal =
     let unspent : spent_as status h copies ≡ false = not_spent (λ outcome. same_status (status_of outcome) status) h (first_copy copies) live.2 in
     still (λ (put : Put). is_held_by i put.place && spent_as status h put.copies) (all_puts h) (puts (Take j s copies))
     (ap (λ b. one_if ((j == i) && b) + 0) unspent ∙ ap (λ b. one_if b + 0) (and_false (j == i)))
+held_rises status (Answer j made discarded kept) h i legal =
+    still (λ (put : Put). is_held_by i put.place && spent_as status h put.copies) (all_puts h) (puts (Answer j made discarded kept))
+    (answer_elsewhere (spent_as status h) i j made)
 held_rises status (Spent j c outcome) h i legal =
     let test = λ (o : Outcome). same_status (status_of o) status in
     let none = not_spent test h c legal.0.row.live.2 in

@@ -7,12 +7,13 @@ use Rattle.vx_record.specs.declared.entry.Entry.{Entry}
 use Rattle.vx_value.specs.declared.event.Event.{Event}
 use Rattle.vx_record.specs.Records.{Record}
 use Rattle.vx_record.specs.declared.child.Child.{Child}
+use Rattle.vx_record.specs.declared.output.Output.{Output}
 use Rattle.vx_status.specs.declared.outcome.Outcome.{Outcome}
-use Rattle.vx_record.specs.declared.entry.Entry.TheVariants.{Born, Split, Push, Take, Spent}
+use Rattle.vx_record.specs.declared.entry.Entry.TheVariants.{Born, Split, Push, Take, Answer, Spent}
 use Rattle.vx_record.specs.Copies.{count, counting, children_of, next_copy, makes, splits, spends, IsLive}
-use Rattle.vx_record.specs.Places.{Place, Kind, kind, one_each, all_puts, left, puts, leaves}
+use Rattle.vx_record.specs.Places.{Place, Kind, kind, one_each, put_out, all_puts, left, puts, leaves}
 use Rattle.vx_record.specs.Places.Kind.{AnOutput, AChild, AStage, AHold}
-use Rattle.vx_record.specs.Places.Place.{Outputs, Waiting, Contents}
+use Rattle.vx_record.specs.Places.Place.{Outputs, Waiting, Contents, Held}
 use Rattle.vx_record.specs.Lists.{outputs, waiting, contents}
 use Rattle.vx_record.specs.Moving.{Conserves}
 use Rattle.vx_record.proofs.Counts.{count-append, counting_before, counting_within, counting_after, only, only-add, only-zero, put_count}
@@ -77,6 +78,15 @@ put_count-children k i c (child ∷ rest) =
     let e = put_count-children k i c rest in
     let f = ap (only k AChild) (count-append c child.copies (family rest)) in
     let g = only-add k AChild (count c child.copies) (count c (family rest)) in
+    omega arith
+
+pub put_count-outputs : (k : Kind) (i c : ℕ) (made : List Output) →
+    put_count k (map (λ (output : Output). record { place = Outputs i; copies = output.copies }) made) c ≡ only k AnOutput (count c (put_out made))
+put_count-outputs k i c [] = sym (only-zero k AnOutput)
+put_count-outputs k i c (output ∷ rest) =
+    let e = put_count-outputs k i c rest in
+    let f = ap (only k AnOutput) (count-append c output.copies (put_out rest)) in
+    let g = only-add k AnOutput (count c output.copies) (count c (put_out rest)) in
     omega arith
 
 pub length-children_of : (next m : ℕ) (targets : List ℕ) → length (children_of next m targets) ≡ length targets
@@ -207,6 +217,32 @@ take_moves h c i s copies a =
       live = λ l. absurd (omega arith);
     }
 
+answer_moves : (h : Record) (c i : ℕ) (made : List Output) (discarded kept : List ℕ) → Conserves h (Answer i made discarded kept) →
+    Moves h (Answer i made discarded kept) c
+answer_moves h c i made discarded kept a =
+    let p = put_count-outputs AnOutput i c made in
+    let q = put_count-outputs AChild i c made in
+    let r = put_count-outputs AStage i c made in
+    let s = put_count-outputs AHold i c made in
+    let e = a c in
+    let f = count-parcels_at c (Held i) (left h) (all_puts h) in
+    record {
+      makes_old = λ l. omega arith;
+      makes_new = λ l u. absurd (omega arith);
+      makes_none = λ l. omega arith;
+      pushed = omega arith;
+      taken = omega arith;
+      answered = omega arith;
+      ended = refl;
+      push = omega arith;
+      take = omega arith;
+      birth = omega arith;
+      answer = omega arith;
+      split = omega arith;
+      once = omega arith;
+      live = λ l. absurd (omega arith);
+    }
+
 same : (d c : ℕ) → 0 < (if d == c then 1 else 0) + 0 → d ≡ c
 same d c l = grind (arith, nat_tests)
 
@@ -234,5 +270,6 @@ moves h (Born i b place copies events waits stream end) c a = born_moves h c i b
 moves h (Split i ports copies event children) c a = split_moves h c i ports copies event children a
 moves h (Push i t s copies) c a = push_moves h c i t s copies a
 moves h (Take i s copies) c a = take_moves h c i s copies a
+moves h (Answer i made discarded kept) c a = answer_moves h c i made discarded kept a
 moves h (Spent i d outcome) c a = spent_moves h c i d outcome a
 moves h e c a = none_move h e c (record { puts = refl; births = refl; leaves = λ k. refl; spends = refl; splits = refl; makes = refl })

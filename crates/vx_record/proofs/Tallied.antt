@@ -3,6 +3,7 @@ use Rattle.std.proofs.Common.{◌≡◌, ℕ, zero, suc, ◌+◌, Option, Some, 
 use Rattle.std.proofs.lemmas.List.{map-append}
 use Rattle.vx_ends.specs.declared.position.Position.{Position}
 use Rattle.vx_plan.specs.declared.class.Class.{Class}
+use Rattle.vx_plan.specs.declared.class.Class.TheVariants.{Source, Transform, Sink}
 use Rattle.vx_plan.specs.declared.component.Component.{Component}
 use Rattle.vx_status.specs.declared.outcome.Outcome.{Outcome}
 use Rattle.vx_record.specs.declared.count.Count.{Count}
@@ -56,8 +57,13 @@ source_is i h counted none is_none is = λ t. record (is_none t) {
 }
 
 pub transform_is : (i : ℕ) (h : Record) (counted : Counted) (none : Tally) → none ≡ nothing_counted → IsCounted i h counted →
-    ◌≡◌ {A = Tally} (record none { taken = counted.plain.taken; unread = counted.puts.unread }) (transform_tally h i)
-transform_is i h counted none is_none is = λ t. record (is_none t) { taken = is.entries.plain.taken t; unread = is.entries.puts.unread t }
+    ◌≡◌ {A = Tally} (record none { taken = counted.plain.taken; sent = counted.plain.sent; dropped = counted.dropped; unread = counted.puts.unread }) (transform_tally h i)
+transform_is i h counted none is_none is = λ t. record (is_none t) {
+  taken = is.entries.plain.taken t;
+  sent = is.entries.plain.sent t;
+  dropped = is.entries.dropped t;
+  unread = is.entries.puts.unread t;
+}
 
 pub sink_is : (i : ℕ) (h : Record) (counted : Counted) (none : Tally) → none ≡ nothing_counted → IsCounted i h counted →
     ◌≡◌ {A = Tally}
@@ -84,7 +90,7 @@ sink_is i h counted none is_none is = λ t. record (is_none t) {
 -- the tables' counts are those of the record, where the ways are the record's
 pub counted_is : (way : ℕ → Option Outcome) (i : ℕ) (h : Record) (count : Count) (ends : ℕ) → AreWays h way → IsCount way i h count →
     ends ≡ capped (sum (map (λ (p : Position). p.end) (positions_of count.ends))) →
-    IsCounted i h (record { role = count.role; plain = count.plain; lines = count.lines.totals; notices = count.notices.statuses; puts = count.puts; confirmed = ends })
+    IsCounted i h (record { role = count.role; plain = count.plain; lines = count.lines.totals; notices = count.notices.statuses; puts = count.puts; dropped = count.drops.dropped; confirmed = ends })
 counted_is way i h count ends are is total = record {
   entries = record {
     role = is.role;
@@ -92,6 +98,7 @@ counted_is way i h count ends are is total = record {
     lines = is.lines.totals;
     notices = is.notices.statuses;
     puts = subst (λ (w : ℕ → Option Outcome). ArePuts w i h count.puts) (λ t c. are.each c t) is.puts;
+    dropped = is.drops.dropped;
   };
   confirmed = total ∙ ap (λ ps. capped (sum (map (λ (p : Position). p.end) ps))) is.ends.each;
 }

@@ -16,7 +16,7 @@ use Rattle.vx_record.specs.Turns.{is_out, since_lease, is_attempt_of}
 use Rattle.vx_record.specs.SinkBatches.{attempts_with, failures_with, attempts_allowed, is_failed}
 use Rattle.vx_record.specs.Spending.{WasAnswered, last_attempted, last_reply}
 use Rattle.vx_record.specs.Parcels.{first_copy}
-use Rattle.vx_record.specs.Owing.{is_decided, unspent_of, owes_birth, owes_spends_in}
+use Rattle.vx_record.specs.Owing.{is_decided, unspent_of, owes_birth, owes_spends_in, owes_discards, owes_answer, owes}
 use Rattle.vx_record.specs.Legal.{IsLegal}
 use Rattle.vx_record.proofs.Counts.{count-append}
 use Rattle.vx_record.proofs.Changes.{places_meant}
@@ -31,6 +31,12 @@ or_left false b e = refl
 or_right : (a b : Bool) → (a || b) ≡ false → b ≡ false
 or_right true b e = cc
 or_right false b e = e
+
+-- what owes nothing owes no spend
+pub spends_settled : (h : Record) (i : ℕ) → owes h i ≡ false → owes_spends_in h h i ≡ false
+spends_settled h i settled =
+    or_right (owes_birth h i) (owes_spends_in h h i)
+    (or_left (owes_birth h i || owes_spends_in h h i) (owes_discards h i) (or_left (owes_birth h i || owes_spends_in h h i || owes_discards h i) (owes_answer h i) settled))
 
 -- where none of some copies is unspent each is spent
 each_spent : (whole : Record) (copies : List ℕ) (c : ℕ) → unspent_of whole copies ≡ false → 0 < count c copies → 0 < times_spent whole c
@@ -97,7 +103,7 @@ untried_spent (Lease j worker now polls ∷ h) i c legal out none some = spent_o
         (is_out h i ≡ true → list_any (is_attempt_of i) (since_lease h i) ≡ false → 0 < attempts_with h i c → 0 < times_spent h c) → 0 < times_spent h c
     go true e at un rest =
         let same : j ≡ i = grind (arith, nat_tests) in
-        owed_spent h h i c (subst (λ (k : ℕ). owes_spends_in h h k ≡ false) same (or_right (owes_birth h j) (owes_spends_in h h j) legal.0.row.settled)) some
+        owed_spent h h i c (subst (λ (k : ℕ). owes_spends_in h h k ≡ false) same (spends_settled h j legal.0.row.settled)) some
     go false e at un rest = rest at un some
 untried_spent (Home j ∷ h) i c legal out none some = spent_on h (Home j) c (untried_spent h i c legal.1 (was_out (j == i) (is_out h i) out) none some)
 untried_spent (Attempt j copies bytes answer ∷ h) i c legal out none some =
@@ -183,4 +189,4 @@ spent_failed h i c legal row = last_failed h i c legal row.live.2 (let one = att
 
 -- what is leased has spent what it attempted
 pub leased_spent : LeasedSpent
-leased_spent h i worker now polls c row tried = owed_spent h h i c (or_right (owes_birth h i) (owes_spends_in h h i) row.settled) tried
+leased_spent h i worker now polls c row tried = owed_spent h h i c (spends_settled h i row.settled) tried

@@ -1,5 +1,5 @@
 -- Places where nothing stands, and that stay so.
-use Rattle.std.proofs.Common.{◌≡◌, ℕ, Bool, true, false, List, [], ◌∷◌, ◌++◌, refl, sym, ap, subst, ◌∙◌}
+use Rattle.std.proofs.Common.{◌≡◌, ℕ, Bool, true, false, List, [], ◌∷◌, ◌++◌, refl, sym, ap, subst, ◌∙◌, ◌+◌, arith}
 use Rattle.std.specs.Prelude.{if◌then◌else◌, ◌==◌, ◌&&◌}
 use Rattle.std.proofs.lemmas.Bool.{and_parts, and_from, eqb-true, eq-eqb}
 use Rattle.vx_value.specs.Texts.{is_empty}
@@ -7,14 +7,17 @@ use Rattle.vx_value.specs.declared.event.Event.{Event}
 use Rattle.vx_record.specs.Records.{Record}
 use Rattle.vx_record.specs.declared.child.Child.{Child}
 use Rattle.vx_record.specs.declared.entry.Entry.{Entry}
-use Rattle.vx_record.specs.declared.entry.Entry.TheVariants.{Born, Split, Push, Take}
-use Rattle.vx_record.specs.Places.{Place, Put, kind, owner, same_place, one_each, puts, leaves}
+use Rattle.vx_record.specs.declared.output.Output.{Output}
+use Rattle.vx_record.specs.declared.entry.Entry.TheVariants.{Born, Split, Push, Take, Answer}
+use Rattle.vx_record.specs.Copies.{count, joined}
+use Rattle.vx_record.specs.Places.{Place, Put, kind, owner, same_place, one_each, put_out, puts, leaves}
 use Rattle.vx_record.specs.Places.Place.{Outputs, Waiting, Contents, Held}
 use Rattle.vx_record.specs.Lists.{and_rest, shrunk, stands, parcels_at, parcels_where, is_child_of, is_stage_of, outputs, waiting, all_waiting, contents, held, buffered, is_bare}
-use Rattle.vx_record.specs.Moving.{IsConserved}
+use Rattle.vx_record.specs.Moving.{IsConserved, parcels_of}
 use Rattle.vx_record.specs.Sending.{IsOldest}
 use Rattle.vx_record.specs.Routing.{is_sent}
 use Rattle.vx_record.proofs.Changes.{put_at, same_place_is, same_place_self, parcels_after}
+use Rattle.vx_record.proofs.Entries.{answer_grows}
 
 -- TESTS AND PLACES
 -- nothing stands at the places of a test where the list of these is empty
@@ -155,12 +158,27 @@ pub no_oldest : (copies : List ℕ) (ps : List (List ℕ)) → IsOldest copies p
 no_oldest copies [] oldest none = oldest
 no_oldest copies (p ∷ ps) oldest none = cc
 
--- the outputs stay empty until the instance bears
-outputs_on : (h : Record) (e : Entry) (i : ℕ) → IsConserved (e ∷ h) → bears i e ≡ false → outputs h i ≡ [] → outputs (e ∷ h) i ≡ []
+-- or by which it puts out, as a birth or as an answer
+abbrev pub puts_out : ℕ → Entry → Bool
+puts_out i (Born j b place copies events waits stream end) = j == i
+puts_out i (Answer j made discarded kept) = j == i
+puts_out i other = false
+
+-- an Answer puts at the outputs of its instance alone
+answer_elsewhere : (p : Place) (j : ℕ) (made : List Output) (discarded kept : List ℕ) → same_place (Outputs j) p ≡ false → put_at p (puts (Answer j made discarded kept)) ≡ []
+answer_elsewhere p j [] discarded kept other = refl
+answer_elsewhere p j (output ∷ rest) discarded kept other =
+    ap (λ (b : Bool). if b then and_rest output.copies (put_at p (puts (Answer j rest discarded kept))) else put_at p (puts (Answer j rest discarded kept))) other
+    ∙ answer_elsewhere p j rest discarded kept other
+
+-- the outputs stay empty until the instance puts out
+outputs_on : (h : Record) (e : Entry) (i : ℕ) → IsConserved (e ∷ h) → puts_out i e ≡ false → outputs h i ≡ [] → outputs (e ∷ h) i ≡ []
 outputs_on h (Born j b place copies events waits stream end) i kept off none =
     none_after h (Born j b place copies events waits stream end) (Outputs i) kept (born_elsewhere (Outputs i) j copies off) none
 outputs_on h (Split j ports copies event children) i kept off none =
     none_after h (Split j ports copies event children) (Outputs i) kept (split_elsewhere (Outputs i) j ports copies event children (λ t. refl)) none
+outputs_on h (Answer j made discarded remains) i kept off none =
+    none_after h (Answer j made discarded remains) (Outputs i) kept (answer_elsewhere (Outputs i) j made discarded remains off) none
 outputs_on h e i kept off none = none_after h e (Outputs i) kept refl none
 
 -- an entry that makes children
@@ -173,6 +191,8 @@ pub waits_still : (h : Record) (e : Entry) (i t : ℕ) → IsConserved (e ∷ h)
 waits_still h (Born j b place copies events waits stream end) i t kept off empty =
     none_after h (Born j b place copies events waits stream end) (Waiting i t) kept (born_elsewhere (Waiting i t) j copies refl) empty
 waits_still h (Split j ports copies event children) i t kept off empty = cc
+waits_still h (Answer j made discarded remains) i t kept off empty =
+    none_after h (Answer j made discarded remains) (Waiting i t) kept (answer_elsewhere (Waiting i t) j made discarded remains refl) empty
 waits_still h e i t kept off empty = none_after h e (Waiting i t) kept refl empty
 
 -- nor where nothing was put out
@@ -188,12 +208,46 @@ waits_on h (Split j ports copies event children) i t kept none empty = go (j == 
         (split_elsewhere (Waiting i t) j ports copies event children (λ u. ap (λ (b : Bool). b && (u == t)) is)) empty
 waits_on h e i t kept none empty = waits_still h e i t kept refl empty
 
--- what sent everything has sent everything until it bears
-pub sent_on : (h : Record) (e : Entry) (i : ℕ) → IsConserved (e ∷ h) → bears i e ≡ false → Sent h i → Sent (e ∷ h) i
+-- what sent everything has sent everything until it puts out
+pub sent_on : (h : Record) (e : Entry) (i : ℕ) → IsConserved (e ∷ h) → puts_out i e ≡ false → Sent h i → Sent (e ∷ h) i
 sent_on h e i kept off sent = record {
   put_out = outputs_on h e i kept off sent.put_out;
   waits = λ t. waits_on h e i t kept sent.put_out (sent.waits t);
 }
+
+-- outputs without copies are none
+none_out : (made : List Output) → ((c : ℕ) → count c (put_out made) ≡ 0) → parcels_of made ≡ []
+none_out [] none = refl
+none_out (output ∷ rest) none = go output.copies none (none_out rest)
+  where
+    go : (cs : List ℕ) → ((c : ℕ) → count c (cs ++ put_out rest) ≡ 0) → (((c : ℕ) → count c (put_out rest) ≡ 0) → parcels_of rest ≡ []) → and_rest cs (parcels_of rest) ≡ []
+    go [] n later = later n
+    go (x ∷ xs) n later =
+        let one : (x == x) ≡ true = self x in
+        let no : (if true then 1 else 0) + count x (xs ++ put_out rest) ≡ 0 = subst (λ (b : Bool). (if b then 1 else 0) + count x (xs ++ put_out rest) ≡ 0) one (n x) in
+        absurd (omega (arith, no))
+
+-- and what holds nothing puts nothing out by its answers
+pub sent_empty : (h : Record) (e : Entry) (i : ℕ) → IsConserved (e ∷ h) → bears i e ≡ false → held h i ≡ [] → Sent h i → Sent (e ∷ h) i
+sent_empty h (Answer j made discarded remains) i kept off hands sent = go (j == i) refl
+  where
+    released : (j ≡ i) → (c : ℕ) → count c (put_out made) ≡ 0
+    released same c =
+        let most = kept.0 c in
+        let none : count c (joined (held h j)) ≡ 0 = subst (λ (k : ℕ). count c (joined (held h k)) ≡ 0) (sym same) (ap (λ (ps : List (List ℕ)). count c (joined ps)) hands) in
+        omega (arith, most, none)
+
+    go : (b : Bool) → (j == i) ≡ b → Sent (Answer j made discarded remains ∷ h) i
+    go true here =
+        let same : j ≡ i = eqb-true j i here in
+        let before : outputs h j ≡ [] = subst (λ (k : ℕ). outputs h k ≡ []) (sym same) sent.put_out in
+        let after : outputs (Answer j made discarded remains ∷ h) j ≡ [] = answer_grows h j made discarded remains kept ∙ ap (λ (ps : List (List ℕ)). ps ++ parcels_of made) before ∙ none_out made (released same) in
+        record {
+          put_out = subst (λ (k : ℕ). outputs (Answer j made discarded remains ∷ h) k ≡ []) same after;
+          waits = λ t. waits_on h (Answer j made discarded remains) i t kept sent.put_out (sent.waits t);
+        }
+    go false other = sent_on h (Answer j made discarded remains) i kept other sent
+sent_empty h e i kept off hands sent = sent_on h e i kept off sent
 
 -- an entry by which a parcel enters the instance's buffer
 abbrev pub enters : ℕ → Entry → Bool
@@ -219,6 +273,8 @@ contents_on h (Split j ports copies event children) i s kept off none =
     none_after h (Split j ports copies event children) (Contents i s) kept (split_elsewhere (Contents i s) j ports copies event children (λ t. refl)) none
 contents_on h (Push j t r copies) i s kept off none =
     none_after h (Push j t r copies) (Contents i s) kept (ap (λ (b : Bool). if b && (r == s) then and_rest copies [] else []) off) none
+contents_on h (Answer j made discarded remains) i s kept off none =
+    none_after h (Answer j made discarded remains) (Contents i s) kept (answer_elsewhere (Contents i s) j made discarded remains refl) none
 contents_on h e i s kept off none = none_after h e (Contents i s) kept refl none
 
 -- and nothing is taken where no stage has anything
@@ -234,6 +290,8 @@ held_on h (Take j s copies) i kept none = go (j == i) refl
         let same : j ≡ i = eqb-true j i is in
         absurd (no_oldest copies (contents h j s) kept.0 (subst (λ (k : ℕ). contents h k s ≡ []) (sym same) (none.buffer s)))
     go false is = none_after h (Take j s copies) (Held i) kept (ap (λ (b : Bool). if b then and_rest copies [] else []) is) none.hands
+held_on h (Answer j made discarded remains) i kept none =
+    none_after h (Answer j made discarded remains) (Held i) kept (answer_elsewhere (Held i) j made discarded remains refl) none.hands
 held_on h e i kept none = none_after h e (Held i) kept refl none.hands
 
 -- what has nothing has nothing until a parcel enters

@@ -13,7 +13,6 @@ use Rattle.vx_record.specs.Starting.{first_instances}
 use Rattle.vx_record.specs.Installs.{Wiring, wiring, name_at, component_of, in_force}
 use Rattle.vx_record.specs.Wirings.{names_differ, begun}
 use Rattle.vx_record.specs.Legal.{IsLegal}
-use Rattle.vx_record.specs.Promises.{ComponentInPlace}
 use Rattle.vx_record.proofs.FirstWiring.{name_of_first, component_of_first}
 
 -- an instance has the name of the component in its place
@@ -74,11 +73,13 @@ unwired_past (Install version made once instances now ∷ h) plan i legal force 
     let row = legal.0.row in
     let zero_on : i ≡ 0 + i = omega arith in
     let none : name_at instances i ≡ None = ap (λ is. name_at is i) row.all_new ∙ ap (name_at (first_instances 0 made.components)) zero_on ∙ name_past 0 made.components i (ap (λ (p : Plan). slice_get p.components i) same ∙ past) in
-    ap (λ (o : Option Word). elim o [ None ↦ wiring h i | Some name ↦ Some (record { plan = made; instances = instances; name = name }) ]) none
-    ∙ ap (λ (k : Record). wiring k i) row.first
+    let kept : wiring (Install version made once instances now ∷ h) i ≡ wiring h i =
+    ap (λ (o : Option Word). elim o [ None ↦ wiring h i | Some name ↦ Some (record { plan = made; instances = instances; name = name }) ]) none in
+    kept ∙ ap (λ (k : Record). wiring k i) row.first
 unwired_past (e ∷ h) plan i legal force past = unwired_past h plan i legal.1 force past
 
-pub component_in_place : ComponentInPlace
+-- and there is no other
+pub component_in_place : (h : Record) (plan : Plan) (i : ℕ) → IsLegal h → in_force h ≡ Some plan → names_differ plan.components ≡ true → component_of h i ≡ slice_get plan.components i
 component_in_place h plan i legal force apart = go (slice_get plan.components i) refl
   where
     go : (o : Option Component) → slice_get plan.components i ≡ o → component_of h i ≡ o

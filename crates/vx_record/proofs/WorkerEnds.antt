@@ -1,43 +1,43 @@
 -- What takes in and is done stays done while nothing is born.
-use Rattle.std.proofs.Common.{◌≡◌, ℕ, ◌+◌, Bool, true, false, List, [], ◌∷◌, ◌++◌, Option, Some, None, refl, sym, ap, subst, ◌∙◌, arith, length}
-use Rattle.std.specs.Prelude.{◌==◌, ◌&&◌, ◌||◌, not, if◌then◌else◌}
+use Rattle.std.proofs.Common.{◌≡◌, ℕ, zero, suc, ◌+◌, ◌<◌, ◌≤◌, inl, inr, Bool, true, false, List, [], ◌∷◌, ◌++◌, Option, Some, None, refl, sym, ap, subst, ◌∙◌, arith, length}
+use Rattle.std.specs.Prelude.{◌==◌, ◌&&◌, ◌||◌, not, map, slice_index_or, if◌then◌else◌}
 use Rattle.std.specs.List.{list_any, list_all}
-use Rattle.std.proofs.lemmas.Bool.{and_parts, and_from, or_parts, or_from, or_right, not-true, not-false, not_from_false, eqb-true, ne_eqb, eqb-false}
+use Rattle.std.proofs.lemmas.Bool.{cases_lt, and_parts, and_from, or_parts, or_from, or_right, not-true, not-false, not_from_false, eqb-true, ne_eqb, eqb-false}
 use Rattle.std.proofs.lemmas.Bool.Decides.{nat_tests}
-use Rattle.std.proofs.lemmas.List.{append-nil}
-use Rattle.vx_value.specs.Texts.{is_empty}
-use Rattle.vx_plan.specs.declared.class.Class.{Class}
-use Rattle.vx_plan.specs.declared.class.Class.TheVariants.{Source, Transform, Sink}
+use Rattle.vx_value.specs.Texts.{Word, is_empty}
 use Rattle.vx_plan.specs.declared.component.Component.{Component}
-use Rattle.vx_plan.specs.Components.{is_source, class_ports, port_names}
+use Rattle.vx_plan.specs.Components.{component_named, is_source, is_transform, port_names}
+use Rattle.vx_plan.specs.Targets.{readers}
 use Rattle.vx_record.specs.Records.{Record}
 use Rattle.vx_record.specs.declared.child.Child.{Child}
 use Rattle.vx_record.specs.declared.entry.Entry.{Entry}
 use Rattle.vx_record.specs.declared.entry.Entry.TheVariants.{Split, Retired}
-use Rattle.vx_record.specs.Copies.{count, contains, counting, children_of, next_copy}
+use Rattle.vx_record.specs.Copies.{count, joined, contains, counting, children_of, next_copy}
 use Rattle.vx_record.specs.Places.Place.{Waiting}
-use Rattle.vx_record.specs.Installs.{Wiring, wired, component_of, told, source_at, started, is_retired}
-use Rattle.vx_record.specs.Lists.{and_rest, outputs, waiting, all_waiting, buffered, held}
+use Rattle.vx_record.specs.Installs.{Wiring, wiring, wired, component_of, told, source_at, transform_at, numbers_of, started, is_retired}
+use Rattle.vx_record.specs.Lists.{and_rest, waiting, buffered, held}
 use Rattle.vx_record.specs.Moving.{IsConserved, children_for}
-use Rattle.vx_record.specs.Routing.{drains, is_dry, all_dry, is_sent, is_too_long, wired_targets, outlets, routes, all_ports, names, is_named, is_ending}
+use Rattle.vx_record.specs.Reads.{all_ended, is_lost}
+use Rattle.vx_record.specs.Parcels.{port_list}
+use Rattle.vx_record.specs.Routing.{is_out_from_before, drains, is_dry, all_dry, is_sent, is_too_long, wired_targets, outlets, routes, all_ports, names, is_named, is_ending}
 use Rattle.vx_record.specs.Owing.{is_source_done, is_worker_done, is_done}
-use Rattle.vx_record.specs.Sending.{IsOldest}
-use Rattle.vx_record.specs.Ceasing.{readers_at}
+use Rattle.vx_record.specs.Ceasing.{readers_on}
 use Rattle.vx_record.specs.Legal.{IsLegal}
 use Rattle.vx_record.proofs.Counts.{count-append}
 use Rattle.vx_record.proofs.OnePlace.{conserved}
 use Rattle.vx_record.proofs.Entries.{split_grows, split_stays}
 use Rattle.vx_record.proofs.Ceasing.{unmarked}
-use Rattle.vx_record.proofs.FirstPort.{split_routed}
-use Rattle.vx_record.proofs.Vacant.{Unfilled, bears, empty_is, is_empty_of, sent_of, is_sent_of, sent_on, unfilled_of, unbuffered, unentered, unfilled_on, waits_still, no_oldest}
+use Rattle.vx_record.proofs.FirstPort.{open_routes, split_read}
+use Rattle.vx_record.proofs.Vacant.{Sent, sent_empty, Unfilled, bears, empty_is, is_empty_of, sent_of, is_sent_of, sent_on, unfilled_of, unbuffered, unentered, unfilled_on, waits_still}
 use Rattle.vx_record.proofs.Drying.{dry_on}
-use Rattle.vx_record.proofs.Senders.{all_among, none_among, started_source, installs, same_told, uninstalled, wired_same, started_same, source_same, worker_sent, retired_sent}
+use Rattle.vx_record.proofs.Senders.{all_among, none_among, started_told, installs, same_told, uninstalled, wired_same, started_same, source_same, unput_source, other_sent, retired_sent}
 
 -- what an instance that takes in has where it is done
 pub record WorkerDone (h : Record) (i : ℕ) : Type 0 where
   pub worker : told false (λ (c : Component). not (is_source c)) h i ≡ true
   pub dry : all_dry h ≡ true
   pub unnamed : is_named h i ≡ false
+  pub sent : Sent h i
   pub empty : Unfilled h i
 
 -- no worker is a source
@@ -62,6 +62,7 @@ worker_done h i legal off done = record {
   worker = is;
   dry = dry_by (drains h i) (all_dry h) (undrained h i legal off) ((and_parts w (drains h i || all_dry h) ((and_parts (w && (drains h i || all_dry h)) (not (is_named h i)) ending).0)).1);
   unnamed = not-true (is_named h i) ((and_parts (w && (drains h i || all_dry h)) (not (is_named h i)) ending).1);
+  sent = sent_of h i ((and_parts (is_ending h i && is_empty (buffered h i)) (is_sent h i) ((and_parts (is_ending h i && is_empty (buffered h i) && is_sent h i) (is_empty (held h i)) all).0)).1);
   empty = unfilled_of h i ((and_parts (is_ending h i) (is_empty (buffered h i)) two).1) ((and_parts (is_ending h i && is_empty (buffered h i) && is_sent h i) (is_empty (held h i)) all).1);
 }
   where
@@ -85,7 +86,7 @@ pub done_worker : (h : Record) (i : ℕ) → IsLegal h → WorkerDone h i → is
 done_worker h i legal is =
     ap (λ (b : Bool). if b then is_source_done h i else is_worker_done h i) off
     ∙ and_from (is_ending h i && is_empty (buffered h i) && is_sent h i) (is_empty (held h i))
-    (and_from (is_ending h i && is_empty (buffered h i)) (is_sent h i) (and_from (is_ending h i) (is_empty (buffered h i)) ending (unbuffered h i is.empty)) (is_sent_of h i (worker_sent h i legal off)))
+    (and_from (is_ending h i && is_empty (buffered h i)) (is_sent h i) (and_from (is_ending h i) (is_empty (buffered h i)) ending (unbuffered h i is.empty)) (is_sent_of h i is.sent))
     (is_empty_of (held h i) is.empty.hands)
   where
     off : source_at h i ≡ false
@@ -111,7 +112,7 @@ any_on p q (x ∷ xs) more none = or_from (q x) (list_any q xs) (more x ((or_par
 -- each source is dry
 pub source_dry : (h : Record) (j : ℕ) → IsLegal h → all_dry h ≡ true → source_at h j ≡ true → is_dry h j ≡ true
 source_dry h j legal dry is =
-    ap (λ (b : Bool). not b || is_dry h j) (sym is) ∙ all_among (λ k. not (source_at h k) || is_dry h k) (started h) j dry (started_source h j legal is)
+    ap (λ (b : Bool). not b || is_dry h j) (sym is) ∙ all_among (λ k. not (source_at h k) || is_dry h k) (started h) j dry (started_told h j is_source legal is)
 
 -- and stays so
 all_dry_on : (h : Record) (e : Entry) → IsLegal (e ∷ h) → installs e ≡ false → all_dry h ≡ true → all_dry (e ∷ h) ≡ true
@@ -131,10 +132,13 @@ all_dry_on h e legal kept dry =
 outlet_on : (h : Record) (e : Entry) (j i port : ℕ) → IsLegal (e ∷ h) → installs e ≡ false → bears j e ≡ false → count i (outlets h j port) ≡ 0 → count i (outlets (e ∷ h) j port) ≡ 0
 outlet_on h e j i port legal kept off none = go (is_dry h j && is_sent h j) (is_dry (e ∷ h) j && is_sent (e ∷ h) j) shut none
   where
+    dry_source : is_dry h j ≡ true → source_at h j ≡ true
+    dry_source dry = (and_parts (source_at h j) (all_ended h j || is_lost h j || (drains h j && not (is_out_from_before h j))) dry).0
+
     shut : (is_dry h j && is_sent h j) ≡ true → (is_dry (e ∷ h) j && is_sent (e ∷ h) j) ≡ true
     shut is =
         and_from (is_dry (e ∷ h) j) (is_sent (e ∷ h) j) (dry_on h e j legal ((and_parts (is_dry h j) (is_sent h j) is).0))
-        (is_sent_of (e ∷ h) j (sent_on h e j (conserved (e ∷ h) legal) off (sent_of h j ((and_parts (is_dry h j) (is_sent h j) is).1))))
+        (is_sent_of (e ∷ h) j (sent_on h e j (conserved (e ∷ h) legal) (unput_source h e j legal (dry_source ((and_parts (is_dry h j) (is_sent h j) is).0)) off) (sent_of h j ((and_parts (is_dry h j) (is_sent h j) is).1))))
 
     same : wired [] (wired_targets port) (e ∷ h) j ≡ wired [] (wired_targets port) h j
     same = ap (λ (o : Option Wiring). elim o [ None ↦ [] | Some w ↦ wired_targets port w ]) (wired_same e h j kept)
@@ -154,29 +158,47 @@ routes_on h e j i (port ∷ ports) legal kept off none =
     let rest = routes_on h e j i ports legal kept off (omega (arith, none, before)) in
     omega (arith, after, here, rest)
 
--- a source has one port
-source_ports : (o : Option Component) → (elim o [ None ↦ false | Some c ↦ is_source c ]) ≡ true → ◌≡◌ {A = List ℕ} (elim o [ None ↦ [] | Some c ↦ counting 0 (length (port_names c)) ]) (0 ∷ [])
-source_ports None is = cc
-source_ports (Some c) is = go c.class is
-  where
-    go : (k : Class) → (elim k [ Source ↦ true | Transform ↦ false | Sink ↦ false ]) ≡ true → counting 0 (length (class_ports k)) ≡ 0 ∷ []
-    go Source is = refl
-    go Transform is = cc
-    go Sink is = cc
+-- PORTS
+-- what none of some numbers gives a number of them doesn't
+each_none : (f : ℕ → List ℕ) (i from n p : ℕ) → count i (joined (map f (counting from n))) ≡ 0 → from ≤ p → p < from + n → count i (f p) ≡ 0
+each_none f i from zero p none l u = absurd (omega (arith, l, u))
+each_none f i from (suc n) p none l u =
+    let all = count-append i (f from) (joined (map f (counting (from + 1) n))) in
+    elim (cases_lt from p) [
+      | inl later ↦ each_none f i (from + 1) n p (omega (arith, none, all)) (omega (arith, later)) (omega (arith, u))
+      | inr first ↦ let same : from ≡ p = omega (arith, l, first) in subst (λ (k : ℕ). count i (f k) ≡ 0) same (omega (arith, none, all))
+    ]
 
--- of which the outlets are all its readers where it has an output
-open_outlet : (copies : List ℕ) (ps ws : List (List ℕ)) (dry : Bool) (ts : List ℕ) → IsOldest copies ps → (if dry && (is_empty ps && is_empty ws) then [] else ts) ≡ ts
-open_outlet copies [] ws dry ts oldest = absurd oldest
-open_outlet copies (p ∷ ps) ws true ts oldest = refl
-open_outlet copies (p ∷ ps) ws false ts oldest = refl
+-- past the ports of a component nobody reads
+past_ports : (f : Word → List Word) (names : List Word) (p : ℕ) → length names ≤ p → slice_index_or (map f names) p [] ≡ []
+past_ports f [] p past = refl
+past_ports f (name ∷ rest) zero past = absurd (omega (arith, past))
+past_ports f (name ∷ rest) (suc p) past = past_ports f rest p (omega (arith, past))
 
--- so what no route of it names reads nothing of it
-unread : (h : Record) (j i : ℕ) (copies : List ℕ) → source_at h j ≡ true → IsOldest copies (outputs h j) → count i (routes h j (all_ports h j)) ≡ 0 → count i (readers_at h j) ≡ 0
-unread h j i copies is oldest none =
-    ap (λ (ts : List ℕ). count i ts)
-    (sym (ap (λ (ports : List ℕ). routes h j ports) (source_ports (component_of h j) is) ∙ append-nil (outlets h j 0)
-    ∙ open_outlet copies (outputs h j) (all_waiting h j) (is_dry h j) (readers_at h j) oldest))
-    ∙ none
+-- so whom no port of a component names no number of a port does
+port_unread : (w : Wiring) (o : Option Component) (i : ℕ) →
+    count i (joined (map (λ port. joined (map (numbers_of w.instances) (slice_index_or (elim o [ None ↦ [] | Some c ↦ map (readers w.plan w.name) (port_names c) ]) port []))) (elim o [ None ↦ [] | Some c ↦ counting 0 (length (port_names c)) ]))) ≡ 0 →
+    (p : ℕ) → count i (joined (map (numbers_of w.instances) (slice_index_or (elim o [ None ↦ [] | Some c ↦ map (readers w.plan w.name) (port_names c) ]) p []))) ≡ 0
+port_unread w None i none p = refl
+port_unread w (Some c) i none p = elim (cases_lt p (length (port_names c))) [
+  | inl within ↦ each_none (λ port. joined (map (numbers_of w.instances) (slice_index_or (map (readers w.plan w.name) (port_names c)) port []))) i 0 (length (port_names c)) p none (omega arith) (omega (arith, within))
+  | inr past ↦ ap (λ (names : List Word). count i (joined (map (numbers_of w.instances) names))) (past_ports (readers w.plan w.name) (port_names c) p past)
+]
+
+wiring_unread : (o : Option Wiring) (i : ℕ) →
+    count i (joined (map (λ port. elim o [ None ↦ [] | Some w ↦ wired_targets port w ]) (elim (elim o as (λ (x : Option Wiring). Option Component) [ None ↦ None | Some w ↦ component_named w.plan w.name ]) [ None ↦ [] | Some c ↦ counting 0 (length (port_names c)) ]))) ≡ 0 →
+    (p : ℕ) → count i (elim o [ None ↦ [] | Some w ↦ wired_targets p w ]) ≡ 0
+wiring_unread None i none p = refl
+wiring_unread (Some w) i none p = port_unread w (component_named w.plan w.name) i none p
+
+-- and whom none of its ports names reads none of any
+unread : (h : Record) (j i : ℕ) (ports : List ℕ) → count i (readers_on h j (all_ports h j)) ≡ 0 → count i (readers_on h j ports) ≡ 0
+unread h j i [] none = refl
+unread h j i (port ∷ ports) none =
+    let here = wiring_unread (wiring h j) i none port in
+    let rest = unread h j i ports none in
+    let all = count-append i (wired [] (wired_targets port) h j) (readers_on h j ports) in
+    omega (arith, here, rest, all)
 
 -- a Split makes no child for what is no target
 childless : (i next m : ℕ) (targets : List ℕ) → count i targets ≡ 0 → children_for i (children_of next m targets) ≡ []
@@ -195,22 +217,19 @@ unwaited h (Split k ports copies event children) j i legal none empty = go (k ==
     kept : IsConserved (Split k ports copies event children ∷ h)
     kept = conserved (Split k ports copies event children ∷ h) legal
 
-    by : (k ≡ j) → source_at h k ≡ true → waiting (Split k ports copies event children ∷ h) k i ≡ []
-    by same is =
+    by : (k ≡ j) → waiting (Split k ports copies event children ∷ h) k i ≡ []
+    by same =
+        let unnamed : count i (routes h k (all_ports h k)) ≡ 0 = subst (λ (n : ℕ). count i (routes h n (all_ports h n)) ≡ 0) (sym same) none in
+        let unnamed_on : count i (readers_on h k (all_ports h k)) ≡ 0 = subst (λ (ts : List ℕ). count i ts ≡ 0) (open_routes h k copies (all_ports h k) legal.0.row.split.oldest) unnamed in
         split_grows h k ports i copies event children kept
         ∙ ap (λ (ps : List (List ℕ)). ps ++ children_for i children) (subst (λ (n : ℕ). waiting h n i ≡ []) (sym same) empty)
-        ∙ ap (λ (cs : List Child). children_for i cs) (split_routed h k ports copies event children legal.1 legal.0.row)
-        ∙ childless i (next_copy h) (length copies) (readers_at h k)
-        (unread h k i copies is legal.0.row.split.oldest (subst (λ (n : ℕ). count i (routes h n (all_ports h n)) ≡ 0) (sym same) none))
-
-    source : (b : Bool) → source_at h k ≡ b → source_at h k ≡ true
-    source true is = is
-    source false is = absurd (no_oldest copies (outputs h k) legal.0.row.split.oldest (worker_sent h k legal.1 is).put_out)
+        ∙ ap (λ (cs : List Child). children_for i cs) (split_read h k ports copies event children legal.0.row)
+        ∙ childless i (next_copy h) (length copies) (readers_on h k (port_list ports)) (unread h k i (port_list ports) unnamed_on)
 
     go : (b : Bool) → (k == j) ≡ b → waiting (Split k ports copies event children ∷ h) j i ≡ []
     go true same =
         let is : k ≡ j = eqb-true k j same in
-        subst (λ (n : ℕ). waiting (Split k ports copies event children ∷ h) n i ≡ []) is (by is (source (source_at h k) refl))
+        subst (λ (n : ℕ). waiting (Split k ports copies event children ∷ h) n i ≡ []) is (by is)
     go false other =
         split_stays h k ports copies event children (Waiting j i) kept refl (ne_eqb j k (λ same. eqb-false k j other (sym same))) ∙ empty
 unwaited h e j i legal none empty = waits_still h e j i (conserved (e ∷ h) legal) refl empty
@@ -268,16 +287,20 @@ unawaited h j i legal none = go (source_at h j) refl
     said false false true off e = refl
     said false false false off e = cc
 
-    by : (r : Bool) → is_retired h j ≡ r → source_at h j ≡ true → waiting h j i ≡ []
-    by true is source = (retired_sent h j legal is).waits i
-    by false is source =
+    by : (r : Bool) → is_retired h j ≡ r → 0 < count j (started h) → waiting h j i ≡ []
+    by true is there = (retired_sent h j legal is).waits i
+    by false is there =
         empty_is (waiting h j i)
         (said (is_retired h j) (contains (routes h j (all_ports h j)) i) (is_empty (waiting h j i)) is
-        (none_among (λ k. not (is_retired h k) && names h k i) (started h) j none (started_source h j legal source)))
+        (none_among (λ k. not (is_retired h k) && names h k i) (started h) j none there))
+
+    other : (b : Bool) → source_at h j ≡ false → transform_at h j ≡ b → waiting h j i ≡ []
+    other true off transform = by (is_retired h j) refl (started_told h j is_transform legal transform)
+    other false off none_too = (other_sent h j legal off none_too).waits i
 
     go : (b : Bool) → source_at h j ≡ b → waiting h j i ≡ []
-    go true source = by (is_retired h j) refl source
-    go false off = (worker_sent h j legal off).waits i
+    go true source = by (is_retired h j) refl (started_told h j is_source legal source)
+    go false off = other (transform_at h j) off refl
 
 -- ONE MORE ENTRY
 pub worker_on : (h : Record) (e : Entry) (i : ℕ) → IsLegal (e ∷ h) → ((j : ℕ) → bears j e ≡ false) → WorkerDone h i → WorkerDone (e ∷ h) i
@@ -288,5 +311,6 @@ worker_on h e i legal off done =
       worker = same_told false (λ (c : Component). not (is_source c)) (e ∷ h) h i (wired_same e h i kept) ∙ done.worker;
       dry = all_dry_on h e legal kept done.dry;
       unnamed = unnamed_on h e i legal kept off done.unnamed;
+      sent = sent_empty h e i kept_all (off i) done.empty.hands done.sent;
       empty = unfilled_on h e i kept_all (unentered h e i kept_all (λ j. unawaited h j i legal.1 done.unnamed)) done.empty;
     }

@@ -1,8 +1,9 @@
--- When a source takes no more, and who reads what an instance puts out.
-use Rattle.std.specs.Prelude.{ℕ, ◌≤◌, ◌≡◌, ◌^◌, ◌⊎◌, true, Option, Some, None, IsSome, List, [], ◌∷◌, if◌then◌else◌, ◌==◌}
-use Rattle.vx_record.specs.declared.entry.Entry.TheVariants.{SourceLost, Abandon}
+-- When a source takes no more, who reads what an instance puts out, and whether a transform answered.
+use Rattle.std.specs.Prelude.{ℕ, ◌≤◌, ◌≡◌, ◌^◌, ◌⊎◌, Bool, true, false, Option, Some, None, IsSome, List, [], ◌∷◌, map, if◌then◌else◌, ◌==◌}
+use Rattle.vx_record.specs.declared.entry.Entry.TheVariants.{SourceLost, Answer, Abandon}
 use Rattle.vx_record.specs.declared.abandon_cause.AbandonCause.{AbandonCause}
 use Rattle.vx_record.specs.Records.{Record}
+use Rattle.vx_record.specs.Copies.{joined}
 use Rattle.vx_record.specs.Installs.{wired}
 use Rattle.vx_record.specs.Routing.{wired_targets}
 use Rattle.vx_record.specs.Reads.{bytes_of_all, all_ended}
@@ -26,3 +27,13 @@ TakesNoMore h i = (all_ended h i ≡ true) ⊎ (IsSome (lost_at h i) ⊎ ((2 ^ 4
 -- the instances that read the first port of an instance, by the Install that gave it work, in byte order of their names
 abbrev pub readers_at : Record → ℕ → List ℕ
 readers_at = wired [] (wired_targets 0)
+
+-- and those that read some of its ports, in the order of the ports
+abbrev pub readers_on : Record → ℕ → List ℕ → List ℕ
+readers_on h i ports = joined (map (λ port. wired [] (wired_targets port) h i) ports)
+
+-- whether no transform has answered yet
+abbrev pub no_answer : Record → Bool
+no_answer [] = true
+no_answer (Answer i outputs discarded kept ∷ h) = false
+no_answer (e ∷ h) = no_answer h

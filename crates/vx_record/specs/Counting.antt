@@ -16,6 +16,7 @@ use Rattle.vx_status.specs.declared.batch_status.BatchStatus.TheVariants as batc
 use Rattle.vx_record.specs.declared.plain_counts.PlainCounts.{PlainCounts}
 use Rattle.vx_record.specs.declared.outcomes.Outcomes.{Outcomes}
 use Rattle.vx_record.specs.declared.notice_counts.NoticeCounts.{NoticeCounts}
+use Rattle.vx_record.specs.declared.drop_counts.DropCounts.{DropCounts}
 use Rattle.vx_record.specs.declared.status_counts.StatusCounts.{StatusCounts}
 use Rattle.vx_record.specs.declared.confirmed_ends.ConfirmedEnds.{ConfirmedEnds}
 use Rattle.vx_record.specs.declared.role.Role.{Role}
@@ -23,7 +24,7 @@ use Rattle.vx_record.specs.Records.{Record, capped}
 use Rattle.vx_record.specs.Installs.{component_of}
 use Rattle.vx_record.specs.Reads.{bytes_taken}
 use Rattle.vx_record.specs.Confirms.{births, confirmed, last_of_each}
-use Rattle.vx_record.specs.Tallies.{same_status, outcome_of, events_born, is_batch_of, notices, takes, attempts_made, bytes_sent}
+use Rattle.vx_record.specs.Tallies.{same_status, outcome_of, events_born, is_batch_of, notices, takes, is_first, sent_parcels, dropped_parcels, attempts_made, bytes_sent}
 
 -- the counts of an instance to which each entry adds by itself alone
 pub record ArePlain (i : ℕ) (h : Record) (counts : PlainCounts) : Type 0 where
@@ -31,6 +32,7 @@ pub record ArePlain (i : ℕ) (h : Record) (counts : PlainCounts) : Type 0 where
   pub events : counts.events ≡ capped (events_born h i)
   pub batches : counts.batches ≡ capped (length (births h i))
   pub taken : counts.taken ≡ capped (takes h i)
+  pub sent : counts.sent ≡ capped (sent_parcels h i)
   pub attempts : counts.attempts ≡ capped (attempts_made h i)
   pub bytes : counts.bytes ≡ capped (bytes_sent h i)
 
@@ -64,6 +66,11 @@ pub record AreStatuses (i : ℕ) (h : Record) (counts : StatusCounts) : Type 0 w
 pub record AreNotices (i : ℕ) (h : Record) (counts : NoticeCounts) : Type 0 where
   pub born : (b : ℕ) → set.contains nat_eq counts.born b ≡ is_batch_of h i b
   pub statuses : AreStatuses i h counts.statuses
+
+-- the parcels that a transform discarded, and the copies that came first in those that it took
+pub record AreDrops (i : ℕ) (h : Record) (counts : DropCounts) : Type 0 where
+  pub firsts : (c : ℕ) → set.contains nat_eq counts.firsts c ≡ is_first h i c
+  pub dropped : counts.dropped ≡ capped (dropped_parcels h i)
 
 -- the count of one status rises
 abbrev pub AreRaised : BatchStatus → StatusCounts → StatusCounts → Type 0

@@ -4,8 +4,8 @@ use Rattle.vx_status.specs.declared.outcome.Outcome.{Outcome}
 use Rattle.vx_record.specs.declared.counted.Counted.{Counted}
 use Rattle.vx_record.specs.declared.count.Count.{Count}
 use Rattle.vx_record.specs.Records.{Record, capped}
-use Rattle.vx_record.specs.Tallies.{outcome_of, confirmed_ends}
-use Rattle.vx_record.specs.Counting.{IsRole, ArePlain, AreStatuses, AreNotices, AreEnds}
+use Rattle.vx_record.specs.Tallies.{outcome_of, dropped_parcels, confirmed_ends}
+use Rattle.vx_record.specs.Counting.{IsRole, ArePlain, AreStatuses, AreNotices, AreDrops, AreEnds}
 use Rattle.vx_record.specs.LineCounting.{AreTotals, AreLines}
 use Rattle.vx_record.specs.PutCounting.{ArePuts}
 
@@ -16,6 +16,7 @@ pub record IsCounting (way : ℕ → Option Outcome) (i : ℕ) (h : Record) (cou
   pub lines : AreTotals i h counted.lines
   pub notices : AreStatuses i h counted.notices
   pub puts : ArePuts way i h counted.puts
+  pub dropped : counted.dropped ≡ capped (dropped_parcels h i)
 
 -- what is counted of a whole record
 pub record IsCounted (i : ℕ) (h : Record) (counted : Counted) : Type 0 where
@@ -30,3 +31,4 @@ pub record IsCount (way : ℕ → Option Outcome) (i : ℕ) (h : Record) (count 
   pub notices : AreNotices i h count.notices
   pub ends : AreEnds i h count.ends
   pub puts : ArePuts way i h count.puts
+  pub drops : AreDrops i h count.drops

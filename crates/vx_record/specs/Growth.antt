@@ -1,5 +1,5 @@
 -- How one more entry changes what an instance did: bytes, confirms and counts.
-use Rattle.std.specs.Prelude.{ℕ, ◌+◌, ◌≡◌, Bool, true, false, not, ◌&&◌, List, [], ◌∷◌, ◌++◌, length, if◌then◌else◌, ◌==◌}
+use Rattle.std.specs.Prelude.{ℕ, ◌+◌, ◌≡◌, Bool, true, false, not, ◌&&◌, List, [], ◌∷◌, ◌++◌, length, count_by, if◌then◌else◌, ◌==◌}
 use Rattle.std.specs.List.{list_any}
 use Rattle.vx_value.specs.Texts.{Word}
 use Rattle.vx_status.specs.Tables.{status_of}
@@ -7,7 +7,7 @@ use Rattle.vx_status.specs.declared.outcome.Outcome.{Outcome}
 use Rattle.vx_status.specs.declared.event_status.EventStatus.{EventStatus}
 use Rattle.vx_status.specs.declared.batch_status.BatchStatus.{BatchStatus}
 use Rattle.vx_record.specs.declared.entry.Entry.{Entry}
-use Rattle.vx_record.specs.declared.entry.Entry.TheVariants.{Lease, Home, Read, Idle, SourceLost, Born, Take, Attempt, Spent, Notice, Closed, Retired, Abandon}
+use Rattle.vx_record.specs.declared.entry.Entry.TheVariants.{Lease, Home, Read, Idle, SourceLost, Born, Take, Tick, Answer, Attempt, Spent, Notice, Closed, Retired, Abandon}
 use Rattle.vx_record.specs.Records.{Record}
 use Rattle.vx_record.specs.Reads.{bytes_of, taken, bytes_taken, ended_by, ended_streams, new_lines, new_overlong, new_undecodable}
 use Rattle.vx_record.specs.Encoding.{given_in, given}
@@ -15,7 +15,7 @@ use Rattle.vx_record.specs.Confirms.{births_in, births, confirmed_in, confirmed}
 use Rattle.vx_record.specs.Places.{Place}
 use Rattle.vx_record.specs.Parcels.{first_copy}
 use Rattle.vx_record.specs.Legal.{IsLegal}
-use Rattle.vx_record.specs.Tallies.{is_unread, is_newest, is_output, is_child_for, any_copy, same_status, spent_as, is_held_by, parcels_that, unread_parcels, newest_parcels, parcels_spent, lines_read, overlong_read, undecodable_read, events_born, same_end, is_batch_of, notices, takes, attempts_made, bytes_sent, tally}
+use Rattle.vx_record.specs.Tallies.{is_unread, is_newest, is_output, is_child_for, any_copy, same_status, spent_as, is_held_by, parcels_that, unread_parcels, newest_parcels, parcels_spent, lines_read, overlong_read, undecodable_read, events_born, same_end, is_batch_of, notices, takes, is_first, sent_parcels, dropped_parcels, attempts_made, bytes_sent, tally}
 
 -- the bytes of a stream that an entry took for the instance
 abbrev pub taken_in : ℕ → ℕ → Entry → Word
@@ -81,6 +81,16 @@ abbrev pub takes_in : Record → ℕ → Entry → ℕ
 takes_in h i (Take j stage copies) = if j == i then 1 else 0
 takes_in h i other = 0
 
+-- the parcels that an entry put out
+abbrev pub outputs_in : Record → ℕ → Entry → ℕ
+outputs_in h i (Answer j outputs discarded kept) = if j == i then length outputs else 0
+outputs_in h i other = 0
+
+-- and those that it discarded
+abbrev pub dropped_in : Record → ℕ → Entry → ℕ
+dropped_in h i (Answer j outputs discarded kept) = if j == i then count_by (is_first h i) discarded else 0
+dropped_in h i other = 0
+
 -- the Attempts that an entry is: one or none
 abbrev pub attempts_in : Record → ℕ → Entry → ℕ
 attempts_in h i (Attempt j copies bytes reply) = if j == i then 1 else 0
@@ -96,6 +106,10 @@ abbrev pub SourceRises : Type 0
 SourceRises =
     Rises bytes_taken bytes_in × Rises lines_read lines_in × Rises overlong_read overlong_in × Rises undecodable_read undecodable_in × Rises events_born events_in
     × Rises (λ h i. length (births h i)) batches_in × ((status : BatchStatus) → Rises (notices status) (notices_in status))
+
+-- a transform's numbers rise with its Takes and Answers
+abbrev pub TransformRises : Type 0
+TransformRises = Rises takes takes_in × Rises sent_parcels outputs_in × Rises dropped_parcels dropped_in
 
 -- a sink's numbers rise with its Takes and Attempts
 abbrev pub SinkRises : Type 0
@@ -142,6 +156,7 @@ counts_for_nobody (Lease i worker now polls) = true
 counts_for_nobody (Home i) = true
 counts_for_nobody (Idle i failed) = true
 counts_for_nobody (SourceLost i at failed) = true
+counts_for_nobody (Tick i now) = true
 counts_for_nobody (Closed i) = true
 counts_for_nobody (Retired i) = true
 counts_for_nobody (Abandon cause) = true

@@ -4,7 +4,7 @@ use Rattle.std.specs.List.{list_any}
 use Rattle.vx_value.specs.Texts.{Word, same_text}
 use Rattle.vx_plan.specs.declared.plan.Plan.{Plan}
 use Rattle.vx_plan.specs.declared.component.Component.{Component}
-use Rattle.vx_plan.specs.Components.{component_named, is_source, is_sink}
+use Rattle.vx_plan.specs.Components.{component_named, is_source, is_transform, is_sink}
 use Rattle.vx_plan.specs.Options.{has_device}
 use Rattle.vx_record.specs.declared.instance.Start.TheVariants.{Kept, New, Draining}
 use Rattle.vx_record.specs.declared.instance.Instance.{Instance}
@@ -72,6 +72,10 @@ told none f h i = elim (component_of h i) [ None ↦ none | Some c ↦ f c ]
 -- whether the instance is a source
 abbrev pub source_at : Record → ℕ → Bool
 source_at = told false is_source
+
+-- whether it is a transform
+abbrev pub transform_at : Record → ℕ → Bool
+transform_at = told false is_transform
 
 -- whether it is a sink
 abbrev pub sink_at : Record → ℕ → Bool

@@ -1,5 +1,5 @@
 -- The laws over every legal record, and over every record of which some of that holds.
-use Rattle.std.specs.Prelude.{ℕ, ◌+◌, ◌^◌, ◌<◌, ◌≤◌, ◌≡◌, false, None, List, [], ◌∷◌, ◌++◌, length, map, if◌then◌else◌, ◌==◌, ◌↔◌, codes}
+use Rattle.std.specs.Prelude.{ℕ, ◌+◌, ◌^◌, ◌<◌, ◌≤◌, ◌≡◌, true, false, Some, None, List, [], ◌∷◌, ◌++◌, length, drop, slice_get, map, if◌then◌else◌, ◌==◌, ◌↔◌, codes}
 use Rattle.std.specs.Str.Lossy.{utf8_lossy}
 use Rattle.vx_value.specs.Texts.{Word}
 use Rattle.vx_value.specs.Datum.{NamedDatum, Words}
@@ -9,22 +9,31 @@ use Rattle.vx_json.specs.declared.decoding.Decoding.TheVariants as decoding
 use Rattle.vx_json.specs.LineEvents.{IsLineEvent}
 use Rattle.vx_plan.specs.declared.settings.Settings.{Settings}
 use Rattle.vx_plan.specs.Options.{type_name}
-use Rattle.vx_record.specs.Records.{Record}
+use Rattle.vx_plan.specs.declared.stage.Stage.{Stage}
+use Rattle.vx_ends.specs.declared.trouble.Reply.{Reply}
+use Rattle.vx_record.specs.Records.{Record, capped}
+use Rattle.vx_record.specs.Turns.{lease_now}
+use Rattle.vx_record.specs.Installs.{transform_at}
 use Rattle.vx_record.specs.declared.child.Child.{Child}
 use Rattle.vx_frame.specs.Frames.{Frame}
 use Rattle.vx_record.specs.Reads.{line_events}
-use Rattle.vx_record.specs.Parcels.{event_of, port_list}
+use Rattle.vx_record.specs.Parcels.{event_of, first_copy, port_list}
+use Rattle.vx_record.specs.Stages.{stages_of}
+use Rattle.vx_record.specs.SinkBatches.{failures_with, failed_at, wait_after}
 use Rattle.vx_record.specs.Routing.{routes}
 use Rattle.vx_record.specs.Abandoning.{abandoned}
 use Rattle.vx_record.specs.Confirms.{Birth, confirm_prefix}
 use Rattle.vx_status.specs.declared.outcome.Outcome.{Outcome}
 use Rattle.vx_status.specs.declared.batch_status.BatchStatus.{BatchStatus}
 use Rattle.vx_status.specs.declared.batch_status.BatchStatus.TheVariants.{Delivered}
-use Rattle.vx_record.specs.declared.entry.Entry.TheVariants.{Lease, Split, Spent, Notice}
+use Rattle.vx_record.specs.declared.entry.Entry.TheVariants.{Lease, Split, Push, Answer, Attempt, Spent, Notice}
 use Rattle.vx_record.specs.Copies.{count, joined, next_copy, times_split, times_spent, IsLive}
 use Rattle.vx_record.specs.Batches.{batch_of, batches, NoneLive, AwaitsNotice}
 use Rattle.vx_record.specs.Statuses.{batch_status, running, AllGood}
-use Rattle.vx_record.specs.Lists.{places, stands, parcels_at, times_among}
+use Rattle.vx_record.specs.Lists.{places, stands, parcels_at, contents, held, times_among}
+use Rattle.vx_record.specs.Inputs.{inputs, unanswered, answered, has_tick}
+use Rattle.vx_record.specs.Owing.{last_discarded}
+use Rattle.vx_record.specs.declared.output.Output.{Output}
 use Rattle.vx_record.specs.Places.{Place}
 use Rattle.vx_record.specs.Moving.{IsConserved}
 use Rattle.vx_record.specs.Accounting.{IsAccounted}
@@ -148,6 +157,46 @@ EachHasOneEvent h (parcel ∷ rest) = HaveOneEvent h parcel × EachHasOneEvent h
 -- wherever a parcel stands, its copies have one event
 abbrev pub OneEvent : Type 0
 OneEvent = (h : Record) (p : Place) → IsLegal h → EachHasOneEvent h (parcels_at p (stands h))
+
+-- all that a transform was given it has answered or not yet, the latest first
+abbrev pub InputsParted : Type 0
+InputsParted = (h : Record) (i : ℕ) → inputs h i ≡ unanswered h i ++ answered h i
+
+-- behind an Answer a transform holds what that discarded and kept, and nothing else
+abbrev pub AnswerHolds : Type 0
+AnswerHolds =
+    (h : Record) (i : ℕ) (outputs : List Output) (discarded kept : List ℕ) → IsLegal (Answer i outputs discarded kept ∷ h) →
+    (c : ℕ) → count c (joined (held (Answer i outputs discarded kept ∷ h) i)) ≡ count c discarded + count c kept
+
+-- so behind a flush it holds only what that discarded
+abbrev pub FlushEmpties : Type 0
+FlushEmpties =
+    (h : Record) (i : ℕ) (outputs : List Output) (discarded kept : List ℕ) → IsLegal (Answer i outputs discarded kept ∷ h) →
+    unanswered h i ≡ [] → (c : ℕ) → count c (joined (held (Answer i outputs discarded kept ∷ h) i)) ≡ count c discarded
+
+-- nothing stays of what a transform discarded once it is leased again
+abbrev pub DiscardsGo : Type 0
+DiscardsGo =
+    (later earlier : Record) (i worker now polls : ℕ) → IsLegal (later ++ Lease i worker now polls ∷ earlier) →
+    (c : ℕ) → 0 < count c (last_discarded earlier i) → 0 < times_spent earlier c
+
+-- of what a transform has not answered, only the latest is a tick: it answers the parcels that it took, and then the tick
+abbrev pub TickLast : Type 0
+TickLast = (h : Record) (i : ℕ) → IsLegal h → transform_at h i ≡ true → has_tick (drop 1 (unanswered h i)) ≡ false
+
+-- a parcel enters the first stage of its target that isn't full: that has room, and each before it has none
+abbrev pub PushesFirst : Type 0
+PushesFirst =
+    (later earlier : Record) (i t s : ℕ) (copies : List ℕ) → IsLegal (later ++ Push i t s copies ∷ earlier) →
+    (r : ℕ) (stage : Stage) → slice_get (stages_of earlier t) r ≡ Some stage →
+    (r < s → stage.max_events ≤ length (contents earlier t r)) × (r ≡ s → length (contents earlier t r) < stage.max_events)
+
+-- what failed before is attempted no sooner than its wait behind the last time
+abbrev pub AttemptsWait : Type 0
+AttemptsWait =
+    (later earlier : Record) (i : ℕ) (copies : List ℕ) (bytes : Word) (reply : Reply) →
+    IsLegal (later ++ Attempt i copies bytes reply ∷ earlier) → 0 < failures_with earlier i (first_copy copies) →
+    capped (failed_at earlier i (first_copy copies) + wait_after earlier i (failures_with earlier i (first_copy copies))) ≤ lease_now earlier i
 
 -- copies are numbered below 2 ^ 63
 abbrev pub NumbersBounded : Type 0

@@ -16,6 +16,9 @@ pub mod Stages
 pub mod Encoding
 pub mod SinkBatches
 pub mod PortCounts
+pub mod Inputs
+pub mod Transforms
+pub mod Generating
 pub mod Owing
 pub mod Ready
 pub mod Abandoning
@@ -24,6 +27,7 @@ pub mod Sourcing
 pub mod Sending
 pub mod Moving
 pub mod Accounting
+pub mod Answering
 pub mod Sinking
 pub mod Spending
 pub mod Ending

@@ -4,10 +4,10 @@ use Rattle.std.specs.List.{list_any, list_all}
 use Rattle.vx_value.specs.Texts.{is_empty}
 use Rattle.vx_ends.specs.declared.trouble.Reply.{Reply}
 use Rattle.vx_ends.specs.declared.trouble.Reply.TheVariants as reply
-use Rattle.vx_record.specs.declared.entry.Entry.TheVariants.{Read, Attempt}
+use Rattle.vx_record.specs.declared.entry.Entry.TheVariants.{Read, Take, Attempt, Answer}
 use Rattle.vx_record.specs.Records.{Record}
 use Rattle.vx_record.specs.Copies.{times_spent}
-use Rattle.vx_record.specs.Installs.{source_at}
+use Rattle.vx_record.specs.Installs.{source_at, transform_at}
 use Rattle.vx_record.specs.Lists.{held, buffered}
 use Rattle.vx_record.specs.Reads.{events_of}
 use Rattle.vx_record.specs.Confirms.{Birth, births, is_noticed, is_confirm_due}
@@ -45,9 +45,30 @@ owes_spends_in (Attempt j copies bytes reply ∷ h) whole i =
     || owes_spends_in h whole i
 owes_spends_in (e ∷ h) whole i = owes_spends_in h whole i
 
+-- the copies that the instance's last Answer discarded
+abbrev pub last_discarded : Record → ℕ → List ℕ
+last_discarded [] i = []
+last_discarded (Answer j outputs discarded kept ∷ h) i = if j == i then discarded else last_discarded h i
+last_discarded (e ∷ h) i = last_discarded h i
+
+-- a copy that its last Answer discarded is unspent
+abbrev pub owes_discards : Record → ℕ → Bool
+owes_discards h i = unspent_of h (last_discarded h i)
+
+-- whether the instance took a parcel after its last Answer
+abbrev pub took_since : Record → ℕ → Bool
+took_since [] i = false
+took_since (Take j stage copies ∷ h) i = (j == i) || took_since h i
+took_since (Answer j outputs discarded kept ∷ h) i = not (j == i) && took_since h i
+took_since (e ∷ h) i = took_since h i
+
+-- a transform took a parcel that it has not answered
+abbrev pub owes_answer : Record → ℕ → Bool
+owes_answer h i = transform_at h i && took_since h i
+
 -- whether the instance must still make entries before it may be leased
 abbrev pub owes : Record → ℕ → Bool
-owes h i = owes_birth h i || owes_spends_in h h i
+owes h i = owes_birth h i || owes_spends_in h h i || owes_discards h i || owes_answer h i
 
 -- whether each batch of the instance has its notice
 abbrev pub all_noticed : Record → ℕ → Bool

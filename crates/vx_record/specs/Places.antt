@@ -3,7 +3,8 @@ use Rattle.std.specs.Prelude.{ℕ, Bool, false, ◌&&◌, List, [], ◌∷◌, �
 use Rattle.vx_record.specs.declared.entry.Entry.{Entry}
 use Rattle.vx_record.specs.Records.{Record}
 use Rattle.vx_record.specs.declared.child.Child.{Child}
-use Rattle.vx_record.specs.declared.entry.Entry.TheVariants.{Born, Split, Push, Take, Spent}
+use Rattle.vx_record.specs.declared.output.Output.{Output}
+use Rattle.vx_record.specs.declared.entry.Entry.TheVariants.{Install, Lease, Home, Read, Idle, SourceLost, Born, Split, Push, Take, Tick, Answer, Attempt, Spent, Notice, Confirm, Closed, Retired, Abandon}
 use Rattle.vx_record.specs.Copies.{all_of}
 
 -- where copies can stand: put out, waiting for a target, in a stage, taken
@@ -38,14 +39,33 @@ abbrev pub one_each : Place → List ℕ → List Put
 one_each p [] = []
 one_each p (c ∷ cs) = record { place = p; copies = c ∷ [] } ∷ one_each p cs
 
+-- the copies of some outputs
+abbrev pub put_out : List Output → List ℕ
+put_out [] = []
+put_out (output ∷ rest) = output.copies ++ put_out rest
+
 -- what an entry puts, and where
 abbrev pub puts : Entry → List Put
+puts (Install version plan once instances now) = []
+puts (Lease i worker now polls) = []
+puts (Home i) = []
+puts (Read i stream took) = []
+puts (Idle i failed) = []
+puts (SourceLost i at failed) = []
 puts (Born i b place copies events waits stream end) = one_each (Outputs i) copies
 puts (Split i ports copies event children) =
     map (λ (child : Child). record { place = Waiting i child.target; copies = child.copies }) children
 puts (Push i t s copies) = record { place = Contents t s; copies = copies } ∷ []
 puts (Take i s copies) = record { place = Held i; copies = copies } ∷ []
-puts other = []
+puts (Tick i now) = []
+puts (Answer i outputs discarded kept) = map (λ (output : Output). record { place = Outputs i; copies = output.copies }) outputs
+puts (Attempt i copies bytes reply) = []
+puts (Spent i c outcome) = []
+puts (Notice b status) = []
+puts (Confirm i positions made) = []
+puts (Closed i) = []
+puts (Retired i) = []
+puts (Abandon cause) = []
 
 -- the four kinds of places
 pub data Kind : Type 0 where
@@ -63,11 +83,29 @@ kind (Held i) = AHold
 
 -- the copies that an entry takes away from the places of a kind
 abbrev pub leaves : Kind → Entry → List ℕ
-leaves k (Spent i c outcome) = c ∷ []
+leaves k (Install version plan once instances now) = []
+leaves k (Lease i worker now polls) = []
+leaves k (Home i) = []
+leaves k (Read i stream took) = []
+leaves k (Idle i failed) = []
+leaves k (SourceLost i at failed) = []
+leaves k (Born i b place copies events waits stream end) = []
 leaves AnOutput (Split i ports copies event children) = copies
+leaves k (Split i ports copies event children) = []
 leaves AChild (Push i t s copies) = copies
+leaves k (Push i t s copies) = []
 leaves AStage (Take i s copies) = copies
-leaves k other = []
+leaves k (Take i s copies) = []
+leaves k (Tick i now) = []
+leaves AHold (Answer i outputs discarded kept) = put_out outputs
+leaves k (Answer i outputs discarded kept) = []
+leaves k (Attempt i copies bytes reply) = []
+leaves k (Spent i c outcome) = c ∷ []
+leaves k (Notice b status) = []
+leaves k (Confirm i positions made) = []
+leaves k (Closed i) = []
+leaves k (Retired i) = []
+leaves k (Abandon cause) = []
 
 -- all that was ever put, the oldest first
 abbrev pub all_puts : Record → List Put

@@ -3,7 +3,7 @@ use Rattle.std.specs.Prelude.{◌≡◌, ℕ, ◌<◌, ◌^◌, ◌||◌, true, 
 use Rattle.vx_ends.specs.declared.trouble.Reply.{Reply}
 use Rattle.vx_ends.specs.declared.trouble.Reply.TheVariants as reply
 use Rattle.vx_status.specs.declared.outcome.Outcome.{Outcome}
-use Rattle.vx_status.specs.declared.outcome.Outcome.TheVariants.{Delivered, Attempts, Refusal, Abandoned, NoConsumer, Filtered}
+use Rattle.vx_status.specs.declared.outcome.Outcome.TheVariants.{Delivered, Attempts, Refusal, Abandoned, NoConsumer, Filtered, NewestDropped}
 use Rattle.vx_value.specs.declared.event.Event.{Event}
 use Rattle.vx_plan.specs.declared.component.Component.{Component}
 use Rattle.vx_plan.specs.declared.plan.Plan.{Plan}
@@ -13,22 +13,23 @@ use Rattle.vx_record.specs.declared.child.Child.{Child}
 use Rattle.vx_record.specs.declared.entry.Entry.TheVariants.{Spent}
 use Rattle.vx_record.specs.declared.abandon_cause.AbandonCause.TheVariants.{Grace}
 use Rattle.vx_record.specs.Copies.{count, joined, children_of, next_copy, times_spent}
-use Rattle.vx_record.specs.Lists.{held, is_bare}
+use Rattle.vx_record.specs.Lists.{held, outputs, is_bare}
 use Rattle.vx_record.specs.Turns.{at_lease, lease_now}
 use Rattle.vx_record.specs.Reads.{bytes_of_all}
 use Rattle.vx_record.specs.Routing.{is_dry}
 use Rattle.vx_record.specs.Wirings.{names_differ}
-use Rattle.vx_record.specs.Installs.{in_force, component_of, told, source_at, is_closed}
+use Rattle.vx_record.specs.Installs.{in_force, component_of, told, source_at, transform_at, device_at}
 use Rattle.vx_record.specs.Abandoning.{abandoned}
 use Rattle.vx_record.specs.Starting.{MayLease}
 use Rattle.vx_record.specs.Sourcing.{MayTurn}
 use Rattle.vx_record.specs.Sinking.{MayAttempt}
 use Rattle.vx_record.specs.SinkBatches.{attempts_with, is_full_batch, is_timed_out, is_last_batch}
+use Rattle.vx_record.specs.Parcels.{parcel_ports, port_list}
 use Rattle.vx_record.specs.Sending.{MaySplit}
-use Rattle.vx_record.specs.Spending.{MaySpend, WasAnswered}
+use Rattle.vx_record.specs.Spending.{oldest, MaySpend, WasAnswered}
 use Rattle.vx_record.specs.Ending.{MayClose, MayRetire, MayAbandon}
 use Rattle.vx_record.specs.Legal.{IsLegal}
-use Rattle.vx_record.specs.Ceasing.{lost_at, readers_at, TakesNoMore}
+use Rattle.vx_record.specs.Ceasing.{lost_at, readers_at, readers_on, TakesNoMore}
 
 -- a source that reads, finds nothing or is lost wasn't lost before
 abbrev pub TurnUnlost : Type 0
@@ -65,10 +66,6 @@ ComponentInPlace =
 abbrev pub RetiredBare : Type 0
 RetiredBare = (h : Record) (i : ℕ) → IsLegal h → MayRetire h i → is_bare h i ≡ true
 
--- what is retired has its port closed
-abbrev pub RetiredClosed : Type 0
-RetiredClosed = (h : Record) (i : ℕ) → MayRetire h i → is_closed h i ≡ true
-
 -- no run is given up for a limit after a stop
 abbrev pub UnaskedToStop : Type 0
 UnaskedToStop = (h : Record) (stopped now limit : ℕ) → MayAbandon h (Grace stopped now limit) → ⊥
@@ -77,22 +74,29 @@ UnaskedToStop = (h : Record) (stopped now limit : ℕ) → MayAbandon h (Grace s
 abbrev pub SpentAbandoned : Type 0
 SpentAbandoned = (h : Record) (i c : ℕ) (outcome : Outcome) → IsLegal (Spent i c outcome ∷ h) → abandoned h ≡ true → outcome ≡ Abandoned
 
--- nothing filters
-abbrev pub NoneFiltered : Type 0
-NoneFiltered = (h : Record) (i c : ℕ) → MaySpend h i c Filtered → ⊥
+-- only transforms filter
+abbrev pub TransformsFilter : Type 0
+TransformsFilter = (h : Record) (i c : ℕ) → IsLegal h → MaySpend h i c Filtered → transform_at h i ≡ true
 
--- a copy without a consumer stood where nobody reads
+-- a copy without a consumer stood in an output none of whose ports anybody reads
 abbrev pub UnconsumedUnread : Type 0
-UnconsumedUnread = (h : Record) (i c : ℕ) → IsLegal h → MaySpend h i c NoConsumer → readers_at h i ≡ []
+UnconsumedUnread = (h : Record) (i c : ℕ) → MaySpend h i c NoConsumer → readers_on h i (port_list (parcel_ports h (oldest (outputs h i)))) ≡ []
 
--- an outcome that a device decided
+-- at a source nobody reads the first
+abbrev pub SourceUnread : Type 0
+SourceUnread = (h : Record) (i c : ℕ) → IsLegal h → source_at h i ≡ true → MaySpend h i c NoConsumer → readers_at h i ≡ []
+
+-- an outcome that a device or a transform decided
 abbrev pub IsDecided : Outcome → Type 0
 IsDecided Delivered = Unit {0}
 IsDecided Attempts = Unit {0}
 IsDecided Refusal = Unit {0}
-IsDecided other = ⊥
+IsDecided Filtered = Unit {0}
+IsDecided NewestDropped = ⊥
+IsDecided NoConsumer = ⊥
+IsDecided Abandoned = ⊥
 
--- a copy of which a device decided is held by the instance
+-- a copy of which one decided is held by the instance
 abbrev pub DecidedHeld : Type 0
 DecidedHeld = (h : Record) (i c : ℕ) (outcome : Outcome) → IsLegal h → IsDecided outcome → MaySpend h i c outcome → 0 < count c (joined (held h i))
 
@@ -104,11 +108,17 @@ HeldUntried = (h : Record) (i : ℕ) (copies bytes : List ℕ) (answer : Reply) 
 abbrev pub SpentFailed : Type 0
 SpentFailed = (h : Record) (i c : ℕ) → IsLegal h → MaySpend h i c Attempts → WasAnswered h i c reply.Failed
 
--- a split is for the instances that read the first port of its instance
+-- a split is for the instances that read its ports, a port after the other
 abbrev pub SplitReaders : Type 0
 SplitReaders =
-    (h : Record) (i ports : ℕ) (copies : List ℕ) (event : Event) (children : List Child) → IsLegal h → MaySplit h i ports copies event children →
-    children ≡ children_of (next_copy h) (length copies) (readers_at h i)
+    (h : Record) (i ports : ℕ) (copies : List ℕ) (event : Event) (children : List Child) → MaySplit h i ports copies event children →
+    children ≡ children_of (next_copy h) (length copies) (readers_on h i (port_list ports))
+
+-- a source's is for those that read its first port
+abbrev pub SourceSplits : Type 0
+SourceSplits =
+    (h : Record) (i ports : ℕ) (copies : List ℕ) (event : Event) (children : List Child) → IsLegal h → source_at h i ≡ true →
+    MaySplit h i ports copies event children → children ≡ children_of (next_copy h) (length copies) (readers_at h i)
 
 -- an attempt names a copy
 abbrev pub AttemptNames : Type 0
@@ -120,8 +130,8 @@ AttemptDue =
     (h : Record) (i : ℕ) (copies bytes : List ℕ) (answer : Reply) → IsLegal h → MayAttempt h i copies bytes answer →
     (is_full_batch h i || is_timed_out h i (lease_now h i) || is_last_batch h i) ≡ true
 
--- what makes an attempt has a codec
+-- what makes an attempt by a port has a codec
 abbrev pub AttemptEncodes : Type 0
 AttemptEncodes =
-    (h : Record) (i : ℕ) (copies bytes : List ℕ) (answer : Reply) → IsLegal h → MayAttempt h i copies bytes answer →
+    (h : Record) (i : ℕ) (copies bytes : List ℕ) (answer : Reply) → IsLegal h → MayAttempt h i copies bytes answer → device_at h i ≡ true →
     told false (λ (c : Component). is_some (encoding c.settings)) h i ≡ true

@@ -46,7 +46,7 @@ failed_at (Attempt j copies bytes reply ∷ h) i c =
     if (j == i) && contains copies c && is_failed reply then lease_now h i else failed_at h i c
 failed_at (e ∷ h) i c = failed_at h i c
 
--- how often a failed attempt is made again: while a run can't wait, never, whatever the option says
+-- how often a failed attempt is made again: while a run can't wait, never, whatever the option `retry_attempts` says
 abbrev pub retries_made : Component → ℕ
 retries_made c = 0
 

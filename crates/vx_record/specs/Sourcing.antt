@@ -13,6 +13,7 @@ use Rattle.vx_record.specs.Reads.{bytes_taken, stream_of, events_of, end_of}
 use Rattle.vx_record.specs.Confirms.{due, is_confirm_due}
 use Rattle.vx_record.specs.Records.{Record, capped}
 use Rattle.vx_record.specs.Ready.{can_read}
+use Rattle.vx_record.specs.Generating.{IsGenerated}
 
 -- a source that could be read when it was leased, and was not since
 pub record MayTurn (h : Record) (i : ℕ) : Type 0 where
@@ -20,6 +21,11 @@ pub record MayTurn (h : Record) (i : ℕ) : Type 0 where
   pub out : is_out h i ≡ true
   pub readable : can_read (at_lease h i) i (lease_now h i) ≡ true
   pub once : list_any (is_turn_of i) (since_lease h i) ≡ false
+
+-- a Read is a turn; a generator gives its next lines
+pub record MayRead (h : Record) (i stream : ℕ) (took : Taken) : Type 0 where
+  pub turn : MayTurn h i
+  pub generated : IsGenerated h i stream took
 
 -- in how many of the instance's last Reads and Idles, without a gap, the port failed to start
 abbrev pub failed_starts : Record → ℕ → ℕ

@@ -15,6 +15,7 @@ use Rattle.vx_record.specs.Parcels.{parcel_ports, port_list}
 use Rattle.vx_record.specs.Routing.{routes}
 use Rattle.vx_record.specs.Stages.{stages_of, first_room, last_drops}
 use Rattle.vx_record.specs.SinkBatches.{failures_with, attempts_allowed}
+use Rattle.vx_record.specs.Owing.{last_discarded}
 use Rattle.vx_record.specs.Abandoning.{abandoned}
 use Rattle.vx_record.specs.Batches.{AwaitsNotice}
 use Rattle.vx_record.specs.Statuses.{batch_status}
@@ -53,12 +54,12 @@ pub record HadNoTarget (h : Record) (i c : ℕ) : Type 0 where
   pub none_waits : all_waiting h i ≡ []
   pub no_target : routes h i (port_list (parcel_ports h (oldest (outputs h i)))) ≡ []
 
--- what each outcome needs; no entry tells yet that a transform discarded a parcel
+-- what each outcome needs
 abbrev pub HasCause : Record → ℕ → ℕ → Outcome → Type 0
 HasCause h i c Delivered = WasAnswered h i c reply.Ok
 HasCause h i c Refusal = WasAnswered h i c reply.Refused
 HasCause h i c Attempts = attempts_allowed h i ≤ failures_with h i c
-HasCause h i c Filtered = ⊥
+HasCause h i c Filtered = 0 < count c (last_discarded h i)
 HasCause h i c NewestDropped = (t : ℕ) × WasNewest h i c t
 HasCause h i c NoConsumer = HadNoTarget h i c
 HasCause h i c Abandoned = (abandoned h ≡ true) × (is_out h i ≡ false)

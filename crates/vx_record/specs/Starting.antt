@@ -8,7 +8,7 @@ use Rattle.vx_record.specs.Records.{Record}
 use Rattle.vx_record.specs.Turns.{is_out, worker_now}
 use Rattle.vx_record.specs.Installs.{is_retired}
 use Rattle.vx_record.specs.Owing.{owes}
-use Rattle.vx_record.specs.Ready.{is_ready}
+use Rattle.vx_record.specs.Ready.{IsReady}
 
 -- an instance for each component, all new, numbered in the plan's order
 abbrev pub first_instances : ℕ → List Component → List Instance
@@ -26,7 +26,7 @@ pub record MayLease (h : Record) (i worker now polls : ℕ) : Type 0 where
   pub home : is_out h i ≡ false
   pub unretired : is_retired h i ≡ false
   pub settled : owes h i ≡ false
-  pub ready : is_ready h i now ≡ true
+  pub ready : IsReady h i now
   pub later : worker_now h worker ≤ now
   pub unpolled : polls ≡ 0
 

@@ -1,5 +1,5 @@
 -- The counts of an instance.
-use Rattle.std.specs.Prelude.{ℕ, ◌+◌, Bool, true, false, ◌&&◌, Option, Some, None, List, [], ◌∷◌, length, map, sum, if◌then◌else◌, ◌==◌}
+use Rattle.std.specs.Prelude.{ℕ, ◌+◌, Bool, true, false, ◌&&◌, Option, Some, None, List, [], ◌∷◌, length, map, sum, count_by, if◌then◌else◌, ◌==◌}
 use Rattle.std.specs.List.{list_any}
 use Rattle.vx_ends.specs.declared.position.Position.{Position}
 use Rattle.vx_status.specs.declared.outcome.Outcome.{Outcome}
@@ -12,8 +12,10 @@ use Rattle.vx_status.specs.Tables.{status_of}
 use Rattle.vx_plan.specs.declared.component.Component.{Component}
 use Rattle.vx_plan.specs.declared.class.Class.TheVariants.{Source, Transform, Sink}
 use Rattle.vx_record.specs.declared.tally.Tally.{Tally}
-use Rattle.vx_record.specs.declared.entry.Entry.TheVariants.{Read, Born, Take, Attempt, Spent, Notice}
+use Rattle.vx_record.specs.declared.entry.Entry.TheVariants.{Read, Born, Take, Answer, Attempt, Spent, Notice}
+use Rattle.vx_record.specs.declared.entry.Entry.{Entry}
 use Rattle.vx_record.specs.Records.{Record, capped}
+use Rattle.vx_record.specs.Copies.{all_of}
 use Rattle.vx_record.specs.Tally.{nothing_counted}
 use Rattle.vx_record.specs.Places.{Place, Put, all_puts}
 use Rattle.vx_record.specs.Places.Place.{Outputs, Waiting, Held}
@@ -150,6 +152,27 @@ takes [] i = 0
 takes (Take j stage copies ∷ h) i = takes h i + (if j == i then 1 else 0)
 takes (e ∷ h) i = takes h i
 
+-- the parcels that it put out, each once whatever its ports
+abbrev pub sent_parcels : Record → ℕ → ℕ
+sent_parcels [] i = 0
+sent_parcels (Answer j outputs discarded kept ∷ h) i = sent_parcels h i + (if j == i then length outputs else 0)
+sent_parcels (e ∷ h) i = sent_parcels h i
+
+-- the copy that came first in the parcel that an entry took for it
+abbrev pub firsts_in : ℕ → Entry → List ℕ
+firsts_in i (Take j stage copies) = if j == i then first_copy copies ∷ [] else []
+firsts_in i other = []
+
+-- whether a copy came first in a parcel that it took
+abbrev pub is_first : Record → ℕ → ℕ → Bool
+is_first h i c = list_any (λ d. d == c) (all_of (firsts_in i) h)
+
+-- the parcels that it discarded, each by the copy that came first in it
+abbrev pub dropped_parcels : Record → ℕ → ℕ
+dropped_parcels [] i = 0
+dropped_parcels (Answer j outputs discarded kept ∷ h) i = dropped_parcels h i + (if j == i then count_by (is_first h i) discarded else 0)
+dropped_parcels (e ∷ h) i = dropped_parcels h i
+
 -- its Attempts
 abbrev pub attempts_made : Record → ℕ → ℕ
 attempts_made [] i = 0
@@ -178,10 +201,12 @@ source_tally h i = record nothing_counted {
   confirmed = capped (confirmed_ends h i);
 }
 
--- the counts of a transform, which puts out and discards nothing yet
+-- the counts of a transform
 abbrev pub transform_tally : Record → ℕ → Tally
 transform_tally h i = record nothing_counted {
   taken = capped (takes h i);
+  sent = capped (sent_parcels h i);
+  dropped = capped (dropped_parcels h i);
   unread = capped (unread_parcels h i);
 }
 

@@ -6,6 +6,7 @@ ghost use Rattle.vx_record.specs.Counts.{IsCount, IsCounted};
 
 use crate::confirmed_ends::ConfirmedEnds;
 use crate::counted::Counted;
+use crate::drop_counts::DropCounts;
 use crate::entry::Entry;
 use crate::line_counts::LineCounts;
 use crate::notice_counts::NoticeCounts;
@@ -27,6 +28,7 @@ pub(crate) struct Count {
     notices: NoticeCounts,
     ends: ConfirmedEnds,
     puts: PutCounts,
+    drops: DropCounts,
 }
 
 impl Count {
@@ -44,6 +46,7 @@ impl Count {
             notices: NoticeCounts::new(alloc),
             ends: ConfirmedEnds::new(alloc),
             puts: PutCounts::zero(),
+            drops: DropCounts::new(alloc),
         }
     }
 
@@ -56,6 +59,7 @@ impl Count {
             .note(self.role.limit, self.role.decoding, instance, entry)?;
         self.notices.note(instance, entry)?;
         self.ends.note(instance, entry)?;
+        self.drops.note(instance, entry)?;
         self.role.note(instance, entry);
         self.plain.note(instance, entry);
         self.puts.note(ways, instance, entry);
@@ -89,6 +93,7 @@ impl Count {
             lines: self.lines.totals,
             notices: self.notices.statuses,
             puts: self.puts,
+            dropped: self.drops.dropped,
             confirmed: self.ends.total(),
         }
     }

@@ -7,6 +7,7 @@ ghost use Rattle.vx_record.specs.Counts.{IsCounting, IsCounted};
 use crate::line_totals::LineTotals;
 use crate::plain_confirms::confirmed_total;
 use crate::plain_counts::PlainCounts;
+use crate::plain_drops::note_drops;
 use crate::plain_lines::lines_at;
 use crate::plain_notices::note_notice;
 use crate::put_counts::PutCounts;
@@ -25,6 +26,8 @@ pub(crate) struct Counted {
     pub lines: LineTotals,
     pub notices: StatusCounts,
     pub puts: PutCounts,
+    /// Parcels that it discarded.
+    pub dropped: u64,
     /// The last confirmed ends of its streams, together.
     pub confirmed: u64,
 }
@@ -43,6 +46,7 @@ impl Counted {
             lines: LineTotals::zero(),
             notices: StatusCounts::zero(),
             puts: PutCounts::zero(),
+            dropped: 0,
             confirmed: 0,
         }
     }
@@ -63,6 +67,7 @@ impl Counted {
             entry,
         );
         self.lines.add(cut);
+        note_drops(&mut self.dropped, history, at, instance, entry);
         note_notice(&mut self.notices, history, at, instance, entry);
         self.role.note(instance, entry);
         self.plain.note(instance, entry);
@@ -129,6 +134,8 @@ impl Counted {
     {
         Tally {
             taken: self.plain.taken,
+            sent: self.plain.sent,
+            dropped: self.dropped,
             unread: self.puts.unread,
             ..Tally::zero()
         }

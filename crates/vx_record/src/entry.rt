@@ -1,6 +1,7 @@
 use crate::abandon_cause::AbandonCause;
 use crate::child::ChildList;
 use crate::instance::InstanceList;
+use crate::output::OutputList;
 use crate::taken::Taken;
 use vx_ends::{PositionList, Reply};
 use vx_plan::Plan;
@@ -77,6 +78,19 @@ pub enum Entry {
         instance: u32,
         stage: u32,
         copies: NumberList,
+    },
+    /// The moment came at which a transform acts by itself.
+    Tick {
+        instance: u32,
+        now: u64,
+    },
+    /// A transform answered what it took since its last answer, and the tick: what it puts out, and the copies that it
+    /// discards and those that it keeps. Where it was given nothing since then, it was flushed.
+    Answer {
+        instance: u32,
+        outputs: OutputList,
+        discarded: NumberList,
+        kept: NumberList,
     },
     /// A sink gave bytes for the copies that it holds.
     Attempt {

@@ -1,9 +1,9 @@
 //! The laws of every legal record, and of every record of which some of that holds. A law's function does nothing: what it
 //! ensures is proved.
 
-ghost use Rattle.vx_record.specs.Laws.{OnePlace, PlacesMeant, LiveStands, LegalConserved, ConservedPlace, ConservedLive, LegalAccounted, AccountedOnce, AccountedLate, AccountedSo, AccountedTells, OneNotice, OneNoticeAtLast, NoEarlyNotice, NoticeAtOnce, NoSpentAfterNotice, NoticeTells, BeginningLegal, RunningStatus, DeliveredWhereGood, OneEvent, NumbersBounded, RoutingKept, NoLeaseAfterAbandon, PrefixGrows, LineGives, LineGivesNone, TextGives};
+ghost use Rattle.vx_record.specs.Laws.{OnePlace, PlacesMeant, LiveStands, LegalConserved, ConservedPlace, ConservedLive, LegalAccounted, AccountedOnce, AccountedLate, AccountedSo, AccountedTells, OneNotice, OneNoticeAtLast, NoEarlyNotice, NoticeAtOnce, NoSpentAfterNotice, NoticeTells, BeginningLegal, RunningStatus, DeliveredWhereGood, OneEvent, InputsParted, AnswerHolds, FlushEmpties, DiscardsGo, TickLast, PushesFirst, AttemptsWait, NumbersBounded, RoutingKept, NoLeaseAfterAbandon, PrefixGrows, LineGives, LineGivesNone, TextGives};
 ghost use Rattle.vx_record.specs.Wirings.{WiringStays, StartedStays, ComponentOfFirst, TargetsOfFirst};
-ghost use Rattle.vx_record.specs.Growth.{TakenGrows, GivenGrows, ConfirmedGrows, EndedGrows, SourceRises, SinkRises, SpentRises, TallyStays};
+ghost use Rattle.vx_record.specs.Growth.{TakenGrows, GivenGrows, ConfirmedGrows, EndedGrows, SourceRises, TransformRises, SinkRises, SpentRises, TallyStays};
 
 /// Each copy that a part of a legal record made was split once, or was spent once, or stands in one place, once.
 pub fn one_place()
@@ -50,6 +50,22 @@ pub fn one_event()
     ensures numbers { NumbersBounded }
 {}
 
+/// What a transform was given it has answered or not, a tick last, and behind an answer it holds what that discarded and
+/// kept, which is nothing behind a flush; what it discarded is spent before it is leased again.
+pub fn answering()
+    ensures parted { InputsParted }
+    ensures holds { AnswerHolds }
+    ensures empties { FlushEmpties }
+    ensures gone { DiscardsGo }
+    ensures last { TickLast }
+{}
+
+/// A parcel enters the first stage that has room, and what failed is attempted again when its wait is over.
+pub fn waiting()
+    ensures first { PushesFirst }
+    ensures waits { AttemptsWait }
+{}
+
 /// The event that a record has of a line is the one that the line gives, and none where the line gives none.
 pub fn line_events()
     ensures gives { LineGives }
@@ -88,6 +104,7 @@ pub fn growth()
 /// How one more entry changes the counts of an instance.
 pub fn counting()
     ensures source { SourceRises }
+    ensures transform { TransformRises }
     ensures sink { SinkRises }
     ensures spent { SpentRises }
     ensures stays { TallyStays }

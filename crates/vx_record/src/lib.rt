@@ -7,6 +7,7 @@ mod confirmed_ends;
 mod count;
 mod counted;
 mod cut;
+mod drop_counts;
 mod entry;
 mod finality;
 mod instance;
@@ -16,8 +17,10 @@ mod line_totals;
 mod log;
 mod notice_counts;
 mod outcomes;
+mod output;
 mod plain_confirms;
 mod plain_counts;
+mod plain_drops;
 mod plain_lines;
 mod plain_notices;
 mod put_counts;
@@ -37,10 +40,11 @@ pub use entry::Entry;
 pub use finality::final_laws;
 pub use instance::{Instance, InstanceList, Start};
 pub use laws::{
-    accounted, beginnings, conserved, counting, first_wiring, growth, line_events, one_event,
-    one_notice, one_place, routing_kept, running_status,
+    accounted, answering, beginnings, conserved, counting, first_wiring, growth, line_events,
+    one_event, one_notice, one_place, routing_kept, running_status, waiting,
 };
 pub use log::Log;
+pub use output::{Output, OutputList};
 pub use record::Record;
 pub use row_laws::{attempt_laws, end_laws, lease_laws, source_laws, spend_laws};
 pub use taken::Taken;

@@ -15,6 +15,8 @@ pub(crate) struct PlainCounts {
     pub batches: u64,
     /// Parcels that it took from its buffer.
     pub taken: u64,
+    /// Parcels that it put out as a transform.
+    pub sent: u64,
     /// Its attempts.
     pub attempts: u64,
     /// Bytes of its attempts.
@@ -31,6 +33,7 @@ impl PlainCounts {
             events: 0,
             batches: 0,
             taken: 0,
+            sent: 0,
             attempts: 0,
             bytes: 0,
         }
@@ -66,6 +69,15 @@ impl PlainCounts {
             } => {
                 if *taker == instance {
                     self.taken = self.taken.saturating_add(1);
+                }
+            }
+            Entry::Answer {
+                instance: transform,
+                outputs,
+                ..
+            } => {
+                if *transform == instance {
+                    self.sent = self.sent.saturating_add(outputs.len() as u64);
                 }
             }
             Entry::Attempt {

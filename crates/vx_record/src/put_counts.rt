@@ -10,6 +10,7 @@ ghost use Rattle.vx_record.specs.PutCounting.{ArePuts, IsHeldRaised};
 
 use crate::child::Child;
 use crate::entry::Entry;
+use crate::output::Output;
 use crate::ways::Ways;
 use vx_status::EventStatus;
 
@@ -59,6 +60,16 @@ impl PutCounts {
                     self.unread = self.unread.saturating_add(unread);
                 }
             }
+            Entry::Answer {
+                instance: transform,
+                outputs,
+                ..
+            } => {
+                if *transform == instance {
+                    let unread = unread_outputs(ways, outputs.as_slice());
+                    self.unread = self.unread.saturating_add(unread);
+                }
+            }
             Entry::Split { children, .. } => {
                 let newest = newest_for(ways, instance, children.as_slice());
                 self.newest = self.newest.saturating_add(newest);
@@ -94,6 +105,23 @@ fn unread_among(ways: &Ways, copies: &[u64]) -> u64
     ensures { result ≡ count_by (λ c. spent_in is_unread (way_of ways.now) c) copies.now }
 {
     copies.iter().filter(|copy| ways.is_unread(**copy)).count() as u64
+}
+
+// Whether one of some copies was spent for want of a reader.
+fn any_unread(ways: &Ways, copies: &[u64]) -> bool
+    ensures { result ≡ any_in is_unread (way_of ways.now) copies.now }
+{
+    copies.iter().any(|copy| ways.is_unread(*copy))
+}
+
+// How many of some outputs were.
+fn unread_outputs(ways: &Ways, outputs: &[Output]) -> u64
+    ensures { result ≡ count_by (λ output. any_in is_unread (way_of ways.now) output.copies) outputs.now }
+{
+    outputs
+        .iter()
+        .filter(|output| any_unread(ways, output.copies.as_slice()))
+        .count() as u64
 }
 
 // Whether one of some copies was dropped as the newest.

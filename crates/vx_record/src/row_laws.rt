@@ -1,6 +1,6 @@
 //! What every legal record says of its entries beside their rows. A law's function does nothing: what it ensures is proved.
 
-ghost use Rattle.vx_record.specs.Promises.{TurnUnlost, TurnUndry, TurnShort, ClosedTakesNoMore, LeasedRuns, LeasedSpent, ComponentInPlace, RetiredBare, RetiredClosed, UnaskedToStop, SpentAbandoned, NoneFiltered, UnconsumedUnread, DecidedHeld, HeldUntried, SpentFailed, SplitReaders, AttemptNames, AttemptDue, AttemptEncodes};
+ghost use Rattle.vx_record.specs.Promises.{TurnUnlost, TurnUndry, TurnShort, ClosedTakesNoMore, LeasedRuns, LeasedSpent, ComponentInPlace, RetiredBare, UnaskedToStop, SpentAbandoned, TransformsFilter, UnconsumedUnread, SourceUnread, DecidedHeld, HeldUntried, SpentFailed, SplitReaders, SourceSplits, AttemptNames, AttemptDue, AttemptEncodes};
 
 /// A source wasn't lost and isn't dry where it takes its turn, nor were 2^48 bytes taken when it was leased; one whose port
 /// is closed for good was told the end of all, or was lost, or too many bytes were taken, or the run was given up.
@@ -18,25 +18,26 @@ pub fn lease_laws()
     ensures spent { LeasedSpent }
 {}
 
-/// What is retired is bare and has its port closed, and no run is given up for a limit after a stop.
+/// What is retired is bare, and no run is given up for a limit after a stop.
 pub fn end_laws()
     ensures bare { RetiredBare }
-    ensures retired { RetiredClosed }
     ensures unasked { UnaskedToStop }
 {}
 
-/// Copies are spent as abandoned behind an abandonment, without a consumer where nobody reads, and held where a device
-/// decided. A split is for the readers of its instance.
+/// Copies are spent as abandoned behind an abandonment, as filtered by transforms alone, without a consumer where nobody
+/// reads their ports, and held where a device or a transform decided. A split is for the readers of its ports.
 pub fn spend_laws()
     ensures left { SpentAbandoned }
-    ensures unfiltered { NoneFiltered }
+    ensures filtered { TransformsFilter }
     ensures unread { UnconsumedUnread }
+    ensures of_source { SourceUnread }
     ensures decided { DecidedHeld }
     ensures readers { SplitReaders }
+    ensures source_readers { SourceSplits }
 {}
 
-/// What is attempted was never attempted before, is due, and has a codec; what is spent as failed was in the last attempt,
-/// which failed.
+/// What is attempted was never attempted before, is due, and has a codec where there is a port; what is spent as failed was
+/// in the last attempt, which failed.
 pub fn attempt_laws()
     ensures untried { HeldUntried }
     ensures failed { SpentFailed }

@@ -3,3 +3,4 @@ pub mod Prepared
 pub mod Closing
 pub mod Counting
 pub mod Apart
+pub mod Ported

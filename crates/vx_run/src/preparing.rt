@@ -1,9 +1,11 @@
 ghost use Rattle.std.specs.Prelude.{◌≡◌, ◌≢◌, ◌↔◌, ◌<◌, ◌^◌, length, true, Ok, Err, Some, IfOk, IfErr, IfSome, IsSomeAnd};
 ghost use Rattle.vx_ends.specs.Texts.{IsTextAt};
 ghost use Rattle.vx_ends.specs.Told.{Rose};
+ghost use Rattle.vx_plan.specs.Options.{has_device};
 ghost use Rattle.vx_plan.specs.Ports.{port_of};
 ghost use Rattle.vx_record.specs.Wirings.{names_differ};
 ghost use Rattle.vx_hub.specs.Making.{IsUntouched, AreUntouched};
+ghost use Rattle.vx_hub.specs.Order.{all_ported};
 ghost use Rattle.vx_reading.specs.Reading.{IsReading};
 ghost use Rattle.vx_run.specs.Answers.{IsPlanAt, IsUnready, IsUnread, IsMisread};
 
@@ -25,6 +27,7 @@ pub(crate) fn prepare<W: World>(
     ensures stands { IfOk result (λ parts. IsPlanAt environment.now (W.texts world.old) file.now parts.plan) }
     ensures few { IfOk result (λ parts. length parts.plan.components < 2 ^ 32) }
     ensures named { IfOk result (λ parts. names_differ parts.plan.components ≡ true) }
+    ensures ported { IfOk result (λ parts. all_ported parts.plan.components ≡ true) }
     ensures ports { IfOk result (λ parts. length parts.ports ≡ length parts.plan.components) }
     ensures untouched { IfOk result (λ parts. AreUntouched W.Port.told parts.plan.components parts.ports) }
     ensures unready { IfErr result (IsUnready environment.now (W.texts world.old) file.now (W.faults world.old) (W.faults world.new)) }
@@ -51,6 +54,7 @@ pub(crate) fn plan_at<W: World>(
     ensures stands { IfOk result (IsPlanAt environment.now (W.texts world.old) file.now) }
     ensures few { IfOk result (λ plan. length plan.components < 2 ^ 32) }
     ensures named { IfOk result (λ plan. names_differ plan.components ≡ true) }
+    ensures ported { IfOk result (λ plan. all_ported plan.components ≡ true) }
     ensures unready { IfErr result (IsUnready environment.now (W.texts world.old) file.now (W.faults world.old) (W.faults world.new)) }
     ensures texts { W.texts world.new ≡ W.texts world.old }
 {
@@ -80,6 +84,7 @@ fn plan_of(alloc: Global, bytes: &Bytes, environment: &VariableList) -> Result<P
     ensures read { IfOk result (λ plan. IsReading environment.now bytes.now (Ok plan)) }
     ensures few { IfOk result (λ plan. length plan.components < 2 ^ 32) }
     ensures named { IfOk result (λ plan. names_differ plan.components ≡ true) }
+    ensures ported { IfOk result (λ plan. all_ported plan.components ≡ true) }
     ensures refused { IfErr result (IsMisread environment.now bytes.now) }
 {
     match read_plan(alloc, bytes.as_slice(), environment) {
@@ -95,6 +100,7 @@ fn ports<W: World>(
     plan: &Plan,
     world: &mut W,
 ) -> Result<NamedList<W::Port>, WantOfMemory>
+    requires { all_ported plan.now.components ≡ true }
     ensures count { IfOk result (λ ports. length ports ≡ length plan.now.components) }
     ensures untouched { IfOk result (λ ports. AreUntouched W.Port.told plan.now.components ports) }
     ensures texts { W.texts world.new ≡ W.texts world.old }
@@ -117,6 +123,7 @@ fn port<W: World>(
     component: &Component,
     world: &mut W,
 ) -> Result<Named<W::Port>, WantOfMemory>
+    requires { has_device component.now.settings ≡ true }
     ensures untouched { IfOk result (λ named. IsUntouched (port_of component.now) (W.Port.told named.port)) }
     ensures texts { W.texts world.new ≡ W.texts world.old }
     ensures faults { W.faults world.new ≡ W.faults world.old }

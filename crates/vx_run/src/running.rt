@@ -2,7 +2,7 @@ ghost use Rattle.std.specs.Prelude.{◌≡◌, ◌≢◌, ◌⊎◌, List, ◌<�
 ghost use Rattle.vx_record.specs.Legal.{IsLegal};
 ghost use Rattle.vx_record.specs.Wirings.{names_differ};
 ghost use Rattle.vx_hub.specs.Making.{AreUntouched};
-ghost use Rattle.vx_hub.specs.Order.{IsLegalWithReturns};
+ghost use Rattle.vx_hub.specs.Order.{IsLegalWithReturns, all_ported};
 ghost use Rattle.vx_hub.specs.Stands.{Stands};
 ghost use Rattle.vx_hub.specs.Remains.{AreNumbered, AreClosed};
 ghost use Rattle.vx_value.specs.Texts.{Word};
@@ -137,6 +137,7 @@ fn begin<R: Wait, P: Port, C: Clock>(
     requires ports { length parts.ports ≡ length parts.plan.components }
     requires untouched { AreUntouched P.told parts.plan.components parts.ports }
     requires named { names_differ parts.plan.components ≡ true }
+    requires ported { all_ported parts.plan.components ≡ true }
     ensures judged { IsJudged result.history result.fault }
     ensures told { IsTrueTo P.told result.history result.ports result.fault }
     ensures returned { IsLegalWithReturns result.history }

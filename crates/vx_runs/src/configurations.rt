@@ -171,7 +171,7 @@ fn the_first_configuration(rt: HostRuntime) -> Result<(), Fail> {
 fn target_of(plan: &Plan, name: &str) -> Option<ConsoleTarget> {
     match &plan.component(name)?.settings {
         Settings::Console { target, .. } => Some(*target),
-        Settings::Stdin { .. } => None,
+        _ => None,
     }
 }
 

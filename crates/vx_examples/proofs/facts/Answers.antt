@@ -102,3 +102,55 @@ returns-clause-retry_at_the_end c = refl
 pub returns-clause-timeout_at_the_end : goal.returns-clause-timeout_at_the_end
 unfolding utf8_lossy utf8_valid_len utf8_error_len is_utf8 chars lib.Utf8.encode
 returns-clause-timeout_at_the_end c = refl
+
+pub returns-clause-filter_counts : goal.returns-clause-filter_counts
+unfolding utf8_lossy utf8_valid_len utf8_error_len is_utf8 chars lib.Utf8.encode
+returns-clause-filter_counts c = refl
+
+pub returns-clause-route_counts : goal.returns-clause-route_counts
+unfolding utf8_lossy utf8_valid_len utf8_error_len is_utf8 chars lib.Utf8.encode
+returns-clause-route_counts c = refl
+
+pub returns-clause-reduce_counts : goal.returns-clause-reduce_counts
+unfolding utf8_lossy utf8_valid_len utf8_error_len is_utf8 chars lib.Utf8.encode
+returns-clause-reduce_counts c = refl
+
+pub returns-clause-joined_counts : goal.returns-clause-joined_counts
+unfolding utf8_lossy utf8_valid_len utf8_error_len is_utf8 chars lib.Utf8.encode
+returns-clause-joined_counts c = refl
+
+pub returns-clause-two_batch_counts : goal.returns-clause-two_batch_counts
+unfolding utf8_lossy utf8_valid_len utf8_error_len is_utf8 chars lib.Utf8.encode
+returns-clause-two_batch_counts c = refl
+
+pub returns-clause-overflow_counts : goal.returns-clause-overflow_counts
+unfolding utf8_lossy utf8_valid_len utf8_error_len is_utf8 chars lib.Utf8.encode
+returns-clause-overflow_counts c = refl
+
+pub returns-clause-generator_counts : goal.returns-clause-generator_counts
+unfolding utf8_lossy utf8_valid_len utf8_error_len is_utf8 chars lib.Utf8.encode
+returns-clause-generator_counts c = refl
+
+pub returns-clause-layers_wait : goal.returns-clause-layers_wait
+unfolding utf8_lossy utf8_valid_len utf8_error_len is_utf8 chars lib.Utf8.encode
+returns-clause-layers_wait c = refl
+
+pub returns-clause-layers_do_not_wait : goal.returns-clause-layers_do_not_wait
+unfolding utf8_lossy utf8_valid_len utf8_error_len is_utf8 chars lib.Utf8.encode
+returns-clause-layers_do_not_wait c = refl
+
+pub returns-clause-rests_behind_a_read : goal.returns-clause-rests_behind_a_read
+unfolding utf8_lossy utf8_valid_len utf8_error_len is_utf8 chars lib.Utf8.encode
+returns-clause-rests_behind_a_read c = refl
+
+pub returns-clause-rests_behind_an_idle : goal.returns-clause-rests_behind_an_idle
+unfolding utf8_lossy utf8_valid_len utf8_error_len is_utf8 chars lib.Utf8.encode
+returns-clause-rests_behind_an_idle c = refl
+
+pub returns-clause-rests_behind_a_failed_start : goal.returns-clause-rests_behind_a_failed_start
+unfolding utf8_lossy utf8_valid_len utf8_error_len is_utf8 chars lib.Utf8.encode
+returns-clause-rests_behind_a_failed_start c = refl
+
+pub returns-clause-retry_moment : goal.returns-clause-retry_moment
+unfolding utf8_lossy utf8_valid_len utf8_error_len is_utf8 chars lib.Utf8.encode
+returns-clause-retry_moment c = refl

@@ -2,8 +2,16 @@ use Rattle.std.proofs.Common.{subst, sym, ap, List, [], ◌∷◌, ◌++◌, len
 use Rattle.vx_plan.specs.declared.component.Component.{Component}
 use Rattle.vx_hub.specs.declared.seat.Seat.{Seat}
 use Rattle.vx_hub.specs.Making.{AreUnused, AreFitted}
+use Rattle.vx_hub.specs.Order.{all_ported}
 use Rattle.vx_hub.proofs.Beginning.{unused_more, fitted_more}
+use Rattle.vx_hub.proofs.Ported.{item_device}
 use Rattle.vx_hub.proofs.seat.seats.Goals as goal
+
+pub make_seat-requires : goal.make_seat-requires
+make_seat-requires c =
+    let items = c.as_slice-component-items.result.now in
+    let same : items ≡ c.args.plan.now.components = c.as_slice-component-items.ensures in
+    item_device items c.loop-component.component-index c.component-item.result (ap all_ported same ∙ c.requires) c.loop-component-test.true c.component-item.is
 
 pub loop-component-preserved : goal.loop-component-preserved
 loop-component-preserved c =

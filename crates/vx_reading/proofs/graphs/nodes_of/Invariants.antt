@@ -1,5 +1,5 @@
 use Rattle.std.proofs.Common.{◌≡◌, ◌++◌, map, drop}
-use Rattle.vx_reading.specs.Plans.{node_of}
+use Rattle.vx_plan.specs.Graphs.{node_of}
 use Rattle.vx_reading.proofs.graphs.nodes_of.Given as goal
 
 -- what is left to add makes the list whole

@@ -1,8 +1,14 @@
 use Rattle.std.proofs.Common.{ap, sym, subst, ◌∙◌, List, length, ◌+◌}
 use Rattle.vx_hub.specs.declared.parts.Named.{Named}
 use Rattle.vx_hub.specs.Making.{AreUntouched}
+use Rattle.vx_hub.specs.Order.{all_ported}
+use Rattle.vx_hub.proofs.Ported.{item_device}
 use Rattle.vx_run.proofs.Prepared.{untouched_more, component_got, one_more}
 use Rattle.vx_run.proofs.preparing.ports.Goals as goal
+
+pub port-requires : goal.port-requires
+port-requires g c =
+    item_device c.as_slice-component-items.result.now c.loop-component.component-index c.component-item.result (ap all_ported c.as_slice-component-items.ensures ∙ c.requires) c.loop-component-test.true c.component-item.is
 
 pub loop-component-preserved : goal.loop-component-preserved
 loop-component-preserved g c =

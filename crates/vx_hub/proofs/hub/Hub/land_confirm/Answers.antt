@@ -34,7 +34,7 @@ returns-in-Some-clause-back g c =
           (brings_confirm told h i c.in-Some.confirmed c.args.landing.done (subst (λ (o : Option Confirmed). Brings told h i o c.args.landing.done) c.in-Some.is before));
       unlost = λ reading. c.note_confirm.ensures.unlost (c.requires.unlost reading);
       held = held_on g.P.Port.told c.args.self.now c.note_confirm.new.self (role_copies c.args.landing.task.role) i c.args.landing.task.role _ c.requires.stands c.note_confirm.ensures.noted c.note_confirm.ensures.starved tt c.requires.held;
-      said = said_by_on c.args.self.now c.note_confirm.new.self _ c.args.landing.task.role c.note_confirm.ensures.noted c.note_confirm.ensures.starved c.requires.said;
+      said = said_by_on c.args.self.now c.note_confirm.new.self _ c.args.landing.task.role tt c.note_confirm.ensures.noted c.note_confirm.ensures.starved c.requires.said;
       come = done_on c.args.self.now c.note_confirm.new.self i c.in-Some.confirmed.positions c.in-Some.confirmed.made i c.args.landing.task.role c.args.landing.done c.note_confirm.ensures.noted c.note_confirm.ensures.starved c.requires.come;
       writes = c.requires.writes;
       sent = λ reading. subst (λ (r : _). numbers_at (Outputs i) r.items ≡ []) (sym c.note_confirm.ensures.rows) (c.requires.sent reading);

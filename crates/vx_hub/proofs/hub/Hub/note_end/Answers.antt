@@ -7,7 +7,7 @@ use Rattle.vx_record.specs.declared.entry.Entry.TheVariants as entry
 use Rattle.vx_record.specs.Records.{Record}
 use Rattle.vx_hub.specs.Order.{IsReadBy}
 use Rattle.vx_hub.proofs.Drying.{closing_on, ended_here}
-use Rattle.vx_hub.proofs.Flowing.{turn_in_order}
+use Rattle.vx_hub.proofs.Flowing.{read_in_order}
 use Rattle.vx_hub.proofs.Silence.{same_test}
 use Rattle.vx_hub.proofs.Touching.{stands_touched, facts_surely, facts_get, no_bytes}
 use Rattle.vx_hub.proofs.hub.Hub.note_end.Goals as goal
@@ -30,7 +30,7 @@ returns-clause-stands g c hand s =
       leased = known.leased;
     })
     (λ bytes. bytes ∙ no_bytes true (bytes_of_all c.args.self.now.log.history) (bytes_of c.args.taken) c.requires.end)
-    refl (λ fine known out. turn_in_order c.args.self.now.log.history c.args.instance c.index_mut-facts.result.now (s.recorded fine).order out known (facts_surely IsReadable c.args.self.now.facts.items c.args.instance c.index_mut-facts.result.now c.requires.within c.index_mut-facts.ensures.value c.requires.unlost) (c.requires.turn fine))
+    refl (λ fine known out. read_in_order c.args.self.now.log.history c.args.instance c.index_mut-facts.result.now c.args.stream c.args.taken (s.recorded fine).order out known (facts_surely IsReadable c.args.self.now.facts.items c.args.instance c.index_mut-facts.result.now c.requires.within c.index_mut-facts.ensures.value c.requires.unlost) (c.requires.turn fine))
 
 pub returns-clause-open : goal.returns-clause-open
 returns-clause-open g c open_at = record {

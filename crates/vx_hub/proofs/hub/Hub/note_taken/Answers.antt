@@ -8,7 +8,7 @@ use Rattle.vx_record.specs.declared.taken.Taken.TheVariants as taken
 use Rattle.vx_record.specs.Records.{Record}
 use Rattle.vx_hub.specs.Order.{IsReadBy}
 use Rattle.vx_hub.proofs.Drying.{closing_on, not_ended}
-use Rattle.vx_hub.proofs.Flowing.{turn_in_order}
+use Rattle.vx_hub.proofs.Flowing.{read_in_order}
 use Rattle.vx_hub.proofs.Silence.{same_test}
 use Rattle.vx_hub.proofs.Touching.{stands_touched, facts_surely, facts_get, capped_on, capped_mine}
 use Rattle.vx_hub.proofs.hub.Hub.note_taken.Goals as goal
@@ -31,7 +31,7 @@ returns-clause-stands g c hand s =
       leased = known.leased;
     })
     (λ bytes. c.saturating_add-self.ensures ∙ ap (λ n. min (c.args.self.now.bytes + n) (2 ^ 64 - 1)) c.len-n.ensures ∙ capped_on c.args.self.now.bytes _ (length c.args.bytes) _ bytes)
-    refl (λ fine known out. turn_in_order c.args.self.now.log.history c.args.instance c.index_mut-facts.result.now (s.recorded fine).order out known (facts_surely IsReadable c.args.self.now.facts.items c.args.instance c.index_mut-facts.result.now c.requires.within c.index_mut-facts.ensures.value c.requires.unlost) (c.requires.turn fine))
+    refl (λ fine known out. read_in_order c.args.self.now.log.history c.args.instance c.index_mut-facts.result.now c.args.stream (taken.Bytes c.args.bytes) (s.recorded fine).order out known (facts_surely IsReadable c.args.self.now.facts.items c.args.instance c.index_mut-facts.result.now c.requires.within c.index_mut-facts.ensures.value c.requires.unlost) (c.requires.turn fine))
 
 pub returns-clause-open : goal.returns-clause-open
 returns-clause-open g c open_at = record {

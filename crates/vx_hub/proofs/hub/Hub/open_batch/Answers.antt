@@ -1,6 +1,7 @@
 use Rattle.std.proofs.Common.{refl, ◌≡◌, ◌<◌, ◌∙◌, [], ap, sym, length, arith, subst, ℕ, List, ◌++◌, ◌∷◌}
 use Rattle.vx_hub.specs.Numbers.{numbers_in}
 use Rattle.vx_hub.specs.Stands.{IsShut, IsGone, IsSound}
+use Rattle.vx_hub.proofs.Drying.{closing_on}
 use Rattle.vx_hub.proofs.Covering.{hub_waits}
 use Rattle.vx_hub.specs.Notices.{waits_by}
 use Rattle.std.specs.Prelude.{slice_get}

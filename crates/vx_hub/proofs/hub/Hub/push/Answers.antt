@@ -38,7 +38,7 @@ returns-clause-stands g c =
         oldest = is_oldest (numbers_in copies) _ _ (oldest_is (Waiting c.args.instance target) copies d.rows.items c.take_child-target.new.rows.items d.log.history (s.recorded fine).places.standing takes);
         room = subst (λ t. first_room d.log.history t ≡ Some 0) (sym first.0) (push_room g.P.Port.told d c.args.next.target s fine c.requires.target.within c.requires.target.room);
       };
-      said = λ fine said. let out = c.take_child-target.ensures.said d.log.history said in c.push_buffer.ensures.said (Push c.args.instance target 0 (numbers_in copies) ∷ d.log.history) (rows_on d.log.history (Push c.args.instance target 0 (numbers_in copies)) tt c.take_child-target.new.rows.items out.0) (said_on d.log.history (Push c.args.instance target 0 (numbers_in copies)) c.take_child-target.result.parcel out.1);
+      said = λ fine said. let out = c.take_child-target.ensures.said d.log.history said in c.push_buffer.ensures.said (Push c.args.instance target 0 (numbers_in copies) ∷ d.log.history) (rows_on d.log.history (Push c.args.instance target 0 (numbers_in copies)) tt c.take_child-target.new.rows.items out.0) (said_on d.log.history (Push c.args.instance target 0 (numbers_in copies)) c.take_child-target.result.parcel tt out.1);
       outs = λ fine i none out. out;
       comes = hub_comes g.P.Port.told d [] (Push c.args.instance target 0 (numbers_in copies)) s c.requires.going;
       places = λ fine kept placed. placed_pushed d.rows.items c.take_child-target.new.rows.items c.push_buffer.new.rows.items d.log.history c.args.instance target copies kept placed takes

@@ -5,7 +5,7 @@ use Rattle.vx_hub.proofs.Ordering.{spent_on, noticed_on}
 use Rattle.vx_hub.proofs.StandsLaws.{same_next, stands_quiet, stands_noticed, spent_balanced, bare_stays}
 use Rattle.vx_hub.proofs.Placing.{spent_live, conserved}
 use Rattle.vx_hub.proofs.Owning.{placed_spent}
-use Rattle.vx_hub.proofs.Noticing.{spent_statuses, spent_quietly, spent_last, last_mine, none_there}
+use Rattle.vx_hub.proofs.Noticing.{in_turn, spent_statuses, spent_quietly, spent_last, last_mine, none_there}
 use Rattle.vx_record.specs.Moving.{IsConserved}
 use Rattle.vx_record.specs.Spending.{MaySpend}
 use Rattle.vx_record.specs.Abandoning.{MayStillCome}
@@ -13,6 +13,7 @@ use Rattle.vx_hub.proofs.Ceasing.{spent_comes}
 use Rattle.vx_hub.specs.Places.{IsPlaced}
 use Rattle.vx_hub.specs.Stands.{Stands, IsSound}
 use Rattle.vx_hub.specs.declared.hub.Hub.{Hub}
+use Rattle.vx_hub.proofs.Ported.{unanswered}
 use Rattle.vx_hub.proofs.Standing.{spending, from_spent, from_noticed}
 use Rattle.vx_hub.specs.Rows.{port_at}
 use Rattle.vx_hub.proofs.Leaving.{arrived_noted}
@@ -28,7 +29,7 @@ returns-in_default-clause-stands g c rest s =
     let f = c.args.finalizer in
     let n = c.number-copy.result in
     let balanced = spent_balanced d.batches c.spend-notice.new.self d.rows.items rest f s.balanced c.spend-notice.ensures.exchange in
-    let order : IsSound d → MaySpend h c.args.instance n c.args.outcome = λ fine. spending h c.args.instance f n c.args.outcome c.number-copy.ensures (conserved h (s.recorded fine).order) (spent_live d.rows.items h rest f n c.number-copy.ensures (s.recorded fine).places.standing) (c.requires.cause fine) (c.requires.from fine) in
+    let order : IsSound d → MaySpend h c.args.instance n c.args.outcome = λ fine. spending h c.args.instance f n c.args.outcome c.number-copy.ensures (conserved h (s.recorded fine).order) (unanswered h (s.recorded fine).order) (spent_live d.rows.items h rest f n c.number-copy.ensures (s.recorded fine).places.standing) (c.requires.cause fine) (c.requires.from fine) in
     let comes : IsSound d → MayStillCome h (Spent c.args.instance n c.args.outcome) = λ fine. spent_comes h c.args.instance n c.args.outcome (c.requires.cause fine) in
     stands_quiet g.P.Port.told d _ (rest ++ f ∷ []) rest (Spent c.args.instance n c.args.outcome) s balanced
     refl (λ i. refl) (bare_stays d.facts.items d.rows.items) refl c.note.ensures.noted
@@ -61,7 +62,7 @@ returns-in-Some-clause-stands g c rest s =
     let f = c.args.finalizer in
     let n = c.number-copy.result in
     let balanced = spent_balanced d.batches c.spend-notice.new.self d.rows.items rest f s.balanced c.spend-notice.ensures.exchange in
-    let order : IsSound d → MaySpend h c.args.instance n c.args.outcome = λ fine. spending h c.args.instance f n c.args.outcome c.number-copy.ensures (conserved h (s.recorded fine).order) (spent_live d.rows.items h rest f n c.number-copy.ensures (s.recorded fine).places.standing) (c.requires.cause fine) (c.requires.from fine) in
+    let order : IsSound d → MaySpend h c.args.instance n c.args.outcome = λ fine. spending h c.args.instance f n c.args.outcome c.number-copy.ensures (conserved h (s.recorded fine).order) (unanswered h (s.recorded fine).order) (spent_live d.rows.items h rest f n c.number-copy.ensures (s.recorded fine).places.standing) (c.requires.cause fine) (c.requires.from fine) in
     let comes : IsSound d → MayStillCome h (Spent c.args.instance n c.args.outcome) = λ fine. spent_comes h c.args.instance n c.args.outcome (c.requires.cause fine) in
     let kept : IsSound d → IsConserved (Spent c.args.instance n c.args.outcome ∷ h) = λ fine. let r = s.recorded fine in
     ((order fine).live, conserved h r.order) in

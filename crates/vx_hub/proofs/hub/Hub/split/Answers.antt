@@ -171,7 +171,7 @@ returns-in-Err-clause-wants g c =
           (none_waiting d.rows.items d.log.history c.args.instance r.places.standing c.requires.none)
           routed oldest (c.in-Some.ensures.said d.log.history r.said).1
           (some_targets targets (length parcel.finalizers) (some_wanted d.batches.next (length targets * length parcel.finalizers) more r.ledger.numbers)),
-      split_few d.log.history c.args.instance (2 ^ 32) targets parcel most oldest,
+      split_few d.log.history c.args.instance (2 ^ 32) targets parcel r.order most oldest,
     ))
     c.in-Err.ensures.cause c.from.ensures
 

@@ -7,6 +7,7 @@ use Rattle.vx_record.specs.Places.Place.{Contents, Outputs, Held}
 use Rattle.vx_hub.proofs.Placing.{oldest_is, conserved, there_taken, from_oldest}
 use Rattle.vx_hub.proofs.Collecting.{taken_now}
 use Rattle.vx_hub.proofs.Taking.{rows_taken, oldest_full}
+use Rattle.vx_hub.proofs.Ported.{takes_unticked}
 use Rattle.vx_hub.proofs.Sinking.{may_take}
 use Rattle.vx_record.specs.Sinking.{MayTake}
 use Rattle.vx_hub.specs.Stands.{IsSound}
@@ -49,6 +50,7 @@ returns-clause-stands g c =
       oldest = is_oldest (numbers_in copies) _ _ is;
       unclosed = λ sink. may.unclosed;
       room = λ sink. may.room;
+      unticked = takes_unticked h i (c.requires.stands.recorded fine).order;
     } in
     stands_quiet g.P.Port.told c.args.self.now _ [] [] _ c.requires.stands
     (moved_balanced c.args.self.now.batches c.args.self.now.rows.items c.pop_buffer.new.rows.items c.hold.new.rows.items c.in-Some.parcel.finalizers c.requires.stands.balanced c.in-Some.ensures.loses c.hold.ensures.gains)
@@ -67,7 +69,7 @@ returns-clause-stands g c =
           let is = oldest_is (Contents i 0) copies d.rows.items c.pop_buffer.new.rows.items h r.places.standing c.in-Some.ensures.oldest in
           let mid = there_taken (Contents i 0) copies d.rows.items c.pop_buffer.new.rows.items h kept r.places.standing (from_oldest (Contents i 0) copies d.rows.items c.pop_buffer.new.rows.items c.in-Some.ensures.oldest) in
           c.hold.ensures.said (e ∷ h) (sym (taken_now h i 0 (numbers_in copies) (oldest_full h i (numbers_in copies) _ is) ∙ c.requires.moment fine))
-          (rows_taken h i 0 (numbers_in copies) c.pop_buffer.new.rows.items (numbers_in copies) mid ((order fine).oldest, kept) out.0) (said_on h e c.in-Some.parcel out.1);
+          (rows_taken h i 0 (numbers_in copies) c.pop_buffer.new.rows.items (numbers_in copies) mid ((order fine).oldest, kept) out.0) (said_on h e c.in-Some.parcel tt out.1);
       outs = λ fine i none out. out;
       comes = hub_comes g.P.Port.told c.args.self.now [] (Take c.args.instance 0 (numbers_in c.in-Some.parcel.finalizers)) c.requires.stands c.requires.going;
       places = λ fine kept placed. placed_held c.args.self.now.rows.items c.pop_buffer.new.rows.items c.hold.new.rows.items c.args.self.now.log.history c.args.instance c.in-Some.parcel.finalizers kept placed c.in-Some.ensures.oldest c.hold.ensures.last;

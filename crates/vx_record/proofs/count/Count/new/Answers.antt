@@ -8,4 +8,5 @@ returns c = λ o i. record {
   notices = c.new-2.ensures i;
   ends = c.new-3.ensures i;
   puts = c.zero-2.ensures o i;
+  drops = c.new-4.ensures i;
 }

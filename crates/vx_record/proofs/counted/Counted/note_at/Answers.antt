@@ -14,5 +14,6 @@ returns c = λ is.
           (c.lines_at-cut.ensures (limit_is (past c.args.history.now c.args.at) c.args.instance c.args.self.now.role is.role)
           (codec_is (past c.args.history.now c.args.at) c.args.instance c.args.self.now.role is.role)) is.lines c.add.ensures;
       notices = c.note_notice.ensures is.notices;
+      dropped = c.note_drops.ensures is.dropped;
       puts = c.note-3.ensures (past c.args.history.now c.args.at) is.puts;
     })

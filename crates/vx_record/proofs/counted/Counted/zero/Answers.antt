@@ -1,3 +1,4 @@
+use Rattle.std.proofs.Common.{refl}
 use Rattle.vx_record.proofs.counted.Counted.zero.Goals as goal
 
 pub returns : goal.returns
@@ -7,4 +8,5 @@ returns c = λ way i. record {
   lines = c.zero-2.ensures i;
   notices = c.zero-3.ensures i;
   puts = c.zero-4.ensures way i;
+  dropped = refl;
 }

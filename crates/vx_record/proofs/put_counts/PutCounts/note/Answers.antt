@@ -8,10 +8,11 @@ use Rattle.vx_record.specs.PutCounting.{IsHeldRaised}
 use Rattle.std.specs.Prelude.{◌==◌, ◌&&◌}
 use Rattle.std.proofs.lemmas.Bool.Decides.{nat_tests}
 use Rattle.vx_record.specs.declared.child.Child.{Child}
+use Rattle.vx_record.specs.declared.output.Output.{Output}
 use Rattle.vx_record.specs.Records.{capped}
 use Rattle.vx_record.specs.Tallies.{is_unread, is_newest}
 use Rattle.vx_record.specs.Counting.{spent_in, any_in}
-use Rattle.vx_record.proofs.PutSteps.{born_noted, other_born, split_noted, take_noted, other_take, other_noted}
+use Rattle.vx_record.proofs.PutSteps.{born_noted, other_born, split_noted, take_noted, other_take, answer_noted, other_answer, other_noted}
 use Rattle.vx_record.proofs.put_counts.PutCounts.note.Goals as goal
 
 pub returns-then-source-instance : goal.returns-then-source-instance
@@ -45,6 +46,18 @@ returns-else-sink-instance c = λ h before. rw c.in-Take.is
     (other_take (way_of c.args.ways.now) c.args.instance c.in-Take.sink c.in-Take.stage c.in-Take.copies h c.args.self.now
     (let other : (c.in-Take.sink == c.args.instance) ≡ false = grind (arith, nat_tests, c.if-sink-instance.false) in other) before)
 
+pub returns-then-transform-instance : goal.returns-then-transform-instance
+returns-then-transform-instance c = λ h before. rw c.in-Answer.is
+    (answer_noted (way_of c.args.ways.now) c.args.instance c.in-Answer.transform c.in-Answer.outputs c.in-Answer.discarded c.in-Answer.kept
+    h c.args.self.now c.saturating_add-self-then-transform-instance.result c.if-transform-instance.true before
+    (c.saturating_add-self-then-transform-instance.ensures ∙ ap (λ n. capped (c.args.self.now.unread + n))
+    (c.unread_outputs-unread.ensures ∙ ap (count_by (λ (output : Output). any_in is_unread (way_of c.args.ways.now) output.copies)) c.as_slice-then-transform-instance.ensures)))
+
+pub returns-else-transform-instance : goal.returns-else-transform-instance
+returns-else-transform-instance c = λ h before. rw c.in-Answer.is
+    (other_answer (way_of c.args.ways.now) c.args.instance c.in-Answer.transform c.in-Answer.outputs c.in-Answer.discarded c.in-Answer.kept
+    h c.args.self.now (let other : (c.in-Answer.transform == c.args.instance) ≡ false = grind (arith, nat_tests, c.if-transform-instance.false) in other) before)
+
 pub returns-in_default : goal.returns-in_default
 returns-in_default c = λ h before.
-    other_noted (way_of c.args.ways.now) c.args.instance c.args.entry.now h c.args.self.now before c.in_default.not-Born c.in_default.not-Split c.in_default.not-Take
+    other_noted (way_of c.args.ways.now) c.args.instance c.args.entry.now h c.args.self.now before c.in_default.not-Born c.in_default.not-Split c.in_default.not-Take c.in_default.not-Answer

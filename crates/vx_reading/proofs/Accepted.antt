@@ -1,0 +1,97 @@
+-- The plan of an accepted configuration may be installed.
+use Rattle.std.proofs.Common.{◌≡◌, Bool, true, false, List, [], ◌∷◌, ◌++◌, Option, Some, None, Result, Ok, Err, IfOk, refl, sym, ◌∙◌, ap, subst}
+use Rattle.std.specs.Prelude.{not, ◌&&◌, ◌||◌, option_and_then}
+use Rattle.std.specs.List.{AllByRecursion, list_any, list_all, flat_map}
+use Rattle.toml.specs.Data.{Data, as_str}
+use Rattle.vx_value.specs.Texts.{Word, same_text, is_empty}
+use Rattle.vx_graph.specs.Faults.{IsAccepted}
+use Rattle.vx_graph.specs.Order.{in_order}
+use Rattle.vx_plan.specs.Components.{is_source}
+use Rattle.vx_plan.specs.Graphs.{nodes_of}
+use Rattle.vx_plan.specs.Accepted.{names_differ, same_class, fits_class, has_stage, IsPlan}
+use Rattle.vx_plan.specs.declared.class.Class.{Class}
+use Rattle.vx_plan.specs.declared.class.Class.TheVariants.{Source, Transform, Sink}
+use Rattle.vx_plan.specs.declared.component.Component.{Component}
+use Rattle.vx_plan.specs.declared.global.Global.{Global as Options}
+use Rattle.vx_plan.specs.declared.plan.Plan.{Plan}
+use Rattle.vx_plan.proofs.Tests.{or_there, and_made, and_both, passing}
+use Rattle.vx_reading.specs.declared.kind.Kind.{Kind}
+use Rattle.vx_reading.specs.declared.kind.Kind.TheVariants.{Stdin, Console}
+use Rattle.vx_reading.specs.declared.plan_fault.PlanFault.{PlanFault}
+use Rattle.vx_reading.specs.Components.{Part, parts, kind_of, type_in}
+use Rattle.vx_reading.specs.Names.{AreApart, names_of, AreApartByClass}
+use Rattle.vx_reading.specs.Options.{kinds, kind_class, kind_name, kind_named}
+use Rattle.vx_reading.specs.Plans.{component, component_of, global_of}
+use Rattle.vx_reading.specs.Reading.{IsPlanOf, IsJudged}
+use Rattle.vx_reading.proofs.Apart.{judged_apart}
+
+-- a name that is none of some components'
+none_named : (name : Word) (components : List Component) → AllByRecursion (λ (other : Word). same_text other name ≡ false) (names_of components) →
+    list_any (λ (d : Component). same_text d.name name) components ≡ false
+none_named name [] all = refl
+none_named name (c ∷ rest) all = ap (λ b. b || list_any (λ (d : Component). same_text d.name name) rest) all.0 ∙ none_named name rest all.1
+
+-- names that are apart differ
+pub apart_differ : (components : List Component) → AreApart (names_of components) → names_differ components ≡ true
+apart_differ [] apart = refl
+apart_differ (c ∷ rest) apart = (λ i. not (none_named c.name rest apart.0 i) && apart_differ rest apart.1 i)
+
+-- a component of a type whose class is that of its part has options of its class
+kind_fits : (whole : Options) (part : Part) (kind : Kind) → same_class (kind_class kind) part.class ≡ true → fits_class (component whole part kind) ≡ true
+kind_fits whole part Stdin same = and_made (same_class Source part.class) (not (is_source (component whole part Stdin)) || true) same (or_there (not (is_source (component whole part Stdin))) true refl)
+kind_fits whole part Console same = and_made (same_class Sink part.class) (not (is_source (component whole part Console)) || is_empty (component whole part Console).inputs) same (go part.class same)
+  where
+    go : (class : Class) → same_class Sink class ≡ true → (not (elim class [ Source ↦ true | Transform ↦ false | Sink ↦ false ]) || is_empty (component whole part Console).inputs) ≡ true
+    go Source e = cc
+    go Transform e = refl
+    go Sink e = refl
+
+-- and a stage, if it is a sink
+kind_staged : (whole : Options) (part : Part) (kind : Kind) → same_class (kind_class kind) part.class ≡ true → has_stage (component whole part kind) ≡ true
+kind_staged whole part Stdin same = go part.class same
+  where
+    go : (class : Class) → same_class Source class ≡ true → has_stage (record (component whole part Stdin) { class = class }) ≡ true
+    go Source e = refl
+    go Transform e = refl
+    go Sink e = cc
+kind_staged whole part Console same = go part.class same
+  where
+    go : (class : Class) → same_class Sink class ≡ true → has_stage (record (component whole part Console) { class = class }) ≡ true
+    go Source e = refl
+    go Transform e = refl
+    go Sink e = refl
+
+-- the type of a component is one of its class
+kind_class_of : (part : Part) (kind : Kind) → kind_of part ≡ Some kind → same_class (kind_class kind) part.class ≡ true
+kind_class_of part kind is = go (option_and_then as_str (type_in part.value)) is
+  where
+    go : (o : Option Word) → option_and_then (kind_named part.class) o ≡ Some kind → same_class (kind_class kind) part.class ≡ true
+    go None e = cc
+    go (Some text) e =
+        (and_both (same_class (kind_class kind) part.class) (same_text (kind_name kind) text)
+        (passing (λ (k : Kind). same_class (kind_class k) part.class && same_text (kind_name k) text) kinds kind e)).0
+
+-- what each component of a type passes, all pass
+each_passes : (test : Component → Bool) (whole : Options) → ((part : Part) (kind : Kind) → same_class (kind_class kind) part.class ≡ true → test (component whole part kind) ≡ true) →
+    (all : List Part) → list_all test (flat_map (component_of whole) all) ≡ true
+each_passes test whole passes [] = refl
+each_passes test whole passes (part ∷ rest) = go (kind_of part) refl (each_passes test whole passes rest)
+  where
+    go : (o : Option Kind) → kind_of part ≡ o → list_all test (flat_map (component_of whole) rest) ≡ true →
+        list_all test ((elim o [ None ↦ [] | Some kind ↦ component whole part kind ∷ [] ]) ++ flat_map (component_of whole) rest) ≡ true
+    go None is later = later
+    go (Some kind) is later = and_made (test (component whole part kind)) (list_all test (flat_map (component_of whole) rest)) (passes part kind (kind_class_of part kind is)) later
+
+-- the plan that is answered of a document may be installed
+pub judged_accepted : (root : Data) (answer : Result Plan PlanFault) → AreApartByClass root → IsJudged root answer → IfOk answer IsPlan
+judged_accepted root (Ok plan) apart judged =
+    let of : IsPlanOf root plan = judged in
+    let whole = global_of root in
+    let differ : names_differ plan.components ≡ true = apart_differ plan.components (judged_apart root (Ok plan) apart judged) in
+    record {
+      named = differ;
+      fitting = ap (λ (p : Plan). list_all fits_class p.components) of.same ∙ each_passes fits_class whole (kind_fits whole) (parts root);
+      staged = ap (λ (p : Plan). list_all has_stage p.components) of.same ∙ each_passes has_stage whole (kind_staged whole) (parts root);
+      accepted = subst (λ (p : Plan). IsAccepted (in_order (nodes_of p))) (sym of.same) of.accepted;
+    }
+judged_accepted root (Err fault) apart judged = tt
