@@ -4,6 +4,7 @@ use Rattle.std.proofs.Math.Dec.{lit≤}
 use Rattle.std.specs.Str.{chars, is_utf8}
 use Rattle.std.specs.Str.Lossy.{utf8_lossy, utf8_valid_len}
 use Rattle.std.proofs.lemmas.Bool.Decides.{nat_tests}
+use Rattle.vx_plan.proofs.FirstPlan.{first_stands}
 use Rattle.vx_record.specs.Copies.{count, IsLive}
 use Rattle.vx_record.specs.Confirms.{is_noticed}
 use Rattle.vx_record.specs.Installs.{started, is_retired}
@@ -14,51 +15,51 @@ use Rattle.vx_examples.specs.EmptyInput.{after1, after2, after3, after4, after5,
 
 pub legal1 : IsLegal after1
 unfolding utf8_lossy utf8_valid_len is_utf8 chars port_list lib.Utf8.encode
-legal1 = (record { row = record { first = refl; zeroth = refl; all_new = refl }; turn = λ b w. absurd w; still = λ a. cc }, tt)
+legal1 = (record { row = record { first = refl; zeroth = refl; accepted = first_stands; all_new = refl }; turn = refl; still = λ a. cc }, tt)
 
 pub legal2 : IsLegal after2
 unfolding utf8_lossy utf8_valid_len is_utf8 chars port_list lib.Utf8.encode
-legal2 = (record { row = record { home = refl; unretired = refl; settled = refl; ready = inl refl; later = lit≤ tt; unpolled = refl }; turn = λ b w. absurd w; still = λ a. cc }, legal1)
+legal2 = (record { row = record { home = refl; unretired = refl; settled = refl; ready = inl refl; later = lit≤ tt; unpolled = refl }; turn = refl; still = λ a. cc }, legal1)
 
 pub legal3 : IsLegal after3
 unfolding utf8_lossy utf8_valid_len is_utf8 chars port_list lib.Utf8.encode
-legal3 = (record { row = record { turn = record { source = refl; out = refl; readable = refl; once = refl }; generated = λ demo e. absurd (cc) }; turn = λ b w. absurd w; still = λ a. cc }, legal2)
+legal3 = (record { row = record { turn = record { source = refl; out = refl; readable = refl; once = refl }; generated = λ demo e. absurd (cc) }; turn = refl; still = λ a. cc }, legal2)
 
 pub legal4 : IsLegal after4
 unfolding utf8_lossy utf8_valid_len is_utf8 chars port_list lib.Utf8.encode
-legal4 = (record { row = record { out = refl }; turn = λ b w. absurd w; still = λ a. cc }, legal3)
+legal4 = (record { row = record { out = refl }; turn = refl; still = λ a. cc }, legal3)
 
 pub legal5 : IsLegal after5
 unfolding utf8_lossy utf8_valid_len is_utf8 chars port_list lib.Utf8.encode
-legal5 = (record { row = record { home = refl; unretired = refl; settled = refl; ready = inl refl; later = lit≤ tt; unpolled = refl }; turn = λ b w. absurd w; still = λ a. cc }, legal4)
+legal5 = (record { row = record { home = refl; unretired = refl; settled = refl; ready = inl refl; later = lit≤ tt; unpolled = refl }; turn = refl; still = λ a. cc }, legal4)
 
 pub legal6 : IsLegal after6
 unfolding utf8_lossy utf8_valid_len is_utf8 chars port_list lib.Utf8.encode
-legal6 = (record { row = record { device = refl; unclosed = refl; over = inl (refl, refl) }; turn = λ b w. absurd w; still = λ a. cc }, legal5)
+legal6 = (record { row = record { device = refl; unclosed = refl; over = inl (refl, refl) }; turn = refl; still = λ a. cc }, legal5)
 
 pub legal7 : IsLegal after7
 unfolding utf8_lossy utf8_valid_len is_utf8 chars port_list lib.Utf8.encode
-legal7 = (record { row = record { out = refl }; turn = λ b w. absurd w; still = λ a. cc }, legal6)
+legal7 = (record { row = record { out = refl }; turn = refl; still = λ a. cc }, legal6)
 
 pub legal8 : IsLegal after8
 unfolding utf8_lossy utf8_valid_len is_utf8 chars port_list lib.Utf8.encode
-legal8 = (record { row = record { known = refl; home = refl; unretired = refl; port_closed = λ d. refl; over = inl refl }; turn = λ b w. absurd w; still = λ a. cc }, legal7)
+legal8 = (record { row = record { known = refl; home = refl; unretired = refl; port_closed = λ d. refl; over = inl refl }; turn = refl; still = λ a. cc }, legal7)
 
 pub legal9 : IsLegal after9
 unfolding utf8_lossy utf8_valid_len is_utf8 chars port_list lib.Utf8.encode
-legal9 = (record { row = record { home = refl; unretired = refl; settled = refl; ready = inl refl; later = lit≤ tt; unpolled = refl }; turn = λ b w. absurd w; still = λ a. cc }, legal8)
+legal9 = (record { row = record { home = refl; unretired = refl; settled = refl; ready = inl refl; later = lit≤ tt; unpolled = refl }; turn = refl; still = λ a. cc }, legal8)
 
 pub legal10 : IsLegal after10
 unfolding utf8_lossy utf8_valid_len is_utf8 chars port_list lib.Utf8.encode
-legal10 = (record { row = record { device = refl; unclosed = refl; over = inl (refl, refl) }; turn = λ b w. absurd w; still = λ a. cc }, legal9)
+legal10 = (record { row = record { device = refl; unclosed = refl; over = inl (refl, refl) }; turn = refl; still = λ a. cc }, legal9)
 
 pub legal11 : IsLegal after11
 unfolding utf8_lossy utf8_valid_len is_utf8 chars port_list lib.Utf8.encode
-legal11 = (record { row = record { out = refl }; turn = λ b w. absurd w; still = λ a. cc }, legal10)
+legal11 = (record { row = record { out = refl }; turn = refl; still = λ a. cc }, legal10)
 
 pub legal12 : IsLegal after12
 unfolding utf8_lossy utf8_valid_len is_utf8 chars port_list lib.Utf8.encode
-legal12 = (record { row = record { known = refl; home = refl; unretired = refl; port_closed = λ d. refl; over = inl refl }; turn = λ b w. absurd w; still = λ a. cc }, legal11)
+legal12 = (record { row = record { known = refl; home = refl; unretired = refl; port_closed = λ d. refl; over = inl refl }; turn = refl; still = λ a. cc }, legal11)
 
 spent : (c : ℕ) → IsLive after12 c → ⊥
 spent c live = omega arith

@@ -2,7 +2,6 @@
 use Rattle.std.proofs.Common.{refl}
 use Rattle.std.specs.Prelude.{◌==◌, ◌&&◌}
 use Rattle.std.specs.List.{list_any}
-use Rattle.std.proofs.Math.Dec.{lit<}
 use Rattle.std.specs.Str.{chars, is_utf8}
 use Rattle.std.specs.Str.Lossy.{utf8_lossy, utf8_valid_len}
 use Rattle.vx_record.specs.declared.child.Child.{Child}
@@ -29,7 +28,7 @@ never_copy_of_another_child = never copy_of_another_child copy_of_another_child_
 
 notice_before_the_third_is_refused : IsLegal notice_before_the_third → ⊥
 unfolding utf8_lossy utf8_valid_len is_utf8 chars port_list lib.Utf8.encode
-notice_before_the_third_is_refused l = l.0.row.due.1 3 refl (lit< tt, refl, refl)
+notice_before_the_third_is_refused l = let e = l.0.row.due in cc
 
 pub never_notice_before_the_third : NeverLegal notice_before_the_third
 never_notice_before_the_third = never notice_before_the_third notice_before_the_third_is_refused

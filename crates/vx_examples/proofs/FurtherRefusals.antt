@@ -50,7 +50,7 @@ never_retired_stranger = never retired_stranger retired_stranger_is_refused
 
 second_notice_is_refused : IsLegal second_notice → ⊥
 unfolding utf8_lossy utf8_valid_len is_utf8 chars port_list lib.Utf8.encode
-second_notice_is_refused l = absurd l.0.row.due
+second_notice_is_refused l = let e = l.0.row.due in cc
 
 pub never_second_notice : NeverLegal second_notice
 never_second_notice = never second_notice second_notice_is_refused

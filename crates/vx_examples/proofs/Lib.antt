@@ -1,3 +1,4 @@
+mod Plans
 pub mod Legal
 pub mod Refusals
 pub mod FanOutLegal
@@ -24,3 +25,4 @@ pub mod OverflowingLegal
 pub mod GeneratedLegal
 pub mod TransformRefusals
 pub mod ChainedLegal
+mod PlanRefusals

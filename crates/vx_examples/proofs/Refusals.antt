@@ -1,5 +1,5 @@
 -- Why each of these records is not legal.
-use Rattle.std.proofs.Common.{◌≡◌, Bool, true, false, [], ◌∷◌, refl, sym, ap, ◌∙◌, arith, inl, inr}
+use Rattle.std.proofs.Common.{◌≡◌, Bool, true, false, [], ◌∷◌, Some, refl, sym, ap, ◌∙◌, arith, inl, inr}
 use Rattle.std.specs.Prelude.{◌==◌}
 use Rattle.std.specs.List.{list_any}
 use Rattle.vx_value.specs.Texts.{same_text}
@@ -9,17 +9,17 @@ use Rattle.vx_json.specs.declared.codec.Codec.TheVariants as codec
 use Rattle.vx_record.specs.declared.child.Child.{Child}
 use Rattle.vx_record.specs.Copies.{contains}
 use Rattle.vx_record.specs.Encoding.{encode_event}
-use Rattle.std.proofs.Math.Dec.{lit<}
 use Rattle.std.specs.Str.{chars, is_utf8}
 use Rattle.std.specs.Str.Lossy.{utf8_lossy, utf8_valid_len}
 use Rattle.vx_record.specs.Legal.{IsLegal}
 use Rattle.vx_record.proofs.Ticks.{not_ready}
 use Rattle.vx_record.specs.Parcels.{port_list}
+use Rattle.vx_record.specs.Sourcing.{Yield}
+use Rattle.vx_record.proofs.Rules.{some_is}
 use Rattle.vx_record.specs.Records.{Record}
 use Rattle.vx_record.proofs.OnePlace.{legal_before}
 use Rattle.vx_examples.specs.Refused.{NeverLegal, second_install, lease_without_work, lease_of_one_out, second_read, lost_line, wrong_position, needless_wait, used_number, split_of_the_younger, split_while_out, shared_copy, child_for_another, changed_event, push_past_room, pushed_twice, take_of_the_younger, take_past_the_batch, part_answered_ok, other_bytes, delivered_after_a_failure, spent_twice, spent_elsewhere, early_notice, late_notice, wrong_status, early_confirm, confirm_of_less, lease_of_a_debtor, read_past_the_end, close_too_soon, retired_with_its_port_open, grace_without_a_stop, lease_after_an_abandon, delivered_after_an_abandon}
 use Rattle.vx_examples.specs.FirstRun.{after1}
-use Rattle.vx_examples.proofs.Legal.{none_live}
 
 pub never : (h : Record) → (IsLegal h → ⊥) → NeverLegal h
 never h refusal later legal = refusal (legal_before later h legal)
@@ -27,6 +27,11 @@ never h refusal later legal = refusal (legal_before later h legal)
 -- two things of which a test says different things are not the same
 pub different : {X : Type 0} {a b : X} (test : X → Bool) → test a ≡ true → test b ≡ false → a ≡ b → ⊥
 different test here there same = let e = sym here ∙ ap test same ∙ there in cc
+
+-- what is yielded has the same parts
+pub same_parts : {a b : Yield} → Some a ≡ Some b → (a.events ≡ b.events) × (a.stream ≡ b.stream) × (a.end ≡ b.end)
+same_parts {a = a} {b = b} e =
+    let same = some_is a b e in (ap (λ (y : Yield). y.events) same, ap (λ (y : Yield). y.stream) same, ap (λ (y : Yield). y.end) same)
 
 second_install_is_refused : IsLegal second_install → ⊥
 unfolding utf8_lossy utf8_valid_len is_utf8 chars port_list lib.Utf8.encode
@@ -58,14 +63,14 @@ never_second_read = never second_read second_read_is_refused
 
 lost_line_is_refused : IsLegal lost_line → ⊥
 unfolding utf8_lossy utf8_valid_len is_utf8 chars port_list lib.Utf8.encode
-lost_line_is_refused l = let e = l.0.row.yield.given in cc
+lost_line_is_refused l = let e = (same_parts l.0.row.yields).0 in cc
 
 pub never_lost_line : NeverLegal lost_line
 never_lost_line = never lost_line lost_line_is_refused
 
 wrong_position_is_refused : IsLegal wrong_position → ⊥
 unfolding utf8_lossy utf8_valid_len is_utf8 chars port_list lib.Utf8.encode
-wrong_position_is_refused l = let e = l.0.row.yield.up_to in cc
+wrong_position_is_refused l = let e = (same_parts l.0.row.yields).2 in cc
 
 pub never_wrong_position : NeverLegal wrong_position
 never_wrong_position = never wrong_position wrong_position_is_refused
@@ -184,14 +189,14 @@ never_spent_elsewhere = never spent_elsewhere spent_elsewhere_is_refused
 
 early_notice_is_refused : IsLegal early_notice → ⊥
 unfolding utf8_lossy utf8_valid_len is_utf8 chars port_list lib.Utf8.encode
-early_notice_is_refused l = l.0.row.due.1 3 refl (lit< tt, refl, refl)
+early_notice_is_refused l = let e = l.0.row.due in cc
 
 pub never_early_notice : NeverLegal early_notice
 never_early_notice = never early_notice early_notice_is_refused
 
 late_notice_is_refused : IsLegal late_notice → ⊥
 unfolding utf8_lossy utf8_valid_len is_utf8 chars port_list lib.Utf8.encode
-late_notice_is_refused l = l.0.turn 0 (refl, none_live)
+late_notice_is_refused l = let no : true ≡ false = l.0.turn in cc
 
 pub never_late_notice : NeverLegal late_notice
 never_late_notice = never late_notice late_notice_is_refused

@@ -11,7 +11,6 @@ use Rattle.vx_json.specs.declared.codec.Codec.TheVariants as codec
 use Rattle.vx_condition.specs.Steps.{Test}
 use Rattle.vx_condition.specs.Picking.{or_unmatched, route_ports}
 use Rattle.vx_record.specs.declared.output.Output.{Output}
-use Rattle.vx_record.specs.declared.entry.Entry.TheVariants.{Home, Idle}
 use Rattle.vx_record.specs.Records.{Record}
 use Rattle.vx_record.specs.Copies.{contains}
 use Rattle.vx_record.specs.Encoding.{encode_event}
@@ -347,7 +346,7 @@ never_split_of_a_part = never split_of_a_part split_of_a_part_is_refused
 
 notice_of_another_batch_is_refused : IsLegal notice_of_another_batch → ⊥
 unfolding utf8_lossy utf8_valid_len is_utf8 chars port_list lib.Utf8.encode
-notice_of_another_batch_is_refused l = let e = l.0.row.due.0 in omega arith
+notice_of_another_batch_is_refused l = let e = l.0.row.due in cc
 
 pub never_notice_of_another_batch : NeverLegal notice_of_another_batch
 never_notice_of_another_batch = never notice_of_another_batch notice_of_another_batch_is_refused

@@ -25,3 +25,4 @@ pub mod Overflowing
 pub mod Generated
 pub mod RefusedTransforms
 pub mod Chained
+pub mod RefusedPlans

@@ -22,6 +22,7 @@ ghost use Rattle.vx_examples.specs.Overflowing.{run as overflowing};
 ghost use Rattle.vx_examples.specs.Generated.{run as generated};
 ghost use Rattle.vx_examples.specs.Chained.{run as chained};
 ghost use Rattle.vx_examples.specs.RefusedTransforms.{answer_at_home, answer_of_a_sink, answer_that_loses, answer_that_doubles, answer_of_another_copy, answer_in_another_order, filter_that_keeps, lease_owing_an_answer, lease_owing_a_discard, second_answer, filtered_though_passed, take_behind_an_answer, split_of_another_port, split_of_another_event, tick_of_a_filter, lease_of_an_idle_transform, retired_with_a_kept_parcel, unread_though_a_way_is_read, split_of_an_unread_port, no_such_port, lease_before_the_tick, tick_at_another_moment, second_tick, flush_too_soon, joined_in_another_order, joined_with_another_event, young_group_put_out, split_of_a_part, notice_of_another_batch, other_lines, lines_past_the_count, refused_by_a_hole, push_past_the_first_stage, dropped_with_room_behind, take_past_the_first_stage, answer_after_an_abandon, tick_after_an_abandon, tick_at_home, flush_with_contents, ended_with_lines_left, lines_of_another_stream, bytes_into_a_hole, host_that_loses, repeat_put_out, second_put_out, host_without_a_copy, host_on_no_port, host_past_the_last_port, two_ticks, take_behind_a_tick, flush_that_keeps, ended_on_another_stream, retried_lease};
+ghost use Rattle.vx_examples.specs.RefusedPlans.{two_of_one_name, source_that_writes, source_that_listens, sink_without_a_stage, no_source, no_sink, sink_without_an_input, input_of_nobody, filters_in_a_round};
 ghost use Rattle.vx_examples.specs.RefusedJsonLines.{born_of_no_object, born_before_the_last_line, written_as_text};
 ghost use Rattle.vx_examples.specs.Facts.{SourceCounts, SinkCounts, SourceBytes, SinkBytes, Positions, NewestCounts, UnreadCounts, FailedCounts, UnconfirmedCounts, RefusedCounts, UndecodableCounts, FilterCounts, RouteCounts, ReduceCounts, JoinedCounts, TwoBatchCounts, OverflowCounts, GeneratorCounts, LayersWait, LayersDontWait, RestsBehindARead, RestsBehindAnIdle, RestsBehindAFailedStart, RetryMoment, Cut, CutOpen, CutShort, Likeness, Readers, NoReaders, Waits, NoWait, RetryWaits, Replaced, EmptyRead, RetryAtTheEnd, TimeoutAtTheEnd};
 ghost use Rattle.vx_examples.specs.RefusedFanOuts.{swapped_targets, copy_of_another_child, notice_before_the_third, delivered_past_a_refusal, errored_by_a_refusal};
@@ -235,6 +236,19 @@ pub fn refused_json_lines()
     ensures born_of_no_object { NeverLegal born_of_no_object }
     ensures born_before_the_last_line { NeverLegal born_before_the_last_line }
     ensures written_as_text { NeverLegal written_as_text }
+{}
+
+/// And these, each of which begins with a plan that may not be installed.
+pub fn refused_plans()
+    ensures two_of_one_name { NeverLegal two_of_one_name }
+    ensures source_that_writes { NeverLegal source_that_writes }
+    ensures source_that_listens { NeverLegal source_that_listens }
+    ensures sink_without_a_stage { NeverLegal sink_without_a_stage }
+    ensures no_source { NeverLegal no_source }
+    ensures no_sink { NeverLegal no_sink }
+    ensures sink_without_an_input { NeverLegal sink_without_an_input }
+    ensures input_of_nobody { NeverLegal input_of_nobody }
+    ensures filters_in_a_round { NeverLegal filters_in_a_round }
 {}
 
 /// Runs with transforms, with a buffer of two stages, with a retry, and with generated lines.

@@ -9,7 +9,7 @@ use Rattle.vx_record.specs.declared.log.Log.{Log}
 use Rattle.vx_record.specs.declared.entry.Entry.{Entry}
 use Rattle.vx_record.specs.declared.entry.Entry.TheVariants.{Take}
 use Rattle.vx_hub.specs.declared.hub.Hub.{Hub}
-use Rattle.vx_hub.specs.Adding.{EachIs, GoesOn, OnlyAdds, IsTakeBy}
+use Rattle.vx_hub.specs.Adding.{EachIs, OnlyAdds, IsTakeBy}
 use Rattle.vx_hub.specs.Away.{IsAway, IsUntried, WasNoticed}
 use Rattle.vx_hub.specs.Moments.{IsLeaseMoment}
 use Rattle.vx_hub.specs.Finishing.{WasDone}

@@ -8,8 +8,9 @@ use Rattle.vx_ledger.specs.Copies.{copies_of}
 use Rattle.vx_hub.specs.Making.{IsUnused, AreUnused, IsFittedTo, IsSeatOf, room_at, room_named, AreFitted, IsUntouched, AreUntouched, AreNew, IsBegun}
 use Rattle.vx_hub.specs.Rows.{row_at, row_copies, copies_in, port_at, task_port, task_parcels, role_parcels, role_copies, parcel_copies}
 use Rattle.vx_plan.specs.declared.plan.Plan.{Plan}
+use Rattle.vx_plan.specs.Accepted.{IsPlan}
 use Rattle.vx_plan.specs.declared.component.Component.{Component}
-use Rattle.vx_record.specs.Wirings.{names_differ, begun}
+use Rattle.vx_record.specs.Wirings.{begun}
 use Rattle.vx_record.proofs.FirstWiring.{component_of_first, targets_of_first, wiring_of_first}
 use Rattle.vx_record.specs.Sourcing.{must_wait}
 use Rattle.vx_record.specs.Installs.{Wiring}
@@ -247,9 +248,9 @@ both_mapped A B C None f a b = tt
 both_mapped A B C (Some x) f a b = f x a b
 
 -- a hub whose instances were all seated stands for the record of their install
-pub begun_stands : {P : Type 0} (told_by : P → Told) (plan : Plan) (hub : Hub P) → Begins told_by plan hub → hub.plan ≡ plan → names_differ plan.components ≡ true → all_ported plan.components ≡ true → HasFirst plan hub.log.history → hub.ports.items ≡ [] → length hub.rows.items ≤ hub.ports.room → length hub.rows.items < 2 ^ 32 → HasFew plan → length hub.rows.items ≡ length plan.components →
+pub begun_stands : {P : Type 0} (told_by : P → Told) (plan : Plan) (hub : Hub P) → Begins told_by plan hub → hub.plan ≡ plan → IsPlan plan → all_ported plan.components ≡ true → HasFirst plan hub.log.history → hub.ports.items ≡ [] → length hub.rows.items ≤ hub.ports.room → length hub.rows.items < 2 ^ 32 → HasFew plan → length hub.rows.items ≡ length plan.components →
     Stands told_by hub [] hub.log.history
-begun_stands told_by plan hub b mine named ported first none room few small count = record {
+begun_stands told_by plan hub b mine accepted ported first none room few small count = record {
   history = refl;
   balanced = λ batch place. let live : live_count batch place hub.batches.open_rows ≡ 0 = ap (live_count batch place) b.batches in omega (arith, b.copies batch place);
   recorded = λ sound. subst (λ (h : Record). IsRecorded told_by hub [] h) (sym first.alone) (record {
@@ -257,10 +258,10 @@ begun_stands told_by plan hub b mine named ported first none room few small coun
     facts = λ i. both_mapped _ _ _ (facts_at hub.facts.items i) (λ f n fit. new_known f plan first.once first.now i (slice_get plan.components i) refl n fit) (b.facts i) (b.fitted i);
     bytes = b.bytes;
     next = b.next;
-    order = begun_orderly plan first.once first.now named ported;
+    order = begun_orderly plan first.once first.now accepted ported;
     said = b.said first.once first.now;
     outs = λ i l none. absurd (home_some (port_at hub.rows.items i) (b.home i l) none);
-    noticeless = λ b w. w;
+    noticeless = λ b. refl;
     statuses = subst (λ (rs : List OpenBatch). AreRunning (begun plan first.once first.now) rs) (sym b.batches) tt;
     ledger = b.kept;
     unknown = λ i past. record { unlost = refl; confirmed = refl };
@@ -278,7 +279,7 @@ begun_stands told_by plan hub b mine named ported first none room few small coun
   rooms = subst (λ (p : Plan). HasRooms p hub.rows.items) (sym mine) b.rooms;
   few = subst (λ (p : Plan). HasFew p) (sym mine) small;
   count = count ∙ sym (ap (λ (p : Plan). length p.components) mine);
-  order = subst (λ (h : Record). IsLegalWithReturns h) (sym first.alone) (begun_orderly plan first.once first.now named ported);
+  order = subst (λ (h : Record). IsLegalWithReturns h) (sym first.alone) (begun_orderly plan first.once first.now accepted ported);
   fed = λ whole. b.fed;
 }
 

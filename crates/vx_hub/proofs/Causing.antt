@@ -1,5 +1,5 @@
 -- What is spent has the cause of its outcome.
-use Rattle.std.proofs.Common.{◌≡◌, ℕ, ◌+◌, ◌<◌, ◌≤◌, Bool, true, false, List, [], ◌∷◌, ◌++◌, length, Option, Some, None, refl, sym, ap, subst, ◌∙◌, arith, inl, inr}
+use Rattle.std.proofs.Common.{◌≡◌, ℕ, ◌+◌, ◌<◌, ◌≤◌, Bool, true, false, List, [], ◌∷◌, ◌++◌, length, Some, refl, sym, ap, subst, ◌∙◌, arith, inl, inr}
 use Rattle.std.specs.Prelude.{if◌then◌else◌, nat_lt, ◌==◌, map, ◌&&◌}
 use Rattle.std.proofs.lemmas.Bool.Decides.{nat_tests}
 use Rattle.std.proofs.lemmas.Bool.{cases_lt}
@@ -7,7 +7,6 @@ use Rattle.vx_ends.specs.declared.trouble.Reply.{Reply}
 use Rattle.vx_ends.specs.declared.trouble.Reply.TheVariants as reply
 use Rattle.vx_status.specs.declared.outcome.Outcome.{Outcome}
 use Rattle.vx_status.specs.declared.outcome.Outcome.TheVariants.{Delivered, Attempts, Refusal, Abandoned, NoConsumer, Filtered, NewestDropped}
-use Rattle.vx_plan.specs.declared.component.Component.{Component}
 use Rattle.vx_record.specs.Records.{Record}
 use Rattle.vx_record.specs.declared.child.Child.{Child}
 use Rattle.vx_record.specs.declared.entry.Entry.TheVariants.{Born, Split, Push, Take, Answer, Attempt}
@@ -15,10 +14,10 @@ use Rattle.vx_record.specs.Copies.{count, joined, contains, next_copy}
 use Rattle.vx_record.specs.Places.{Place, Put, Kind, kind, same_place, puts, one_each, all_puts, left, owner}
 use Rattle.vx_record.specs.Places.Place.{Outputs, Waiting, Held}
 use Rattle.vx_record.specs.Lists.{without, unless_empty, standing, stands, parcels_at, outputs, places, times_among}
-use Rattle.vx_record.specs.Installs.{component_of, wired}
+use Rattle.vx_record.specs.Installs.{wired}
 use Rattle.vx_record.specs.Parcels.{ports_of, first_copy, parcel_ports, port_list}
 use Rattle.vx_record.specs.Routing.{routes, is_dry, is_sent, wired_targets}
-use Rattle.vx_record.specs.SinkBatches.{failures_with, attempts_allowed, retries_made, is_failed}
+use Rattle.vx_record.specs.SinkBatches.{failures_with, is_failed}
 use Rattle.vx_record.specs.Spending.{HasCause, WasAnswered, last_attempted, last_reply, oldest}
 use Rattle.vx_record.specs.Moving.{IsConserved}
 use Rattle.vx_record.specs.Ceasing.{no_answer}

@@ -1,5 +1,5 @@
 -- A sink's batch is closed in the record where it is by what the hub knows, and is written with the codec of the sink.
-use Rattle.std.proofs.Common.{◌≡◌, ℕ, ◌<◌, ◌≤◌, Bool, true, false, ◌&&◌, ◌||◌, List, [], ◌∷◌, length, Option, Some, None, refl, ap, ◌∙◌, arith, inl, inr}
+use Rattle.std.proofs.Common.{◌≡◌, ℕ, ◌<◌, Bool, true, false, ◌&&◌, ◌||◌, List, [], ◌∷◌, length, Option, Some, None, refl, ap, ◌∙◌, arith, inl, inr}
 use Rattle.std.specs.Prelude.{◌⊎◌, IsSomeAnd, not, map}
 use Rattle.vx_value.specs.Texts.{is_empty}
 use Rattle.vx_ends.specs.Told.{Told}
@@ -12,7 +12,7 @@ use Rattle.vx_record.specs.Installs.{in_force}
 use Rattle.vx_record.specs.Lists.{held}
 use Rattle.vx_record.specs.Parcels.{parcel_event}
 use Rattle.vx_record.specs.Places.Place.{Held}
-use Rattle.vx_record.specs.SinkBatches.{is_full_batch, is_timed_out, is_last_batch, was_attempted, is_batch_closed, retry_from}
+use Rattle.vx_record.specs.SinkBatches.{is_full_batch, is_timed_out, is_last_batch, was_attempted, is_batch_closed}
 use Rattle.vx_hub.specs.declared.hub.Hub.{Hub}
 use Rattle.vx_hub.specs.declared.task.SinkCore.{SinkCore}
 use Rattle.vx_hub.specs.declared.task.Role.{Role}

@@ -142,7 +142,7 @@ bears (Born j b place copies events waits stream end ∷ h) i o = go (j == i) re
   where
     go : (t : Bool) → (j == i) ≡ t → (births h i ≡ []) ⊎ IsOfClass h i Source →
         ((births h i ++ (if t then record { batch = b; waits = waits; stream = stream; end = end } ∷ [] else [])) ≡ []) ⊎ IsOfClass h i Source
-    go true e before = let same : j ≡ i = grind (arith, nat_tests) in inr (subst (λ (k : ℕ). IsOfClass h k Source) same (read_source h j (earlier _ _ o) (yield_read h j events stream end o.legal.0.row.yield)))
+    go true e before = let same : j ≡ i = grind (arith, nat_tests) in inr (subst (λ (k : ℕ). IsOfClass h k Source) same (read_source h j (earlier _ _ o) (yield_read h j _ o.legal.0.row.yields)))
     go false e (inl none) = inl (append-nil (births h i) ∙ none)
     go false e (inr source) = inr source
 bears (e ∷ h) i o = go (bears h i (earlier _ _ o))

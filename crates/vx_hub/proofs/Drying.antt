@@ -1,6 +1,5 @@
 -- What takes no more takes no more later.
-use Rattle.std.proofs.Common.{◌≡◌, inl, inr, ℕ, ◌≤◌, Bool, true, false, ◌&&◌, ◌||◌, List, ◌∷◌, Option, Some, None, IfSome, IsSome, IsSomeAnd, refl, sym, ◌∙◌, ap, subst, arith}
-use Rattle.std.specs.Prelude.{◌^◌, if◌then◌else◌, ◌==◌}
+use Rattle.std.proofs.Common.{◌≡◌, inl, inr, ℕ, Bool, true, false, ◌&&◌, ◌||◌, List, ◌∷◌, Option, Some, None, IfSome, IsSome, IsSomeAnd, refl, sym, ◌∙◌, ap, subst, arith}
 use Rattle.vx_ends.specs.Told.{Told}
 use Rattle.vx_ends.specs.declared.position.Position.{Position}
 use Rattle.vx_plan.specs.declared.class.Class.{Class}
@@ -9,14 +8,12 @@ use Rattle.vx_plan.specs.declared.component.Component.{Component}
 use Rattle.vx_plan.specs.declared.plan.Plan.{Plan}
 use Rattle.vx_ledger.specs.Copies.{Copy}
 use Rattle.vx_record.specs.Records.{Record, capped}
-use Rattle.vx_record.specs.Noted.{Noted}
 use Rattle.vx_record.specs.Installs.{in_force}
-use Rattle.vx_record.specs.Reads.{bytes_of_all, is_end, all_ended}
+use Rattle.vx_record.specs.Reads.{bytes_of_all}
 use Rattle.vx_record.specs.declared.entry.Entry.{Entry}
-use Rattle.vx_record.specs.declared.entry.Entry.TheVariants.{Read, SourceLost, Abandon}
 use Rattle.vx_hub.specs.declared.hub.Hub.{Hub}
 use Rattle.vx_hub.specs.declared.facts.Facts.{Facts}
-use Rattle.vx_hub.specs.Order.{lost_at, cause_of, TakesNoMore, IsOfClass}
+use Rattle.vx_hub.specs.Order.{TakesNoMore, IsOfClass}
 use Rattle.vx_record.proofs.Ceasing.{more_on}
 use Rattle.vx_hub.specs.Stands.{Stands, IsKnown, IsClosing, MayShut, IsSpent, IsDry, component_in, facts_at}
 

@@ -31,7 +31,6 @@ use Rattle.vx_hub.specs.Births.{IsSaidBy}
 use Rattle.vx_hub.specs.Abreast.{HasCome, HasComeHome}
 use Rattle.vx_hub.specs.Events.{written, written_by, IsPartOf, IsSaid, Each, EachChild, HasEach, IsSaidAt, AreSaid, ArePaired}
 use Rattle.vx_hub.specs.Numbers.{numbers_in}
-use Rattle.vx_plan.specs.declared.class.Class.TheVariants.{Sink}
 use Rattle.vx_record.specs.Sinking.{MayAttempt}
 use Rattle.vx_hub.specs.Order.{component_in}
 use Rattle.vx_hub.specs.Places.{parcel_numbers}

@@ -1,20 +1,16 @@
 -- A source that the hub reads may be read by the record.
-use Rattle.std.proofs.Common.{◌≡◌, ℕ, ◌+◌, ◌<◌, Bool, true, false, List, [], ◌∷◌, Option, Some, None, IfSome, IsSome, IsSomeAnd, IsTrue, refl, sym, ap, subst, ◌∙◌, arith}
+use Rattle.std.proofs.Common.{◌≡◌, ℕ, ◌<◌, Bool, true, false, List, [], ◌∷◌, Option, Some, None, IfSome, IsSome, IsSomeAnd, refl, sym, ap, subst, ◌∙◌, arith}
 use Rattle.std.specs.Prelude.{◌==◌, ◌&&◌, ◌||◌, ◌^◌, not, nat_le, if◌then◌else◌}
 use Rattle.std.specs.List.{list_any}
 use Rattle.std.proofs.lemmas.Bool.Decides.{nat_tests}
 use Rattle.vx_value.specs.Texts.{is_empty}
 use Rattle.vx_ends.specs.Told.{Told}
 use Rattle.vx_ledger.specs.Copies.{Copy}
-use Rattle.vx_plan.specs.declared.component.Component.{Component}
 use Rattle.vx_record.specs.Records.{Record, capped}
 use Rattle.vx_record.specs.Noted.{Noted}
-use Rattle.vx_record.specs.declared.instance.Instance.{Instance}
-use Rattle.vx_record.specs.declared.log.Log.{Log}
 use Rattle.vx_record.specs.declared.entry.Entry.{Entry}
-use Rattle.vx_record.specs.declared.entry.Entry.TheVariants.{Install, Lease, SourceLost}
-use Rattle.vx_record.specs.Starting.{first_instances}
-use Rattle.vx_record.specs.Installs.{in_force, is_draining, is_marked, source_at}
+use Rattle.vx_record.specs.declared.entry.Entry.TheVariants.{Lease, SourceLost}
+use Rattle.vx_record.specs.Installs.{in_force, is_marked, source_at}
 use Rattle.vx_record.specs.Turns.{is_out, at_lease, lease_now, since_lease, is_turn_of}
 use Rattle.vx_record.specs.Reads.{all_ended, is_lost, bytes_of_all}
 use Rattle.vx_record.specs.Routing.{is_too_long, drains, is_out_from_before, is_dry, is_sent}
@@ -37,7 +33,6 @@ use Rattle.vx_hub.proofs.Ported.{read_from_port}
 use Rattle.vx_hub.proofs.Retiring.{none_waiting}
 use Rattle.vx_hub.proofs.Silence.{same_test}
 use Rattle.vx_record.proofs.Ceasing.{unmarked}
-use Rattle.vx_record.specs.Legal.{IsLegal}
 
 none_of : (a b : Bool) → a ≡ false → b ≡ false → (a || b) ≡ false
 none_of true b e f = cc

@@ -11,8 +11,8 @@ use Rattle.vx_frame.specs.Framings.{Framing, HasTaken, untouched, left_behind, l
 use Rattle.vx_plan.specs.declared.component.Component.{Component}
 use Rattle.vx_record.specs.Records.{Record}
 use Rattle.vx_record.specs.Installs.{component_of}
-use Rattle.vx_record.specs.Sourcing.{IsYieldOf}
-use Rattle.vx_record.specs.Reads.{taken, all_ended, last_stream, open_bytes, still_open, stream_of, ended_streams, ended_by, has_bytes, is_end, new_lines, last_end}
+use Rattle.vx_record.specs.Sourcing.{Yield, yield_of}
+use Rattle.vx_record.specs.Reads.{taken, all_ended, last_stream, open_bytes, still_open, stream_of, ended_streams, ended_by, has_bytes, is_end, new_lines, events_of, end_of, last_end}
 use Rattle.vx_record.specs.declared.entry.Entry.{Entry}
 use Rattle.vx_record.specs.declared.entry.Entry.TheVariants.{Install, Read, Take, Answer}
 use Rattle.vx_record.specs.declared.taken.Taken.{Taken}
@@ -207,6 +207,17 @@ finished_abreast h i stream took at events end old new ends is a finished = reco
     ended_at s (inr other) (inr there) = absurd (other (sym is ∙ ended_is h i stream took s there))
 
 -- YIELDS
+abbrev yield_as : List Event → ℕ → ℕ → Yield
+yield_as events stream end = record { events = events; stream = stream; end = end }
+
+-- what a read yields, part by part
+yields_as : (h : Record) (i stream : ℕ) (took : Taken) (events : List Event) (at end : ℕ) → events ≡ events_of h i stream took → stream_of h i stream took ≡ at → end ≡ capped (end_of h i stream took) →
+    yield_of h i stream took ≡ yield_as events at end
+yields_as h i stream took events at end given of_stream up_to =
+    ap (λ (es : List Event). yield_as es (stream_of h i stream took) (capped (end_of h i stream took))) (sym given)
+    ∙ ap (λ (s : ℕ). yield_as events s (capped (end_of h i stream took))) of_stream
+    ∙ ap (yield_as events at) (sym up_to)
+
 all_open : (a b n : ℕ) → a ≡ b → n ≡ (b - a) + n
 all_open a b n same = omega (arith, same)
 
@@ -216,10 +227,8 @@ fed_yields h i stream bytes events end old new over unended a fed apart some =
     let took : Taken = taken.Bytes bytes in
     let given = given_by h i stream took old (cut_lines old.framer stream false bytes) events end (a.made_for apart) (fed.behind (open_bytes h i stream) (a.taken stream)) fed.gave in
     record {
-      reader = refl;
-      given = given.0;
-      of_stream = refl;
-      up_to = given.1 ∙ ap capped (all_open (length (open_bytes h i stream)) (length (taken h i stream)) (last_end (new_lines h i stream took)) (ap length (open_whole h i stream over unended)));
+      all = yields_as h i stream took events stream end given.0 refl
+          (given.1 ∙ ap capped (all_open (length (open_bytes h i stream)) (length (taken h i stream)) (last_end (new_lines h i stream took)) (ap length (open_whole h i stream over unended))));
     }
 
 -- the events of a turn are those of its read
@@ -245,22 +254,18 @@ nothing_gave old at events end new none finished some =
 finished_yields : (h : Record) (i stream : ℕ) (took : Taken) (at : ℕ) (events : List Event) (end : ℕ) (old new : SourceCore) → all_ended h i ≡ false → stream_of h i stream took ≡ at → IsAbreast h i old → HasFinished old at events end new →
     ((w : Word) (behind : List Frame) → frames w old.framer.limit true ≡ frames w old.framer.limit false ++ behind → Adds old.framer.limit w took behind) →
     Yields h i stream took events at end
-finished_yields h i stream took at events end old new over is a finished adds apart some = by_open (contained (ended_streams h i) at)
+finished_yields h i stream took at events end old new over is a finished adds apart some = record { all = by_open (contained (ended_streams h i) at) }
   where
-    by_open : Contains (ended_streams h i) at ⊎ (Contains (ended_streams h i) at → ⊥) → IsYieldOf h i stream took i events at end
+    by_open : Contains (ended_streams h i) at ⊎ (Contains (ended_streams h i) at → ⊥) → yield_of h i stream took ≡ yield_as events at end
     by_open (inl there) = absurd (nothing_gave old at events end new (subst (λ (w : Word). HasTaken old.framer at w) (a.ended at there) (a.taken at)) finished some)
     by_open (inr unended) =
         let more = finished.behind (open_bytes h i at) (a.taken at) in
         let given = given_by h i stream took old (cut_lines old.framer at true []) events end (a.made_for apart)
         (subst (λ z. Adds old.framer.limit (open_bytes h i z) took (cut_lines old.framer at true [])) (sym is) (adds (open_bytes h i at) (cut_lines old.framer at true []) more))
         (subst (λ z. AreOf old.decoding old.source_type (map (line_of z) (cut_lines old.framer at true [])) events end) (sym is) finished.gave) in
-        record {
-          reader = refl;
-          given = given.0;
-          of_stream = sym is;
-          up_to = given.1 ∙ ap capped (all_open (length (open_bytes h i (stream_of h i stream took))) (length (taken h i (stream_of h i stream took))) (last_end (new_lines h i stream took))
-              (ap length (subst (λ z. open_bytes h i z ≡ taken h i z) (sym is) (open_whole h i at over unended))));
-        }
+        yields_as h i stream took events at end given.0 is
+        (given.1 ∙ ap capped (all_open (length (open_bytes h i (stream_of h i stream took))) (length (taken h i (stream_of h i stream took))) (last_end (new_lines h i stream took))
+        (ap length (subst (λ z. open_bytes h i z ≡ taken h i z) (sym is) (open_whole h i at over unended)))))
 
 unmoved_abreast : (h : Record) (i : ℕ) (old new : SourceCore) → IsUnmoved old new → IsAbreast h i old → IsAbreast h i new
 unmoved_abreast h i old new same a = record {

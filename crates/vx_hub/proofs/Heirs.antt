@@ -1,28 +1,28 @@
 -- No two instances have one name, so each is the heir of none.
 use Rattle.std.proofs.Common.{◌≡◌, ℕ, zero, suc, ◌<◌, Bool, true, false, List, [], ◌∷◌, Option, Some, None, IsSome, refl, sym, ap, ◌∙◌, arith}
 use Rattle.std.specs.Prelude.{◌&&◌, ◌||◌, not, nat_lt, slice_get}
-use Rattle.std.specs.List.{list_any, list_all}
+use Rattle.std.specs.List.{list_any}
 use Rattle.std.proofs.lemmas.Bool.Decides.{nat_tests}
 use Rattle.vx_value.specs.Texts.{Word, same_text}
 use Rattle.vx_value.proofs.Order.{same_text-true, same_text-refl}
 use Rattle.vx_plan.specs.declared.component.Component.{Component}
 use Rattle.vx_plan.specs.declared.plan.Plan.{Plan}
 use Rattle.vx_record.specs.Records.{Record}
-use Rattle.vx_record.specs.Wirings.{names_differ}
+use Rattle.vx_plan.specs.Accepted.{names_differ}
 use Rattle.vx_record.specs.Installs.{Wiring, in_force, name_of, started, device_at, is_closed}
-use Rattle.vx_record.specs.Ready.{is_heir}
+use Rattle.vx_record.specs.Ready.{blocks, is_heir}
 use Rattle.vx_hub.specs.Order.{IsLegalWithReturns, component_in}
 use Rattle.vx_hub.proofs.Naming.{wired_so}
 use Rattle.vx_hub.proofs.Runners.{names_so}
 
--- what holds of each holds of all
-pub each_passes : {X : Type 0} (test : X → Bool) (xs : List X) → ((x : X) → test x ≡ true) → list_all test xs ≡ true
-each_passes test [] all = refl
-each_passes test (x ∷ xs) all = both (test x) (list_all test xs) (all x) (each_passes test xs all)
+-- where a test passes nowhere, it passes for none of some
+none_passes : {X : Type 0} (test : X → Bool) (xs : List X) → ((x : X) → test x ≡ false) → list_any test xs ≡ false
+none_passes test [] none = refl
+none_passes test (x ∷ xs) none = neither_is (test x) (list_any test xs) (none x) (none_passes test xs none)
   where
-    both : (a b : Bool) → a ≡ true → b ≡ true → (a && b) ≡ true
-    both true b e f = f
-    both false b e f = cc
+    neither_is : (a b : Bool) → a ≡ false → b ≡ false → (a || b) ≡ false
+    neither_is true b e f = cc
+    neither_is false b e f = f
 
 -- an instance has the name of the component in its place
 pub named_as : (h : Record) (plan : Plan) (i : ℕ) (c : Component) → IsLegalWithReturns h → in_force h ≡ Some plan → slice_get plan.components i ≡ Some c → name_of h i ≡ c.name
@@ -89,21 +89,16 @@ unshared h plan i j d order force at l =
 pub heir : (h : Record) (i : ℕ) → IsLegalWithReturns h → IsSome (component_in (in_force h) i) → is_heir h i ≡ true
 heir h i order there = go (in_force h) refl there
   where
-    passed : (a b : Bool) → a ≡ false → (not a || b) ≡ true
-    passed true b e = cc
-    passed false b e = refl
-
-    tested : (a b c : Bool) → (a ≡ true → b ≡ false) → (a && b && c) ≡ false
-    tested true true c e = let no : true ≡ false = e refl in cc
-    tested true false c e = refl
-    tested false b c e = refl
+    tested : (a b c d : Bool) → (a ≡ true → b ≡ false) → (a && b && c && d) ≡ false
+    tested true true c d e = let no : true ≡ false = e refl in cc
+    tested true false c d e = refl
+    tested false b c d e = refl
 
     found : (plan : Plan) → in_force h ≡ Some plan → (o : Option Component) → slice_get plan.components i ≡ o → IsSome o → is_heir h i ≡ true
     found plan force None at some = cc
     found plan force (Some d) at some =
-        each_passes (λ (j : ℕ). not (nat_lt j i && same_text (name_of h j) (name_of h i) && device_at h j) || is_closed h j) (started h)
-        (λ j. passed (nat_lt j i && same_text (name_of h j) (name_of h i) && device_at h j) (is_closed h j)
-        (tested (nat_lt j i) (same_text (name_of h j) (name_of h i)) (device_at h j) (λ less. unshared h plan i j d order force at (grind (arith, nat_tests, less)))))
+        ap not (none_passes (blocks h i) (started h)
+        (λ j. tested (nat_lt j i) (same_text (name_of h j) (name_of h i)) (device_at h j) (not (is_closed h j)) (λ less. unshared h plan i j d order force at (grind (arith, nat_tests, less)))))
 
     go : (p : Option Plan) → in_force h ≡ p → IsSome (component_in p i) → is_heir h i ≡ true
     go None force some = cc

@@ -1,5 +1,5 @@
 -- What a task holds stays what the record has, while its instance is out.
-use Rattle.std.proofs.Common.{◌≡◌, ℕ, zero, suc, List, [], ◌∷◌, ◌++◌, length, Option, Some, None, IfSome, refl, sym, ap, subst, ◌∙◌, arith, inl, inr}
+use Rattle.std.proofs.Common.{◌≡◌, ℕ, zero, suc, List, [], ◌∷◌, ◌++◌, length, Option, Some, None, IfSome, refl, sym, ap, subst, ◌∙◌, arith}
 use Rattle.std.specs.Prelude.{◌<◌, get_or, slice_get, Bool, true, false, ◌≢◌}
 use Rattle.vx_ends.specs.Told.{Told}
 use Rattle.vx_ledger.specs.Copies.{Copy}
@@ -8,7 +8,6 @@ use Rattle.vx_ledger.specs.declared.parcel.Parcel.{Parcel}
 use Rattle.vx_record.specs.Records.{Record}
 use Rattle.vx_record.specs.Noted.{Noted}
 use Rattle.vx_record.specs.declared.entry.Entry.{Entry}
-use Rattle.vx_record.specs.declared.entry.Entry.TheVariants.{Idle, SourceLost}
 use Rattle.vx_record.specs.Places.Place.{Waiting, Held}
 use Rattle.std.proofs.lemmas.List.{append_assoc, length-append}
 use Rattle.vx_record.specs.Copies.{joined}
@@ -25,7 +24,6 @@ use Rattle.vx_hub.specs.declared.task.Role.TheVariants.{Source, Sink}
 use Rattle.vx_hub.specs.Rows.{role_copies, role_parcels, parcel_copies, row_at, NoneWaits}
 use Rattle.vx_hub.specs.Places.{parcel_lists, parcel_numbers, HoldsSome, PutsLast, waiting_lists, copies_if, copies_at, all_numbers, numbers_at, NoneBefore, SamePlaces, TakesOldest}
 use Rattle.vx_hub.specs.Births.{IsHeldBy, IsNextOut}
-use Rattle.vx_hub.specs.Failures.{IsFailureOf}
 use Rattle.vx_hub.specs.Numbers.{numbers_in}
 use Rattle.vx_hub.specs.Stands.{Stands}
 use Rattle.vx_hub.proofs.Ordering.{sound_before}

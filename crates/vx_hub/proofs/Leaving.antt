@@ -1,5 +1,5 @@
 -- An instance that comes home goes on doing so, until the record tells it.
-use Rattle.std.proofs.Common.{◌≡◌, ℕ, ◌+◌, Bool, true, false, List, [], ◌∷◌, length, sym, ap, subst, ◌∙◌, arith, inl, inr, refl}
+use Rattle.std.proofs.Common.{◌≡◌, ℕ, ◌+◌, Bool, true, false, List, [], ◌∷◌, length, sym, ap, subst, ◌∙◌, arith}
 use Rattle.std.specs.Prelude.{IsSome, IsTrue, Option, ◌==◌, ◌&&◌, if◌then◌else◌}
 use Rattle.std.specs.List.{list_all, list_any}
 use Rattle.vx_record.specs.Records.{Record}
@@ -8,13 +8,12 @@ use Rattle.vx_record.specs.Turns.{is_out, is_take_of, at_lease, since_lease, is_
 use Rattle.vx_record.specs.Owing.{all_noticed}
 use Rattle.vx_record.specs.declared.log.Log.{Log}
 use Rattle.vx_record.specs.declared.entry.Entry.{Entry}
-use Rattle.vx_record.specs.declared.entry.Entry.TheVariants.{Lease, Take, Idle, SourceLost}
+use Rattle.vx_record.specs.declared.entry.Entry.TheVariants.{Lease, Take}
 use Rattle.vx_hub.specs.declared.hub.Hub.{Hub}
 use Rattle.vx_hub.specs.Away.{IsAway, IsReturning, OnlyTook, HasTaken, IsUntried, IsSettled, IsArrived, WasNoticed}
 use Rattle.vx_hub.specs.Rows.{SamePorts}
 use Rattle.vx_record.specs.SinkBatches.{attempts_with}
 use Rattle.vx_hub.specs.Order.{AreSettled}
-use Rattle.vx_hub.specs.Failures.{IsFailureOf}
 use Rattle.vx_hub.proofs.Ordering.{sound_before}
 use Rattle.vx_hub.proofs.Silence.{same_test}
 use Rattle.vx_hub.proofs.Settling.{settled_on}

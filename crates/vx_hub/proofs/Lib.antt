@@ -16,6 +16,7 @@ mod Unnoticed
 pub mod Parcels
 pub mod Silence
 pub mod Saying
+mod Failing
 pub mod Standing
 mod Always
 pub mod StandsLaws

@@ -1,17 +1,14 @@
 -- Which component an instance runs: that of the name that its component in the plan has.
-use Rattle.std.proofs.Common.{◌≡◌, ℕ, zero, suc, ◌+◌, Bool, true, false, List, [], ◌∷◌, Option, Some, None, refl, ap, ◌∙◌, arith, eq-eqb}
+use Rattle.std.proofs.Common.{◌≡◌, ℕ, zero, suc, Bool, true, false, List, [], ◌∷◌, Option, Some, None, refl, ap, ◌∙◌, eq-eqb}
 use Rattle.std.specs.Prelude.{◌==◌, not, IsSomeAnd, is_some, slice_get, find, if◌then◌else◌}
-use Rattle.std.proofs.lemmas.Bool.Decides.{nat_tests}
 use Rattle.vx_value.specs.Texts.{Word, same_text}
 use Rattle.vx_plan.specs.declared.plan.Plan.{Plan}
 use Rattle.vx_plan.specs.declared.component.Component.{Component}
 use Rattle.vx_plan.specs.Components.{component_named, is_transform}
 use Rattle.vx_plan.specs.Options.{has_device}
 use Rattle.vx_record.specs.Records.{Record}
-use Rattle.vx_record.specs.declared.entry.Entry.TheVariants.{Install}
-use Rattle.vx_record.specs.declared.instance.Instance.{Instance}
 use Rattle.vx_record.specs.Starting.{first_instances}
-use Rattle.vx_record.specs.Installs.{Wiring, wiring, name_at, component_of, device_at, in_force}
+use Rattle.vx_record.specs.Installs.{wiring, component_of, device_at, in_force}
 use Rattle.vx_hub.specs.declared.facts.Facts.{Facts}
 use Rattle.vx_hub.specs.Order.{IsLegalWithReturns, component_in, is_ported}
 use Rattle.vx_hub.specs.Stands.{IsKnown}

@@ -13,12 +13,13 @@ use Rattle.vx_ledger.specs.declared.open_batch.OpenBatch.{OpenBatch}
 use Rattle.vx_ledger.specs.declared.notice.Notice.{Notice as Told}
 use Rattle.vx_record.specs.Records.{Record}
 use Rattle.vx_record.specs.declared.entry.Entry.{Entry}
-use Rattle.vx_record.specs.declared.entry.Entry.TheVariants.{Born, Split, Push, Take, Spent, Notice}
+use Rattle.vx_record.specs.declared.entry.Entry.TheVariants.{Spent, Notice}
 use Rattle.vx_record.specs.Copies.{next_copy}
-use Rattle.vx_record.specs.Batches.{batch_of, AwaitsNotice, NoNoticeDue}
+use Rattle.vx_record.specs.Batches.{batch_of, is_notice_due, awaits_notice}
 use Rattle.vx_record.specs.Statuses.{running}
 use Rattle.vx_record.specs.Moving.{IsStill, IsConserved}
 use Rattle.vx_record.specs.Accounting.{IsInTurn, IsAccounted, IsNoticedSo}
+use Rattle.vx_record.proofs.Dues.{awaits_so, undue_so, undue_each, awaits_not}
 use Rattle.vx_record.proofs.Statuses.{running_future, running_so}
 use Rattle.vx_hub.specs.declared.row.Row.{Row}
 use Rattle.vx_hub.specs.Rows.{copies_in}
@@ -27,7 +28,7 @@ use Rattle.vx_record.proofs.LegalNotices.{accounted as legal_accounted}
 use Rattle.vx_hub.specs.Order.{IsLegalWithReturns}
 use Rattle.vx_hub.specs.Batching.{AreRunning}
 use Rattle.vx_hub.specs.Places.{IsMine, AllMine, IsPlaced}
-use Rattle.vx_hub.specs.Stands.{IsBalanced}
+use Rattle.vx_hub.specs.Stands.{IsBalanced, NoneAwaited}
 use Rattle.vx_hub.proofs.Finding.{live_is_had, had_is_live}
 
 -- and accounts
@@ -39,18 +40,17 @@ pub notice_row : (h : Record) (b : ℕ) (status : BatchStatus) → IsLegalWithRe
 notice_row h b status o so = record { due = so.due; folded = so.folded ∙ running_so h b (accounted h o) }
 
 -- where no notice is due, any entry may stand
-pub in_turn : (h : Record) (e : Entry) → NoNoticeDue h → IsInTurn h e
+none_due : (h : Record) → NoneAwaited h → is_notice_due h ≡ false
+none_due h none = undue_so h (λ b due. awaits_not h b (none b) due)
+
+pub in_turn : (h : Record) (e : Entry) → NoneAwaited h → IsInTurn h e
 in_turn h (Notice b status) none = tt
-in_turn h e none = none
+in_turn h e none = none_due h none
 
 -- behind an entry that spends nothing no notice is due
-pub still_quiet : (h : Record) (e : Entry) → IsStill e → NoNoticeDue (e ∷ h)
-still_quiet h (Born i b place copies events waits stream end) s b' w = w
-still_quiet h (Split i ports copies event children) s b w = w
-still_quiet h (Push i t stage copies) s b w = w
-still_quiet h (Take i stage copies) s b w = w
-still_quiet h (Spent i c outcome) s b w = s
-still_quiet h e s b w = w
+pub still_quiet : (h : Record) (e : Entry) → IsStill e → NoneAwaited (e ∷ h)
+still_quiet h (Spent i c outcome) s = absurd s
+still_quiet h e s = λ b. refl
 
 -- STATUSES
 pub running_on : (h k : Record) (rows : List OpenBatch) → ((b : ℕ) → running h b ≡ running k b) → AreRunning h rows → AreRunning k rows
@@ -144,8 +144,8 @@ notice_status h i c o b (r ∷ rs) told is a e =
 -- NOTICES
 -- the ledger has as many copies of a batch as stand at the instances and in the hand, so its last one is the record's
 pub last_spent : {P : Type 0} (ledger : Ledger) (rows : List (Row P)) (rest : List Copy) (h : Record) (i c b : ℕ) (o : Outcome) → IsConserved (Spent i c o ∷ h) → IsPlaced rows rest (Spent i c o ∷ h) →
-    IsBalanced ledger rows rest → batch_of h c ≡ b → live_count b b ledger.open_rows ≡ 0 → AwaitsNotice (Spent i c o ∷ h) b
-last_spent ledger rows rest h i c b o kept placed balanced is none = (
+    IsBalanced ledger rows rest → batch_of h c ≡ b → live_count b b ledger.open_rows ≡ 0 → awaits_notice (Spent i c o ∷ h) b ≡ true
+last_spent ledger rows rest h i c b o kept placed balanced is none = awaits_so (Spent i c o ∷ h) b (
   is,
   λ d same live.
       let had = live_is_had rows rest (Spent i c o ∷ h) d kept placed live in
@@ -158,10 +158,10 @@ last_spent ledger rows rest h i c b o kept placed balanced is none = (
 )
 
 pub more_live : {P : Type 0} (ledger : Ledger) (rows : List (Row P)) (rest : List Copy) (h : Record) (i c b : ℕ) (o : Outcome) → IsConserved (Spent i c o ∷ h) → IsPlaced rows rest (Spent i c o ∷ h) →
-    IsBalanced ledger rows rest → batch_of h c ≡ b → 0 < live_count b b ledger.open_rows → NoNoticeDue (Spent i c o ∷ h)
-more_live ledger rows rest h i c b o kept placed balanced is some b' due =
+    IsBalanced ledger rows rest → batch_of h c ≡ b → 0 < live_count b b ledger.open_rows → NoneAwaited (Spent i c o ∷ h)
+more_live ledger rows rest h i c b o kept placed balanced is some =
     let had = had_is_live rows rest (Spent i c o ∷ h) b b kept placed (omega (arith, balanced b b, some)) in
-    due.1 had.0.number (had.2.batch ∙ had.1 ∙ sym is ∙ due.0) had.3
+    undue_each (Spent i c o ∷ h) (undue_so (Spent i c o ∷ h) (λ b' due. due.1 had.0.number (had.2.batch ∙ had.1 ∙ sym is ∙ due.0) had.3))
 
 -- the status of a batch that is born
 pub born_status : (h : Record) (b : ℕ) → IsAccounted h → next_copy h ≤ b → Delivered ≡ running h b
@@ -175,7 +175,7 @@ spent_statuses h i n o f ledger rows same mine kept running are =
     (running_spent h i n o f.batch ledger.next ledger.open_rows (ap (batch_of h) same ∙ mine.batch) kept.rows running)
 
 pub spent_quietly : {P : Type 0} (ledger : Ledger) (rows : List (Row P)) (rest : List Copy) (h : Record) (i n : ℕ) (o : Outcome) (f : Copy) → n ≡ f.number → IsMine h f → IsConserved (Spent i n o ∷ h) →
-    IsPlaced rows rest (Spent i n o ∷ h) → IsBalanced ledger rows rest → (live_count f.batch f.place ledger.open_rows ≡ 0 → ⊥) → NoNoticeDue (Spent i n o ∷ h)
+    IsPlaced rows rest (Spent i n o ∷ h) → IsBalanced ledger rows rest → (live_count f.batch f.place ledger.open_rows ≡ 0 → ⊥) → NoneAwaited (Spent i n o ∷ h)
 spent_quietly ledger rows rest h i n o f same mine kept placed balanced some =
     more_live ledger rows rest h i n f.batch o kept placed balanced (ap (batch_of h) same ∙ mine.batch)
     (go (live_count f.batch f.batch ledger.open_rows) (λ none. some (ap (λ k. live_count f.batch k ledger.open_rows) mine.place ∙ none)))
@@ -192,7 +192,7 @@ spent_last old new rows rest h i n o f told same mine kept placed balanced runs 
     let s = notice_status h i n o f.batch old.open_rows told is runs (ap (λ k. notice_of f.batch k o old.open_rows) (sym mine.place) ∙ told_is) in
     let due = last_spent new rows rest h i n f.batch o kept placed balanced is (ap (λ k. live_count f.batch k new.open_rows) (sym mine.place) ∙ none) in
     record {
-      due = subst (λ b. AwaitsNotice (Spent i n o ∷ h) b) (sym s.0) due;
+      due = subst (λ b. awaits_notice (Spent i n o ∷ h) b ≡ true) (sym s.0) due;
       folded = s.1 ∙ ap (running (Spent i n o ∷ h)) (sym s.0);
     }
 

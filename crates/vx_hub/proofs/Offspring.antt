@@ -11,11 +11,13 @@ use Rattle.vx_record.specs.Records.{Record}
 use Rattle.vx_record.specs.Abandoning.{abandoned}
 use Rattle.vx_record.specs.Confirms.{Birth, births, births_in}
 use Rattle.vx_record.specs.Ending.{BirthWants, last_events}
+use Rattle.vx_frame.specs.Frames.{capped}
 use Rattle.vx_record.specs.Installs.{in_force}
 use Rattle.vx_record.specs.Owing.{fruitful, owes_birth}
 use Rattle.vx_record.specs.Reads.{events_of}
-use Rattle.vx_record.specs.Sourcing.{IsYield}
+use Rattle.vx_record.specs.Sourcing.{Yield, yield}
 use Rattle.vx_record.specs.Turns.{is_out}
+use Rattle.vx_record.proofs.Senders.{reader}
 use Rattle.vx_record.specs.declared.entry.Entry.{Entry}
 use Rattle.vx_record.specs.declared.entry.Entry.TheVariants.{Install, Lease, Home, Read, Born, Abandon}
 use Rattle.vx_hub.specs.declared.fatal.Fatal.{Fatal}
@@ -54,10 +56,10 @@ pub even_on : (h : Record) (i : ℕ) (e : Entry) → births_in i e ≡ [] → fr
 even_on h i e none even = even ∙ sym (same_births h i e none)
 
 -- what is born stands behind a read
-pub yield_read : (h : Record) (i : ℕ) (events : List Event) (stream end : ℕ) → IsYield h i events stream end → IsReadBy h i
-yield_read [] i events stream end yield = absurd yield
-yield_read (Read j from took ∷ h) i events stream end yield = yield.reader
-yield_read (e ∷ h) i events stream end yield = absurd yield
+pub yield_read : (h : Record) (i : ℕ) (y : Yield) → yield h i ≡ Some y → IsReadBy h i
+yield_read [] i y is = cc
+yield_read (Read j from took ∷ h) i y is = reader h j from took i y is
+yield_read (e ∷ h) i y is = cc
 
 -- who read just now is out
 read_out : (h : Record) (i : ℕ) → IsLegalWithReturns h → IsReadBy h i → is_out h i ≡ true
@@ -76,7 +78,7 @@ born_on h (Home j) order so owes all i home going = go (j == i) refl home
 born_on h (Read j stream took) order so owes all i home going =
     not_read (j == i) (not (is_empty (events_of h i stream took))) (fruitful h i) (apart h i j so.turn.out home) ∙ even_on h i (Read j stream took) refl (all i home going)
 born_on h (Born j b place copies events waits stream end) order so owes all i home going =
-    even_on h i (Born j b place copies events waits stream end) (not_mine (j == i) _ (apart h i j (read_out h j order (yield_read h j events stream end so.yield)) home)) (all i home going)
+    even_on h i (Born j b place copies events waits stream end) (not_mine (j == i) _ (apart h i j (read_out h j order (yield_read h j _ so.yields)) home)) (all i home going)
 born_on h (Abandon cause) order so owes all i home going = cc
 born_on h e order so owes all i home going = even_on h i e refl (all i home going)
 
@@ -130,7 +132,7 @@ born_now h i b place copies events waits stream end owed going =
 
 -- WANTED NUMBERS
 -- numbers for the birth that is owed are wanted
-pub birth_wanted : (h : Record) (i wanted : ℕ) → fruitful h i ≡ length (births h i) + 1 → wanted ≡ length (last_events h i) → BirthWants h wanted
+pub birth_wanted : (h : Record) (i wanted : ℕ) → fruitful h i ≡ length (births h i) + 1 → wanted ≡ capped (length (last_events h i)) → BirthWants h wanted
 birth_wanted h i wanted owed many = (i, grind (arith, nat_tests, owed), many)
 
 -- also once the instance is home
@@ -164,6 +166,6 @@ sink_barren (Read j stream took ∷ h) i order sink =
     (not_read (j == i) (not (is_empty (events_of h i stream took))) (fruitful h i) (not_sink h i j (placed_source h j (earlier _ _ order) order.legal.0.row.turn.source) sink) ∙ before.0, same_births h i (Read j stream took) refl ∙ before.1)
 sink_barren (Born j b place copies events waits stream end ∷ h) i order sink =
     let before = sink_barren h i (earlier _ _ order) sink in
-    let off : (j == i) ≡ false = not_sink h i j (read_source h j (earlier _ _ order) (yield_read h j events stream end order.legal.0.row.yield)) sink in
+    let off : (j == i) ≡ false = not_sink h i j (read_source h j (earlier _ _ order) (yield_read h j _ order.legal.0.row.yields)) sink in
     (before.0, same_births h i (Born j b place copies events waits stream end) (not_mine (j == i) _ off) ∙ before.1)
 sink_barren (e ∷ h) i order sink = let before = sink_barren h i (earlier _ _ order) sink in (before.0, same_births h i e refl ∙ before.1)

@@ -1,6 +1,6 @@
 -- What is proved of an entry, from what the hub knows.
-use Rattle.std.proofs.Common.{◌≡◌, ℕ, zero, suc, ◌+◌, ◌*◌, ◌<◌, ◌≤◌, List, [], ◌∷◌, length, Option, Some, None, refl, sym, ap, subst, ◌∙◌, arith, Bool, false}
-use Rattle.std.specs.Prelude.{◌^◌, Result, Ok, Err, IfOk, IfErr, OnErr, IsSome}
+use Rattle.std.proofs.Common.{◌≡◌, ℕ, zero, suc, ◌+◌, ◌*◌, ◌<◌, ◌≤◌, List, [], ◌∷◌, length, Option, Some, None, refl, sym, ap, subst, ◌∙◌, arith, Bool, true, false}
+use Rattle.std.specs.Prelude.{◌^◌, Result, Ok, Err, IfOk, IfErr, IfSome, OnErr, IsSome}
 use Rattle.std.specs.Bool.{IsFalse}
 use Rattle.std.proofs.lemmas.List.{append-nil}
 use Rattle.vx_ends.specs.Told.{Told}
@@ -19,7 +19,10 @@ use Rattle.vx_hub.specs.declared.row.Row.{Row}
 use Rattle.vx_hub.specs.Rows.{Loses}
 use Rattle.vx_ledger.specs.declared.parcel.Parcel.{Parcel}
 use Rattle.vx_ledger.specs.declared.child.Child.{Child}
+use Rattle.vx_plan.specs.Accepted.{names_differ}
+use Rattle.vx_plan.specs.declared.plan.Plan.{Plan}
 use Rattle.vx_record.specs.Records.{Record}
+use Rattle.vx_record.specs.Installs.{in_force}
 use Rattle.vx_record.specs.Copies.{counting, children_of, next_copy}
 use Rattle.vx_record.specs.Lists.{all_waiting, waiting, outputs}
 use Rattle.vx_record.specs.Places.{puts}
@@ -40,11 +43,12 @@ use Rattle.vx_hub.specs.Numbers.{numbers_in, noted_of}
 use Rattle.vx_hub.specs.Events.{IsSaid}
 use Rattle.vx_hub.specs.Order.{IsLegalWithReturns, readers_at, reply_behind, cause_of}
 use Rattle.vx_hub.specs.Spending.{IsGiven, AreAnswered, IsSpentFor, MaySpend, IsReplied}
-use Rattle.vx_record.specs.Sourcing.{IsYield, MayBear}
+use Rattle.vx_record.specs.Sourcing.{yield, MayBear}
 use Rattle.vx_hub.specs.Abreast.{AreNamedApart}
 use Rattle.vx_hub.specs.Stands.{Stands, IsSound, IsBalanced}
 use Rattle.vx_record.proofs.FirstPort.{output_on_first, first_routes}
 use Rattle.vx_hub.proofs.Ported.{unanswered}
+use Rattle.vx_hub.proofs.Runners.{names_so}
 use Rattle.vx_hub.proofs.StandsLaws.{unmade}
 use Rattle.vx_hub.proofs.Shrinking.{answered_on, waits_none}
 use Rattle.vx_record.specs.Sourcing.{must_wait}
@@ -67,16 +71,20 @@ length_counting first (suc n) = ap suc (length_counting (first + 1) n)
 
 -- no two components of a plan that was installed have one name
 pub named_apart : (h : Record) → IsLegalWithReturns h → AreNamedApart h
-named_apart h order = order.named
+named_apart h order = go (in_force h) refl
+  where
+    go : (p : Option Plan) → in_force h ≡ p → IfSome p (λ (plan : Plan). names_differ plan.components ≡ true)
+    go None none = tt
+    go (Some plan) force = names_so h plan order force
 
 -- a batch that the ledger bore may be born
-pub birth_in_order : (h : Record) (i next n batch : ℕ) (copies : List Copy) (events : List Event) (waits : Bool) (stream end : ℕ) → IsLegalWithReturns h → waits ≡ must_wait h i → (AreNamedApart h → 0 < length events → IsYield h i events stream end) → next ≡ next_copy h → batch ≡ next → copies ≡ numbered n next next next → length events ≡ n → 0 < n → next + n ≤ 2 ^ 63 →
+pub birth_in_order : (h : Record) (i next n batch : ℕ) (copies : List Copy) (events : List Event) (waits : Bool) (stream end : ℕ) → IsLegalWithReturns h → waits ≡ must_wait h i → (AreNamedApart h → 0 < length events → yield h i ≡ Some (record { events = events; stream = stream; end = end })) → next ≡ next_copy h → batch ≡ next → copies ≡ numbered n next next next → length events ≡ n → 0 < n → next + n ≤ 2 ^ 63 →
     MayBear h i batch (numbers_in copies) events waits stream end
-birth_in_order h i next n batch copies events waits stream end order must yield now first are each some fits =
+birth_in_order h i next n batch copies events waits stream end order must given now first are each some fits =
     let counted : numbers_in copies ≡ counting next n = ap numbers_in are ∙ numbers_numbered n next next next in
     let many : length (numbers_in copies) ≡ n = ap length counted ∙ length_counting next n in
     record {
-      yield = yield (named_apart h order) (omega (arith, each, some));
+      yields = given (named_apart h order) (omega (arith, each, some));
       some = omega (arith, many, some);
       one_each = many ∙ sym each;
       next = counted ∙ ap (λ k. counting k n) now ∙ ap (λ m. counting (next_copy h) m) (sym many);

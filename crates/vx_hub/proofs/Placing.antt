@@ -1,6 +1,6 @@
 -- The instances go on having what the record has, where parcels move and entries tell it.
 use Rattle.std.proofs.Common.{◌≡◌, ℕ, zero, suc, ◌+◌, ◌<◌, ◌≤◌, Bool, true, false, List, [], ◌∷◌, ◌++◌, length, Option, Some, None, IfSome, refl, sym, ap, ◌∙◌, subst, arith}
-use Rattle.std.specs.Prelude.{◌==◌, if◌then◌else◌, IfNone}
+use Rattle.std.specs.Prelude.{◌==◌, if◌then◌else◌}
 use Rattle.std.proofs.lemmas.Bool.Decides.{nat_tests}
 use Rattle.std.proofs.lemmas.List.{append_assoc, append-nil}
 use Rattle.vx_value.specs.declared.event.Event.{Event}
@@ -22,7 +22,7 @@ use Rattle.vx_record.proofs.Changes.{same_place_is, stands_once}
 use Rattle.vx_record.proofs.Hands.{AreAt, shrunk_by_none, stands_still, live_still, others_stay, hand_is_live, parcel_is_at, parcel_taken, parcel_once, all_taken, spent_from_hand, rest_live, born_in_hand, born_once, born_live, singles_left}
 use Rattle.vx_record.proofs.Entries.{push_pops, push_grows, push_stays, take_pops, take_grows, take_stays, split_pops, split_grows, split_stays, born_grows}
 use Rattle.vx_hub.specs.declared.row.Row.{Row}
-use Rattle.vx_hub.specs.Rows.{parcel_copies, option_copies}
+use Rattle.vx_hub.specs.Rows.{parcel_copies}
 use Rattle.vx_hub.specs.Numbers.{numbers_in, noted_of}
 use Rattle.vx_record.proofs.OnePlace.{conserved as legal_conserved}
 use Rattle.vx_hub.specs.Order.{IsLegalWithReturns}

@@ -1,7 +1,6 @@
 -- Each instance works with a port and is no transform: none makes its lines itself, and none answers.
 use Rattle.std.proofs.Common.{◌≡◌, ℕ, zero, suc, ◌<◌, Bool, true, false, List, [], ◌∷◌, length, get_or, Option, Some, None, refl, sym, ap, ◌∙◌, arith}
-use Rattle.std.specs.Prelude.{◌&&◌, ◌||◌, not, slice_get, if◌then◌else◌}
-use Rattle.vx_json.specs.declared.demo_settings.DemoSettings.{DemoSettings}
+use Rattle.std.specs.Prelude.{◌&&◌, ◌||◌, not, slice_get}
 use Rattle.vx_plan.specs.declared.plan.Plan.{Plan}
 use Rattle.vx_plan.specs.declared.component.Component.{Component}
 use Rattle.vx_plan.specs.declared.settings.Settings.{Settings}
@@ -20,7 +19,7 @@ use Rattle.vx_record.proofs.Ticks.{no_rule}
 use Rattle.vx_record.proofs.Wired.{component_in_place}
 use Rattle.vx_hub.specs.Order.{IsLegalWithReturns, is_ported, all_ported}
 use Rattle.vx_hub.proofs.Allowed.{earlier}
-use Rattle.vx_hub.proofs.Runners.{names_so, ported_so, unwired}
+use Rattle.vx_hub.proofs.Runners.{ported_so, unwired}
 
 pub and_left : (a b : Bool) → (a && b) ≡ true → a ≡ true
 and_left true b e = refl
@@ -54,7 +53,7 @@ component_ported h i c order there = go (in_force h) refl
     go None none =
         let gone : component_of h i ≡ None = ap (λ (o : Option Wiring). elim o [ None ↦ None | Some w ↦ component_named w.plan w.name ]) (unwired h i none) in
         cc
-    go (Some plan) force = ported_at plan.components i c (ported_so h plan order force) (sym (component_in_place h plan i order.legal force (names_so h plan order force)) ∙ there)
+    go (Some plan) force = ported_at plan.components i c (ported_so h plan order force) (sym (component_in_place h plan i order.legal force) ∙ there)
 
 -- what is so of a component that works with a port, and without one, is so of each instance
 of_ported : {X : Type 0} (h : Record) (i : ℕ) (f : Component → X) (x : X) → IsLegalWithReturns h → ((c : Component) → is_ported c ≡ true → f c ≡ x) → told x f h i ≡ x

@@ -7,13 +7,12 @@ use Rattle.vx_record.specs.Records.{Record}
 use Rattle.vx_hub.specs.declared.facts.Facts.{Facts}
 use Rattle.vx_hub.specs.declared.row.Row.{Row}
 use Rattle.vx_hub.specs.declared.task.Task.{Task}
-use Rattle.vx_hub.specs.declared.parts.Numbered.{Numbered}
 use Rattle.vx_hub.specs.Rows.{IsBare, row_at, task_port, port_at}
-use Rattle.vx_hub.specs.Stands.{IsGone, IsShut, IsTold, IsKnown, facts_at}
+use Rattle.vx_hub.specs.Stands.{IsGone, IsShut, IsTold, IsKnown, facts_at, NoneAwaited}
 use Rattle.vx_record.specs.Places.{Place, owner}
 use Rattle.vx_record.specs.Moving.{IsConserved}
-use Rattle.vx_record.specs.Batches.{NoNoticeDue}
 use Rattle.vx_record.specs.Accounting.{IsAccounted}
+use Rattle.vx_record.proofs.Dues.{has_none_live}
 use Rattle.vx_record.proofs.Notices.{accounted_once}
 use Rattle.vx_status.specs.declared.batch_status.BatchStatus.TheVariants.{Delivered}
 use Rattle.vx_record.specs.Statuses.{AllGood}
@@ -125,9 +124,9 @@ pub one_place : (h : Record) → IsLegalWithReturns h → HasOnePlace h
 one_place h order later earlier is c l = conserved_place later earlier (subst IsConserved (sym is) (conserved h order)) c l
 
 -- each batch had its notice
-pub all_noticed : (h : Record) → IsLegalWithReturns h → NoNoticeDue h → AllSpent h → HasNotices h
+pub all_noticed : (h : Record) → IsLegalWithReturns h → NoneAwaited h → AllSpent h → HasNotices h
 all_noticed h order quiet spent = record {
-  once = λ b has. accounted_once h (accounted h order) b has (λ c same live. let one = spent c live.0 in let a = live.1 in let d = live.2 in omega arith) (quiet b);
+  once = λ b has. accounted_once h (accounted h order) b has (has_none_live h b (λ c same live. let one = spent c live.0 in let a = live.1 in let d = live.2 in omega arith)) (quiet b);
   due = λ later earlier b status is. (accounted_so later earlier b status (all is)).0;
   folded = λ later earlier b status is. (accounted_so later earlier b status (all is)).1;
   good = λ later earlier b status is. subst (λ k. (status ≡ Delivered) ↔ AllGood k b) is (accounted_tells later earlier b status (all is));

@@ -1,36 +1,34 @@
 -- A source by the name of its component is one by its place in the plan.
-use Rattle.std.proofs.Common.{◌≡◌, ℕ, zero, suc, ◌+◌, Bool, true, false, List, [], ◌∷◌, Option, Some, None, refl, sym, ap, subst, ◌∙◌, arith}
-use Rattle.std.specs.Prelude.{◌==◌, IfSome, IsSomeAnd, slice_get, if◌then◌else◌}
-use Rattle.std.proofs.lemmas.Bool.Decides.{nat_tests}
-use Rattle.vx_value.specs.Texts.{Word}
+use Rattle.std.proofs.Common.{◌≡◌, ℕ, Bool, true, false, [], ◌∷◌, Option, Some, None, refl, sym, ap, subst, ◌∙◌}
+use Rattle.std.specs.Prelude.{IfSome, IsSomeAnd, slice_get}
 use Rattle.vx_plan.specs.declared.class.Class.{Class}
 use Rattle.vx_plan.specs.declared.class.Class.TheVariants.{Source, Transform, Sink}
 use Rattle.vx_plan.specs.declared.component.Component.{Component}
 use Rattle.vx_plan.specs.declared.plan.Plan.{Plan}
+use Rattle.vx_plan.specs.Accepted.{names_differ, IsPlan}
 use Rattle.vx_plan.specs.Components.{component_named, is_source}
 use Rattle.vx_record.specs.Records.{Record}
 use Rattle.vx_record.specs.declared.entry.Entry.TheVariants.{Install}
-use Rattle.vx_record.specs.Starting.{first_instances}
-use Rattle.vx_record.specs.Wirings.{names_differ, begun}
-use Rattle.vx_record.specs.Installs.{Wiring, wiring, name_at, in_force, component_of, source_at}
-use Rattle.vx_record.proofs.Wired.{begun_legal, unwired_past, component_there as legal_there}
+use Rattle.vx_record.specs.Wirings.{begun}
+use Rattle.vx_record.specs.Installs.{Wiring, wiring, in_force, component_of, source_at}
+use Rattle.vx_record.proofs.Wired.{in_force_accepted, begun_legal, unwired_past, component_there as legal_there}
 use Rattle.vx_hub.specs.Order.{IsLegalWithReturns, IsOfClass, component_in, all_ported}
 
 -- no two components of the plan in force have one name
 pub names_so : (h : Record) (plan : Plan) → IsLegalWithReturns h → in_force h ≡ Some plan → names_differ plan.components ≡ true
-names_so h plan order force = subst (λ (p : Option Plan). IfSome p (λ (q : Plan). names_differ q.components ≡ true)) force order.named
+names_so h plan order force = (in_force_accepted h plan order.legal force).named
 
 -- and each works with a port
 pub ported_so : (h : Record) (plan : Plan) → IsLegalWithReturns h → in_force h ≡ Some plan → all_ported plan.components ≡ true
 ported_so h plan order force = subst (λ (p : Option Plan). IfSome p (λ (q : Plan). all_ported q.components ≡ true)) force order.ported
 
--- a record that begins with such a plan is legal, its names differ, and its components work with ports
-pub begun_orderly : (plan : Plan) (once : Bool) (now : ℕ) → names_differ plan.components ≡ true → all_ported plan.components ≡ true → IsLegalWithReturns (begun plan once now)
-begun_orderly plan once now named ported = record { legal = begun_legal plan once now; named = named; ported = ported; returned = tt }
+-- a record that begins with such a plan is legal, and its components work with ports
+pub begun_orderly : (plan : Plan) (once : Bool) (now : ℕ) → IsPlan plan → all_ported plan.components ≡ true → IsLegalWithReturns (begun plan once now)
+begun_orderly plan once now accepted ported = record { legal = begun_legal plan once now accepted; ported = ported; returned = tt }
 
 -- an instance runs the component in its place
 pub component_there : (h : Record) (plan : Plan) (i : ℕ) (c : Component) → IsLegalWithReturns h → in_force h ≡ Some plan → slice_get plan.components i ≡ Some c → component_of h i ≡ Some c
-component_there h plan i c order force at = legal_there h plan i c order.legal force (names_so h plan order force) at
+component_there h plan i c order force at = legal_there h plan i c order.legal force at
 
 -- where nothing is installed nothing is wired
 pub unwired : (h : Record) (i : ℕ) → in_force h ≡ None → wiring h i ≡ None

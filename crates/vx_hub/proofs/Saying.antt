@@ -5,15 +5,13 @@ use Rattle.std.proofs.lemmas.List.{append-nil}
 use Rattle.vx_value.specs.declared.event.Event.{Event}
 use Rattle.vx_ends.specs.Told.{Told}
 use Rattle.vx_ends.specs.declared.position.Position.{Position}
-use Rattle.vx_ends.specs.declared.trouble.Reply.{Reply}
 use Rattle.vx_record.specs.Records.{Record, capped}
 use Rattle.vx_record.specs.Reads.{taken, all_ended, ended_streams, ended_by as ended_in_entry}
 use Rattle.vx_record.specs.Encoding.{given, given_in}
 use Rattle.vx_record.specs.Confirms.{confirmed, confirmed_in}
 use Rattle.vx_record.specs.Growth.{taken_in}
 use Rattle.vx_record.specs.Noted.{Noted}
-use Rattle.vx_record.specs.PortCounts.{fault_count, refusal_count, idle_count, faults_in, refusals_in, idles_in, is_refused}
-use Rattle.vx_record.specs.SinkBatches.{is_failed}
+use Rattle.vx_record.specs.PortCounts.{fault_count, refusal_count, idle_count, faults_in, refusals_in, idles_in}
 use Rattle.vx_record.proofs.Grows.{taken_grows}
 use Rattle.vx_record.specs.declared.log.Log.{Log}
 use Rattle.vx_record.specs.declared.entry.Entry.{Entry}
@@ -57,12 +55,12 @@ told_said told h i e done s a = record {
 }
 
 -- one of two tests holds
-over_said : (a b c : Bool) → (a && b || c) ≡ true → (c ≡ true) ⊎ (b ≡ true)
+pub over_said : (a b c : Bool) → (a && b || c) ≡ true → (c ≡ true) ⊎ (b ≡ true)
 over_said true true c o = inr refl
 over_said true false c o = inl o
 over_said false b c o = inl o
 
-if_same : {X : Type 0} (t : Bool) (x : X) → (if t then x else x) ≡ x
+pub if_same : {X : Type 0} (t : Bool) (x : X) → (if t then x else x) ≡ x
 if_same true x = refl
 if_same false x = refl
 

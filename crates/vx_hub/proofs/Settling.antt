@@ -1,5 +1,5 @@
 -- What was attempted is held or spent, and spent where its instance is at home.
-use Rattle.std.proofs.Common.{◌≡◌, ℕ, zero, suc, ◌+◌, ◌<◌, ◌≤◌, Bool, true, false, List, [], ◌∷◌, ◌++◌, length, refl, sym, ap, subst, ◌∙◌, arith, inl, inr}
+use Rattle.std.proofs.Common.{◌≡◌, ℕ, ◌+◌, ◌<◌, ◌≤◌, Bool, true, false, List, [], ◌∷◌, length, refl, sym, ap, subst, ◌∙◌, arith, inl, inr}
 use Rattle.std.specs.Prelude.{if◌then◌else◌, nat_lt, ◌==◌, ◌&&◌, ◌||◌, IsTrue, IfSome, IsSomeAnd, Option, Some, None}
 use Rattle.std.specs.List.{list_any}
 use Rattle.std.proofs.lemmas.Bool.Decides.{nat_tests}
@@ -8,21 +8,17 @@ use Rattle.vx_ends.specs.Told.{Told}
 use Rattle.vx_ledger.specs.Copies.{Copy}
 use Rattle.vx_record.specs.Records.{Record}
 use Rattle.vx_record.specs.declared.entry.Entry.{Entry}
-use Rattle.vx_record.specs.declared.entry.Entry.TheVariants.{Lease, Home, Attempt, Spent, Abandon}
+use Rattle.vx_record.specs.declared.entry.Entry.TheVariants.{Lease, Home, Attempt, Abandon}
 use Rattle.vx_record.specs.Copies.{count, contains, joined, spends, all_of, times_spent}
-use Rattle.vx_record.specs.Places.{kind, leaves, puts}
 use Rattle.vx_record.specs.Places.Place.{Held}
-use Rattle.vx_record.specs.Lists.{shrunk, held}
+use Rattle.vx_record.specs.Lists.{held}
 use Rattle.vx_record.specs.Abandoning.{abandoned}
 use Rattle.vx_record.specs.Turns.{is_out, since_lease, is_attempt_of, worker_now}
 use Rattle.vx_record.specs.SinkBatches.{attempts_with, failures_with, attempts_allowed}
 use Rattle.vx_record.specs.Parcels.{first_copy}
-use Rattle.vx_record.specs.Owing.{is_decided, unspent_of, owes_spends_in, owes_birth}
+use Rattle.vx_record.specs.Owing.{is_decided, unspent_of, decided, owes_spends_in, owes_birth}
 use Rattle.vx_record.specs.Ready.{is_ready}
-use Rattle.vx_record.specs.Moving.{IsConserved}
 use Rattle.vx_record.proofs.Counts.{count-append}
-use Rattle.vx_record.proofs.Changes.{parcels_after, put_at}
-use Rattle.vx_record.proofs.Hands.{stands_still}
 use Rattle.vx_hub.specs.declared.facts.Facts.{Facts}
 use Rattle.vx_hub.specs.declared.hub.Hub.{Hub}
 use Rattle.vx_record.specs.Starting.{MayLease}
@@ -34,8 +30,6 @@ use Rattle.vx_hub.specs.Stands.{Stands, IsKnown, IsSound, IsAtHome, facts_at}
 use Rattle.vx_hub.proofs.Silence.{same_test, other_test}
 use Rattle.vx_hub.proofs.Placing.{places_all}
 use Rattle.vx_hub.proofs.Touching.{out_port}
-use Rattle.vx_record.specs.Legal.{IsLegal}
-use Rattle.vx_record.proofs.OnePlace.{conserved as legal_conserved}
 use Rattle.vx_record.proofs.Attempted.{attempted_held}
 use Rattle.vx_hub.proofs.Allowed.{earlier}
 use Rattle.vx_hub.proofs.Ported.{owes_else}
@@ -113,15 +107,6 @@ settled_bare h i o none going c l = elim (cases_lt 0 (times_spent h c)) [
 ]
 
 -- WHAT IS OWED
-all_false : (a b c : Bool) → c ≡ false → (a && b && c) ≡ false
-all_false true true c e = e
-all_false true false c e = refl
-all_false false b c e = refl
-
-first_false : (a b c : Bool) → a ≡ false → (a && b && c) ≡ false
-first_false true b c e = cc
-first_false false b c e = refl
-
 none_of : (a b : Bool) → a ≡ false → b ≡ false → (a || b) ≡ false
 none_of true b e f = cc
 none_of false b e f = f
@@ -146,12 +131,14 @@ tried t n m e l = subst (λ (b : Bool). 0 < n + (if b && nat_lt 0 m then 1 else 
 pub owes_none : (h whole : Record) (i : ℕ) → ((c : ℕ) → 0 < attempts_with h i c → 0 < times_spent whole c) → owes_spends_in h whole i ≡ false
 owes_none [] whole i all = refl
 owes_none (Attempt j copies bytes reply ∷ h) whole i all =
-    none_of ((j == i) && is_decided reply (failures_with h i (first_copy copies) + 1) (attempts_allowed h i) && unspent_of whole copies) (owes_spends_in h whole i)
-    (go (j == i) refl) (owes_none h whole i (λ c l. all c (omega (arith, l))))
+    go (j == i) refl (is_decided reply (failures_with h i (first_copy copies) + 1) (attempts_allowed h i)) (owes_none h whole i (λ c l. all c (omega (arith, l))))
   where
-    go : (b : Bool) → (j == i) ≡ b → ((j == i) && is_decided reply (failures_with h i (first_copy copies) + 1) (attempts_allowed h i) && unspent_of whole copies) ≡ false
-    go true e = all_false (j == i) _ (unspent_of whole copies) (spent_all whole copies (λ c l. all c (tried (j == i) (attempts_with h i c) (count c copies) e l)))
-    go false e = first_false (j == i) _ _ e
+    go : (mine : Bool) → (j == i) ≡ mine → (settled : Bool) → list_any (unspent_of whole) (decided h i) ≡ false → list_any (unspent_of whole) (if mine && settled then copies ∷ decided h i else decided h i) ≡ false
+    go true e true rest =
+        none_of (unspent_of whole copies) (list_any (unspent_of whole) (decided h i))
+        (spent_all whole copies (λ c l. all c (tried (j == i) (attempts_with h i c) (count c copies) e l))) rest
+    go true e false rest = rest
+    go false e settled rest = rest
 owes_none (e ∷ h) whole i all = owes_none h whole i all
 
 -- what isn't closed isn't retired

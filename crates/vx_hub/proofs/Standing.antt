@@ -12,11 +12,11 @@ use Rattle.vx_record.specs.Noted.{Noted}
 use Rattle.vx_record.specs.Copies.{count, joined, IsLive}
 use Rattle.vx_record.specs.Places.{Place}
 use Rattle.vx_record.specs.Places.Place.{Outputs, Waiting, Held}
-use Rattle.vx_record.specs.Lists.{stands, without, and_rest, shrunk, parcels_at, outputs}
+use Rattle.vx_record.specs.Lists.{stands, shrunk, parcels_at, outputs}
 use Rattle.vx_record.specs.Spending.{oldest}
 use Rattle.vx_record.specs.Moving.{IsConserved}
 use Rattle.vx_record.specs.declared.entry.Entry.TheVariants.{Spent, Notice}
-use Rattle.vx_record.proofs.Counts.{count-append, count-without, unless}
+use Rattle.vx_record.proofs.Counts.{count-append}
 use Rattle.vx_record.proofs.Hands.{shrunk_by_none, stands_still, parcel_is_at, spent_from_hand}
 use Rattle.vx_hub.specs.declared.hub.Hub.{Hub}
 use Rattle.vx_hub.specs.Numbers.{numbers_in}

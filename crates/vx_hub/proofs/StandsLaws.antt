@@ -10,7 +10,7 @@ use Rattle.vx_record.specs.Records.{Record}
 use Rattle.vx_record.specs.Noted.{Noted}
 use Rattle.vx_record.specs.declared.log.Log.{Log}
 use Rattle.vx_record.specs.declared.entry.Entry.{Entry}
-use Rattle.vx_record.specs.declared.entry.Entry.TheVariants.{Install, Lease, Home, Read, Idle, SourceLost, Born, Answer, Attempt, Spent, Notice, Confirm, Closed, Retired, Abandon}
+use Rattle.vx_record.specs.declared.entry.Entry.TheVariants.{Install, Home, Read, Idle, SourceLost, Answer, Attempt, Spent, Notice, Confirm, Abandon}
 use Rattle.vx_record.specs.declared.abandon_cause.AbandonCause.{AbandonCause}
 use Rattle.vx_hub.proofs.Known.{known_far, quiet_far}
 use Rattle.vx_hub.specs.declared.facts.Facts.{Facts}
@@ -20,7 +20,7 @@ use Rattle.vx_plan.specs.declared.plan.Plan.{Plan}
 use Rattle.vx_hub.specs.Making.{room_at}
 use Rattle.vx_hub.proofs.RowLaws.{same_length, each_room}
 use Rattle.vx_hub.specs.Rows.{buffer_rooms, SameRooms, port_at, IsBareAt, SamePorts, KeepsBare, KeepsOthersBare, Loses, Gains}
-use Rattle.vx_hub.specs.Stands.{Stands, IsTold, IsKnown, AreOut, IsRecorded, IsShut, IsGone, IsBalanced, IsSound, IsQuiet, touched, lost_at, IsMute, facts_at, capped, HasBerths, HasRooms, HasFew, spare_of, cause_of}
+use Rattle.vx_hub.specs.Stands.{Stands, IsTold, IsKnown, AreOut, IsRecorded, IsShut, IsGone, IsBalanced, IsSound, IsQuiet, touched, lost_at, IsMute, facts_at, capped, HasBerths, HasRooms, HasFew, spare_of, cause_of, NoneAwaited}
 use Rattle.vx_hub.specs.declared.parts.Numbered.{Numbered}
 use Rattle.vx_value.specs.Filled.{Filled}
 use Rattle.vx_record.specs.Installs.{in_force}
@@ -39,7 +39,6 @@ use Rattle.vx_hub.specs.Order.{IsLegalWithReturns, IsUnknown}
 use Rattle.vx_status.specs.declared.outcome.Outcome.{Outcome}
 use Rattle.vx_status.specs.declared.batch_status.BatchStatus.{BatchStatus}
 use Rattle.vx_record.specs.Accounting.{IsNoticedSo}
-use Rattle.vx_record.specs.Batches.{NoNoticeDue}
 use Rattle.vx_hub.specs.Batching.{AreRunning}
 use Rattle.vx_hub.proofs.Placing.{conserved}
 use Rattle.vx_hub.proofs.Allowed.{MayFollow, next_orderly, Keeps}
@@ -116,7 +115,7 @@ pub record Passes {P : Type 0} (d e : Hub P) (hand after : List Copy) (entry : E
   pub said : IsSound d → AreSaid d.log.history d.rows.items → AreSaid (entry ∷ d.log.history) e.rows.items
   pub outs : IsSound d → (i : ℕ) → port_at d.rows.items i ≡ None → is_out d.log.history i ≡ true → is_out (entry ∷ d.log.history) i ≡ true
   pub places : IsSound d → IsConserved (entry ∷ d.log.history) → IsPlaced d.rows.items hand d.log.history → IsPlaced e.rows.items after (entry ∷ d.log.history)
-  pub due : IsSound d → NoNoticeDue (entry ∷ d.log.history)
+  pub due : IsSound d → NoneAwaited (entry ∷ d.log.history)
   pub statuses : IsSound d → AreRunning d.log.history d.batches.open_rows → AreRunning (entry ∷ d.log.history) e.batches.open_rows
   pub ledger : IsKept d.batches → IsKept e.batches
   pub opened : pending_in e.batches.open_rows ≡ pending_in d.batches.open_rows
@@ -350,10 +349,10 @@ stands_abandoned {P} told_by d log cause s once reason noted = record {
         facts = λ i. some_mapped _ _ (facts_at d.facts.items i) (λ f k. known_far f d.log.history i (Abandon cause) refl k) (r.facts i);
         bytes = r.bytes;
         next = same_next d.batches d.batches d.log.history (Abandon cause) refl refl r.next;
-        order = next_orderly d.log.history (Abandon cause) ((record { first = unabandoned d.log.history (sym r.cause ∙ once); reason = reason fine }, tt), r.noticeless, comes_going d.log.history (Abandon cause) (sym r.cause ∙ once)) r.order;
+        order = next_orderly d.log.history (Abandon cause) ((record { first = unabandoned d.log.history (sym r.cause ∙ once); reason = reason fine }, tt), in_turn d.log.history (Abandon cause) r.noticeless, comes_going d.log.history (Abandon cause) (sym r.cause ∙ once)) r.order;
         said = rows_on d.log.history (Abandon cause) tt d.rows.items r.said;
         outs = r.outs;
-        noticeless = λ b w. w;
+        noticeless = λ b. refl;
         statuses = running_still d.log.history (Abandon cause) d.batches.open_rows tt r.statuses;
         ledger = r.ledger;
         unknown = λ i past. unknown_mute (Abandon cause) d.log.history i tt (r.unknown i past);
@@ -372,7 +371,7 @@ stands_abandoned {P} told_by d log cause s once reason noted = record {
   few = s.few;
   count = s.count;
   order = order_noted told_by d [] log (Abandon cause) s noted (λ fine.
-      let r = s.recorded fine in ((record { first = unabandoned d.log.history (sym r.cause ∙ once); reason = reason fine }, tt), r.noticeless, comes_going d.log.history (Abandon cause) (sym r.cause ∙ once)));
+      let r = s.recorded fine in ((record { first = unabandoned d.log.history (sym r.cause ∙ once); reason = reason fine }, tt), in_turn d.log.history (Abandon cause) r.noticeless, comes_going d.log.history (Abandon cause) (sym r.cause ∙ once)));
   fed = fed_noted d.log log (Abandon cause) d.starved d.starved noted refl s.fed;
 }
 
@@ -445,7 +444,7 @@ stands_noticed {P} told_by d e hand after i c outcome batch status mid s balance
             order = next_orderly (first ∷ h) second ((noted_so, tt), tt, λ gone. refl) ordered;
             outs = subst (λ (v : _). AreOut v.items (second ∷ first ∷ h)) (sym rows) r.outs;
             said = subst (λ (v : _). AreSaid (second ∷ first ∷ h) v.items) (sym rows) (rows_on (first ∷ h) second tt d.rows.items (rows_on h first tt d.rows.items r.said));
-            noticeless = λ b w. w;
+            noticeless = λ b. refl;
             statuses = running_still (first ∷ h) second e.batches.open_rows tt (statuses fine);
             ledger = ledger;
             unknown = λ j past. let p = subst (λ (v : _). length v.items ≤ j) rows past in unknown_mute second (first ∷ h) j tt (unknown_mute first h j tt (r.unknown j p));

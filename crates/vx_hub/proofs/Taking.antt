@@ -3,7 +3,7 @@ use Rattle.std.proofs.Common.{◌≡◌, ℕ, zero, suc, ◌+◌, ◌<◌, ◌�
 use Rattle.std.specs.Prelude.{◌==◌, ◌&&◌, ◌||◌, ◌⊎◌, not, if◌then◌else◌, nat_lt, nat_le, IsSome, IsSomeAnd, slice_get}
 use Rattle.std.specs.List.{list_any, list_all}
 use Rattle.std.proofs.lemmas.Bool.Decides.{nat_tests}
-use Rattle.vx_value.specs.Texts.{Word, is_empty}
+use Rattle.vx_value.specs.Texts.{is_empty}
 use Rattle.vx_ends.specs.Told.{Told}
 use Rattle.vx_status.specs.declared.outcome.Outcome.{Outcome}
 use Rattle.vx_status.specs.declared.outcome.Outcome.TheVariants.{Delivered, Attempts, Refusal, Abandoned, NoConsumer, Filtered, NewestDropped}
@@ -12,14 +12,14 @@ use Rattle.vx_ledger.specs.Copies.{Copy}
 use Rattle.vx_ledger.specs.declared.parcel.Parcel.{Parcel}
 use Rattle.vx_plan.specs.declared.plan.Plan.{Plan}
 use Rattle.vx_plan.specs.declared.component.Component.{Component}
-use Rattle.vx_plan.specs.Components.{component_named, batch_max_events, batch_timeout}
+use Rattle.vx_plan.specs.Components.{batch_max_events, batch_timeout}
 use Rattle.vx_record.specs.Records.{Record, capped}
 use Rattle.vx_record.specs.declared.entry.Entry.{Entry}
 use Rattle.vx_record.specs.declared.entry.Entry.TheVariants.{Install, Read, Take, Answer, Attempt}
 use Rattle.vx_record.specs.declared.abandon_cause.AbandonCause.{AbandonCause}
 use Rattle.vx_record.specs.Abandoning.{abandoned}
 use Rattle.vx_record.specs.Copies.{count, contains, joined, times_spent}
-use Rattle.vx_record.specs.Installs.{in_force, component_of, wiring, Wiring}
+use Rattle.vx_record.specs.Installs.{in_force, component_of}
 use Rattle.vx_record.specs.Lists.{and_rest, without, shrunk, parcels_at, parcels_where, contents, held, buffered, is_stage_of}
 use Rattle.vx_record.specs.Moving.{IsConserved}
 use Rattle.vx_record.specs.Parcels.{first_copy}
@@ -27,12 +27,9 @@ use Rattle.vx_record.specs.Places.{Place, Put, same_place, all_puts, left}
 use Rattle.vx_record.specs.Places.Place.{Outputs, Waiting, Contents, Held}
 use Rattle.vx_record.specs.Routing.{is_ending}
 use Rattle.vx_record.specs.SinkBatches.{taken_at, attempts_with, failures_with, failed_at, wait_after, is_failed, oldest_held, is_full_batch, is_timed_out, is_last_batch, was_attempted, is_batch_closed, retry_from}
-use Rattle.vx_record.specs.Starting.{first_instances}
 use Rattle.vx_record.specs.Turns.{is_take_of, is_attempt_of}
-use Rattle.vx_record.specs.Wirings.{names_differ, begun}
 use Rattle.vx_record.proofs.Changes.{NoneEmpty, none_empty, same_place_is}
 use Rattle.vx_record.proofs.Counts.{count-append, count-without}
-use Rattle.vx_record.proofs.FirstWiring.{component_of_first}
 use Rattle.vx_record.proofs.Hands.{hand_is_live}
 use Rattle.vx_hub.specs.declared.hub.Hub.{Hub}
 use Rattle.vx_hub.specs.declared.row.Row.{Row}
@@ -52,9 +49,7 @@ use Rattle.vx_hub.specs.Stands.{Stands, IsSound, IsMute}
 use Rattle.vx_hub.proofs.Collecting.{IsFirstHeld, collecting_taken, tried_leave, given_leave}
 use Rattle.vx_hub.proofs.Following.{abreast_on}
 use Rattle.vx_hub.proofs.Homing.{length_parcels}
-use Rattle.vx_record.proofs.Wired.{name_first}
-use Rattle.vx_hub.proofs.Naming.{component_is}
-use Rattle.vx_hub.proofs.Ordering.{named_apart}
+use Rattle.vx_hub.proofs.Runners.{component_there}
 use Rattle.vx_hub.proofs.Placing.{places_all, conserved}
 use Rattle.vx_hub.proofs.Ceasing.{unabandoned}
 use Rattle.vx_hub.proofs.Saids.{rows_on, parcels_on}
@@ -190,14 +185,6 @@ core_more {P} rows i l can = go (row_at rows i) refl can
     go (Some row) at more = by_task row.task more
 
 -- BATCHES
--- the component of an instance is the one in its place
-named_here : (plan : Plan) (i : ℕ) (c : Component) → names_differ plan.components ≡ true → slice_get plan.components i ≡ Some c → component_named plan c.name ≡ Some c
-named_here plan i c differ at =
-    let wired_it : wiring (begun plan true 0) i ≡ Some (record { plan = plan; instances = first_instances 0 plan.components; name = c.name }) =
-    ap (λ (o : Option Word). elim o [ None ↦ None | Some name ↦ Some (record { plan = plan; instances = first_instances 0 plan.components; name = name }) ]) (name_first plan.components (first_instances 0 plan.components) i c at refl) in
-    let by_name : component_of (begun plan true 0) i ≡ component_named plan c.name = ap (λ (o : Option Wiring). elim o [ None ↦ None | Some w ↦ component_named w.plan w.name ]) wired_it in
-    sym by_name ∙ component_of_first plan true 0 i c differ at
-
 -- a component that is found
 pub record IsFound (h : Record) (i : ℕ) (F : Component → Type 0) : Type 0 where
   pub component : Component
@@ -205,15 +192,15 @@ pub record IsFound (h : Record) (i : ℕ) (F : Component → Type 0) : Type 0 wh
   pub has : F component
 
 pub component_found : (h : Record) (i : ℕ) (F : Component → Type 0) → IsLegalWithReturns h → IsSomeAnd (component_in (in_force h) i) F → IsFound h i F
-component_found h i F order is = go (in_force h) refl is (named_apart h order)
+component_found h i F order is = go (in_force h) refl is
   where
-    at : (plan : Plan) → in_force h ≡ Some plan → names_differ plan.components ≡ true → (o : Option Component) → slice_get plan.components i ≡ o → IsSomeAnd o F → IsFound h i F
-    at plan force differ None here f = absurd f
-    at plan force differ (Some c) here f = record { component = c; found = component_is h plan i c order force here ∙ named_here plan i c differ here; has = f }
+    at : (plan : Plan) → in_force h ≡ Some plan → (o : Option Component) → slice_get plan.components i ≡ o → IsSomeAnd o F → IsFound h i F
+    at plan force None here f = absurd f
+    at plan force (Some c) here f = record { component = c; found = component_there h plan i c order force here; has = f }
 
-    go : (p : Option Plan) → in_force h ≡ p → IsSomeAnd (component_in p i) F → IfSome p (λ (plan : Plan). names_differ plan.components ≡ true) → IsFound h i F
-    go None force f apart = absurd f
-    go (Some plan) force f apart = at plan force apart (slice_get plan.components i) refl f
+    go : (p : Option Plan) → in_force h ≡ p → IsSomeAnd (component_in p i) F → IsFound h i F
+    go None force f = absurd f
+    go (Some plan) force f = at plan force (slice_get plan.components i) refl f
 
 -- a batch is full where its core is
 full_is : (h : Record) (i : ℕ) (core : SinkCore) → IsLegalWithReturns h → IsCollecting h i core → held h i ≡ parcel_numbers core.held.items → is_full_batch h i ≡ nat_le core.held.room (length core.held.items)

@@ -24,7 +24,7 @@ use Rattle.vx_hub.specs.declared.hub.Hub.{Hub}
 use Rattle.vx_hub.specs.Rows.{buffer_rooms, SameRooms, port_at, port_of, task_port, row_at, copies_in, IsBareAt, IsOutAt, SameOtherPorts, KeepsOthersBare, KeepsBare, Gains, Loses}
 use Rattle.vx_hub.specs.Works.{IsClosedBy}
 use Rattle.vx_hub.specs.declared.task.Task.{Task}
-use Rattle.vx_hub.specs.Stands.{Stands, IsTold, IsKnown, AreOut, IsRecorded, IsSound, IsShut, IsGone, facts_at, spec_at, capped, touched, IsBalanced, IsMute, spare_of, cause_of}
+use Rattle.vx_hub.specs.Stands.{Stands, IsTold, IsKnown, AreOut, IsRecorded, IsSound, IsShut, IsGone, facts_at, spec_at, capped, touched, IsBalanced, IsMute, spare_of, cause_of, NoneAwaited}
 use Rattle.vx_hub.proofs.Known.{known_far, touched_far}
 use Rattle.vx_hub.proofs.RowLaws.{same_length}
 use Rattle.vx_hub.proofs.StandsLaws.{some_mapped, some_all, berths_kept, rooms_kept, told_mute, bytes_mute, force_mute, same_next, unknown_on, unknown_mute, few_kept, count_kept}
@@ -44,7 +44,6 @@ use Rattle.vx_hub.specs.Order.{readers_at}
 use Rattle.vx_hub.proofs.Allowed.{next_orderly, Keeps}
 use Rattle.vx_ledger.specs.Routing.{targets_of}
 use Rattle.vx_hub.proofs.Ordering.{first_targets}
-use Rattle.vx_record.specs.Batches.{NoNoticeDue}
 use Rattle.vx_record.specs.Accounting.{IsAccounted}
 use Rattle.vx_hub.specs.Batching.{AreRunning}
 use Rattle.vx_hub.proofs.Placing.{conserved}
@@ -211,7 +210,7 @@ pub stands_marked : {P : Type 0} (told_by : P → Told) (d e : Hub P) (hand afte
     ((x : Facts) (k : ℕ) → k ≢ i → IsKnown x d.log.history k → IsKnown x (entry ∷ d.log.history) k) →
     IsShut told_by d.rows.items i g → IsGone d.rows.items i g →
     (IsSound d → IsConserved (entry ∷ d.log.history) → IsPlaced d.rows.items hand d.log.history → IsPlaced d.rows.items after (entry ∷ d.log.history)) →
-    NoNoticeDue (entry ∷ d.log.history) → (IsSound d → IsAccounted d.log.history → AreRunning d.log.history d.batches.open_rows → AreRunning (entry ∷ d.log.history) e.batches.open_rows) → (IsKept d.batches → IsKept e.batches) →
+    NoneAwaited (entry ∷ d.log.history) → (IsSound d → IsAccounted d.log.history → AreRunning d.log.history d.batches.open_rows → AreRunning (entry ∷ d.log.history) e.batches.open_rows) → (IsKept d.batches → IsKept e.batches) →
     (IsSound d → d.fatal ≡ false → OwesNothing d.log.history entry) →
     (IsSound d → IsCounted d d.log.history → IsCounted e (entry ∷ d.log.history)) →
     ((worker : ℕ) → worker_now d.log.history worker ≤ d.latest → worker_now (entry ∷ d.log.history) worker ≤ d.latest) →
@@ -482,10 +481,10 @@ stands_attempted {P} told_by d log hand i copies bytes reply s within out names 
             facts = λ j. some_mapped _ _ (facts_at d.facts.items j) (λ f k. known_far f d.log.history j (Attempt i copies bytes reply) refl k) (r.facts j);
             bytes = r.bytes;
             next = same_next d.batches d.batches d.log.history e refl refl r.next;
-            order = next_orderly d.log.history e ((names (record { whole = w.0; fed = sound.fed }) (r.outs i within none), tt), r.noticeless, left_out d.log.history i r.order (r.outs i within none)) r.order;
+            order = next_orderly d.log.history e ((names (record { whole = w.0; fed = sound.fed }) (r.outs i within none), tt), in_turn d.log.history e r.noticeless, left_out d.log.history i r.order (r.outs i within none)) r.order;
             said = rows_on d.log.history e tt d.rows.items r.said;
             outs = r.outs;
-            noticeless = λ b w. w;
+            noticeless = λ b. refl;
             statuses = running_still d.log.history e d.batches.open_rows tt r.statuses;
             ledger = r.ledger;
             unknown = λ k past. unknown_on e d.log.history k (λ t. let same : i ≡ k = cc in omega (arith, within, past, same)) (r.unknown k past);
@@ -506,7 +505,7 @@ stands_attempted {P} told_by d log hand i copies bytes reply s within out names 
       order = order_noted told_by d hand log e s noted (λ fine.
           let r = s.recorded fine in
           let away = r.outs i within none in
-          ((names fine away, tt), r.noticeless, left_out d.log.history i r.order away));
+          ((names fine away, tt), in_turn d.log.history e r.noticeless, left_out d.log.history i r.order away));
       fed = fed_noted d.log log e d.starved d.starved noted refl s.fed;
     }
 

@@ -1,6 +1,6 @@
 -- What a source brings home, behind the entries that tell it.
-use Rattle.std.proofs.Common.{◌≡◌, ℕ, ◌<◌, length, Bool, List, [], ◌∷◌, ◌++◌, inl, inr, true, subst, sym}
-use Rattle.std.specs.Prelude.{Contains}
+use Rattle.std.proofs.Common.{◌≡◌, ℕ, ◌<◌, length, Bool, List, [], ◌∷◌, ◌++◌, Some, None, subst, sym, ap, ◌∙◌}
+use Rattle.std.specs.Prelude.{Contains, if◌then◌else◌}
 use Rattle.std.proofs.lemmas.List.{append-nil}
 use Rattle.vx_ends.specs.declared.position.Position.{Position}
 use Rattle.vx_value.specs.declared.event.Event.{Event}
@@ -23,12 +23,12 @@ use Rattle.vx_hub.specs.declared.work.Done.{Done}
 use Rattle.vx_hub.specs.declared.work.Done.TheVariants as done
 use Rattle.vx_hub.specs.Abreast.{AreNamedApart, IsAbreast, HasCome, HasDone, HasTurned, RoleHasTurned, Yields, Gives}
 use Rattle.vx_hub.specs.Births.{HasComeBy, HasDoneBy}
-use Rattle.vx_hub.specs.Failures.{IsFailureOf}
 use Rattle.vx_hub.specs.Stands.{IsSound}
 use Rattle.vx_hub.specs.Spending.{HasYielded}
-use Rattle.vx_record.specs.Sourcing.{IsYield}
+use Rattle.vx_record.specs.Sourcing.{Yield, yield_of, yield}
 use Rattle.vx_hub.proofs.Following.{IsAside, abreast_on, role_on}
 use Rattle.vx_hub.proofs.Ordering.{sound_before}
+use Rattle.vx_hub.proofs.Silence.{same_test}
 
 -- an entry that is no install, no read and no take leaves an instance where it has come
 pub come_on : {P : Type 0} (d e : Hub P) (entry : Entry) (i : ℕ) (role : Role) → IsAside entry → Noted d.log entry e.log → e.starved ≡ d.starved → HasComeBy d i role → HasComeBy e i role
@@ -45,9 +45,9 @@ abreast_under h j positions made i stream taken.StreamEnded core a = record { ma
 abreast_under h j positions made i stream taken.AllEnded core a = record { made_for = λ apart. a.made_for apart; last = a.last; taken = a.taken; ended = λ s there. a.ended s (streams_under (ended_streams h i) [] s there) }
 
 yields_under : (h : Record) (j : ℕ) (positions : List Position) (made : Bool) (i stream : ℕ) (took : Taken) (events : List Event) (at end : ℕ) → Yields h i stream took events at end → Yields (Confirm j positions made ∷ h) i stream took events at end
-yields_under h j positions made i stream (taken.Bytes bytes) events at end y apart some = let is = y apart some in record { reader = is.reader; given = is.given; of_stream = is.of_stream; up_to = is.up_to }
-yields_under h j positions made i stream taken.StreamEnded events at end y apart some = let is = y apart some in record { reader = is.reader; given = is.given; of_stream = is.of_stream; up_to = is.up_to }
-yields_under h j positions made i stream taken.AllEnded events at end y apart some = let is = y apart some in record { reader = is.reader; given = is.given; of_stream = is.of_stream; up_to = is.up_to }
+yields_under h j positions made i stream (taken.Bytes bytes) events at end y apart some = record { all = (y apart some).all }
+yields_under h j positions made i stream taken.StreamEnded events at end y apart some = record { all = (y apart some).all }
+yields_under h j positions made i stream taken.AllEnded events at end y apart some = record { all = (y apart some).all }
 
 gives_under : (h : Record) (j : ℕ) (positions : List Position) (made : Bool) (i stream : ℕ) (took : Taken) (events : List Event) → Gives h i stream took events → Gives (Confirm j positions made ∷ h) i stream took events
 gives_under h j positions made i stream (taken.Bytes bytes) events gives apart = gives apart
@@ -86,7 +86,13 @@ pub all_role : (h : Record) (i stream : ℕ) (events : List Event) (end : ℕ) (
 all_role h i stream events end (Source core) t = t
 all_role h i stream events end (Sink core) t = absurd t
 
+-- what a read yields is what the record has that the newest entry yields
+read_yields : (h : Record) (i stream : ℕ) (took : Taken) (y : Yield) → yield_of h i stream took ≡ y → yield (Read i stream took ∷ h) i ≡ Some y
+read_yields h i stream took y same = ap (λ (b : Bool). if b then Some (yield_of h i stream took) else None) (same_test i) ∙ ap Some same
+
 -- and what it gave is what that read gives
 pub yielded : {P : Type 0} (d e : Hub P) (i stream : ℕ) (took : Taken) (events : List Event) (position : Position) → Noted d.log (Read i stream took) e.log → e.starved ≡ d.starved → (IsSound d → Yields d.log.history i stream took events position.stream position.end) → HasYielded e i events position
 yielded d e i stream took events position noted starved yields sound =
-    subst (λ (h : Record). AreNamedApart h → 0 < length events → IsYield h i events position.stream position.end) (sym (noted.whole sound.whole).1) (yields (sound_before d e (Read i stream took) noted starved sound))
+    let given : Yield = record { events = events; stream = position.stream; end = position.end } in
+    subst (λ (h : Record). AreNamedApart h → 0 < length events → yield h i ≡ Some given) (sym (noted.whole sound.whole).1)
+    (λ apart some. read_yields d.log.history i stream took given (yields (sound_before d e (Read i stream took) noted starved sound) apart some).all)

@@ -9,7 +9,7 @@ use Rattle.vx_plan.specs.Options.{decoding, type_name}
 use Rattle.vx_record.specs.Records.{Record}
 use Rattle.vx_record.specs.Installs.{component_of}
 use Rattle.vx_record.specs.Reads.{last_stream, open_bytes, ended_streams, events_of}
-use Rattle.vx_record.specs.Sourcing.{IsYieldOf}
+use Rattle.vx_record.specs.Sourcing.{yield_of}
 use Rattle.vx_record.specs.declared.entry.Entry.TheVariants.{Read}
 use Rattle.vx_record.specs.declared.taken.Taken.{Taken}
 use Rattle.vx_record.specs.declared.taken.Taken.TheVariants.{Bytes}
@@ -49,9 +49,13 @@ abbrev pub HasComeHome : {P : Type 0} → Record → ℕ → Option (Task P) →
 HasComeHome h i None = Unit {0}
 HasComeHome h i (Some task) = HasCome h i task.role
 
--- what a source gives at a Read is what the record has that Read give: its events, its stream, and the end of its last line
+-- what the record has a Read yield: some events, and the end of its last line in its stream
+pub record IsYielded (h : Record) (i stream : ℕ) (took : Taken) (events : List Event) (stream' end : ℕ) : Type 0 where
+  pub all : yield_of h i stream took ≡ record { events = events; stream = stream'; end = end }
+
+-- what a source gives at a Read is that
 abbrev pub Yields : Record → ℕ → ℕ → Taken → List Event → ℕ → ℕ → Type 0
-Yields h i stream took events stream' end = AreNamedApart h → 0 < length events → IsYieldOf h i stream took i events stream' end
+Yields h i stream took events stream' end = AreNamedApart h → 0 < length events → IsYielded h i stream took events stream' end
 
 -- and the events of a turn are those of its Read, also where there are none
 abbrev pub Gives : Record → ℕ → ℕ → Taken → List Event → Type 0

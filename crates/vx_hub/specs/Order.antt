@@ -1,5 +1,5 @@
 -- What is proved of a run's record beside that it is legal.
-use Rattle.std.specs.Prelude.{◌≡◌, ℕ, ◌<◌, ◌≤◌, ◌^◌, Bool, true, false, not, ◌&&◌, List, [], ◌∷◌, length, Option, Some, None, IfSome, IsSome, IsSomeAnd, slice_get, ◌⊎◌, if◌then◌else◌, ◌==◌}
+use Rattle.std.specs.Prelude.{◌≡◌, ℕ, ◌<◌, ◌≤◌, Bool, true, false, not, ◌&&◌, List, [], ◌∷◌, length, Option, Some, None, IfSome, IsSomeAnd, slice_get, ◌⊎◌}
 use Rattle.std.specs.List.{list_any}
 use Rattle.vx_ends.specs.declared.trouble.Reply.{Reply}
 use Rattle.vx_ends.specs.declared.trouble.Reply.TheVariants as reply
@@ -10,26 +10,23 @@ use Rattle.vx_record.specs.Records.{Record}
 use Rattle.vx_record.specs.Copies.{count, joined, times_spent}
 use Rattle.vx_record.specs.Places.{Place, owner}
 use Rattle.vx_record.specs.Places.Place.{Outputs, Held}
-use Rattle.vx_record.specs.Lists.{outputs, held, stands, parcels_at, places}
+use Rattle.vx_record.specs.Lists.{outputs, held, stands, parcels_at}
 use Rattle.vx_record.specs.Abandoning.{abandoned}
 use Rattle.vx_record.specs.Turns.{at_lease, since_lease, is_confirm_of}
 use Rattle.vx_record.specs.Legal.{IsLegal}
 pub use Rattle.vx_record.specs.Ceasing.{lost_at, cause_of, TakesNoMore, readers_at}
-use Rattle.vx_record.specs.Wirings.{names_differ}
-use Rattle.vx_record.specs.Installs.{wired, in_force}
+use Rattle.vx_plan.specs.Accepted.{names_differ}
+use Rattle.vx_record.specs.Installs.{in_force}
 use Rattle.vx_plan.specs.declared.class.Class.{Class}
 use Rattle.vx_plan.specs.declared.class.Class.TheVariants.{Source}
 use Rattle.vx_plan.specs.declared.component.Component.{Component}
 use Rattle.vx_plan.specs.declared.plan.Plan.{Plan}
 use Rattle.vx_plan.specs.Components.{is_transform}
 use Rattle.vx_plan.specs.Options.{has_device}
-use Rattle.vx_record.specs.Reads.{bytes_of_all, all_ended}
 use Rattle.vx_record.specs.Confirms.{is_unconfirmed, due, is_confirm_due}
 use Rattle.vx_record.specs.Spending.{oldest}
 use Rattle.vx_record.specs.SinkBatches.{attempts_with, is_full_batch, is_timed_out, is_last_batch, retry_from}
-use Rattle.vx_record.specs.declared.entry.Entry.{Entry}
-use Rattle.vx_record.specs.declared.entry.Entry.TheVariants.{Install, Home, Read, SourceLost, Abandon}
-use Rattle.vx_record.specs.declared.abandon_cause.AbandonCause.{AbandonCause}
+use Rattle.vx_record.specs.declared.entry.Entry.TheVariants.{Home, Read}
 use Rattle.vx_hub.specs.Asking.{HasTold}
 
 -- the component that an instance runs: the numbers of instances are the places of components in the installed plan
@@ -122,11 +119,9 @@ all_ported (c ∷ rest) = is_ported c && all_ported rest
 abbrev pub ArePorted : Record → Type 0
 ArePorted h = IfSome (in_force h) (λ (plan : Plan). all_ported plan.components ≡ true)
 
--- a legal record of a plan whose names differ and whose components work with ports, in which each instance that came home
--- had returned
+-- a legal record of a plan whose components work with ports, in which each instance that came home had returned
 pub record IsLegalWithReturns (h : Record) : Type 0 where
   pub legal : IsLegal h
-  pub named : AreNamedApart h
   pub ported : ArePorted h
   pub returned : HaveReturned h
 

@@ -6,7 +6,7 @@ use Rattle.vx_status.specs.declared.batch_status.BatchStatus.{BatchStatus}
 use Rattle.vx_status.specs.declared.batch_status.BatchStatus.TheVariants.{Delivered}
 use Rattle.vx_record.specs.declared.entry.Entry.TheVariants.{Notice}
 use Rattle.vx_record.specs.Copies.{count, next_copy, times_split, times_spent}
-use Rattle.vx_record.specs.Batches.{batches, AwaitsNotice}
+use Rattle.vx_record.specs.Batches.{batches, awaits_notice}
 use Rattle.vx_record.specs.Statuses.{batch_status, AllGood}
 use Rattle.vx_record.specs.Laws.{times_noticed}
 use Rattle.vx_record.specs.Lists.{places}
@@ -30,7 +30,7 @@ AllSpent h = (c : ℕ) → c < next_copy h → times_split h c + times_spent h c
 -- the tables fold over its spends, and is Delivered exactly where each of its outcomes in the whole record is good
 pub record HasNotices (h : Record) : Type 0 where
   pub once : (b : ℕ) → 0 < count b (batches h) → times_noticed h b ≡ 1
-  pub due : (later earlier : Record) (b : ℕ) (status : BatchStatus) → later ++ Notice b status ∷ earlier ≡ h → AwaitsNotice earlier b
+  pub due : (later earlier : Record) (b : ℕ) (status : BatchStatus) → later ++ Notice b status ∷ earlier ≡ h → awaits_notice earlier b ≡ true
   pub folded : (later earlier : Record) (b : ℕ) (status : BatchStatus) → later ++ Notice b status ∷ earlier ≡ h → status ≡ batch_status earlier b
   pub good : (later earlier : Record) (b : ℕ) (status : BatchStatus) → later ++ Notice b status ∷ earlier ≡ h → (status ≡ Delivered) ↔ AllGood h b
 

@@ -2,7 +2,7 @@
 use Rattle.std.specs.Prelude.{◌≡◌, ◌<◌, ℕ, false, List, [], Some, IsSome, length}
 use Rattle.vx_value.specs.declared.event.Event.{Event}
 use Rattle.vx_ends.specs.declared.position.Position.{Position}
-use Rattle.vx_record.specs.Sourcing.{IsYield}
+use Rattle.vx_record.specs.Sourcing.{yield}
 use Rattle.vx_hub.specs.Abreast.{AreNamedApart}
 use Rattle.vx_ledger.specs.Copies.{Copy}
 use Rattle.vx_ends.specs.declared.trouble.Reply.{Reply}
@@ -51,11 +51,12 @@ ComeFrom hub i outcome copies = IsSound hub → AreSpentFrom hub.log.history i o
 abbrev pub IsReplied : {P : Type 0} → Hub P → ℕ → Reply → Type 0
 IsReplied hub i reply = IsSound hub → AreAnswered hub.log.history i reply
 
--- where the record has all that happened and names differ, some events are what its newest read of the instance gives, and
+-- where the record has all that happened and names differ, some events are what its newest read of the instance yields, and
 -- a position is where the last line of that ends
 abbrev pub HasYielded : {P : Type 0} → Hub P → ℕ → List Event → Position → Type 0
 HasYielded hub i events position =
-    IsSound hub → AreNamedApart hub.log.history → 0 < length events → IsYield hub.log.history i events position.stream position.end
+    IsSound hub → AreNamedApart hub.log.history → 0 < length events →
+    yield hub.log.history i ≡ Some (record { events = events; stream = position.stream; end = position.end })
 
 -- where the record has all that happened, the newest entry is a read of the instance
 abbrev pub HasRead : {P : Type 0} → Hub P → ℕ → Type 0

@@ -21,7 +21,7 @@ use Rattle.vx_hub.specs.declared.parts.Numbered.{Numbered}
 use Rattle.vx_value.specs.Filled.{Filled}
 use Rattle.vx_hub.specs.Making.{room_at}
 use Rattle.vx_hub.specs.Rows.{copies_in, row_at, port_at, IsBareAt, HasRoom}
-use Rattle.vx_record.specs.Batches.{NoNoticeDue}
+use Rattle.vx_record.specs.Batches.{awaits_notice}
 use Rattle.vx_hub.specs.Batching.{AreRunning}
 use Rattle.vx_hub.specs.Offspring.{AreBornAtHome}
 use Rattle.vx_hub.specs.declared.progress.Progress.{Progress}
@@ -89,6 +89,10 @@ IsBalanced ledger rows hand =
 abbrev pub AreOut : {P : Type 0} → List (Row P) → Record → Type 0
 AreOut rows h = (i : ℕ) → i < length rows → port_at rows i ≡ None → is_out h i ≡ true
 
+-- no batch waits for its notice
+abbrev pub NoneAwaited : Record → Type 0
+NoneAwaited h = (b : ℕ) → awaits_notice h b ≡ false
+
 -- what is known, told and stands where, if the record has all that happened
 pub record IsRecorded {P : Type 0} (told_by : P → Told) (hub : Hub P) (hand : List Copy) (h : Record) : Type 0 where
   pub ports : (i : ℕ) → IfSome (port_at hub.rows.items i) (λ port. IsTold (told_by port) h i)
@@ -99,7 +103,7 @@ pub record IsRecorded {P : Type 0} (told_by : P → Told) (hub : Hub P) (hand : 
   pub unknown : (i : ℕ) → length hub.rows.items ≤ i → IsUnknown h i
   pub cause : hub.abandoned ≡ cause_of h
   pub installed : in_force h ≡ Some hub.plan
-  pub noticeless : NoNoticeDue h
+  pub noticeless : NoneAwaited h
   pub statuses : AreRunning h hub.batches.open_rows
   pub ledger : IsKept hub.batches
   pub places : IsPlaced hub.rows.items hand h

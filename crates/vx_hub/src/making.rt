@@ -1,8 +1,9 @@
 ghost use Rattle.std.specs.Prelude.{◌≡◌, ◌<◌, ◌+◌, ◌≤◌, ◌^◌, ℕ, [], ◌∷◌, length, slice_get, true, Some, IfOk, IsSomeAnd};
+ghost use Rattle.vx_plan.specs.Accepted.{IsPlan};
 ghost use Rattle.vx_plan.specs.declared.plan.Plan.{Plan};
 ghost use Rattle.vx_record.specs.Installs.{in_force};
 ghost use Rattle.vx_record.specs.Starting.{first_instances};
-ghost use Rattle.vx_record.specs.Wirings.{names_differ, begun};
+ghost use Rattle.vx_record.specs.Wirings.{begun};
 ghost use Rattle.vx_hub.specs.Stands.{Stands, spec_of};
 ghost use Rattle.vx_hub.specs.Beginning.{HasRoomFor, HasSeats, Begins};
 ghost use Rattle.vx_hub.specs.Order.{all_ported};
@@ -42,7 +43,7 @@ impl<P: Port> Hub<P> {
         requires ports { length parts.ports ≡ length parts.plan.components }
         requires few { length parts.plan.components < 2 ^ 32 }
         requires untouched { AreUntouched P.told parts.plan.components parts.ports }
-        requires named { names_differ parts.plan.components ≡ true }
+        requires accepted { IsPlan parts.plan }
         requires ported { all_ported parts.plan.components ≡ true }
         ensures stands { IfOk result (λ hub. Stands P.told hub [] hub.log.history) }
         ensures size { IfOk result (λ hub. length hub.rows.items ≡ length parts.plan.components) }
@@ -155,7 +156,7 @@ fn seated<P: Port>(
     requires few { length seats.items < 2 ^ 32 }
     requires small { length plan.components < 2 ^ 32 }
     requires untouched { AreUntouched P.told plan.components ports.items }
-    requires named { names_differ plan.components ≡ true }
+    requires accepted { IsPlan plan }
     requires ported { all_ported plan.components ≡ true }
     requires count { length seats.items ≡ length plan.components }
     ensures stands { Stands P.told result [] result.log.history }

@@ -30,7 +30,7 @@ attempts_one h i = ap (λ n. n + 1) (go (component_of h i))
     go None = refl
     go (Some c) = refl
 
-joined_and_rest : (d : ℕ) (cs : List ℕ) (rest : List (List ℕ)) → count d (joined (and_rest cs rest)) ≡ count d cs + count d (joined rest)
+pub joined_and_rest : (d : ℕ) (cs : List ℕ) (rest : List (List ℕ)) → count d (joined (and_rest cs rest)) ≡ count d cs + count d (joined rest)
 joined_and_rest d [] rest = omega arith
 joined_and_rest d (c ∷ cs) rest = count-append d (c ∷ cs) (joined rest)
 

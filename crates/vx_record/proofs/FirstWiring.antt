@@ -7,6 +7,7 @@ use Rattle.std.proofs.lemmas.Bool.Decides.{nat_tests}
 use Rattle.vx_value.specs.Texts.{Word, same_text}
 use Rattle.vx_plan.specs.declared.component.Component.{Component}
 use Rattle.vx_plan.specs.declared.plan.Plan.{Plan}
+use Rattle.vx_plan.specs.Accepted.{names_differ}
 use Rattle.vx_plan.specs.Numbers.{numbers_named, numbers_of_names}
 use Rattle.vx_plan.specs.Targets.{targets}
 use Rattle.vx_plan.specs.Components.{component_named}
@@ -18,7 +19,7 @@ use Rattle.vx_record.specs.Copies.{counting, joined}
 use Rattle.vx_record.specs.Installs.{Wiring, wiring, name_at, numbers_of, works, is_new, started}
 use Rattle.vx_record.specs.Routing.{wired_targets}
 use Rattle.vx_record.specs.Starting.{first_instances}
-use Rattle.vx_record.specs.Wirings.{names_differ, begun, WiringStays, StartedStays, ComponentOfFirst, TargetsOfFirst}
+use Rattle.vx_record.specs.Wirings.{begun, WiringStays, StartedStays, ComponentOfFirst, TargetsOfFirst}
 
 -- a later Install would be a second one
 pub wiring_stays : WiringStays
@@ -126,7 +127,7 @@ any_at test (d ∷ rest) (suc k) c at passes = or_true (test d) (list_any test r
     or_true false b e = e
 
 -- the component of a name among some whose names differ
-found : (components : List Component) (k : ℕ) (c : Component) → names_differ components ≡ true → slice_get components k ≡ Some c →
+pub found : (components : List Component) (k : ℕ) (c : Component) → names_differ components ≡ true → slice_get components k ≡ Some c →
     find (λ (d : Component). same_text d.name c.name) components ≡ Some c
 found [] k c differ at = cc
 found (d ∷ rest) zero c differ at =

@@ -90,7 +90,7 @@ times_two p q (r ∷ rest) other = go (same_place r p) refl (times_two p q rest 
         also false = omega arith
 
 -- a copy stands in one place at the most
-places_few : (h : Record) (c : ℕ) → IsConserved h → length (places h c) ≤ 1
+pub places_few : (h : Record) (c : ℕ) → IsConserved h → length (places h c) ≤ 1
 places_few h c kept =
     let t = tracked h c kept in
     elim (cases_lt c (next_copy h)) [

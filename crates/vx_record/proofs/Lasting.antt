@@ -3,7 +3,6 @@ use Rattle.std.proofs.Common.{◌≡◌, ℕ, Bool, true, false, List, [], ◌�
 use Rattle.std.specs.Prelude.{◌==◌, ◌&&◌, ◌||◌, not, ◌⊎◌, nat_le, if◌then◌else◌}
 use Rattle.std.proofs.lemmas.Bool.{or_from, eqb-true, eq-eqb}
 use Rattle.vx_value.specs.Texts.{is_empty}
-use Rattle.vx_value.specs.declared.event.Event.{Event}
 use Rattle.vx_plan.specs.declared.class.Class.{Class}
 use Rattle.vx_plan.specs.declared.class.Class.TheVariants.{Source, Transform, Sink}
 use Rattle.vx_plan.specs.declared.component.Component.{Component}
@@ -26,7 +25,7 @@ use Rattle.vx_record.specs.Confirms.{is_confirm_due}
 use Rattle.vx_record.specs.SinkBatches.{is_full_batch, is_timed_out, is_last_batch, was_attempted, is_batch_closed, retry_from}
 use Rattle.vx_record.specs.Owing.{is_done}
 use Rattle.vx_record.specs.Ready.{reading_moment, is_heir, can_read, is_close_due, is_source_ready, is_attempt_due, can_take, is_transform_ready, is_sink_ready, is_ready, IsTickReady, IsReady}
-use Rattle.vx_record.specs.Sourcing.{IsYield}
+use Rattle.vx_record.specs.Sourcing.{Yield, yield}
 use Rattle.vx_record.specs.Transforms.{Rule, rule_of}
 use Rattle.vx_record.specs.Legal.{IsLegal}
 use Rattle.vx_record.specs.Finality.{DoneStays, LeasedUnclosed, StaysBare}
@@ -35,7 +34,7 @@ use Rattle.vx_record.proofs.Vacant.{Unfilled, bears, enters, unbuffered, is_empt
 use Rattle.vx_record.proofs.Promises.{source_lease}
 use Rattle.vx_record.proofs.Turning.{turn_undry}
 use Rattle.vx_record.proofs.Bare.{retired_bare}
-use Rattle.vx_record.proofs.Senders.{retired_sent}
+use Rattle.vx_record.proofs.Senders.{reader, retired_sent}
 use Rattle.vx_record.proofs.SourceEnds.{source_done, done_source, source_on}
 use Rattle.vx_record.proofs.WorkerEnds.{worker_done, done_worker, worker_on, source_dry, unawaited}
 
@@ -61,19 +60,19 @@ done_on h e i legal source worker done = go (source_at h i) refl
     go false is = done_worker (e ∷ h) i legal (worker_on h e i legal (worker is) (worker_done h i legal.1 is done))
 
 -- behind a Read that is quiet only others bear, and only where the instance is a source
-born_quiet : (h : Record) (j i : ℕ) (events : List Event) (stream end : ℕ) → IsYield h j events stream end → Quiet h i → (source_at h i ≡ true) × ((j == i) ≡ false)
-born_quiet (Read k s took ∷ h) j i events stream end yield quiet = (quiet.0, subst (λ (n : ℕ). (n == i) ≡ false) yield.reader quiet.1)
-born_quiet h j i events stream end yield quiet = absurd yield
+born_quiet : (h : Record) (j i : ℕ) (y : Yield) → yield h j ≡ Some y → Quiet h i → (source_at h i ≡ true) × ((j == i) ≡ false)
+born_quiet (Read k stream took ∷ h) j i y is quiet = (quiet.0, subst (λ (n : ℕ). (n == i) ≡ false) (reader h k stream took j y is) quiet.1)
+born_quiet h j i y is quiet = cc
 
 -- so a source that is final bears nothing
 unborn : (h : Record) (e : Entry) (i : ℕ) → IsLegal (e ∷ h) → Quiet h i → bears i e ≡ false
-unborn h (Born j b place copies events waits stream end) i legal quiet = (born_quiet h j i events stream end legal.0.row.yield quiet).1
+unborn h (Born j b place copies events waits stream end) i legal quiet = (born_quiet h j i _ legal.0.row.yields quiet).1
 unborn h e i legal quiet = refl
 
 -- and nobody bears beside a sink that is
 none_born : (h : Record) (e : Entry) (i : ℕ) → IsLegal (e ∷ h) → Quiet h i → source_at h i ≡ false → (j : ℕ) → bears j e ≡ false
 none_born h (Born k b place copies events waits stream end) i legal quiet off j =
-    let no : true ≡ false = sym (born_quiet h k i events stream end legal.0.row.yield quiet).0 ∙ off in cc
+    let no : true ≡ false = sym (born_quiet h k i _ legal.0.row.yields quiet).0 ∙ off in cc
 none_born h e i legal quiet off j = refl
 
 -- nothing was due to be confirmed when it was leased

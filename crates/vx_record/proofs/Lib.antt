@@ -4,6 +4,7 @@ pub mod Tracked
 pub mod Steps
 pub mod OnePlace
 pub mod Live
+pub mod Dues
 pub mod Notices
 pub mod Statuses
 pub mod LegalNotices

@@ -10,12 +10,13 @@ use Rattle.vx_record.specs.Records.{Record}
 use Rattle.vx_record.specs.declared.child.Child.{Child}
 use Rattle.vx_record.specs.declared.entry.Entry.TheVariants.{Born, Split, Spent, Notice}
 use Rattle.vx_record.specs.Copies.{count, next_copy, splits, spends, IsLive}
-use Rattle.vx_record.specs.Batches.{parent, batch_of, root_of, batches, NoneLive, AwaitsNotice}
+use Rattle.vx_record.specs.Batches.{parent, batch_of, root_of, batches}
 use Rattle.vx_record.specs.Moving.{IsConserved}
 use Rattle.vx_record.specs.Accounting.{IsAccounted}
 use Rattle.vx_record.specs.Laws.{times_noticed, AccountedOnce, AccountedLate}
 use Rattle.vx_record.proofs.Counts.{count-append}
 use Rattle.vx_record.proofs.OnePlace.{tracked}
+use Rattle.vx_record.proofs.Dues.{NoneLive, Awaits, none_live, awaits, awaits_not, undue}
 use Rattle.vx_record.proofs.Live.{if_lt, if_ge, unmade_whole, split_live, place_of_counted, parent_live}
 
 -- what accounts conserves
@@ -62,15 +63,15 @@ live_back h e c l v = (l, omega (arith, count-append), omega (arith, count-appen
 pub live_forth : (h : Record) (e : Entry) (c : ℕ) → count c (splits e) ≡ 0 → count c (spends e) ≡ 0 → IsLive h c → IsLive (e ∷ h) c
 live_forth h e c s x v = (omega arith, omega (arith, count-append), omega (arith, count-append))
 
-awaits_none : (h : Record) (b : ℕ) → AwaitsNotice h b → NoneLive h b
+awaits_none : (h : Record) (b : ℕ) → Awaits h b → NoneLive h b
 awaits_none (Spent i c outcome ∷ h) b w = w.1
 awaits_none h b w = absurd w
 
-awaits_one : (h : Record) (b b' : ℕ) → AwaitsNotice h b → AwaitsNotice h b' → b ≡ b'
+awaits_one : (h : Record) (b b' : ℕ) → Awaits h b → Awaits h b' → b ≡ b'
 awaits_one (Spent i c outcome ∷ h) b b' w w' = sym w.0 ∙ w'.0
 awaits_one h b b' w w' = absurd w
 
-awaits_made : (h : Record) (b : ℕ) → IsAccounted h → AwaitsNotice h b → b < next_copy h
+awaits_made : (h : Record) (b : ℕ) → IsAccounted h → Awaits h b → b < next_copy h
 awaits_made (Spent i c outcome ∷ h) b sound w = let r = batch_made h c sound.1 sound.0.conserves.0 in let e = w.0 in omega arith
 awaits_made h b sound w = absurd w
 
@@ -102,9 +103,9 @@ first_child h c i ports copies event children sound l =
 -- what is known of the notices of a batch
 pub record Noticed (h : Record) (b : ℕ) : Type 0 where
   pub early : (c : ℕ) → batch_of h c ≡ b → IsLive h c → times_noticed h b ≡ 0
-  pub due : AwaitsNotice h b → times_noticed h b ≡ 0
+  pub due : Awaits h b → times_noticed h b ≡ 0
   pub future : next_copy h ≤ b → times_noticed h b ≡ 0
-  pub done : 0 < count b (batches h) → NoneLive h b → (AwaitsNotice h b → ⊥) → times_noticed h b ≡ 1
+  pub done : 0 < count b (batches h) → NoneLive h b → (Awaits h b → ⊥) → times_noticed h b ≡ 1
 
 pub noticed : (h : Record) (b : ℕ) → IsAccounted h → Noticed h b
 noticed [] b sound = record { early = λ c e v. refl; due = λ w. refl; future = λ l. refl; done = λ l n w. absurd (omega arith) }
@@ -127,7 +128,7 @@ noticed (Born i b' place copies events waits stream end ∷ h) b sound =
             let has_old : 0 < count b (batches h) = grind (arith, nat_tests) in
             old.done has_old
             (λ c bc v. none c (if_lt c (next_copy h) (batch_of h c) b' v.0 ∙ bc) (live_forth h (Born i b' place copies events waits stream end) c refl refl v))
-            (sound.0.turn b)
+            (undue h sound.0.turn b)
       ];
     }
 noticed (Split i ports copies event children ∷ h) b sound =
@@ -150,7 +151,7 @@ noticed (Split i ports copies event children ∷ h) b sound =
                 none c (if_lt c (next_copy h) (batch_of h c) (batch_of h (parent (next_copy h) copies c)) v.0 ∙ bc)
                 (live_forth h e c (omega arith) refl v)
           ])
-          (sound.0.turn b);
+          (undue h sound.0.turn b);
     }
 noticed (Spent i d outcome ∷ h) b sound =
     let old = noticed h b sound.1 in
@@ -164,14 +165,14 @@ noticed (Spent i d outcome ∷ h) b sound =
             | inl last ↦ w (ap (batch_of h) last ∙ bc, none)
             | inr other ↦ none c bc (live_forth h e c refl (grind (arith, nat_tests)) v)
           ])
-          (sound.0.turn b);
+          (undue h sound.0.turn b);
     }
 noticed (Notice b' status ∷ h) b sound =
     let old = noticed h b sound.1 in
     let e = Notice b' status in
     elim (cases_eq b' b) [
       | inl same ↦
-          let here : AwaitsNotice h b = subst (AwaitsNotice h) same sound.0.accounts.due in
+          let here : Awaits h b = subst (Awaits h) same (awaits h b' sound.0.accounts.due) in
           let none_yet = old.due here in
           record {
             early = λ c bc v. absurd (awaits_none h b here c bc (live_back h e c (omega arith) v));
@@ -185,7 +186,7 @@ noticed (Notice b' status ∷ h) b sound =
             early = λ c bc v. skip ∙ old.early c bc (live_back h e c (omega arith) v);
             due = λ w. absurd w;
             future = λ l. skip ∙ old.future (omega arith);
-            done = λ has none w. skip ∙ old.done has (λ c bc v. none c bc (live_forth h e c refl refl v)) (λ w'. other (awaits_one h b' b sound.0.accounts.due w'));
+            done = λ has none w. skip ∙ old.done has (λ c bc v. none c bc (live_forth h e c refl refl v)) (λ w'. other (awaits_one h b' b (awaits h b' sound.0.accounts.due) w'));
           }
     ]
 noticed (e ∷ h) b sound =
@@ -194,11 +195,11 @@ noticed (e ∷ h) b sound =
       early = λ c bc v. old.early c bc (live_back h e c (omega arith) v);
       due = λ w. absurd w;
       future = λ l. old.future (omega arith);
-      done = λ has none w. old.done has (λ c bc v. none c bc (live_forth h e c refl refl v)) (sound.0.turn b);
+      done = λ has none w. old.done has (λ c bc v. none c bc (live_forth h e c refl refl v)) (undue h sound.0.turn b);
     }
 
 pub accounted_once : AccountedOnce
-accounted_once h sound b has none w = (noticed h b sound).done has none w
+accounted_once h sound b has none w = (noticed h b sound).done has (none_live h b none) (awaits_not h b w)
 
 pub accounted_late : AccountedLate
 accounted_late h sound b c bc v = (noticed h b sound).early c bc v

@@ -5,18 +5,18 @@ use Rattle.std.specs.List.{list_any, list_all}
 use Rattle.std.proofs.lemmas.Bool.{eqb-true}
 use Rattle.std.proofs.lemmas.List.{append-nil}
 use Rattle.vx_value.specs.Texts.{Word}
-use Rattle.vx_value.specs.declared.event.Event.{Event}
 use Rattle.vx_plan.specs.declared.component.Component.{Component}
 use Rattle.vx_plan.specs.Components.{component_named, is_source, is_transform}
 use Rattle.vx_record.specs.declared.instance.Instance.{Instance}
 use Rattle.vx_record.specs.Records.{Record}
+use Rattle.vx_record.specs.declared.taken.Taken.{Taken}
 use Rattle.vx_record.specs.declared.entry.Entry.{Entry}
 use Rattle.vx_record.specs.declared.entry.Entry.TheVariants.{Install, Lease, Home, Read, Born, Answer, Retired}
 use Rattle.vx_record.specs.Copies.{count}
 use Rattle.vx_record.specs.Turns.{is_out}
 use Rattle.vx_record.specs.Installs.{Wiring, wiring, name_at, is_new, started, told, source_at, transform_at, is_retired}
 use Rattle.vx_record.specs.Starting.{first_instances}
-use Rattle.vx_record.specs.Sourcing.{IsYield}
+use Rattle.vx_record.specs.Sourcing.{Yield, yield_of, yield}
 use Rattle.vx_record.specs.Legal.{IsLegal}
 use Rattle.vx_record.proofs.Counts.{count-append}
 use Rattle.vx_record.proofs.OnePlace.{conserved}
@@ -115,11 +115,20 @@ pub uninstalled : (e : Entry) (h : Record) (i : ℕ) (f : Component → Bool) �
 uninstalled (Install version plan once instances now) h i f legal is = let no : told false f [] i ≡ true = subst (λ (k : Record). told false f k i ≡ true) legal.0.row.first is in cc
 uninstalled e h i f legal is = refl
 
+-- a Read yields what is its own
+pub reader : (h : Record) (j stream : ℕ) (took : Taken) (i : ℕ) (y : Yield) → yield (Read j stream took ∷ h) i ≡ Some y → j ≡ i
+reader h j stream took i y is = go (j == i) refl is
+  where
+    go : (b : Bool) → (j == i) ≡ b → (if b then Some (yield_of h i stream took) else None) ≡ Some y → j ≡ i
+    go true own is = eqb-true j i own
+    go false own is = cc
+
 -- who bears a batch is a source, and out
-pub bearer : (h : Record) (i : ℕ) (events : List Event) (stream end : ℕ) → IsLegal h → IsYield h i events stream end → (source_at h i ≡ true) × (is_out h i ≡ true)
-bearer (Read j s took ∷ h) i events stream end legal yield =
-    (subst (λ (k : ℕ). source_at h k ≡ true) yield.reader legal.0.row.turn.source, subst (λ (k : ℕ). is_out h k ≡ true) yield.reader legal.0.row.turn.out)
-bearer h i events stream end legal yield = absurd yield
+pub bearer : (h : Record) (i : ℕ) (y : Yield) → IsLegal h → yield h i ≡ Some y → (source_at h i ≡ true) × (is_out h i ≡ true)
+bearer (Read j stream took ∷ h) i y legal is =
+    let same : j ≡ i = reader h j stream took i y is in
+    (subst (λ (k : ℕ). source_at h k ≡ true) same legal.0.row.turn.source, subst (λ (k : ℕ). is_out h k ≡ true) same legal.0.row.turn.out)
+bearer h i y legal is = cc
 
 -- an instance of which neither this nor that it is a transform, and out, can be said puts nothing out
 unput_by : (h : Record) (e : Entry) (i : ℕ) → IsLegal (e ∷ h) → (is_out h i ≡ true → (source_at h i ≡ true) ⊎ (transform_at h i ≡ true) → ⊥) → puts_out i e ≡ false
@@ -128,7 +137,7 @@ unput_by h (Born j b place copies events waits stream end) i legal never = go (j
     go : (b : Bool) → (j == i) ≡ b → b ≡ false
     go true is =
         let same : j ≡ i = eqb-true j i is in
-        let of = bearer h j events stream end legal.1 legal.0.row.yield in
+        let of = bearer h j _ legal.1 legal.0.row.yields in
         absurd (never (subst (λ (k : ℕ). is_out h k ≡ true) same of.1) (inl (subst (λ (k : ℕ). source_at h k ≡ true) same of.0)))
     go false is = refl
 unput_by h (Answer j made discarded kept) i legal never = go (j == i) refl

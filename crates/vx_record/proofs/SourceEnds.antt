@@ -1,7 +1,7 @@
 -- A source that is done stays done until it bears or confirms.
 use Rattle.std.proofs.Common.{◌≡◌, ℕ, ◌+◌, ◌<◌, Bool, true, false, cond, List, [], ◌∷◌, ◌++◌, Option, Some, None, refl, sym, ap, subst, ◌∙◌, arith, length, map}
 use Rattle.std.specs.Prelude.{◌==◌, ◌&&◌, ◌||◌, not, nat_lt, take_while, if◌then◌else◌}
-use Rattle.std.specs.List.{list_all}
+use Rattle.std.specs.List.{list_any, list_all}
 use Rattle.std.proofs.lemmas.Bool.{and_parts, and_from, or_parts, or_from, or_right, not-true, eqb-true}
 use Rattle.std.proofs.lemmas.List.{append-nil}
 use Rattle.std.proofs.lemmas.List.Sums.{take_while-cons}
@@ -23,10 +23,11 @@ use Rattle.vx_ends.specs.declared.position.Position.{Position}
 use Rattle.vx_record.specs.Reads.{events_of}
 use Rattle.vx_record.specs.Parcels.{first_copy}
 use Rattle.vx_record.specs.SinkBatches.{failures_with, attempts_allowed}
-use Rattle.vx_record.specs.Owing.{is_decided, unspent_of, fruitful, last_discarded, took_since, owes_birth, owes_spends_in, owes_discards, owes_answer, owes, all_noticed, is_source_done, is_worker_done, is_done}
+use Rattle.vx_record.specs.Owing.{is_decided, unspent_of, decided, fruitful, last_discarded, took_since, owes_birth, owes_spends_in, owes_discards, owes_answer, owes, all_noticed, is_source_done, is_worker_done, is_done}
 use Rattle.vx_record.specs.Laws.{times_noticed}
 use Rattle.vx_record.specs.Legal.{IsLegal}
 use Rattle.vx_record.proofs.OnePlace.{conserved}
+use Rattle.vx_record.proofs.Dues.{awaits}
 use Rattle.vx_record.proofs.Notices.{noticed}
 use Rattle.vx_record.proofs.LegalNotices.{accounted}
 use Rattle.vx_record.proofs.Vacant.{Sent, bears, sent_of, is_sent_of, sent_on}
@@ -121,18 +122,23 @@ one_table (Some c) is also = go c.class is also
     go Transform is also = cc
     go Sink is also = cc
 
--- a source makes no attempt, so it owes no spend
-source_spends : (h whole : Record) (i : ℕ) → IsLegal h → source_at h i ≡ true → owes_spends_in h whole i ≡ false
-source_spends [] whole i legal is = refl
-source_spends (Install version plan once instances now ∷ h) whole i legal is = ap (λ (k : Record). owes_spends_in k whole i) legal.0.row.first
-source_spends (Attempt j copies bytes answer ∷ h) whole i legal is = go (j == i) refl (source_spends h whole i legal.1 is)
+-- a source makes no attempt, so none of it settled anything
+source_undecided : (h : Record) (i : ℕ) → IsLegal h → source_at h i ≡ true → decided h i ≡ []
+source_undecided [] i legal is = refl
+source_undecided (Install version plan once instances now ∷ h) i legal is = ap (λ (k : Record). decided k i) legal.0.row.first
+source_undecided (Attempt j copies bytes answer ∷ h) i legal is =
+    go (j == i) (is_decided answer (failures_with h i (first_copy copies) + 1) (attempts_allowed h i)) refl (source_undecided h i legal.1 is)
   where
-    go : (b : Bool) → (j == i) ≡ b → owes_spends_in h whole i ≡ false → owes_spends_in (Attempt j copies bytes answer ∷ h) whole i ≡ false
-    go true here rest =
+    go : (b settled : Bool) → (j == i) ≡ b → decided h i ≡ [] → (if b && settled then copies ∷ decided h i else decided h i) ≡ []
+    go true settled here rest =
         let same : j ≡ i = eqb-true j i here in
         absurd (one_table (component_of h i) is (subst (λ (k : ℕ). sink_at h k ≡ true) same legal.0.row.sink))
-    go false here rest = ap (λ (b : Bool). (b && is_decided answer (failures_with h i (first_copy copies) + 1) (attempts_allowed h i) && unspent_of whole copies) || owes_spends_in h whole i) here ∙ rest
-source_spends (e ∷ h) whole i legal is = source_spends h whole i legal.1 is
+    go false settled here rest = rest
+source_undecided (e ∷ h) i legal is = source_undecided h i legal.1 is
+
+-- so it owes no spend
+source_spends : (h whole : Record) (i : ℕ) → IsLegal h → source_at h i ≡ true → owes_spends_in h whole i ≡ false
+source_spends h whole i legal is = ap (list_any (unspent_of whole)) (source_undecided h i legal is)
 
 -- nor has it discarded anything
 source_discards : (h : Record) (i : ℕ) → IsLegal h → source_at h i ≡ true → last_discarded h i ≡ []
@@ -195,7 +201,7 @@ unnoticed h b status legal = go (is_noticed h b) refl
     go : (t : Bool) → is_noticed h b ≡ t → t ≡ false
     go true is =
         let some = noticed_times h b is in
-        let none = (noticed h b (accounted h legal.1)).due legal.0.row.due in
+        let none = (noticed h b (accounted h legal.1)).due (awaits h b legal.0.row.due) in
         absurd (omega (arith, some, none))
     go false is = refl
 

@@ -1,5 +1,5 @@
 -- A source that takes its turn isn't dry, and not too many bytes were taken when it was leased.
-use Rattle.std.proofs.Common.{◌≡◌, ℕ, ◌<◌, Bool, true, false, ◌&&◌, ◌||◌, List, [], ◌∷◌, refl, ap, subst, ◌∙◌, arith}
+use Rattle.std.proofs.Common.{◌≡◌, ℕ, ◌<◌, Bool, true, false, ◌&&◌, ◌||◌, [], ◌∷◌, refl, ap, subst, ◌∙◌, arith}
 use Rattle.std.specs.Prelude.{◌^◌, ◌==◌, not, nat_le, if◌then◌else◌}
 use Rattle.std.specs.List.{list_any}
 use Rattle.std.proofs.lemmas.Bool.Decides.{nat_tests}
@@ -8,7 +8,7 @@ use Rattle.vx_record.specs.declared.entry.Entry.TheVariants.{Lease, Home, Read, 
 use Rattle.vx_record.specs.Turns.{is_out, at_lease, since_lease, is_turn_of}
 use Rattle.vx_record.specs.Installs.{source_at, is_marked}
 use Rattle.vx_record.specs.Reads.{all_ended, is_end, is_lost, bytes_of_all}
-use Rattle.vx_record.specs.Routing.{drains, is_dry, is_too_long}
+use Rattle.vx_record.specs.Routing.{drains, is_too_long}
 use Rattle.vx_record.specs.Sourcing.{MayTurn}
 use Rattle.vx_record.specs.Legal.{IsLegal}
 use Rattle.vx_record.specs.Promises.{TurnUndry, TurnShort}

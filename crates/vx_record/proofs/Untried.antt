@@ -16,7 +16,7 @@ use Rattle.vx_record.specs.Turns.{is_out, since_lease, is_attempt_of}
 use Rattle.vx_record.specs.SinkBatches.{attempts_with, failures_with, attempts_allowed, is_failed}
 use Rattle.vx_record.specs.Spending.{WasAnswered, last_attempted, last_reply}
 use Rattle.vx_record.specs.Parcels.{first_copy}
-use Rattle.vx_record.specs.Owing.{is_decided, unspent_of, owes_birth, owes_spends_in, owes_discards, owes_answer, owes}
+use Rattle.vx_record.specs.Owing.{is_decided, unspent_of, decided, owes_birth, owes_spends_in, owes_discards, owes_answer, owes}
 use Rattle.vx_record.specs.Legal.{IsLegal}
 use Rattle.vx_record.proofs.Counts.{count-append}
 use Rattle.vx_record.proofs.Changes.{places_meant}
@@ -57,10 +57,6 @@ decides reply.Ok failures allowed one = refl
 decides reply.Refused failures allowed one = refl
 decides reply.Failed failures allowed one = grind (arith, nat_tests, one)
 
-third : (d u : Bool) → d ≡ true → (true && d && u) ≡ false → u ≡ false
-third true u is off = off
-third false u is off = cc
-
 has : (c : ℕ) (copies : List ℕ) → contains copies c ≡ true → 0 < count c copies
 has c copies is = grind (arith, nat_tests, is)
 
@@ -68,18 +64,15 @@ has c copies is = grind (arith, nat_tests, is)
 owed_spent : (h whole : Record) (i c : ℕ) → owes_spends_in h whole i ≡ false → 0 < attempts_with h i c → 0 < times_spent whole c
 owed_spent [] whole i c none some = absurd (omega (arith, some))
 owed_spent (Attempt j copies bytes answer ∷ h) whole i c none some =
-    let decided = is_decided answer (failures_with h i (first_copy copies) + 1) (attempts_allowed h i) in
-    go (j == i) (contains copies c) refl (or_left ((j == i) && decided && unspent_of whole copies) (owes_spends_in h whole i) none) some
-    (owed_spent h whole i c (or_right ((j == i) && decided && unspent_of whole copies) (owes_spends_in h whole i) none))
+    go (j == i) (contains copies c) refl (is_decided answer (failures_with h i (first_copy copies) + 1) (attempts_allowed h i))
+    (decides answer (failures_with h i (first_copy copies)) (attempts_allowed h i) (attempts_one h i)) none some (owed_spent h whole i c)
   where
-    go : (b t : Bool) → contains copies c ≡ t → (b && is_decided answer (failures_with h i (first_copy copies) + 1) (attempts_allowed h i) && unspent_of whole copies) ≡ false →
-        0 < attempts_with h i c + (if b && t then 1 else 0) → (0 < attempts_with h i c → 0 < times_spent whole c) → 0 < times_spent whole c
-    go true true e off l rest =
-        each_spent whole copies c
-        (third (is_decided answer (failures_with h i (first_copy copies) + 1) (attempts_allowed h i)) (unspent_of whole copies) (decides answer (failures_with h i (first_copy copies)) (attempts_allowed h i) (attempts_one h i)) off)
-        (has c copies e)
-    go true false e off l rest = rest (omega (arith, l))
-    go false t e off l rest = rest (omega (arith, l))
+    go : (b t : Bool) → contains copies c ≡ t → (d : Bool) → d ≡ true → list_any (unspent_of whole) (if b && d then copies ∷ decided h i else decided h i) ≡ false →
+        0 < attempts_with h i c + (if b && t then 1 else 0) → (owes_spends_in h whole i ≡ false → 0 < attempts_with h i c → 0 < times_spent whole c) → 0 < times_spent whole c
+    go true true e true d off l rest = each_spent whole copies c (or_left (unspent_of whole copies) (owes_spends_in h whole i) off) (has c copies e)
+    go true false e true d off l rest = rest (or_right (unspent_of whole copies) (owes_spends_in h whole i) off) (omega (arith, l))
+    go true t e false d off l rest = cc
+    go false t e settled d off l rest = rest off (omega (arith, l))
 owed_spent (e ∷ h) whole i c none some = owed_spent h whole i c none some
 
 -- what is spent stays so

@@ -1,5 +1,5 @@
 -- What a transform discarded, what it answers last, where a parcel enters, and how long what failed waits.
-use Rattle.std.proofs.Common.{◌≡◌, ℕ, zero, suc, ◌+◌, ◌<◌, ◌≤◌, Bool, true, false, ◌||◌, Option, Some, None, List, [], ◌∷◌, ◌++◌, sym, refl, ap, subst, arith, inl, inr, length, drop}
+use Rattle.std.proofs.Common.{◌≡◌, ℕ, zero, suc, ◌+◌, ◌<◌, ◌≤◌, Bool, true, false, ◌||◌, Some, List, [], ◌∷◌, ◌++◌, sym, refl, ap, subst, arith, inl, inr, length, drop}
 use Rattle.std.specs.Prelude.{◌==◌, if◌then◌else◌, nat_lt, slice_get}
 use Rattle.std.proofs.lemmas.Bool.Decides.{nat_tests}
 use Rattle.std.proofs.lemmas.Bool.{cases_eq}
@@ -14,7 +14,7 @@ use Rattle.vx_record.specs.Lists.{contents}
 use Rattle.vx_record.specs.Parcels.{first_copy, parcel_event}
 use Rattle.vx_record.specs.Stages.{stages_of, room_from}
 use Rattle.vx_record.specs.SinkBatches.{failures_with, failed_at, wait_after, oldest_held}
-use Rattle.vx_record.specs.Inputs.{Input, unanswered, has_tick, ticks_wait}
+use Rattle.vx_record.specs.Inputs.{unanswered, has_tick, ticks_wait}
 use Rattle.vx_record.specs.Owing.{unspent_of, last_discarded, owes_birth, owes_spends_in, owes_discards, owes_answer}
 use Rattle.vx_record.specs.Laws.{DiscardsGo, TickLast, PushesFirst, AttemptsWait}
 use Rattle.vx_record.proofs.OnePlace.{legal_before}

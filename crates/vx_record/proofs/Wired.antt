@@ -1,19 +1,29 @@
 -- An instance runs the component in its place.
-use Rattle.std.proofs.Common.{◌≡◌, ℕ, zero, suc, ◌+◌, Bool, true, false, List, [], ◌∷◌, Option, Some, None, refl, sym, ap, ◌∙◌, arith}
+use Rattle.std.proofs.Common.{◌≡◌, ℕ, zero, suc, ◌+◌, Bool, false, List, [], ◌∷◌, Option, Some, None, refl, ap, subst, ◌∙◌, arith}
 use Rattle.std.specs.Prelude.{◌==◌, slice_get}
 use Rattle.std.proofs.lemmas.Bool.Decides.{nat_tests}
 use Rattle.vx_value.specs.Texts.{Word}
 use Rattle.vx_plan.specs.declared.plan.Plan.{Plan}
 use Rattle.vx_plan.specs.declared.component.Component.{Component}
 use Rattle.vx_plan.specs.Components.{component_named}
+use Rattle.vx_plan.specs.Accepted.{IsPlan}
 use Rattle.vx_record.specs.Records.{Record}
 use Rattle.vx_record.specs.declared.entry.Entry.TheVariants.{Install}
 use Rattle.vx_record.specs.declared.instance.Instance.{Instance}
 use Rattle.vx_record.specs.Starting.{first_instances}
 use Rattle.vx_record.specs.Installs.{Wiring, wiring, name_at, component_of, in_force}
-use Rattle.vx_record.specs.Wirings.{names_differ, begun}
+use Rattle.vx_record.specs.Wirings.{begun}
 use Rattle.vx_record.specs.Legal.{IsLegal}
-use Rattle.vx_record.proofs.FirstWiring.{name_of_first, component_of_first}
+use Rattle.vx_record.specs.Promises.{InForceAccepted, ComponentInPlace}
+use Rattle.vx_record.proofs.FirstWiring.{name_of_first, found}
+
+-- the plan in force was one to be installed
+pub in_force_accepted : InForceAccepted
+in_force_accepted [] plan legal force = cc
+in_force_accepted (Install version made once instances now ∷ h) plan legal force =
+    let same : made ≡ plan = cc in
+    subst (λ (p : Plan). IsPlan p) same legal.0.row.accepted
+in_force_accepted (e ∷ h) plan legal force = in_force_accepted h plan legal.1 force
 
 -- an instance has the name of the component in its place
 pub name_first : (components instances : List _) (k : ℕ) (c : Component) → slice_get components k ≡ Some c → instances ≡ first_instances 0 components → name_at instances k ≡ Some c.name
@@ -48,14 +58,14 @@ pub component_is : (h : Record) (plan : Plan) (i : ℕ) (c : Component) → IsLe
 component_is h plan i c legal force at =
     ap (λ (o : Option Wiring). elim o [ None ↦ None | Some w ↦ component_named w.plan w.name ]) (wired_so h plan i c legal force at)
 
--- a record that begins with a plan is legal
-pub begun_legal : (plan : Plan) (once : Bool) (now : ℕ) → IsLegal (begun plan once now)
-begun_legal plan once now = (record { row = record { first = refl; zeroth = refl; all_new = refl }; turn = λ b w. w; still = λ gone. cc }, tt)
+-- a record that begins with a plan that may be installed is legal
+pub begun_legal : (plan : Plan) (once : Bool) (now : ℕ) → IsPlan plan → IsLegal (begun plan once now)
+begun_legal plan once now accepted = (record { row = record { first = refl; zeroth = refl; accepted = accepted; all_new = refl }; turn = refl; still = λ gone. cc }, tt)
 
--- where names differ, that is the component in its place
-pub component_there : (h : Record) (plan : Plan) (i : ℕ) (c : Component) → IsLegal h → in_force h ≡ Some plan → names_differ plan.components ≡ true → slice_get plan.components i ≡ Some c → component_of h i ≡ Some c
-component_there h plan i c legal force apart at =
-    component_is h plan i c legal force at ∙ sym (component_is (begun plan false 0) plan i c (begun_legal plan false 0) refl at) ∙ component_of_first plan false 0 i c apart at
+-- that is the component in its place, since names differ
+pub component_there : (h : Record) (plan : Plan) (i : ℕ) (c : Component) → IsLegal h → in_force h ≡ Some plan → slice_get plan.components i ≡ Some c → component_of h i ≡ Some c
+component_there h plan i c legal force at =
+    component_is h plan i c legal force at ∙ found plan.components i c (in_force_accepted h plan legal force).named at
 
 -- nothing is wired past the components
 name_past : (from : ℕ) (components : List Component) (k : ℕ) → slice_get components k ≡ None → name_at (first_instances from components) (from + k) ≡ None
@@ -79,9 +89,9 @@ unwired_past (Install version made once instances now ∷ h) plan i legal force 
 unwired_past (e ∷ h) plan i legal force past = unwired_past h plan i legal.1 force past
 
 -- and there is no other
-pub component_in_place : (h : Record) (plan : Plan) (i : ℕ) → IsLegal h → in_force h ≡ Some plan → names_differ plan.components ≡ true → component_of h i ≡ slice_get plan.components i
-component_in_place h plan i legal force apart = go (slice_get plan.components i) refl
+pub component_in_place : ComponentInPlace
+component_in_place h plan i legal force = go (slice_get plan.components i) refl
   where
     go : (o : Option Component) → slice_get plan.components i ≡ o → component_of h i ≡ o
     go None past = ap (λ (o : Option Wiring). elim o [ None ↦ None | Some w ↦ component_named w.plan w.name ]) (unwired_past h plan i legal force past)
-    go (Some c) at = component_there h plan i c legal force apart at
+    go (Some c) at = component_there h plan i c legal force at

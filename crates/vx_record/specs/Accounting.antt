@@ -1,11 +1,11 @@
 -- Records in which each batch gets its notice where its last copy is spent, with the status of its spends.
-use Rattle.std.specs.Prelude.{ℕ, ◌<◌, ◌≡◌, List, [], ◌∷◌, length}
+use Rattle.std.specs.Prelude.{ℕ, ◌<◌, ◌≡◌, true, false, List, [], ◌∷◌, length}
 use Rattle.vx_status.specs.declared.batch_status.BatchStatus.{BatchStatus}
 use Rattle.vx_record.specs.declared.entry.Entry.{Entry}
 use Rattle.vx_record.specs.declared.entry.Entry.TheVariants.{Born, Split, Notice}
 use Rattle.vx_record.specs.Records.{Record}
 use Rattle.vx_record.specs.Copies.{next_copy}
-use Rattle.vx_record.specs.Batches.{AwaitsNotice, NoNoticeDue}
+use Rattle.vx_record.specs.Batches.{is_notice_due, awaits_notice}
 use Rattle.vx_record.specs.Statuses.{running}
 use Rattle.vx_record.specs.Moving.{Conserves}
 
@@ -16,7 +16,7 @@ pub record IsNumbered (h : Record) (batch : ℕ) (copies : List ℕ) : Type 0 wh
 
 -- a notice comes where it is due, with the status into which the spends of its batch were folded as they came
 pub record IsNoticedSo (h : Record) (batch : ℕ) (status : BatchStatus) : Type 0 where
-  pub due : AwaitsNotice h batch
+  pub due : awaits_notice h batch ≡ true
   pub folded : status ≡ running h batch
 
 -- what the notices need of an entry beside where copies stand
@@ -29,7 +29,7 @@ Accounts h other = Unit {0}
 -- where a notice is due, nothing else may stand
 abbrev pub IsInTurn : Record → Entry → Type 0
 IsInTurn h (Notice b status) = Unit {0}
-IsInTurn h other = NoNoticeDue h
+IsInTurn h other = is_notice_due h ≡ false
 
 -- an entry conserves copies, and each batch keeps getting its notice
 pub record Settles (h : Record) (e : Entry) : Type 0 where

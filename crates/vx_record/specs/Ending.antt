@@ -1,6 +1,7 @@
 -- The rows of Closed, Retired and Abandon.
 use Rattle.std.specs.Prelude.{ℕ, ◌+◌, ◌*◌, ◌^◌, ◌<◌, ◌≤◌, ◌≡◌, ◌⊎◌, true, false, Some, is_some, List, [], ◌∷◌, length, if◌then◌else◌, ◌==◌}
 use Rattle.vx_value.specs.declared.event.Event.{Event}
+use Rattle.vx_frame.specs.Frames.{capped}
 use Rattle.vx_record.specs.declared.child.Child.{Child}
 use Rattle.vx_record.specs.declared.abandon_cause.AbandonCause.{AbandonCause}
 use Rattle.vx_record.specs.declared.abandon_cause.AbandonCause.TheVariants.{Grace, Numbers, WantOfMemory}
@@ -36,9 +37,10 @@ last_events [] i = []
 last_events (Read j stream took ∷ h) i = if j == i then events_of h i stream took else last_events h i
 last_events (e ∷ h) i = last_events h i
 
--- so many copies are wanted by a birth that an instance owes, or by a Split that lacks nothing but numbers
+-- so many copies are wanted by a birth that an instance owes, or by a Split that lacks nothing but numbers; a count that is told
+-- stands still at its end
 abbrev pub BirthWants : Record → ℕ → Type 0
-BirthWants h wanted = (i : ℕ) × (owes_birth h i ≡ true) × (wanted ≡ length (last_events h i))
+BirthWants h wanted = (i : ℕ) × (owes_birth h i ≡ true) × (wanted ≡ capped (length (last_events h i)))
 
 -- the same, by a Split of some instance that has all but the numbers
 pub record SplitWants (h : Record) (wanted : ℕ) : Type 0 where
@@ -48,7 +50,7 @@ pub record SplitWants (h : Record) (wanted : ℕ) : Type 0 where
   pub event : Event
   pub children : List Child
   pub split : IsSplit h instance ports copies event children
-  pub many : wanted ≡ length children * length copies
+  pub many : wanted ≡ capped (length children * length copies)
 
 -- what each cause needs
 abbrev pub HasReason : Record → AbandonCause → Type 0

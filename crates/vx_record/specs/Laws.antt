@@ -28,7 +28,7 @@ use Rattle.vx_status.specs.declared.batch_status.BatchStatus.{BatchStatus}
 use Rattle.vx_status.specs.declared.batch_status.BatchStatus.TheVariants.{Delivered}
 use Rattle.vx_record.specs.declared.entry.Entry.TheVariants.{Lease, Split, Push, Answer, Attempt, Spent, Notice}
 use Rattle.vx_record.specs.Copies.{count, joined, next_copy, times_split, times_spent, IsLive}
-use Rattle.vx_record.specs.Batches.{batch_of, batches, NoneLive, AwaitsNotice}
+use Rattle.vx_record.specs.Batches.{batch_of, batches, has_live, awaits_notice}
 use Rattle.vx_record.specs.Statuses.{batch_status, running, AllGood}
 use Rattle.vx_record.specs.Lists.{places, stands, parcels_at, contents, held, times_among}
 use Rattle.vx_record.specs.Inputs.{inputs, unanswered, answered, has_tick}
@@ -69,7 +69,7 @@ times_noticed (e ∷ h) b = times_noticed h b
 -- each batch of which no copy is live has exactly one Notice, unless the record ends where that Notice is due
 abbrev pub OneNotice : Type 0
 OneNotice =
-    (h : Record) → IsLegal h → (b : ℕ) → 0 < count b (batches h) → NoneLive h b → (AwaitsNotice h b → ⊥) → times_noticed h b ≡ 1
+    (h : Record) → IsLegal h → (b : ℕ) → 0 < count b (batches h) → has_live h b ≡ false → awaits_notice h b ≡ false → times_noticed h b ≡ 1
 
 -- and none before
 abbrev pub NoEarlyNotice : Type 0
@@ -84,7 +84,7 @@ OneNoticeAtLast = (h : Record) → IsLegal h → IsClosed h → (b : ℕ) → 0 
 abbrev pub NoticeAtOnce : Type 0
 NoticeAtOnce =
     (later earlier : Record) (b : ℕ) (status : BatchStatus) → IsLegal (later ++ Notice b status ∷ earlier) →
-    AwaitsNotice earlier b × (status ≡ batch_status earlier b)
+    (awaits_notice earlier b ≡ true) × (status ≡ batch_status earlier b)
 
 -- no copy of a batch is spent behind its Notice
 abbrev pub NoSpentAfterNotice : Type 0
@@ -106,7 +106,7 @@ LegalAccounted = (h : Record) → IsLegal h → IsAccounted h
 -- unless the record ends where that Notice is due
 abbrev pub AccountedOnce : Type 0
 AccountedOnce =
-    (h : Record) → IsAccounted h → (b : ℕ) → 0 < count b (batches h) → NoneLive h b → (AwaitsNotice h b → ⊥) → times_noticed h b ≡ 1
+    (h : Record) → IsAccounted h → (b : ℕ) → 0 < count b (batches h) → has_live h b ≡ false → awaits_notice h b ≡ false → times_noticed h b ≡ 1
 
 -- none comes before
 abbrev pub AccountedLate : Type 0
@@ -117,7 +117,7 @@ AccountedLate =
 abbrev pub AccountedSo : Type 0
 AccountedSo =
     (later earlier : Record) (b : ℕ) (status : BatchStatus) → IsAccounted (later ++ Notice b status ∷ earlier) →
-    AwaitsNotice earlier b × (status ≡ batch_status earlier b)
+    (awaits_notice earlier b ≡ true) × (status ≡ batch_status earlier b)
 
 -- and says Delivered exactly where each outcome of the batch in the whole record, also behind it, is good
 abbrev pub AccountedTells : Type 0

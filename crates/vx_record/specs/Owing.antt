@@ -35,15 +35,17 @@ is_decided reply.Failed failures allowed = nat_le allowed failures
 abbrev pub unspent_of : Record → List ℕ → Bool
 unspent_of h copies = list_any (λ c. times_spent h c == 0) copies
 
--- an Attempt of the instance decided, and a copy of it is unspent: `whole` is the record, of which the first argument is a part
+-- the copies of each Attempt of the instance that settled what becomes of them, the latest first
+abbrev pub decided : Record → ℕ → List (List ℕ)
+decided [] i = []
+decided (Attempt j copies bytes reply ∷ h) i =
+    let before = decided h i in
+    if (j == i) && is_decided reply (failures_with h i (first_copy copies) + 1) (attempts_allowed h i) then copies ∷ before else before
+decided (e ∷ h) i = decided h i
+
+-- one of the copies that were so settled in a record is unspent in the whole of it
 abbrev pub owes_spends_in : Record → Record → ℕ → Bool
-owes_spends_in [] whole i = false
-owes_spends_in (Attempt j copies bytes reply ∷ h) whole i =
-    ((j == i)
-    && is_decided reply (failures_with h i (first_copy copies) + 1) (attempts_allowed h i)
-    && unspent_of whole copies)
-    || owes_spends_in h whole i
-owes_spends_in (e ∷ h) whole i = owes_spends_in h whole i
+owes_spends_in h whole i = list_any (unspent_of whole) (decided h i)
 
 -- the copies that the instance's last Answer discarded
 abbrev pub last_discarded : Record → ℕ → List ℕ

@@ -5,6 +5,7 @@ use Rattle.vx_ends.specs.declared.trouble.Reply.TheVariants as reply
 use Rattle.vx_status.specs.declared.outcome.Outcome.{Outcome}
 use Rattle.vx_status.specs.declared.outcome.Outcome.TheVariants.{Delivered, Attempts, Refusal, Abandoned, NoConsumer, Filtered, NewestDropped}
 use Rattle.vx_value.specs.declared.event.Event.{Event}
+use Rattle.vx_plan.specs.Accepted.{IsPlan}
 use Rattle.vx_plan.specs.declared.component.Component.{Component}
 use Rattle.vx_plan.specs.declared.plan.Plan.{Plan}
 use Rattle.vx_plan.specs.Options.{encoding}
@@ -17,7 +18,6 @@ use Rattle.vx_record.specs.Lists.{held, outputs, is_bare}
 use Rattle.vx_record.specs.Turns.{at_lease, lease_now}
 use Rattle.vx_record.specs.Reads.{bytes_of_all}
 use Rattle.vx_record.specs.Routing.{is_dry}
-use Rattle.vx_record.specs.Wirings.{names_differ}
 use Rattle.vx_record.specs.Installs.{in_force, component_of, told, source_at, transform_at, device_at}
 use Rattle.vx_record.specs.Abandoning.{abandoned}
 use Rattle.vx_record.specs.Starting.{MayLease}
@@ -56,11 +56,13 @@ LeasedRuns = (h : Record) (i worker now polls : ℕ) → MayLease h i worker now
 abbrev pub LeasedSpent : Type 0
 LeasedSpent = (h : Record) (i worker now polls c : ℕ) → MayLease h i worker now polls → 0 < attempts_with h i c → 0 < times_spent h c
 
--- where names differ, an instance runs the component in its place, and there is no other
+-- the plan in force may be installed
+abbrev pub InForceAccepted : Type 0
+InForceAccepted = (h : Record) (plan : Plan) → IsLegal h → in_force h ≡ Some plan → IsPlan plan
+
+-- so an instance runs the component in its place, and there is no other
 abbrev pub ComponentInPlace : Type 0
-ComponentInPlace =
-    (h : Record) (plan : Plan) (i : ℕ) → IsLegal h → in_force h ≡ Some plan → names_differ plan.components ≡ true →
-    component_of h i ≡ slice_get plan.components i
+ComponentInPlace = (h : Record) (plan : Plan) (i : ℕ) → IsLegal h → in_force h ≡ Some plan → component_of h i ≡ slice_get plan.components i
 
 -- nothing stands at what is retired
 abbrev pub RetiredBare : Type 0

@@ -172,8 +172,10 @@ last_end [] = 0
 last_end (line ∷ []) = line.end
 last_end (line ∷ next ∷ rest) = last_end (next ∷ rest)
 
+-- how many bytes of a stream the instance took up to the stream's last end
+abbrev pub ended_at : Record → ℕ → ℕ → ℕ
+ended_at h i stream = length (taken h i stream) - length (open_bytes h i stream)
+
 -- the position behind the last line that a Read completes, in the stream's bytes; an entry has it capped, as a line has its end
 abbrev pub end_of : Record → ℕ → ℕ → Taken → ℕ
-end_of h i stream took =
-    let s = stream_of h i stream took in
-    (length (taken h i s) - length (open_bytes h i s)) + last_end (new_lines h i stream took)
+end_of h i stream took = ended_at h i (stream_of h i stream took) + last_end (new_lines h i stream took)

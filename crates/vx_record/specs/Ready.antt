@@ -1,6 +1,6 @@
 -- Which instances may be leased.
 use Rattle.std.specs.Prelude.{ℕ, ◌+◌, ◌≡◌, ◌⊎◌, Bool, true, false, not, ◌&&◌, ◌||◌, [], ◌∷◌, ◌==◌, if◌then◌else◌, nat_lt, nat_le}
-use Rattle.std.specs.List.{list_all}
+use Rattle.std.specs.List.{list_any}
 use Rattle.vx_value.specs.Texts.{is_empty, same_text}
 use Rattle.vx_plan.specs.declared.component.Component.{Component}
 use Rattle.vx_plan.specs.declared.class.Class.TheVariants.{Source, Transform, Sink}
@@ -33,10 +33,13 @@ rests_until (e ∷ h) i = rests_until h i
 abbrev pub reading_moment : Record → ℕ → ℕ
 reading_moment h i = 0
 
--- whether the port of each older instance of the same name is closed
+-- whether an instance is an older one of the same name, with a port that isn't closed
+abbrev pub blocks : Record → ℕ → ℕ → Bool
+blocks h i j = nat_lt j i && same_text (name_of h j) (name_of h i) && device_at h j && not (is_closed h j)
+
+-- whether no instance that was started is such
 abbrev pub is_heir : Record → ℕ → Bool
-is_heir h i =
-    list_all (λ j. not (nat_lt j i && same_text (name_of h j) (name_of h i) && device_at h j) || is_closed h j) (started h)
+is_heir h i = not (list_any (blocks h i) (started h))
 
 -- whether a source can be read at that moment
 abbrev pub can_read : Record → ℕ → ℕ → Bool

@@ -1,5 +1,5 @@
 -- The rows of Read, Idle, SourceLost, Born and Confirm.
-use Rattle.std.specs.Prelude.{ℕ, ◌+◌, ◌^◌, ◌<◌, ◌≤◌, ◌≡◌, Bool, true, false, Some, None, List, [], ◌∷◌, length, if◌then◌else◌, ◌==◌}
+use Rattle.std.specs.Prelude.{ℕ, ◌+◌, ◌^◌, ◌<◌, ◌≤◌, ◌≡◌, Bool, true, false, Option, Some, None, List, [], ◌∷◌, length, if◌then◌else◌, ◌==◌}
 use Rattle.std.specs.List.{list_any}
 use Rattle.vx_ends.specs.declared.position.Position.{Position}
 use Rattle.vx_value.specs.declared.event.Event.{Event}
@@ -47,25 +47,29 @@ pub record MayBeLost (h : Record) (i at : ℕ) (failed : Bool) : Type 0 where
   pub after : at ≡ capped (bytes_taken h i)
   pub many : failed ≡ true → 4 ≤ failed_starts h i
 
--- a birth's events and position are those of the Read, which stands directly before it
-pub record IsYieldOf (h : Record) (j stream : ℕ) (took : Taken) (i : ℕ) (events : List Event) (stream' end : ℕ) : Type 0 where
-  pub reader : j ≡ i
-  pub given : events ≡ events_of h i stream took
-  pub of_stream : stream' ≡ stream_of h i stream took
-  pub up_to : end ≡ capped (end_of h i stream took)
+-- what a Read gives a birth: its events, and the stream and the position at which the last line ends
+pub record Yield : Type 0 where
+  pub events : List Event
+  pub stream : ℕ
+  pub end : ℕ
 
--- the newest entry is a Read of the instance, and gives such a birth
-abbrev pub IsYield : Record → ℕ → List Event → ℕ → ℕ → Type 0
-IsYield (Read j stream took ∷ h) i events stream' end = IsYieldOf h j stream took i events stream' end
-IsYield h i events stream' end = ⊥
+-- what a Read of the instance yields
+abbrev pub yield_of : Record → ℕ → ℕ → Taken → Yield
+yield_of h i stream took =
+    record { events = events_of h i stream took; stream = stream_of h i stream took; end = capped (end_of h i stream took) }
+
+-- what the newest entry yields, if it is a Read of the instance
+abbrev pub yield : Record → ℕ → Option Yield
+yield (Read j stream took ∷ h) i = if j == i then Some (yield_of h i stream took) else None
+yield h i = None
 
 -- whether the batches of a source wait by its plan
 abbrev pub must_wait : Record → ℕ → Bool
 must_wait h i = elim (plan_of h i) [ None ↦ false | Some plan ↦ acknowledged plan (name_of h i) ]
 
--- the numbers of copies end at 2 ^ 63
+-- a Born has what the Read directly before it yields; the numbers of copies end at 2 ^ 63
 pub record MayBear (h : Record) (i batch : ℕ) (copies : List ℕ) (events : List Event) (waits : Bool) (stream end : ℕ) : Type 0 where
-  pub yield : IsYield h i events stream end
+  pub yields : yield h i ≡ Some (record { events = events; stream = stream; end = end })
   pub some : 0 < length copies
   pub one_each : length copies ≡ length events
   pub next : copies ≡ counting (next_copy h) (length copies)

@@ -17,7 +17,7 @@ use Rattle.vx_record.specs.Stages.{stages_of, first_room, last_drops}
 use Rattle.vx_record.specs.SinkBatches.{failures_with, attempts_allowed}
 use Rattle.vx_record.specs.Owing.{last_discarded}
 use Rattle.vx_record.specs.Abandoning.{abandoned}
-use Rattle.vx_record.specs.Batches.{AwaitsNotice}
+use Rattle.vx_record.specs.Batches.{awaits_notice}
 use Rattle.vx_record.specs.Statuses.{batch_status}
 
 -- the copies of the instance's last Attempt
@@ -72,5 +72,5 @@ pub record MaySpend (h : Record) (i c : ℕ) (outcome : Outcome) : Type 0 where
 
 -- a Notice comes where it is due, with the status that the tables fold
 pub record MayNotice (h : Record) (b : ℕ) (status : BatchStatus) : Type 0 where
-  pub due : AwaitsNotice h b
+  pub due : awaits_notice h b ≡ true
   pub folded : status ≡ batch_status h b

@@ -1,5 +1,6 @@
 -- The rows of Install, Lease and Home.
 use Rattle.std.specs.Prelude.{ℕ, ◌+◌, ◌≤◌, ◌≡◌, true, false, List, [], ◌∷◌}
+use Rattle.vx_plan.specs.Accepted.{IsPlan}
 use Rattle.vx_plan.specs.declared.plan.Plan.{Plan}
 use Rattle.vx_plan.specs.declared.component.Component.{Component}
 use Rattle.vx_record.specs.declared.instance.Instance.{Instance}
@@ -15,10 +16,11 @@ abbrev pub first_instances : ℕ → List Component → List Instance
 first_instances from [] = []
 first_instances from (c ∷ rest) = record { name = c.name; number = from; start = New } ∷ first_instances (from + 1) rest
 
--- an Install begins the record; later ones come with reloads
+-- an Install begins the record, of a plan that may be installed; later ones come with reloads
 pub record MayInstall (h : Record) (version : ℕ) (plan : Plan) (instances : List Instance) : Type 0 where
   pub first : h ≡ []
   pub zeroth : version ≡ 0
+  pub accepted : IsPlan plan
   pub all_new : instances ≡ first_instances 0 plan.components
 
 -- a Lease goes to a home instance that has work and owes nothing; no moment of a worker falls

@@ -1,7 +1,6 @@
 -- What the first Install makes of a plan: the number of an instance is the place of its component.
-use Rattle.std.specs.Prelude.{ℕ, ◌≡◌, Bool, true, not, ◌&&◌, Some, List, [], ◌∷◌, ◌++◌, length, slice_get}
-use Rattle.std.specs.List.{list_any}
-use Rattle.vx_value.specs.Texts.{same_text}
+use Rattle.std.specs.Prelude.{ℕ, ◌≡◌, Bool, true, Some, [], ◌∷◌, ◌++◌, length, slice_get}
+use Rattle.vx_plan.specs.Accepted.{names_differ}
 use Rattle.vx_plan.specs.declared.component.Component.{Component}
 use Rattle.vx_plan.specs.declared.plan.Plan.{Plan}
 use Rattle.vx_plan.specs.Numbers.{reader_numbers}
@@ -12,11 +11,6 @@ use Rattle.vx_record.specs.Installs.{wiring, wired, component_of, started}
 use Rattle.vx_record.specs.Routing.{wired_targets}
 use Rattle.vx_record.specs.Starting.{first_instances}
 use Rattle.vx_record.specs.Legal.{IsLegal}
-
--- whether no two components have one name
-abbrev pub names_differ : List Component → Bool
-names_differ [] = true
-names_differ (c ∷ rest) = not (list_any (λ (d : Component). same_text d.name c.name) rest) && names_differ rest
 
 -- a record that began with a plan
 abbrev pub begun : Plan → Bool → ℕ → Record

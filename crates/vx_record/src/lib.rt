@@ -46,7 +46,7 @@ pub use laws::{
 pub use log::Log;
 pub use output::{Output, OutputList};
 pub use record::Record;
-pub use row_laws::{attempt_laws, end_laws, lease_laws, source_laws, spend_laws};
+pub use row_laws::{attempt_laws, end_laws, lease_laws, plan_laws, source_laws, spend_laws};
 pub use taken::Taken;
 pub use tally::Tally;
 pub use tally_list::{TallyList, tallies};

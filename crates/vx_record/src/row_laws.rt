@@ -1,6 +1,6 @@
 //! What every legal record says of its entries beside their rows. A law's function does nothing: what it ensures is proved.
 
-ghost use Rattle.vx_record.specs.Promises.{TurnUnlost, TurnUndry, TurnShort, ClosedTakesNoMore, LeasedRuns, LeasedSpent, ComponentInPlace, RetiredBare, UnaskedToStop, SpentAbandoned, TransformsFilter, UnconsumedUnread, SourceUnread, DecidedHeld, HeldUntried, SpentFailed, SplitReaders, SourceSplits, AttemptNames, AttemptDue, AttemptEncodes};
+ghost use Rattle.vx_record.specs.Promises.{TurnUnlost, TurnUndry, TurnShort, ClosedTakesNoMore, LeasedRuns, LeasedSpent, InForceAccepted, ComponentInPlace, RetiredBare, UnaskedToStop, SpentAbandoned, TransformsFilter, UnconsumedUnread, SourceUnread, DecidedHeld, HeldUntried, SpentFailed, SplitReaders, SourceSplits, AttemptNames, AttemptDue, AttemptEncodes};
 
 /// A source wasn't lost and isn't dry where it takes its turn, nor were 2^48 bytes taken when it was leased; one whose port
 /// is closed for good was told the end of all, or was lost, or too many bytes were taken, or the run was given up.
@@ -11,7 +11,12 @@ pub fn source_laws()
     ensures closed { ClosedTakesNoMore }
 {}
 
-/// What is leased runs a component, which is the one in its place where names differ, and has spent what it attempted.
+/// The plan in force may be installed.
+pub fn plan_laws()
+    ensures accepted { InForceAccepted }
+{}
+
+/// What is leased runs a component, which is the one in its place, and has spent what it attempted.
 pub fn lease_laws()
     ensures runs { LeasedRuns }
     ensures in_place { ComponentInPlace }

@@ -2,5 +2,4 @@ pub mod Judged
 pub mod Prepared
 pub mod Closing
 pub mod Counting
-pub mod Apart
 pub mod Ported

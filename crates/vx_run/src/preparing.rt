@@ -1,9 +1,9 @@
 ghost use Rattle.std.specs.Prelude.{◌≡◌, ◌≢◌, ◌↔◌, ◌<◌, ◌^◌, length, true, Ok, Err, Some, IfOk, IfErr, IfSome, IsSomeAnd};
 ghost use Rattle.vx_ends.specs.Texts.{IsTextAt};
 ghost use Rattle.vx_ends.specs.Told.{Rose};
+ghost use Rattle.vx_plan.specs.Accepted.{IsPlan};
 ghost use Rattle.vx_plan.specs.Options.{has_device};
 ghost use Rattle.vx_plan.specs.Ports.{port_of};
-ghost use Rattle.vx_record.specs.Wirings.{names_differ};
 ghost use Rattle.vx_hub.specs.Making.{IsUntouched, AreUntouched};
 ghost use Rattle.vx_hub.specs.Order.{all_ported};
 ghost use Rattle.vx_reading.specs.Reading.{IsReading};
@@ -26,7 +26,7 @@ pub(crate) fn prepare<W: World>(
 ) -> Result<Parts<W::Port>, Fault>
     ensures stands { IfOk result (λ parts. IsPlanAt environment.now (W.texts world.old) file.now parts.plan) }
     ensures few { IfOk result (λ parts. length parts.plan.components < 2 ^ 32) }
-    ensures named { IfOk result (λ parts. names_differ parts.plan.components ≡ true) }
+    ensures accepted { IfOk result (λ parts. IsPlan parts.plan) }
     ensures ported { IfOk result (λ parts. all_ported parts.plan.components ≡ true) }
     ensures ports { IfOk result (λ parts. length parts.ports ≡ length parts.plan.components) }
     ensures untouched { IfOk result (λ parts. AreUntouched W.Port.told parts.plan.components parts.ports) }
@@ -53,7 +53,7 @@ pub(crate) fn plan_at<W: World>(
 ) -> Result<Plan, Fault>
     ensures stands { IfOk result (IsPlanAt environment.now (W.texts world.old) file.now) }
     ensures few { IfOk result (λ plan. length plan.components < 2 ^ 32) }
-    ensures named { IfOk result (λ plan. names_differ plan.components ≡ true) }
+    ensures accepted { IfOk result (λ plan. IsPlan plan) }
     ensures ported { IfOk result (λ plan. all_ported plan.components ≡ true) }
     ensures unready { IfErr result (IsUnready environment.now (W.texts world.old) file.now (W.faults world.old) (W.faults world.new)) }
     ensures texts { W.texts world.new ≡ W.texts world.old }
@@ -83,7 +83,7 @@ fn config<W: World>(alloc: Global, file: &Text, world: &mut W) -> Result<Bytes, 
 fn plan_of(alloc: Global, bytes: &Bytes, environment: &VariableList) -> Result<Plan, Fault>
     ensures read { IfOk result (λ plan. IsReading environment.now bytes.now (Ok plan)) }
     ensures few { IfOk result (λ plan. length plan.components < 2 ^ 32) }
-    ensures named { IfOk result (λ plan. names_differ plan.components ≡ true) }
+    ensures accepted { IfOk result (λ plan. IsPlan plan) }
     ensures ported { IfOk result (λ plan. all_ported plan.components ≡ true) }
     ensures refused { IfErr result (IsMisread environment.now bytes.now) }
 {

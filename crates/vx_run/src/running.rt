@@ -1,6 +1,6 @@
 ghost use Rattle.std.specs.Prelude.{◌≡◌, ◌≢◌, ◌⊎◌, List, ◌<◌, ◌^◌, [], length, true, Some};
+ghost use Rattle.vx_plan.specs.Accepted.{IsPlan};
 ghost use Rattle.vx_record.specs.Legal.{IsLegal};
-ghost use Rattle.vx_record.specs.Wirings.{names_differ};
 ghost use Rattle.vx_hub.specs.Making.{AreUntouched};
 ghost use Rattle.vx_hub.specs.Order.{IsLegalWithReturns, all_ported};
 ghost use Rattle.vx_hub.specs.Stands.{Stands};
@@ -136,7 +136,7 @@ fn begin<R: Wait, P: Port, C: Clock>(
     requires few { length parts.plan.components < 2 ^ 32 }
     requires ports { length parts.ports ≡ length parts.plan.components }
     requires untouched { AreUntouched P.told parts.plan.components parts.ports }
-    requires named { names_differ parts.plan.components ≡ true }
+    requires accepted { IsPlan parts.plan }
     requires ported { all_ported parts.plan.components ≡ true }
     ensures judged { IsJudged result.history result.fault }
     ensures told { IsTrueTo P.told result.history result.ports result.fault }

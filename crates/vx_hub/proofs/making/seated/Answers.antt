@@ -92,4 +92,4 @@ returns-clause-stands g c =
     let inv = c.loop-seats.invariant in
     let none = none_left _ (sym c.is_empty.ensures ∙ c.loop-seats-test.false) in
     let done : length c.loop-seats.hub.rows.items ≡ length c.args.plan.components = omega (arith, inv.size, c.requires.count, none) in
-    begun_stands g.P.Port.told c.args.plan c.loop-seats.hub inv.begins inv.plan c.requires.named c.requires.ported inv.first inv.none (omega (arith, inv.size, inv.berths)) (omega (arith, inv.size, c.requires.few)) c.requires.small done
+    begun_stands g.P.Port.told c.args.plan c.loop-seats.hub inv.begins inv.plan c.requires.accepted c.requires.ported inv.first inv.none (omega (arith, inv.size, inv.berths)) (omega (arith, inv.size, c.requires.few)) c.requires.small done

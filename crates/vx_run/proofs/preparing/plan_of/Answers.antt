@@ -1,6 +1,5 @@
 use Rattle.std.proofs.Common.{◌≤◌, length, arith}
 use Rattle.vx_reading.proofs.Few.{few_components}
-use Rattle.vx_run.proofs.Apart.{differ_apart}
 use Rattle.vx_run.proofs.Ported.{ported_read}
 use Rattle.vx_run.proofs.preparing.plan_of.Goals as goal
 
@@ -8,9 +7,6 @@ pub returns-in-Ok-clause-few : goal.returns-in-Ok-clause-few
 returns-in-Ok-clause-few c =
     let few : length c.in-Ok.plan.components ≤ 256 = few_components c.args.environment.now c.as_slice.result.now c.in-Ok.plan c.in-Ok.ensures.read in
     omega (arith, few)
-
-pub returns-in-Ok-clause-named : goal.returns-in-Ok-clause-named
-returns-in-Ok-clause-named c = differ_apart c.in-Ok.plan.components c.in-Ok.ensures.apart
 
 pub returns-in-Ok-clause-ported : goal.returns-in-Ok-clause-ported
 returns-in-Ok-clause-ported c = ported_read c.args.environment.now c.as_slice.result.now c.in-Ok.plan c.in-Ok.ensures.read

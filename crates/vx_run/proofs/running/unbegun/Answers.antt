@@ -6,7 +6,7 @@ use Rattle.vx_run.proofs.Closing.{legal_none, complete_none}
 use Rattle.vx_run.proofs.running.unbegun.Goals as goal
 
 pub returns-clause-returned : goal.returns-clause-returned
-returns-clause-returned g c = subst (λ (h : Record). IsLegalWithReturns h) (sym c.new.ensures) (record { legal = tt; named = tt; ported = tt; returned = tt })
+returns-clause-returned g c = subst (λ (h : Record). IsLegalWithReturns h) (sym c.new.ensures) (record { legal = tt; ported = tt; returned = tt })
 
 pub returns-clause-notices : goal.returns-clause-notices
 returns-clause-notices g c = noticed_none c.new.result c.args.fault c.new.ensures

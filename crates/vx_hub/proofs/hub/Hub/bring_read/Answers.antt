@@ -4,13 +4,14 @@ use Rattle.vx_hub.proofs.Leaving.{settled_noted}
 use Rattle.vx_record.specs.declared.taken.Taken.TheVariants as taken
 use Rattle.vx_hub.specs.declared.source.Turned.{Turned}
 use Rattle.vx_hub.specs.Abreast.{RoleHasTurned}
-use Rattle.vx_hub.proofs.Yielding.{yielded, lines_role, stream_role, all_role}
+use Rattle.vx_hub.proofs.Yielding.{come_on, yielded, lines_role, stream_role, all_role}
 use Rattle.vx_hub.specs.Rows.{role_copies}
 use Rattle.vx_hub.specs.Leases.{Adds}
 use Rattle.vx_hub.specs.declared.source.Turned.TheVariants.{Lines}
 use Rattle.vx_hub.specs.declared.source.Turned.TheVariants as turned
 use Rattle.vx_hub.specs.declared.work.Done.TheVariants as done
 use Rattle.vx_hub.proofs.Homing.{held_on}
+use Rattle.vx_hub.proofs.Failing.{says_all_end, says_idle, told_failed, held_failed, idle_role, failed_role, come_failed}
 use Rattle.vx_hub.proofs.Ordering.{sound_before}
 use Rattle.vx_hub.proofs.Saying.{told_noted, says_bytes, says_stream_end}
 use Rattle.vx_hub.proofs.Owed.{had_born, had_same, given_now, given_same, born_noted, born_same, born_failed}
@@ -190,3 +191,47 @@ bring-requires-in-StreamEnded-clause-told g c sound =
     c.note_end.ensures.noted sound.whole (says_stream_end h i c.in-StreamEnded.stream c.in-StreamEnded.events c.in-StreamEnded.end)
     (subst (λ (t : Turned). Adds (g.P.Port.told c.args.task.port) h i None (done.Read t)) c.in-StreamEnded.is
     (c.requires.brings (sound_before d c.note_end.new.self (Read i c.in-StreamEnded.stream taken.StreamEnded) c.note_end.ensures.noted c.note_end.ensures.starved sound)))
+
+pub bring-requires-in-AllEnded-clause-told : goal.bring-requires-in-AllEnded-clause-told
+bring-requires-in-AllEnded-clause-told g c sound =
+    let d = c.args.self.now in
+    let h = d.log.history in
+    let i = c.args.instance in
+    told_noted (g.P.Port.told c.args.task.port) d.log c.note_end-in-AllEnded.new.self.log i (Read i c.in-AllEnded.stream taken.AllEnded) (done.Read (turned.AllEnded c.in-AllEnded.stream c.in-AllEnded.events c.in-AllEnded.end))
+    c.note_end-in-AllEnded.ensures.noted sound.whole (says_all_end h i c.in-AllEnded.stream c.in-AllEnded.events c.in-AllEnded.end)
+    (subst (λ (t : Turned). Adds (g.P.Port.told c.args.task.port) h i None (done.Read t)) c.in-AllEnded.is
+    (c.requires.brings (sound_before d c.note_end-in-AllEnded.new.self (Read i c.in-AllEnded.stream taken.AllEnded) c.note_end-in-AllEnded.ensures.noted c.note_end-in-AllEnded.ensures.starved sound)))
+
+pub bring-requires-in-Idle-clause-told : goal.bring-requires-in-Idle-clause-told
+bring-requires-in-Idle-clause-told g c sound =
+    let d = c.args.self.now in
+    let h = d.log.history in
+    let i = c.args.instance in
+    told_noted (g.P.Port.told c.args.task.port) d.log c.note_idle.new.self.log i (Idle i false) (done.Read turned.Idle) c.note_idle.ensures.noted sound.whole (says_idle h i)
+    (subst (λ (t : Turned). Adds (g.P.Port.told c.args.task.port) h i None (done.Read t)) c.in-Idle.is
+    (c.requires.brings (sound_before d c.note_idle.new.self (Idle i false) c.note_idle.ensures.noted c.note_idle.ensures.starved sound)))
+
+pub bring-requires-in-Failed-clause-told : goal.bring-requires-in-Failed-clause-told
+bring-requires-in-Failed-clause-told g c =
+    told_failed (g.P.Port.told c.args.task.port) c.args.self.now c.note_failed.new.self c.args.instance c.in-Failed.at_start c.note_failed.ensures.noted c.note_failed.ensures.starved
+    (λ sound. subst (λ (t : Turned). Adds (g.P.Port.told c.args.task.port) c.args.self.now.log.history c.args.instance None (done.Read t)) c.in-Failed.is (c.requires.brings sound))
+
+pub bring-requires-in-Idle-clause-held : goal.bring-requires-in-Idle-clause-held
+bring-requires-in-Idle-clause-held g c =
+    held_on g.P.Port.told c.args.self.now c.note_idle.new.self (role_copies c.args.task.role) c.args.instance c.args.task.role (Idle c.args.instance false)
+    c.requires.stands c.note_idle.ensures.noted c.note_idle.ensures.starved tt c.requires.held
+
+pub bring-requires-in-Failed-clause-held : goal.bring-requires-in-Failed-clause-held
+bring-requires-in-Failed-clause-held g c =
+    held_failed g.P.Port.told c.args.self.now c.note_failed.new.self (role_copies c.args.task.role) c.args.instance c.args.task.role c.in-Failed.at_start
+    c.requires.stands c.note_failed.ensures.noted c.note_failed.ensures.starved c.requires.held
+
+pub bring-requires-in-Idle-clause-come : goal.bring-requires-in-Idle-clause-come
+bring-requires-in-Idle-clause-come g c =
+    come_on c.args.self.now c.note_idle.new.self (Idle c.args.instance false) c.args.instance c.args.task.role tt c.note_idle.ensures.noted c.note_idle.ensures.starved
+    (λ sound. idle_role c.args.self.now.log.history c.args.instance c.args.task.role (subst (λ (t : Turned). RoleHasTurned c.args.self.now.log.history c.args.instance c.args.task.role t) c.in-Idle.is (c.requires.come sound)))
+
+pub bring-requires-in-Failed-clause-come : goal.bring-requires-in-Failed-clause-come
+bring-requires-in-Failed-clause-come g c =
+    come_failed c.args.self.now c.note_failed.new.self c.args.instance c.args.task.role c.in-Failed.at_start c.note_failed.ensures.noted c.note_failed.ensures.starved
+    (λ sound. failed_role c.args.self.now.log.history c.args.instance c.args.task.role c.in-Failed.at_start (subst (λ (t : Turned). RoleHasTurned c.args.self.now.log.history c.args.instance c.args.task.role t) c.in-Failed.is (c.requires.come sound)))

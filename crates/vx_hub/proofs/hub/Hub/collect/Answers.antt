@@ -1,6 +1,6 @@
-use Rattle.std.proofs.Common.{arith, refl, ◌∙◌}
+use Rattle.std.proofs.Common.{arith, ◌∙◌}
 use Rattle.vx_hub.specs.Away.{OnlyTook}
-use Rattle.vx_hub.proofs.Adding.{adds_none, adds_both, away_taken, moment_taken}
+use Rattle.vx_hub.proofs.Adding.{adds_both, away_taken, moment_taken}
 use Rattle.vx_hub.proofs.hub.Hub.collect.Goals as goal
 
 pub take-requires-clause-away : goal.take-requires-clause-away

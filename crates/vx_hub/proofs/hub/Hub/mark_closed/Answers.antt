@@ -27,7 +27,7 @@ returns-clause-stands g c =
     (λ fine gone. refl) (λ k none out. out) refl (λ fine known. known_closed f d.log.history i (c.requires.may (record { whole = fine.whole; fed = fine.fed })) known) (λ x k other known. known_far x d.log.history k (Closed i) (other_test i k other) known) (λ closed. c.requires.shut)
     (λ retired. (refl, (facts_has (IsGone d.rows.items i) d.facts.items i f within c.index_mut.ensures.value (c.requires.stands.gone i) retired).1))
     (λ fine kept placed. placed_still d.rows.items [] d.log.history (Closed i) tt kept.1 placed)
-    (λ b w. w) (λ fine sound. running_still d.log.history (Closed i) d.batches.open_rows tt) (λ ledger. ledger) (λ fine going. tt)
+    (λ b. refl) (λ fine sound. running_still d.log.history (Closed i) d.batches.open_rows tt) (λ ledger. ledger) (λ fine going. tt)
     (λ fine. counted_on d _ d.log.history (Closed i ∷ d.log.history) refl refl (abreast_plain (Closed i) tt d.log.history) refl refl) (λ worker l. l)
 
 pub returns-clause-returning : goal.returns-clause-returning

@@ -28,7 +28,7 @@ returns-clause-stands g c =
     (facts_has (IsShut g.P.Port.told d.rows.items i) d.facts.items i f c.requires.within c.index_mut.ensures.value (c.requires.stands.shut i))
     (λ retired. (closed, c.requires.bare))
     (λ fine kept placed. placed_still d.rows.items [] d.log.history (Retired i) tt kept.1 placed)
-    (λ b w. w) (λ fine sound. running_still d.log.history (Retired i) d.batches.open_rows tt) (λ ledger. ledger) (λ fine going. tt)
+    (λ b. refl) (λ fine sound. running_still d.log.history (Retired i) d.batches.open_rows tt) (λ ledger. ledger) (λ fine going. tt)
     (λ fine. counted_on d _ d.log.history (Retired i ∷ d.log.history) refl refl (abreast_plain (Retired i) tt d.log.history) refl refl) (λ worker l. l)
 
 pub returns-clause-retired : goal.returns-clause-retired

@@ -31,7 +31,7 @@ returns-clause-stands g c =
     (facts_has (IsShut g.P.Port.told d.rows.items i) d.facts.items i f within c.index_mut.ensures.value (c.requires.stands.shut i))
     (facts_has (IsGone d.rows.items i) d.facts.items i f within c.index_mut.ensures.value (c.requires.stands.gone i))
     (λ fine kept placed. placed_still d.rows.items [] d.log.history (Home i) tt kept.1 placed)
-    (λ b w. w) (λ fine sound. running_still d.log.history (Home i) d.batches.open_rows tt) (λ ledger. ledger)
+    (λ b. refl) (λ fine sound. running_still d.log.history (Home i) d.batches.open_rows tt) (λ ledger. ledger)
     (λ fine going. c.requires.bore going (record { whole = fine.whole; fed = fine.fed }))
     (λ fine. counted_on d _ d.log.history (Home i ∷ d.log.history) refl refl (abreast_plain (Home i) tt d.log.history) refl refl) (λ worker l. l)
   where

@@ -72,7 +72,7 @@ returns-clause-stands g c =
     (facts_has (IsShut g.P.Port.told d.rows.items i) d.facts.items i f within c.index_mut.ensures.value (s.shut i))
     (facts_has (IsGone d.rows.items i) d.facts.items i f within c.index_mut.ensures.value (s.gone i))
     (λ fine kept placed. placed_still d.rows.items [] h e tt kept.1 placed)
-    (λ b w. w) (λ fine sound. running_still h e d.batches.open_rows tt) (λ ledger. ledger)
+    (λ b. refl) (λ fine sound. running_still h e d.batches.open_rows tt) (λ ledger. ledger)
     (λ fine going. tt) (λ fine. counted_leased d _ h i c.args.worker c.args.now 0 c.take_due.result refl refl c.take_due.ensures.asked)
     (λ worker l. later_leased h i c.args.worker c.args.now 0 worker d.latest c.requires.moment l)
 

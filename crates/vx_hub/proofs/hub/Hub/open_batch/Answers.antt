@@ -1,7 +1,6 @@
 use Rattle.std.proofs.Common.{refl, ◌≡◌, ◌<◌, ◌∙◌, [], ap, sym, length, arith, subst, ℕ, List, ◌++◌, ◌∷◌}
 use Rattle.vx_hub.specs.Numbers.{numbers_in}
 use Rattle.vx_hub.specs.Stands.{IsShut, IsGone, IsSound}
-use Rattle.vx_hub.proofs.Drying.{closing_on}
 use Rattle.vx_hub.proofs.Covering.{hub_waits}
 use Rattle.vx_hub.specs.Notices.{waits_by}
 use Rattle.std.specs.Prelude.{slice_get}
@@ -58,7 +57,7 @@ returns-clause-stands g c =
     (λ fine kept placed. placed_born c.args.self.now.rows.items h c.args.instance c.in-Ok.born.0 c.in-Ok.born.0 copies c.args.events.now c.waits-must_wait.result c.args.position.stream c.args.position.end c.len-n.result
     (c.in-Ok.ensures.copies ∙ ap (λ k. numbered c.len-n.result k k k) (sym c.in-Ok.ensures.number)) (c.in-Ok.ensures.number ∙ (s.recorded fine).next)
     (omega (arith, many, length_numbers copies)) kept placed)
-    (λ b w. w)
+    (λ b. refl)
     (λ fine sound running. subst (λ (rs : List OpenBatch). AreRunning (Born c.args.instance c.in-Ok.born.0 c.in-Ok.born.0 (numbers_in copies) c.args.events.now c.waits-must_wait.result c.args.position.stream c.args.position.end ∷ h) rs) (sym c.in-Ok.ensures.rows)
     (running_more (Born c.args.instance c.in-Ok.born.0 c.in-Ok.born.0 (numbers_in copies) c.args.events.now c.waits-must_wait.result c.args.position.stream c.args.position.end ∷ h) c.args.self.now.batches.open_rows _
     (running_on h (Born c.args.instance c.in-Ok.born.0 c.in-Ok.born.0 (numbers_in copies) c.args.events.now c.waits-must_wait.result c.args.position.stream c.args.position.end ∷ h) c.args.self.now.batches.open_rows (λ b. refl) running)

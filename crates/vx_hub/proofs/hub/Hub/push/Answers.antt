@@ -43,7 +43,7 @@ returns-clause-stands g c =
       comes = hub_comes g.P.Port.told d [] (Push c.args.instance target 0 (numbers_in copies)) s c.requires.going;
       places = λ fine kept placed. placed_pushed d.rows.items c.take_child-target.new.rows.items c.push_buffer.new.rows.items d.log.history c.args.instance target copies kept placed takes
           (subst (λ t. PutsLast (Contents t 0) copies c.take_child-target.new.rows.items c.push_buffer.new.rows.items) (sym first.0) c.push_buffer.ensures.last);
-      due = λ fine b w. w;
+      due = λ fine b. refl;
       statuses = λ fine. running_on d.log.history (Push c.args.instance target 0 (numbers_in copies) ∷ d.log.history) d.batches.open_rows (λ b. refl);
       ledger = λ ledger. ledger;
       opened = refl;

@@ -5,7 +5,7 @@ use Rattle.vx_hub.proofs.Ordering.{spent_on, noticed_on}
 use Rattle.vx_hub.proofs.StandsLaws.{same_next, stands_quiet, stands_noticed, spent_balanced, bare_stays}
 use Rattle.vx_hub.proofs.Placing.{spent_live, conserved}
 use Rattle.vx_hub.proofs.Owning.{placed_spent}
-use Rattle.vx_hub.proofs.Noticing.{in_turn, spent_statuses, spent_quietly, spent_last, last_mine, none_there}
+use Rattle.vx_hub.proofs.Noticing.{spent_statuses, spent_quietly, spent_last, last_mine, none_there}
 use Rattle.vx_record.specs.Moving.{IsConserved}
 use Rattle.vx_record.specs.Spending.{MaySpend}
 use Rattle.vx_record.specs.Abandoning.{MayStillCome}

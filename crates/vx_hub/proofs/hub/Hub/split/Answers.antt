@@ -1,4 +1,4 @@
-use Rattle.std.proofs.Common.{arith, ◌∷◌, refl, sym, ap, subst, ◌∙◌, ◌≡◌, ◌*◌, ◌+◌, ◌-◌, ◌≤◌, [], length, List, true, false, ◌<◌, ℕ}
+use Rattle.std.proofs.Common.{arith, ◌∷◌, refl, sym, ap, subst, ◌∙◌, ◌≡◌, ◌*◌, ◌+◌, ◌-◌, ◌≤◌, [], length, List, true, false, ◌<◌}
 use Rattle.std.specs.Prelude.{◌^◌}
 use Rattle.vx_ledger.specs.Ledger.{Exchanges, grown_rows}
 use Rattle.vx_ledger.specs.declared.open_batch.OpenBatch.{OpenBatch}
@@ -30,7 +30,7 @@ use Rattle.vx_hub.specs.Events.{IsSaid, EachChild}
 use Rattle.vx_hub.proofs.Settling.{known_at_home}
 use Rattle.vx_hub.proofs.Saids.{rows_on}
 use Rattle.vx_hub.proofs.EventLaws.{children_said}
-use Rattle.vx_hub.proofs.Splitting.{split_wants, split_few, some_targets, some_wanted, short_wants, readers_within}
+use Rattle.vx_hub.proofs.Splitting.{split_wants, some_targets, some_wanted, short_wants}
 use Rattle.vx_hub.proofs.Reasons.{split_reason}
 use Rattle.vx_hub.proofs.hub.Hub.split.Goals as goal
 
@@ -86,7 +86,7 @@ returns-in-Ok-Children-clause-stands g c =
           (children_mine d.log.history c.args.instance 1 parcel.event (noted_of cs) parcel targets 0 d.batches.next (omega (arith, (s.recorded fine).next)) (length_numbers parcel.finalizers) (omega (arith, length_noted targets d.batches.next parcel cs are))
           (placed_taken (Outputs c.args.instance) parcel.finalizers d.rows.items c.pop_output.new.rows.items d.log.history kept.1 placed
           (from_oldest (Outputs c.args.instance) parcel.finalizers d.rows.items c.pop_output.new.rows.items c.in-Some.ensures.oldest)).owned t));
-      due = λ fine b w. w;
+      due = λ fine b. refl;
       statuses = λ fine running. subst (λ (rs : List OpenBatch). AreRunning (Split c.args.instance 1 (numbers_in parcel.finalizers) parcel.event (noted_of cs) ∷ d.log.history) rs) (sym rows)
           (running_grown (Split c.args.instance 1 (numbers_in parcel.finalizers) parcel.event (noted_of cs) ∷ d.log.history) (length targets - 1) parcel.finalizers d.batches.open_rows
           (running_on d.log.history (Split c.args.instance 1 (numbers_in parcel.finalizers) parcel.event (noted_of cs) ∷ d.log.history) d.batches.open_rows (λ b. refl) running));
@@ -164,15 +164,11 @@ returns-in-Err-clause-wants g c =
     let r = s.recorded fine in
     let routed = routed_as g.P.Port.told d c.args.instance c.index.result.now s c.requires.within c.index.ensures fine in
     let oldest = is_oldest (numbers_in parcel.finalizers) _ _ (oldest_is (Outputs c.args.instance) parcel.finalizers d.rows.items c.pop_output.new.rows.items d.log.history r.places.standing c.in-Some.ensures.oldest) in
-    let few = readers_within g.P.Port.told d [] c.args.instance c.index.result.now s fine c.requires.within c.index.ensures in
-    let most : length targets ≤ 2 ^ 32 = subst (λ (ts : List ℕ). length ts ≤ 2 ^ 32) (sym routed) few in (
-      split_wants d.log.history c.args.instance targets parcel r.order
-          (known_at_home g.P.Port.told d [] c.args.instance s c.requires.home fine)
-          (none_waiting d.rows.items d.log.history c.args.instance r.places.standing c.requires.none)
-          routed oldest (c.in-Some.ensures.said d.log.history r.said).1
-          (some_targets targets (length parcel.finalizers) (some_wanted d.batches.next (length targets * length parcel.finalizers) more r.ledger.numbers)),
-      split_few d.log.history c.args.instance (2 ^ 32) targets parcel r.order most oldest,
-    ))
+    split_wants d.log.history c.args.instance targets parcel r.order
+    (known_at_home g.P.Port.told d [] c.args.instance s c.requires.home fine)
+    (none_waiting d.rows.items d.log.history c.args.instance r.places.standing c.requires.none)
+    routed oldest (c.in-Some.ensures.said d.log.history r.said).1
+    (some_targets targets (length parcel.finalizers) (some_wanted d.batches.next (length targets * length parcel.finalizers) more r.ledger.numbers)))
     c.in-Err.ensures.cause c.from.ensures
 
 pub returns-in-Err-clause-reason : goal.returns-in-Err-clause-reason
