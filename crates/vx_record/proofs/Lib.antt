@@ -48,3 +48,17 @@ pub mod Rules
 pub mod Drops
 pub mod Answers
 pub mod Waits
+pub mod Mine
+pub mod OwnTurns
+pub mod OwnReads
+pub mod OwnConfirms
+pub mod OwnAttempts
+pub mod OwnAnswers
+pub mod OwnCounts
+pub mod Shifting
+pub mod OwnPlaces
+pub mod Adding
+pub mod OwnLeases
+pub mod OwnContents
+pub mod Spenders
+pub mod TasksOut

@@ -51,3 +51,9 @@ pub mod TallyLists
 pub mod ConfirmedFrom
 pub mod Pasts
 pub mod Ways
+pub mod Tasks
+pub mod Shifts
+pub mod ShiftLaws
+pub mod Additions
+pub mod Makers
+pub mod TaskLaws

@@ -31,6 +31,7 @@ mod status_counts;
 mod taken;
 mod tally;
 mod tally_list;
+mod task_laws;
 mod unfinished;
 mod ways;
 
@@ -50,3 +51,7 @@ pub use row_laws::{attempt_laws, end_laws, lease_laws, plan_laws, source_laws, s
 pub use taken::Taken;
 pub use tally::Tally;
 pub use tally_list::{TallyList, tallies};
+pub use task_laws::{
+    own_answers, own_attempts, own_confirms, own_counts, own_leases, own_reads, own_turns, shifts,
+    tasks_out,
+};
