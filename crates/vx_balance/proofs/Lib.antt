@@ -1,0 +1,11 @@
+pub mod Sums
+pub mod Lives
+pub mod Running
+pub mod Opening
+pub mod Owning
+pub mod Steps
+pub mod Settling
+pub mod Holding
+pub mod Bearing
+pub mod Noting
+pub mod Routing

@@ -1,0 +1,5 @@
+pub mod Live
+pub mod Births
+pub mod Owned
+pub mod Balances
+pub mod Promises
