@@ -1,0 +1,66 @@
+-- A framer's lines are those that the record counts.
+use Rattle.std.proofs.Common.{◌≡◌, ℕ, ◌+◌, Bool, true, false, Option, Some, None, List, [], ◌∷◌, ◌++◌, length, filter, drop, sym, refl, ap, ◌∙◌, arith}
+use Rattle.vx_frame.specs.Frames.{Frame, frames}
+use Rattle.vx_json.specs.declared.decoding.Decoding.{Decoding}
+use Rattle.vx_plan.specs.declared.component.Component.{Component}
+use Rattle.vx_plan.specs.Options.{decoding}
+use Rattle.vx_record.specs.Installs.{component_of}
+use Rattle.vx_record.specs.Reads.{stream_of, open_bytes, limit_of, new_lines, undecodable_among, undecodable_lines}
+use Rattle.vx_counts.specs.Lines.{codec_of, undecodable_by}
+use Rattle.vx_counts.specs.Laws.{FramedCounted, ToldNew}
+use Rattle.std.specs.Prelude.{if◌then◌else◌}
+use Rattle.vx_json.specs.LineEvents.{is_undecodable}
+use Rattle.vx_record.specs.Records.{capped}
+
+drop-front : (xs ys : List Frame) → drop (length xs) (xs ++ ys) ≡ ys
+drop-front [] ys = refl
+drop-front (x ∷ xs) ys = drop-front xs ys
+
+by_codec : (o : Option Component) (lines : List Frame) →
+    elim o as (λ _. ℕ) [ None ↦ 0 | Some c ↦ undecodable_lines c.settings lines ]
+    ≡ undecodable_by (elim o as (λ _. Option Decoding) [ None ↦ None | Some c ↦ decoding c.settings ]) lines
+by_codec None lines = refl
+by_codec (Some c) lines = go (decoding c.settings)
+  where
+    go : (o : Option Decoding) → elim o as (λ _. ℕ) [ None ↦ 0 | Some d ↦ undecodable_among d lines ] ≡ undecodable_by o lines
+    go None = refl
+    go (Some d) = refl
+
+pub framed_counted : FramedCounted
+framed_counted h i stream took lines over framed = record {
+  within = ap length same;
+  overlong = let x = framed.discards in omega (arith, x);
+  undecodable = by_codec (component_of h i) (new_lines h i stream took) ∙ ap (undecodable_by (codec_of h i)) same;
+}
+  where
+    before : List Frame
+    before = frames (open_bytes h i (stream_of h i stream took)) (limit_of h i) false
+
+    same : new_lines h i stream took ≡ lines
+    same = ap (drop (length before)) framed.frames_are ∙ drop-front before lines
+
+pub told_new : ToldNew
+told_new h i stream took lines over d new framed codec told =
+    let counted = framed_counted h i stream took lines over framed in
+    record {
+      lines = told.within ∙ ap capped (sym counted.within);
+      overlong = told.too_long ∙ ap capped (sym counted.overlong);
+      undecodable = told.undecoded ∙ ap capped (sym (counted.undecodable ∙ ap (λ o. undecodable_by o lines) codec));
+    }
+
+-- one line more
+undecodable-last : (d : Decoding) (given : List Frame) (frame : Frame) →
+    undecodable_among d (given ++ frame ∷ []) ≡ undecodable_among d given + (if is_undecodable d frame.bytes then 1 else 0)
+undecodable-last d [] frame = go (is_undecodable d frame.bytes)
+  where
+    go : (b : Bool) → length (if b then frame ∷ [] else []) ≡ 0 + (if b then 1 else 0)
+    go true = refl
+    go false = refl
+undecodable-last d (x ∷ xs) frame = go (is_undecodable d x.bytes) (undecodable-last d xs frame)
+  where
+    go : (b : Bool) → undecodable_among d (xs ++ frame ∷ []) ≡ undecodable_among d xs + (if is_undecodable d frame.bytes then 1 else 0) →
+        length (if b then x ∷ filter (λ (line : Frame). is_undecodable d line.bytes) (xs ++ frame ∷ []) else filter (λ (line : Frame). is_undecodable d line.bytes) (xs ++ frame ∷ []))
+        ≡ length (if b then x ∷ filter (λ (line : Frame). is_undecodable d line.bytes) xs else filter (λ (line : Frame). is_undecodable d line.bytes) xs)
+        + (if is_undecodable d frame.bytes then 1 else 0)
+    go true ih = omega arith
+    go false ih = ih

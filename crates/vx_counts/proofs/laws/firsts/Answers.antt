@@ -1,0 +1,9 @@
+use Rattle.vx_counts.proofs.Dropping.{first_of_taken}
+use Rattle.vx_counts.proofs.Alike.{unspent_none}
+use Rattle.vx_counts.proofs.laws.firsts.Goals as goal
+
+pub returns-clause-taken : goal.returns-clause-taken
+returns-clause-taken c = first_of_taken
+
+pub returns-clause-unspent : goal.returns-clause-unspent
+returns-clause-unspent c = unspent_none

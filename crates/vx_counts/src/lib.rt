@@ -1,0 +1,14 @@
+//! Running counts: what each instance counted so far, kept up with each entry of the record, whether or not that is stored.
+#![tactic(auto)]
+
+mod counts;
+mod laws;
+mod new_lines;
+#[cfg(test)]
+mod tests;
+
+pub use counts::Counts;
+pub use laws::{
+    all, confirms, discards, firsts, last_copy, lines, others, owners, parcels, places, roles,
+};
+pub use new_lines::NewLines;
