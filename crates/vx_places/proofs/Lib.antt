@@ -1,0 +1,5 @@
+pub mod Written
+pub mod Shifting
+pub mod Steps
+pub mod Making
+pub mod Spending

@@ -1,0 +1,5 @@
+pub mod Numbers
+pub mod Views
+pub mod Holding
+pub mod Calls
+pub mod Laws

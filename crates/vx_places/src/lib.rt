@@ -1,0 +1,13 @@
+//! Where the parcels of each instance stand: what it put out, its children that wait for a target, its buffer stage by stage, and
+//! what it holds.
+#![tactic(auto)]
+
+mod laws;
+mod line;
+mod places;
+mod row;
+mod rows;
+
+pub use laws::places_laws;
+pub use line::Line;
+pub use places::Places;
