@@ -6,6 +6,7 @@ use Rattle.vx_plan.specs.declared.component.Component.{Component}
 use Rattle.vx_plan.specs.Options.{decoding}
 use Rattle.vx_record.specs.Installs.{component_of}
 use Rattle.vx_record.specs.Reads.{stream_of, open_bytes, limit_of, new_lines, undecodable_among, undecodable_lines}
+use Rattle.vx_record.proofs.PastLines.{past-dropped, past-less}
 use Rattle.vx_counts.specs.Lines.{codec_of, undecodable_by}
 use Rattle.vx_counts.specs.Laws.{FramedCounted, ToldNew}
 use Rattle.std.specs.Prelude.{if◌then◌else◌}
@@ -29,7 +30,7 @@ by_codec (Some c) lines = go (decoding c.settings)
 pub framed_counted : FramedCounted
 framed_counted h i stream took lines over framed = record {
   within = ap length same;
-  overlong = let x = framed.discards in omega (arith, x);
+  overlong = let x = framed.discards in let y = past-less (limit_of h i) (open_bytes h i (stream_of h i stream took)) took in omega (arith, x, y);
   undecodable = by_codec (component_of h i) (new_lines h i stream took) ∙ ap (undecodable_by (codec_of h i)) same;
 }
   where
@@ -37,7 +38,9 @@ framed_counted h i stream took lines over framed = record {
     before = frames (open_bytes h i (stream_of h i stream took)) (limit_of h i) false
 
     same : new_lines h i stream took ≡ lines
-    same = ap (drop (length before)) framed.frames_are ∙ drop-front before lines
+    same =
+        past-dropped (limit_of h i) (open_bytes h i (stream_of h i stream took)) took ∙ ap (drop (length before)) framed.frames_are
+        ∙ drop-front before lines
 
 pub told_new : ToldNew
 told_new h i stream took lines over d new framed codec told =

@@ -10,7 +10,8 @@ use Rattle.vx_plan.specs.Options.{decoding}
 use Rattle.vx_record.specs.declared.taken.Taken.{Taken}
 use Rattle.vx_record.specs.Records.{Record, capped}
 use Rattle.vx_record.specs.Installs.{told}
-use Rattle.vx_record.specs.Reads.{stream_of, open_bytes, limit_of, lines_after, overlong_after, new_lines, new_overlong, new_undecodable, undecodable_among}
+use Rattle.vx_record.specs.Reads.{stream_of, open_bytes, limit_of, new_lines, new_overlong, new_undecodable, undecodable_among}
+use Rattle.vx_record.specs.LineBytes.{lines_after, overlong_after}
 
 -- the instance's codec, if it reads lines
 abbrev pub codec_of : Record → ℕ → Option Decoding

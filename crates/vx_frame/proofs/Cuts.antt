@@ -2,7 +2,8 @@
 use Rattle.std.proofs.Common.{◌≡◌, ℕ, zero, suc, ◌+◌, ◌<◌, ◌≤◌, Bool, true, false, cond, List, [], ◌∷◌, ◌++◌, length, take, drop, get_or, map, leb, eqb, arith, refl, sym, ◌∙◌, ap, append_assoc, add-one, add-zero, append-nil}
 use Rattle.std.proofs.lemmas.Bool.Decides.{nat_tests}
 use Rattle.std.proofs.lemmas.List.{length-take, length-drop, take_all, map-append}
-use Rattle.vx_frame.specs.Frames.{Frame, cut, capped, kept, counted, overlong_of, last_of}
+use Rattle.vx_frame.specs.Frames.{Frame, cut, capped}
+use Rattle.vx_frame.specs.Pieces.{kept, counted, overlong_of, last_of}
 use Rattle.vx_frame.specs.Framings.{lines_behind, overlong_behind, left_behind, line_of}
 use Rattle.vx_frame.specs.declared.unfinished.Unfinished.{Unfinished}
 use Rattle.vx_frame.specs.declared.line.Line.{Line}

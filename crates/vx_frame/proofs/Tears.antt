@@ -1,9 +1,11 @@
 -- However bytes are torn, their lines are the same.
-use Rattle.std.proofs.Common.{◌≡◌, ℕ, zero, suc, ◌+◌, ◌≤◌, Bool, true, false, cond, List, [], ◌∷◌, ◌++◌, ◌&&◌, length, take, leb, eqb, arith, refl, sym, ◌∙◌, ap, append_assoc, append-nil, length-append, add-one, zero-add}
+use Rattle.std.proofs.Common.{◌≡◌, ℕ, zero, suc, ◌+◌, ◌≤◌, Bool, true, false, cond, List, [], ◌∷◌, ◌++◌, ◌&&◌, length, filter, take, leb, eqb, arith, refl, sym, ◌∙◌, ap, append_assoc, append-nil, length-append, add-one, zero-add}
 use Rattle.std.proofs.lemmas.Bool.Decides.{nat_tests}
 use Rattle.std.proofs.lemmas.List.{length-take, take_all}
 use Rattle.std.proofs.Math.Seq.{take-nil}
-use Rattle.vx_frame.specs.Frames.{Frame, cut, before, capped, kept, counted, some_byte, lines_of, overlong_of, last_of, frames, discarded}
+use Rattle.vx_frame.specs.Frames.{Frame, Parts, cut, before, capped, some_byte, all_lines, fits, is_overlong, frames, discarded, last_part, open_line, open_from}
+use Rattle.vx_frame.specs.Pieces.{kept, counted, lines_of, overlong_of, last_of}
+use Rattle.vx_frame.proofs.Whole.{lines-are, overlong-are, frames-are, discarded-are}
 use Rattle.vx_frame.specs.Framings.{untouched, lines_behind, overlong_behind, left_behind}
 use Rattle.vx_frame.specs.declared.unfinished.Unfinished.{Unfinished}
 
@@ -126,13 +128,17 @@ last-held n h p (q ∷ m) = refl
 -- ---- what a stream has taken, and more
 pub frames-more : (limit : ℕ) (e : Bool) (left : Unfinished) (taken bytes : List ℕ) → left ≡ left_behind limit untouched taken → frames (taken ++ bytes) limit e ≡ frames taken limit false ++ lines_behind limit e left bytes
 frames-more limit e left taken bytes h =
-    lines-tear limit e taken bytes 0 [] refl
+    frames-are (taken ++ bytes) limit e
+    ∙ lines-tear limit e taken bytes 0 [] refl
+    ∙ ap (λ ls. ls ++ lines_of limit e (capped (0 + length taken)) (last_of [] (cut taken).first (cut taken).more) (cut bytes).first (cut bytes).more) (sym (frames-are taken limit false))
     ∙ ap (λ ls. frames taken limit false ++ ls) (sym (lines-held limit e (capped (0 + length taken)) (last_of [] (cut taken).first (cut taken).more) (cut bytes).first (cut bytes).more))
     ∙ ap (λ u. frames taken limit false ++ lines_behind limit e u bytes) (sym h)
 
 pub discarded-more : (limit : ℕ) (e : Bool) (left : Unfinished) (taken bytes : List ℕ) → left ≡ left_behind limit untouched taken → discarded (taken ++ bytes) limit e ≡ discarded taken limit false + overlong_behind limit e left bytes
 discarded-more limit e left taken bytes h =
-    overlong-tear limit e taken bytes []
+    discarded-are (taken ++ bytes) limit e
+    ∙ overlong-tear limit e taken bytes []
+    ∙ ap (λ n. n + overlong_of limit e (last_of [] (cut taken).first (cut taken).more) (cut bytes).first (cut bytes).more) (sym (discarded-are taken limit false))
     ∙ ap (λ n. discarded taken limit false + n) (sym (overlong-held limit e (last_of [] (cut taken).first (cut taken).more) (cut bytes).first (cut bytes).more))
     ∙ ap (λ u. discarded taken limit false + overlong_behind limit e u bytes) (sym h)
 
@@ -150,3 +156,53 @@ frames-end limit left taken h = ap (λ t. frames t limit true) (sym (append-nil 
 
 pub discarded-end : (limit : ℕ) (left : Unfinished) (taken : List ℕ) → left ≡ left_behind limit untouched taken → discarded taken limit true ≡ discarded taken limit false + overlong_behind limit true left []
 discarded-end limit left taken h = ap (λ t. discarded t limit true) (sym (append-nil taken)) ∙ discarded-more limit true left taken [] h
+
+-- ---- the line that is open, and the bytes behind it
+-- it has no line feed
+pub open-cut : (bytes : List ℕ) → cut (open_line bytes) ≡ record { first = open_line bytes; more = [] }
+open-cut [] = refl
+open-cut (x ∷ bytes) = by_feed (eqb x 10) refl (cut bytes).first (cut bytes).more (open-cut bytes)
+  where
+    by_feed : (f : Bool) → eqb x 10 ≡ f → (part : List ℕ) (more : List (List ℕ)) → cut (last_part part more) ≡ record { first = last_part part more; more = [] } → cut (last_part (before x (record { first = part; more = more })).first (before x (record { first = part; more = more })).more) ≡ record { first = last_part (before x (record { first = part; more = more })).first (before x (record { first = part; more = more })).more; more = [] }
+    by_feed true k part more later = rw k later
+    by_feed false k part [] later = rw k (ap (before x) later ∙ (rw k refl))
+    by_feed false k part (next ∷ more) later = rw k later
+
+open-short : (bytes : List ℕ) → length (open_line bytes) ≤ length bytes
+open-short [] = omega arith
+open-short (x ∷ bytes) = by_feed (eqb x 10) (cut bytes).first (cut bytes).more (open-short bytes)
+  where
+    by_feed : (f : Bool) (part : List ℕ) (more : List (List ℕ)) → length (last_part part more) ≤ length bytes → length (last_part (cond {A = Parts} f (record { first = []; more = part ∷ more }) (record { first = x ∷ part; more = more })).first (cond {A = Parts} f (record { first = []; more = part ∷ more }) (record { first = x ∷ part; more = more })).more) ≤ suc (length bytes)
+    by_feed true part more later = omega (arith, later)
+    by_feed false part [] later = omega (arith, later)
+    by_feed false part (next ∷ more) later = omega (arith, later)
+
+-- so more bytes, or the end, add the lines that they make of the open line
+pub frames-tear : (limit : ℕ) (e : Bool) (taken bytes : List ℕ) → frames (taken ++ bytes) limit e ≡ frames taken limit false ++ filter (fits limit) (all_lines (open_from taken) (open_line taken ++ bytes) e)
+frames-tear limit e taken bytes =
+    frames-are (taken ++ bytes) limit e
+    ∙ lines-tear limit e taken bytes 0 [] refl
+    ∙ ap (λ ls. ls ++ lines_of limit e (capped (0 + length taken)) (open_line taken) (cut bytes).first (cut bytes).more) (sym (frames-are taken limit false))
+    ∙ ap (λ ls. frames taken limit false ++ ls) (sym behind)
+  where
+    from : ℕ
+    from = capped (open_from taken)
+
+    behind : filter (fits limit) (all_lines (open_from taken) (open_line taken ++ bytes) e) ≡ lines_of limit e (capped (0 + length taken)) (open_line taken) (cut bytes).first (cut bytes).more
+    behind =
+        lines-are limit e (open_from taken) from [] (cut (open_line taken ++ bytes)).first (cut (open_line taken ++ bytes)).more (omega arith)
+        ∙ lines-tear limit e (open_line taken) bytes from [] (sym (capped-twice (open_from taken)))
+        ∙ (let seen : capped (from + length (open_line taken)) ≡ capped (0 + length taken) = omega (arith, open-short taken) in rw (open-cut taken, seen) refl)
+
+pub discarded-tear : (limit : ℕ) (e : Bool) (taken bytes : List ℕ) → discarded (taken ++ bytes) limit e ≡ discarded taken limit false + length (filter (is_overlong limit) (all_lines (open_from taken) (open_line taken ++ bytes) e))
+discarded-tear limit e taken bytes =
+    discarded-are (taken ++ bytes) limit e
+    ∙ overlong-tear limit e taken bytes []
+    ∙ ap (λ n. n + overlong_of limit e (open_line taken) (cut bytes).first (cut bytes).more) (sym (discarded-are taken limit false))
+    ∙ ap (λ n. discarded taken limit false + n) (sym behind)
+  where
+    behind : length (filter (is_overlong limit) (all_lines (open_from taken) (open_line taken ++ bytes) e)) ≡ overlong_of limit e (open_line taken) (cut bytes).first (cut bytes).more
+    behind =
+        overlong-are limit e (open_from taken) [] (cut (open_line taken ++ bytes)).first (cut (open_line taken ++ bytes)).more
+        ∙ overlong-tear limit e (open_line taken) bytes []
+        ∙ (rw (open-cut taken) (zero-add _))

@@ -1,5 +1,5 @@
 -- The lines of bytes.
-use Rattle.std.specs.Prelude.{ℕ, ◌+◌, ◌==◌, ◌&&◌, ◌++◌, Bool, false, true, min, length, nat_le, List, [], ◌∷◌, if◌then◌else◌}
+use Rattle.std.specs.Prelude.{ℕ, ◌+◌, ◌-◌, ◌==◌, ◌&&◌, Bool, false, true, not, min, length, filter, nat_le, List, [], ◌∷◌, if◌then◌else◌}
 
 -- a line, and the number of bytes up to its end
 pub record Frame : Type 0 where
@@ -30,41 +30,47 @@ cut (b ∷ bytes) = before b (cut bytes)
 abbrev pub capped : ℕ → ℕ
 capped n = min n 18446744073709551615
 
--- a line in front of others, if it isn't too long
-abbrev pub kept : ℕ → Frame → List Frame → List Frame
-kept limit line lines = if nat_le (length line.bytes) limit then line ∷ lines else lines
-
 -- whether there is a byte
 abbrev pub some_byte : List ℕ → Bool
 some_byte [] = false
 some_byte (b ∷ bytes) = true
 
--- the lines that parts end, where `seen` bytes stand before them, the last ones of which, `held`, belong to the first line;
--- the last part is one only where the bytes have ended and it isn't empty
-abbrev pub lines_of : (limit : ℕ) (ended : Bool) (seen : ℕ) (held : List ℕ) (part : List ℕ) → List (List ℕ) → List Frame
-lines_of limit ended seen held part [] =
-    if ended && some_byte (held ++ part) then kept limit (record { bytes = held ++ part; end = capped (seen + length part) }) [] else []
-lines_of limit ended seen held part (next ∷ more) =
-    kept limit (record { bytes = held ++ part; end = capped (seen + length part + 1) }) (lines_of limit ended (capped (seen + length part + 1)) [] next more)
+-- the lines of parts from an offset on: a line for each line feed, and one for the last part, if the bytes have ended and it isn't empty
+abbrev pub lines_from : (at : ℕ) (ended : Bool) (part : List ℕ) → List (List ℕ) → List Frame
+lines_from at ended part [] = if ended && some_byte part then record { bytes = part; end = capped (at + length part) } ∷ [] else []
+lines_from at ended part (next ∷ more) =
+    let end = at + length part + 1 in
+    record { bytes = part; end = capped end } ∷ lines_from end ended next more
 
--- one more, if a line is too long
-abbrev pub counted : ℕ → List ℕ → ℕ → ℕ
-counted limit line n = if nat_le (length line) limit then n else n + 1
+-- the lines of bytes from an offset on, however long
+abbrev pub all_lines : (at : ℕ) → List ℕ → (ended : Bool) → List Frame
+all_lines at bytes ended = lines_from at ended (cut bytes).first (cut bytes).more
 
--- how many of those lines are too long
-abbrev pub overlong_of : (limit : ℕ) (ended : Bool) (held : List ℕ) (part : List ℕ) → List (List ℕ) → ℕ
-overlong_of limit ended held part [] = if ended && some_byte (held ++ part) then counted limit (held ++ part) 0 else 0
-overlong_of limit ended held part (next ∷ more) = counted limit (held ++ part) (overlong_of limit ended [] next more)
+-- whether a line is within a limit
+abbrev pub fits : (limit : ℕ) → Frame → Bool
+fits limit line = nat_le (length line.bytes) limit
 
--- the bytes behind the last line feed
-abbrev pub last_of : (held : List ℕ) (part : List ℕ) → List (List ℕ) → List ℕ
-last_of held part [] = held ++ part
-last_of held part (next ∷ more) = last_of [] next more
+-- whether it is too long
+abbrev pub is_overlong : (limit : ℕ) → Frame → Bool
+is_overlong limit line = not (fits limit line)
 
--- the lines of bytes
-abbrev pub frames : List ℕ → ℕ → Bool → List Frame
-frames bytes limit ended = lines_of limit ended 0 [] (cut bytes).first (cut bytes).more
+-- the lines of bytes within a limit
+abbrev pub frames : List ℕ → (limit : ℕ) → (ended : Bool) → List Frame
+frames bytes limit ended = filter (fits limit) (all_lines 0 bytes ended)
 
 -- how many lines of bytes are too long
-abbrev pub discarded : List ℕ → ℕ → Bool → ℕ
-discarded bytes limit ended = overlong_of limit ended [] (cut bytes).first (cut bytes).more
+abbrev pub discarded : List ℕ → (limit : ℕ) → (ended : Bool) → ℕ
+discarded bytes limit ended = length (filter (is_overlong limit) (all_lines 0 bytes ended))
+
+-- the last of some parts
+abbrev pub last_part : List ℕ → List (List ℕ) → List ℕ
+last_part part [] = part
+last_part part (next ∷ more) = last_part next more
+
+-- the line that bytes leave unfinished: what stands behind their last line feed
+abbrev pub open_line : List ℕ → List ℕ
+open_line bytes = last_part (cut bytes).first (cut bytes).more
+
+-- the offset where that line begins
+abbrev pub open_from : List ℕ → ℕ
+open_from bytes = length bytes - length (open_line bytes)

@@ -3,7 +3,8 @@ use Rattle.std.specs.Prelude.{◌≡◌, ℕ, ◌+◌, ◌≤◌, Bool, List, []
 use Rattle.std.specs.Ordering.{nat_cmp}
 use Rattle.std.specs.BTreeMap.{is_at}
 use Rattle.std.specs.Map.{lookup}
-use Rattle.vx_frame.specs.Frames.{Frame, cut, lines_of, overlong_of, last_of, capped}
+use Rattle.vx_frame.specs.Frames.{Frame, cut, capped}
+use Rattle.vx_frame.specs.Pieces.{lines_of, overlong_of, last_of}
 use Rattle.vx_frame.specs.declared.unfinished.Unfinished.{Unfinished}
 use Rattle.vx_frame.specs.declared.line.Line.{Line}
 

@@ -1,6 +1,7 @@
 ghost use Rattle.std.specs.Prelude.{◌≡◌, [], ◌+◌, ◌≤◌, ◌<◌, ◌++◌, ◌^◌, length, map, take, drop, false, true, IfOk, OnOk, OnErr};
-ghost use Rattle.vx_frame.specs.Frames.{kept, counted, capped};
+ghost use Rattle.vx_frame.specs.Frames.{capped};
 ghost use Rattle.vx_frame.specs.Framings.{lines_behind, overlong_behind, left_behind, line_of};
+ghost use Rattle.vx_frame.specs.Pieces.{kept, counted};
 
 use crate::line::{Line, LineList};
 use crate::unfinished::Unfinished;

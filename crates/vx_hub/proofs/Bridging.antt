@@ -1,8 +1,8 @@
 -- The record's lines are those of a framer.
 use Rattle.std.proofs.Common.{◌≡◌, ℕ, ◌+◌, ◌≤◌, Bool, true, false, List, [], ◌∷◌, ◌++◌, ◌&&◌, length, map, arith, Option, Some, None, refl, sym, subst, ◌∙◌, ap}
-use Rattle.std.specs.Prelude.{drop, nat_le, IsSomeAnd, flat_map, if◌then◌else◌}
+use Rattle.std.specs.Prelude.{drop, filter, IsSomeAnd, flat_map, if◌then◌else◌}
 use Rattle.vx_value.specs.Texts.{Word}
-use Rattle.vx_frame.specs.Frames.{Frame, cut, capped, kept, some_byte, lines_of, frames}
+use Rattle.vx_frame.specs.Frames.{Frame, cut, capped, some_byte, lines_from, fits, frames, open_line, open_from}
 use Rattle.vx_frame.specs.Framings.{line_of}
 use Rattle.vx_value.specs.declared.event.Event.{Event}
 use Rattle.vx_json.specs.declared.decoding.Decoding.{Decoding}
@@ -14,6 +14,7 @@ use Rattle.vx_record.specs.declared.taken.Taken.{Taken}
 use Rattle.vx_record.specs.declared.taken.Taken.TheVariants.{Bytes, StreamEnded, AllEnded}
 use Rattle.vx_record.specs.Records.{Record}
 use Rattle.vx_record.specs.Installs.{component_of}
+use Rattle.vx_record.proofs.PastLines.{past-dropped}
 use Rattle.vx_record.specs.Reads.{stream_of, open_bytes, lines_past, new_lines, limit_of, line_events, decoded, events_of_lines, events_of, last_end as record_end}
 use Rattle.vx_hub.specs.declared.source.SourceCore.{SourceCore}
 use Rattle.vx_hub.specs.Sources.{events_of_cut, last_end, AreOf}
@@ -30,45 +31,36 @@ Adds limit before StreamEnded behind = frames before limit true ≡ frames befor
 Adds limit before AllEnded behind = frames before limit true ≡ frames before limit false ++ behind
 
 past_by : (limit : ℕ) (before : Word) (took : Taken) (behind : List Frame) → Adds limit before took behind → lines_past limit before took ≡ behind
-past_by limit before (Bytes bytes) behind more = ap (drop (length (frames before limit false))) more ∙ drop_front (frames before limit false) behind
-past_by limit before StreamEnded behind more = ap (drop (length (frames before limit false))) more ∙ drop_front (frames before limit false) behind
-past_by limit before AllEnded behind more = ap (drop (length (frames before limit false))) more ∙ drop_front (frames before limit false) behind
+past_by limit before (Bytes bytes) behind more = past-dropped limit before (Bytes bytes) ∙ ap (drop (length (frames before limit false))) more ∙ drop_front (frames before limit false) behind
+past_by limit before StreamEnded behind more = past-dropped limit before StreamEnded ∙ ap (drop (length (frames before limit false))) more ∙ drop_front (frames before limit false) behind
+past_by limit before AllEnded behind more = past-dropped limit before AllEnded ∙ ap (drop (length (frames before limit false))) more ∙ drop_front (frames before limit false) behind
 
 -- the ends of lines stand still at the end of their type
-abbrev fits : List Frame → Type 0
-fits lines = record_end lines ≤ 18446744073709551615
+abbrev end_fits : List Frame → Type 0
+end_fits lines = record_end lines ≤ 18446744073709551615
 
-kept_fits : (limit : ℕ) (line : Frame) (lines : List Frame) → line.end ≤ 18446744073709551615 → fits lines → fits (kept limit line lines)
-kept_fits limit line lines first others = by_length (nat_le (length line.bytes) limit) lines others
+first_fits : (limit : ℕ) (line : Frame) (lines : List Frame) → line.end ≤ 18446744073709551615 → end_fits (filter (fits limit) lines) → end_fits (filter (fits limit) (line ∷ lines))
+first_fits limit line lines first others = by_length (fits limit line) (filter (fits limit) lines) others
   where
-    by_length : (b : Bool) (lines : List Frame) → fits lines → fits (if b then line ∷ lines else lines)
+    by_length : (b : Bool) (lines : List Frame) → end_fits lines → end_fits (if b then line ∷ lines else lines)
     by_length false lines others = others
     by_length true [] others = first
     by_length true (next ∷ rest) others = others
 
-lines_fit : (limit : ℕ) (ended : Bool) (seen : ℕ) (held part : List ℕ) (more : List (List ℕ)) → fits (lines_of limit ended seen held part more)
-lines_fit limit ended seen held part [] = by_end (ended && some_byte (held ++ part))
+lines_fit : (limit : ℕ) (ended : Bool) (at : ℕ) (part : List ℕ) (more : List (List ℕ)) → end_fits (filter (fits limit) (lines_from at ended part more))
+lines_fit limit ended at part [] = by_end (ended && some_byte part)
   where
-    by_end : (b : Bool) → fits (if b then kept limit (record { bytes = held ++ part; end = capped (seen + length part) }) [] else [])
-    by_end true = kept_fits limit (record { bytes = held ++ part; end = capped (seen + length part) }) [] (omega arith) (omega arith)
+    by_end : (b : Bool) → end_fits (filter (fits limit) (if b then record { bytes = part; end = capped (at + length part) } ∷ [] else []))
+    by_end true = first_fits limit (record { bytes = part; end = capped (at + length part) }) [] (omega arith) (omega arith)
     by_end false = omega arith
-lines_fit limit ended seen held part (next ∷ more) =
-    kept_fits limit (record { bytes = held ++ part; end = capped (seen + length part + 1) }) (lines_of limit ended (capped (seen + length part + 1)) [] next more)
-    (omega arith) (lines_fit limit ended (capped (seen + length part + 1)) [] next more)
+lines_fit limit ended at part (next ∷ more) =
+    let end = at + length part + 1 in
+    first_fits limit (record { bytes = part; end = capped end }) (lines_from end ended next more) (omega arith) (lines_fit limit ended end next more)
 
-behind_fits : (was behind : List Frame) → fits (was ++ behind) → fits behind
-behind_fits [] behind all = all
-behind_fits (line ∷ []) [] all = omega arith
-behind_fits (line ∷ []) (next ∷ rest) all = all
-behind_fits (line ∷ second ∷ was) behind all = behind_fits (second ∷ was) behind all
-
-added_fit : (limit : ℕ) (before : Word) (took : Taken) (behind : List Frame) → Adds limit before took behind → fits behind
-added_fit limit before (Bytes bytes) behind more =
-    behind_fits (frames before limit false) behind (subst fits more (lines_fit limit false 0 [] (cut (before ++ bytes)).first (cut (before ++ bytes)).more))
-added_fit limit before StreamEnded behind more =
-    behind_fits (frames before limit false) behind (subst fits more (lines_fit limit true 0 [] (cut before).first (cut before).more))
-added_fit limit before AllEnded behind more =
-    behind_fits (frames before limit false) behind (subst fits more (lines_fit limit true 0 [] (cut before).first (cut before).more))
+past_fits : (limit : ℕ) (before : Word) (took : Taken) → end_fits (lines_past limit before took)
+past_fits limit before (Bytes bytes) = lines_fit limit false (open_from before) (cut (open_line before ++ bytes)).first (cut (open_line before ++ bytes)).more
+past_fits limit before StreamEnded = lines_fit limit true (open_from before) (cut (open_line before)).first (cut (open_line before)).more
+past_fits limit before AllEnded = lines_fit limit true (open_from before) (cut (open_line before)).first (cut (open_line before)).more
 
 -- their events and their end
 events_by : (d : Decoding) (settings : Settings) (stream : ℕ) (lines : List Frame) → decoded d settings lines ≡ flat_map (events_of_cut d (type_name settings)) (map (line_of stream) lines)
@@ -101,7 +93,7 @@ given_by h i stream took core behind events end made adds are = (
       ∙ ap (λ (fs : List Frame). flat_map (events_of_cut core.decoding (type_name c.settings)) (map (line_of s) fs)) (sym framed)
       ∙ sym (events_by core.decoding c.settings s lines) ∙ sym (decoded_by core.decoding c.settings lines m.decoding_is)),
   are.last ∙ ap (λ (fs : List Frame). last_end (map (line_of s) fs)) (sym framed) ∙ sym (end_by s lines)
-      ∙ sym (still (record_end lines) (subst fits (sym framed) (added_fit (limit_of h i) (open_bytes h i s) took behind added))),
+      ∙ sym (still (record_end lines) (past_fits (limit_of h i) (open_bytes h i s) took)),
 )
   where
     s : ℕ

@@ -5,8 +5,9 @@ use Rattle.std.proofs.lemmas.List.{length-append, flat_map_more}
 use Rattle.vx_value.specs.Texts.{Word}
 use Rattle.vx_value.specs.Datum.{NamedDatum}
 use Rattle.vx_value.specs.declared.event.Event.{Event}
-use Rattle.vx_frame.specs.Frames.{Frame, Parts, cut, capped, kept, lines_of}
+use Rattle.vx_frame.specs.Frames.{Frame, Parts, cut, capped}
 use Rattle.vx_frame.specs.Framings.{lines_behind, line_of}
+use Rattle.vx_frame.specs.Pieces.{kept, lines_of}
 use Rattle.vx_frame.specs.declared.unfinished.Unfinished.{Unfinished}
 use Rattle.vx_frame.specs.declared.line.Line.{Line}
 use Rattle.vx_json.specs.declared.decoding.Decoding.{Decoding}

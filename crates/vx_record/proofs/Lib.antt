@@ -19,6 +19,7 @@ pub mod FirstWiring
 pub mod SpentParcels
 mod ChunkLaws
 pub mod LineBytes
+pub mod PastLines
 pub mod CutSteps
 pub mod Pasts
 pub mod ConfirmedPositions

@@ -1,11 +1,10 @@
 -- The lines that a Read adds are those that it ends behind the line that was unfinished.
-use Rattle.std.proofs.Common.{◌≡◌, ℕ, ◌+◌, Bool, true, false, cond, not, ◌&&◌, List, [], ◌∷◌, ◌++◌, sym, refl, ap, ◌∙◌, arith, length, drop, map, filter, append_assoc}
+use Rattle.std.proofs.Common.{◌≡◌, ℕ, ◌+◌, Bool, true, false, cond, not, ◌&&◌, List, [], ◌∷◌, ◌++◌, sym, refl, ap, ◌∙◌, arith, length, map, filter, append_assoc}
 use Rattle.std.specs.Prelude.{if◌then◌else◌, ◌==◌, nat_le}
-use Rattle.std.proofs.lemmas.List.{append-nil, drop-map, length-map}
-use Rattle.std.proofs.Math.Seq.{drop-append_seam}
+use Rattle.std.proofs.lemmas.List.{append-nil}
 use Rattle.vx_value.specs.Texts.{Word, is_empty}
-use Rattle.vx_frame.specs.Frames.{Frame, Parts, cut, kept, counted, some_byte, lines_of, overlong_of, frames, discarded}
-use Rattle.vx_frame.specs.Frames.{capped as kept_end}
+use Rattle.vx_frame.specs.Frames.{Frame, Parts, cut, capped, some_byte, lines_from, all_lines, fits, is_overlong, last_part, open_line, open_from}
+use Rattle.vx_frame.proofs.Tears.{open-cut}
 use Rattle.vx_record.specs.declared.taken.Taken.{Taken}
 use Rattle.vx_record.specs.declared.taken.Taken.TheVariants.{Bytes, StreamEnded, AllEnded}
 use Rattle.vx_record.specs.Reads.{still_open, lines_past, overlong_past}
@@ -71,25 +70,24 @@ fitting-append limit line xs ys = go (is_within limit line)
     go true = refl
     go false = refl
 
-texts-kept : (limit : ℕ) (line : Frame) (lines : List Frame) → texts (kept limit line lines) ≡ fitting limit line.bytes (texts lines)
-texts-kept limit line lines = go (nat_le (length line.bytes) limit)
+texts-line : (limit : ℕ) (line : Frame) (lines : List Frame) → texts (filter (fits limit) (line ∷ lines)) ≡ fitting limit line.bytes (texts (filter (fits limit) lines))
+texts-line limit line lines = go (nat_le (length line.bytes) limit)
   where
-    go : (t : Bool) → texts (if t then line ∷ lines else lines) ≡ (if t then line.bytes ∷ texts lines else texts lines)
+    go : (t : Bool) → texts (if t then line ∷ filter (fits limit) lines else filter (fits limit) lines) ≡ (if t then line.bytes ∷ texts (filter (fits limit) lines) else texts (filter (fits limit) lines))
     go true = refl
     go false = refl
 
-texts-lines : (limit : ℕ) (e : Bool) (seen : ℕ) (line part : Word) (more : List Word) → texts (lines_of limit e seen line part more) ≡ texts_of e limit line part more
-texts-lines limit e seen line part [] = go (e && some_byte (line ++ part))
+texts-lines : (limit : ℕ) (e : Bool) (at : ℕ) (part : Word) (more : List Word) → texts (filter (fits limit) (lines_from at e part more)) ≡ texts_of e limit [] part more
+texts-lines limit e at part [] = go (e && some_byte part)
   where
     go : (t : Bool) →
-        texts (if t then kept limit (record { bytes = line ++ part; end = kept_end (seen + length part) }) [] else [])
-        ≡ (if t then fitting limit (line ++ part) [] else [])
-    go true = texts-kept limit (record { bytes = line ++ part; end = kept_end (seen + length part) }) []
+        texts (filter (fits limit) (if t then record { bytes = part; end = capped (at + length part) } ∷ [] else [])) ≡ (if t then fitting limit part [] else [])
+    go true = texts-line limit (record { bytes = part; end = capped (at + length part) }) []
     go false = refl
-texts-lines limit e seen line part (next ∷ more) =
-    let end = kept_end (seen + length part + 1) in
-    texts-kept limit (record { bytes = line ++ part; end = end }) (lines_of limit e end [] next more)
-    ∙ ap (fitting limit (line ++ part)) (texts-lines limit e end [] next more)
+texts-lines limit e at part (next ∷ more) =
+    let end = at + length part + 1 in
+    texts-line limit (record { bytes = part; end = capped end }) (lines_from end e next more)
+    ∙ ap (fitting limit part) (texts-lines limit e end next more)
 
 texts-byte : (e : Bool) (limit b : ℕ) (line part : Word) (more : List Word) → texts_of e limit line (b ∷ part) more ≡ texts_of e limit (line ++ b ∷ []) part more
 texts-byte e limit b line part [] = ap (last_by e limit) (sym (append_assoc line (b ∷ []) part))
@@ -111,8 +109,8 @@ texts-parts e limit line (b ∷ rest) = go (b == 10) (texts-parts e limit [] res
         ∙ fitting-append limit line (lines_by limit [] rest) (last_by e limit (left_of [] rest))
     go false x y = texts-byte e limit b line (cut rest).first (cut rest).more ∙ y
 
-texts-frames : (e : Bool) (limit : ℕ) (w : Word) → texts (frames w limit e) ≡ lines_by limit [] w ++ last_by e limit (left_of [] w)
-texts-frames e limit w = texts-lines limit e 0 [] (cut w).first (cut w).more ∙ texts-parts e limit [] w
+texts-all : (e : Bool) (limit at : ℕ) (w : Word) → texts (filter (fits limit) (all_lines at w e)) ≡ lines_by limit [] w ++ last_by e limit (left_of [] w)
+texts-all e limit at w = texts-lines limit e at (cut w).first (cut w).more ∙ texts-parts e limit [] w
 
 lines-append : (limit : ℕ) (line xs ys : Word) → lines_by limit line (xs ++ ys) ≡ lines_by limit line xs ++ lines_by limit (left_of line xs) ys
 lines-append limit line [] ys = refl
@@ -126,27 +124,43 @@ lines-append limit line (b ∷ rest) ys = go (b == 10) (lines-append limit [] re
     go true x y = ap (fitting limit line) x ∙ fitting-append limit line (lines_by limit [] rest) (lines_by limit (left_of [] rest) ys)
     go false x y = y
 
--- what is behind the front of some lines
-texts-drop : (front more : List Word) (n : ℕ) (lines : List Frame) → n ≡ length front → texts lines ≡ front ++ more → texts (drop n lines) ≡ more
-texts-drop front more n lines all is =
-    sym (drop-map (λ (line : Frame). line.bytes) n lines) ∙ ap (drop n) is ∙ ap (λ k. drop k (front ++ more)) all ∙ drop-append_seam front more
+-- the open line of some bytes ends no line, and is what they leave unfinished
+open-left : (line w : Word) → last_part (line ++ (cut w).first) (cut w).more ≡ left_of line w
+open-left line [] = append-nil line
+open-left line (b ∷ rest) = go (b == 10) (open-left [] rest) (open-left (line ++ b ∷ []) rest)
+  where
+    go : (t : Bool) → last_part (cut rest).first (cut rest).more ≡ left_of [] rest →
+        last_part ((line ++ b ∷ []) ++ (cut rest).first) (cut rest).more ≡ left_of (line ++ b ∷ []) rest →
+        (let parts : Parts = cond t (record { first = []; more = (cut rest).first ∷ (cut rest).more }) (record { first = b ∷ (cut rest).first; more = (cut rest).more }) in
+        last_part (line ++ parts.first) parts.more)
+        ≡ (if t then left_of [] rest else left_of (line ++ b ∷ []) rest)
+    go true x y = x
+    go false x y = ap (λ w. last_part w (cut rest).more) (sym (append_assoc line (b ∷ []) (cut rest).first)) ∙ y
+
+left-open : (before : Word) → left_of [] (open_line before) ≡ left_of [] before
+left-open before =
+    sym (open-left [] (open_line before)) ∙ ap (λ (parts : Parts). last_part parts.first parts.more) (open-cut before) ∙ open-left [] before
+
+lines-open : (limit : ℕ) (before : Word) → lines_by limit [] (open_line before) ≡ []
+lines-open limit before =
+    sym (append-nil (lines_by limit [] (open_line before))) ∙ sym (texts-parts false limit [] (open_line before))
+    ∙ ap (λ (parts : Parts). texts_of false limit [] parts.first parts.more) (open-cut before)
 
 texts-past : (limit : ℕ) (before : Word) (took : Taken) → texts (lines_past limit before took) ≡ added limit (left_of [] before) took
 texts-past limit before took = go took
   where
-    front : length (frames before limit false) ≡ length (lines_by limit [] before)
-    front =
-        sym (length-map (frames before limit false) (λ (line : Frame). line.bytes))
-        ∙ ap length (texts-frames false limit before ∙ append-nil (lines_by limit [] before))
+    last : texts (filter (fits limit) (all_lines (open_from before) (open_line before) true)) ≡ last_by true limit (left_of [] before)
+    last =
+        texts-all true limit (open_from before) (open_line before)
+        ∙ (λ i. lines-open limit before i ++ last_by true limit (left-open before i))
 
     go : (took : Taken) → texts (lines_past limit before took) ≡ added limit (left_of [] before) took
     go (Bytes bytes) =
-        texts-drop (lines_by limit [] before) (lines_by limit (left_of [] before) bytes) (length (frames before limit false)) (frames (before ++ bytes) limit false) front
-        (texts-frames false limit (before ++ bytes) ∙ append-nil (lines_by limit [] (before ++ bytes)) ∙ lines-append limit [] before bytes)
-    go StreamEnded =
-        texts-drop (lines_by limit [] before) (last_by true limit (left_of [] before)) (length (frames before limit false)) (frames before limit true) front (texts-frames true limit before)
-    go AllEnded =
-        texts-drop (lines_by limit [] before) (last_by true limit (left_of [] before)) (length (frames before limit false)) (frames before limit true) front (texts-frames true limit before)
+        texts-all false limit (open_from before) (open_line before ++ bytes) ∙ append-nil (lines_by limit [] (open_line before ++ bytes))
+        ∙ lines-append limit [] (open_line before) bytes
+        ∙ (λ i. lines-open limit before i ++ lines_by limit (left-open before i) bytes)
+    go StreamEnded = last
+    go AllEnded = last
 
 -- ---- how many of them pass a test
 -- whether a line is within the limit and passes
@@ -227,21 +241,24 @@ abbrev over_in : Bool → ℕ → Word → Word → List Word → ℕ
 over_in e limit line part [] = last_in e limit (line ++ part)
 over_in e limit line part (next ∷ more) = one_if (is_over limit (line ++ part)) + over_in e limit [] next more
 
-over-counted : (limit : ℕ) (line : Word) (n : ℕ) → counted limit line n ≡ one_if (is_over limit line) + n
-over-counted limit line n = go (nat_le (length line) limit)
+over-line : (limit : ℕ) (line : Frame) (lines : List Frame) → length (filter (is_overlong limit) (line ∷ lines)) ≡ one_if (is_over limit line.bytes) + length (filter (is_overlong limit) lines)
+over-line limit line lines = go (nat_le (length line.bytes) limit)
   where
-    go : (t : Bool) → (if t then n else n + 1) ≡ one_if (not t) + n
+    go : (t : Bool) → length (if not t then line ∷ filter (is_overlong limit) lines else filter (is_overlong limit) lines) ≡ one_if (not t) + length (filter (is_overlong limit) lines)
     go true = omega arith
     go false = omega arith
 
-counted-in : (limit : ℕ) (e : Bool) (line part : Word) (more : List Word) → overlong_of limit e line part more ≡ over_in e limit line part more
-counted-in limit e line part [] = go (e && some_byte (line ++ part))
+over-lines : (limit : ℕ) (e : Bool) (at : ℕ) (part : Word) (more : List Word) → length (filter (is_overlong limit) (lines_from at e part more)) ≡ over_in e limit [] part more
+over-lines limit e at part [] = go (e && some_byte part)
   where
-    go : (t : Bool) → (if t then counted limit (line ++ part) 0 else 0) ≡ (if t then one_if (is_over limit (line ++ part)) else 0)
-    go true = over-counted limit (line ++ part) 0 ∙ (omega arith)
+    go : (t : Bool) →
+        length (filter (is_overlong limit) (if t then record { bytes = part; end = capped (at + length part) } ∷ [] else [])) ≡ (if t then one_if (is_over limit part) else 0)
+    go true = over-line limit (record { bytes = part; end = capped (at + length part) }) [] ∙ (omega arith)
     go false = refl
-counted-in limit e line part (next ∷ more) =
-    over-counted limit (line ++ part) (overlong_of limit e [] next more) ∙ ap (λ n. one_if (is_over limit (line ++ part)) + n) (counted-in limit e [] next more)
+over-lines limit e at part (next ∷ more) =
+    let end = at + length part + 1 in
+    over-line limit (record { bytes = part; end = capped end }) (lines_from end e next more)
+    ∙ ap (λ n. one_if (is_over limit part) + n) (over-lines limit e end next more)
 
 over-byte : (e : Bool) (limit b : ℕ) (line part : Word) (more : List Word) → over_in e limit line (b ∷ part) more ≡ over_in e limit (line ++ b ∷ []) part more
 over-byte e limit b line part [] = ap (last_in e limit) (sym (append_assoc line (b ∷ []) part))
@@ -262,29 +279,37 @@ over-parts e limit line (b ∷ rest) = go (b == 10) (over-parts e limit [] rest)
         ap (λ w. one_if (is_over limit w) + over_in e limit [] (cut rest).first (cut rest).more) (append-nil line) ∙ (omega (arith, x))
     go false x y = over-byte e limit b line (cut rest).first (cut rest).more ∙ y
 
-over-discarded : (e : Bool) (limit : ℕ) (w : Word) → discarded w limit e ≡ ended (is_over limit) [] w + last_in e limit (left_of [] w)
-over-discarded e limit w = counted-in limit e [] (cut w).first (cut w).more ∙ over-parts e limit [] w
+over-all : (e : Bool) (limit at : ℕ) (w : Word) → length (filter (is_overlong limit) (all_lines at w e)) ≡ ended (is_over limit) [] w + last_in e limit (left_of [] w)
+over-all e limit at w = over-lines limit e at (cut w).first (cut w).more ∙ over-parts e limit [] w
+
+over-open : (limit : ℕ) (before : Word) → ended (is_over limit) [] (open_line before) ≡ 0
+over-open limit before =
+    let x = over-parts false limit [] (open_line before) in
+    let y = ap (λ (parts : Parts). over_in false limit [] parts.first parts.more) (open-cut before) in
+    omega (arith, x, y)
 
 last-over : (limit : ℕ) (line : Word) → last_in true limit line ≡ one_if (not (is_empty line) && is_over limit line)
 last-over limit [] = refl
 last-over limit (b ∷ line) = refl
 
 pub overlong-past : (limit : ℕ) (before : Word) (took : Taken) → overlong_past limit before took ≡ ends (is_over limit) (left_of [] before) took
-overlong-past limit before (Bytes bytes) =
-    let x = over-discarded false limit before in
-    let y = over-discarded false limit (before ++ bytes) in
-    let z = ended-append (is_over limit) [] before bytes in
-    omega (arith, x, y, z)
-overlong-past limit before StreamEnded =
-    let x = over-discarded false limit before in
-    let y = over-discarded true limit before in
-    let z = last-over limit (left_of [] before) in
-    omega (arith, x, y, z)
-overlong-past limit before AllEnded =
-    let x = over-discarded false limit before in
-    let y = over-discarded true limit before in
-    let z = last-over limit (left_of [] before) in
-    omega (arith, x, y, z)
+overlong-past limit before took = go took
+  where
+    last : length (filter (is_overlong limit) (all_lines (open_from before) (open_line before) true)) ≡ one_if (not (is_empty (left_of [] before)) && is_over limit (left_of [] before))
+    last =
+        over-all true limit (open_from before) (open_line before)
+        ∙ (λ i. over-open limit before i + last_in true limit (left-open before i))
+        ∙ (let x = last-over limit (left_of [] before) in omega (arith, x))
+
+    go : (took : Taken) → overlong_past limit before took ≡ ends (is_over limit) (left_of [] before) took
+    go (Bytes bytes) =
+        let x = over-all false limit (open_from before) (open_line before ++ bytes) in
+        let y = ended-append (is_over limit) [] (open_line before) bytes in
+        let z = over-open limit before in
+        let w = ap (λ line. ended (is_over limit) line bytes) (left-open before) in
+        omega (arith, x, y, z, w)
+    go StreamEnded = last
+    go AllEnded = last
 
 -- ---- what it leaves
 pub left-still_open : (before : Word) (took : Taken) → left_of [] (still_open took before) ≡ left_behind (left_of [] before) took

@@ -1,6 +1,7 @@
 -- Lines by their bytes: which lines some bytes end behind an unfinished one, and what they leave unfinished.
-use Rattle.std.specs.Prelude.{ℕ, ◌+◌, Bool, false, not, ◌&&◌, Option, Some, None, [], ◌∷◌, ◌++◌, length, if◌then◌else◌, ◌==◌, nat_le}
+use Rattle.std.specs.Prelude.{ℕ, ◌+◌, Bool, true, false, not, ◌&&◌, Option, Some, None, List, [], ◌∷◌, ◌++◌, length, if◌then◌else◌, ◌==◌, nat_le}
 use Rattle.vx_value.specs.Texts.{Word, is_empty}
+use Rattle.vx_frame.specs.Frames.{Frame, frames, discarded}
 use Rattle.vx_json.specs.LineEvents.{is_undecodable}
 use Rattle.vx_json.specs.declared.decoding.Decoding.{Decoding}
 use Rattle.vx_record.specs.declared.taken.Taken.{Taken}
@@ -45,3 +46,15 @@ abbrev pub left_behind : Word → Taken → Word
 left_behind line (Bytes bytes) = left_of line bytes
 left_behind line StreamEnded = []
 left_behind line AllEnded = []
+
+-- the lines that are there behind a Read of some open bytes, within a limit
+abbrev pub lines_after : ℕ → Word → Taken → List Frame
+lines_after limit before (Bytes bytes) = frames (before ++ bytes) limit false
+lines_after limit before StreamEnded = frames before limit true
+lines_after limit before AllEnded = frames before limit true
+
+-- how many lines behind it pass the limit
+abbrev pub overlong_after : ℕ → Word → Taken → ℕ
+overlong_after limit before (Bytes bytes) = discarded (before ++ bytes) limit false
+overlong_after limit before StreamEnded = discarded before limit true
+overlong_after limit before AllEnded = discarded before limit true

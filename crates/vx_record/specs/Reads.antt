@@ -1,9 +1,9 @@
 -- The bytes that an instance took, and the lines and events that a Read completes.
-use Rattle.std.specs.Prelude.{ℕ, ◌+◌, ◌-◌, Bool, true, false, not, ◌&&◌, ◌||◌, Option, Some, None, unwrap_or, List, [], ◌∷◌, ◌++◌, drop, length, filter, flat_map, if◌then◌else◌, ◌==◌}
+use Rattle.std.specs.Prelude.{ℕ, ◌+◌, ◌-◌, Bool, true, false, not, ◌&&◌, ◌||◌, Option, Some, None, unwrap_or, List, [], ◌∷◌, ◌++◌, length, filter, flat_map, if◌then◌else◌, ◌==◌}
 use Rattle.vx_value.specs.Texts.{Word, is_empty}
 use Rattle.vx_value.specs.Datum.{NamedDatum}
 use Rattle.vx_value.specs.declared.event.Event.{Event}
-use Rattle.vx_frame.specs.Frames.{Frame, frames, discarded}
+use Rattle.vx_frame.specs.Frames.{Frame, all_lines, fits, is_overlong, open_line, open_from}
 use Rattle.vx_json.specs.LineEvents.{line_fields, is_undecodable}
 use Rattle.vx_json.specs.declared.decoding.Decoding.{Decoding}
 use Rattle.vx_plan.specs.declared.component.Component.{Component}
@@ -101,25 +101,19 @@ open_bytes (Read j stream' took ∷ h) i stream =
     if (j == i) && (stream_of h i stream' took == stream) then still_open took before else before
 open_bytes (e ∷ h) i stream = open_bytes h i stream
 
--- the lines that are there behind a Read of some open bytes, within a limit
-abbrev pub lines_after : ℕ → Word → Taken → List Frame
-lines_after limit before (Bytes bytes) = frames (before ++ bytes) limit false
-lines_after limit before StreamEnded = frames before limit true
-lines_after limit before AllEnded = frames before limit true
+-- the lines that a Read of some open bytes completes, however long: it goes on with the line that they leave open, or ends it
+abbrev pub completed : Word → Taken → List Frame
+completed before (Bytes bytes) = all_lines (open_from before) (open_line before ++ bytes) false
+completed before StreamEnded = all_lines (open_from before) (open_line before) true
+completed before AllEnded = all_lines (open_from before) (open_line before) true
 
--- the lines that a Read of some open bytes adds
+-- those of them within a limit
 abbrev pub lines_past : ℕ → Word → Taken → List Frame
-lines_past limit before took = drop (length (frames before limit false)) (lines_after limit before took)
+lines_past limit before took = filter (fits limit) (completed before took)
 
--- how many lines behind it pass the limit
-abbrev pub overlong_after : ℕ → Word → Taken → ℕ
-overlong_after limit before (Bytes bytes) = discarded (before ++ bytes) limit false
-overlong_after limit before StreamEnded = discarded before limit true
-overlong_after limit before AllEnded = discarded before limit true
-
--- how many of those that it adds
+-- how many of them are too long
 abbrev pub overlong_past : ℕ → Word → Taken → ℕ
-overlong_past limit before took = overlong_after limit before took - discarded before limit false
+overlong_past limit before took = length (filter (is_overlong limit) (completed before took))
 
 -- the instance's limit
 abbrev pub limit_of : Record → ℕ → ℕ
