@@ -3,6 +3,7 @@ use Rattle.std.proofs.Common.{◌≡◌, ℕ, suc, ◌+◌, ◌<◌, ◌≤◌, 
 use Rattle.std.specs.Prelude.{◌==◌, if◌then◌else◌}
 use Rattle.std.proofs.lemmas.Bool.Decides.{nat_tests}
 use Rattle.std.proofs.lemmas.Bool.{cases_lt}
+use Rattle.vx_ledger.specs.Copies.{numbers_of}
 use Rattle.vx_record.specs.Records.{Record}
 use Rattle.vx_record.specs.Copies.{count, next_copy, IsLive}
 use Rattle.vx_record.specs.Places.{Place, same_place}
@@ -12,7 +13,6 @@ use Rattle.vx_record.proofs.Changes.{places_meant}
 use Rattle.vx_record.proofs.OnePlace.{conserved, one_place, live_stands, tracked}
 use Rattle.vx_record.proofs.Place.{count-oldest}
 use Rattle.vx_record.proofs.Tracked.{unmade_nowhere}
-use Rattle.vx_balance.specs.Owned.{numbers_of}
 use Rattle.vx_balance.specs.Promises.{OneHeld, OldestHeld}
 
 pub one_held : OneHeld

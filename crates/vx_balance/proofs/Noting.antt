@@ -1,9 +1,9 @@
 -- The lists of a split are the children of its entry.
 use Rattle.std.proofs.Common.{◌≡◌, ℕ, ◌+◌, List, [], ◌∷◌, length, refl, ap, ◌∙◌}
-use Rattle.vx_ledger.specs.Copies.{Copy, renumbered, children_of}
+use Rattle.vx_ledger.specs.Copies.{Copy, renumbered, children_of, numbers_of}
 use Rattle.vx_record.specs.declared.child.Child.{Child}
 use Rattle.vx_record.specs.Copies.{counting}
-use Rattle.vx_balance.specs.Owned.{numbers_of, noted}
+use Rattle.vx_balance.specs.Owned.{noted}
 use Rattle.vx_balance.specs.Promises.{ChildrenNoted}
 
 numbers_renumbered : (first : ℕ) (copies : List Copy) → numbers_of (renumbered first copies) ≡ counting first (length copies)

@@ -5,7 +5,7 @@ use Rattle.std.proofs.lemmas.Bool.Decides.{nat_tests}
 use Rattle.std.proofs.lemmas.Bool.{cases_eq}
 use Rattle.std.proofs.lemmas.Nat.{mod-mul-add, mul-add-lt}
 use Rattle.vx_value.specs.declared.event.Event.{Event}
-use Rattle.vx_ledger.specs.Copies.{Copy, copies_of, numbered, renumbered, children_of}
+use Rattle.vx_ledger.specs.Copies.{Copy, copies_of, numbered, renumbered, children_of, numbers_of}
 use Rattle.vx_ledger.specs.Ledger.{Ledger, AreLive, live_count}
 use Rattle.vx_record.specs.Records.{Record}
 use Rattle.vx_record.specs.declared.child.Child.{Child}
@@ -14,7 +14,7 @@ use Rattle.vx_record.specs.declared.entry.Entry.TheVariants.{Born, Split}
 use Rattle.vx_record.specs.Copies.{next_copy, counting}
 use Rattle.vx_record.specs.Batches.{parent, batch_of}
 use Rattle.vx_record.proofs.Live.{if_lt, if_ge}
-use Rattle.vx_balance.specs.Owned.{numbers_of, IsOfBatch, AreOfBatch, EachOfBatch, AreHeld}
+use Rattle.vx_balance.specs.Owned.{IsOfBatch, AreOfBatch, EachOfBatch, AreHeld}
 use Rattle.vx_balance.specs.Balances.{Balances}
 use Rattle.vx_balance.specs.Promises.{BatchStays}
 use Rattle.vx_balance.proofs.Sums.{of_batch}

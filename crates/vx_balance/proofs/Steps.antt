@@ -5,7 +5,7 @@ use Rattle.std.proofs.lemmas.Bool.Decides.{nat_tests}
 use Rattle.vx_value.specs.declared.event.Event.{Event}
 use Rattle.vx_status.specs.declared.outcome.Outcome.{Outcome}
 use Rattle.vx_status.specs.declared.batch_status.BatchStatus.TheVariants.{Delivered}
-use Rattle.vx_ledger.specs.Copies.{Copy, copies_of, numbered, children_of, joined}
+use Rattle.vx_ledger.specs.Copies.{Copy, copies_of, numbered, children_of, joined, numbers_of}
 use Rattle.vx_ledger.specs.Ledger.{Ledger, IsKept, Exchanges, live_count, grown_rows, spent_rows, notice_of}
 use Rattle.vx_ledger.specs.declared.open_batch.OpenBatch.{OpenBatch}
 use Rattle.vx_ledger.specs.declared.notice.Notice.{Notice as Told}
@@ -26,7 +26,7 @@ use Rattle.vx_record.proofs.Statuses.{running_future, running_so}
 use Rattle.vx_record.proofs.LegalNotices.{accounted}
 use Rattle.vx_balance.specs.Live.{live_copies}
 use Rattle.vx_balance.specs.Births.{born, unnoticed, batches_in, IsAmong}
-use Rattle.vx_balance.specs.Owned.{numbers_of, IsOfBatch, AreOfBatch, EachOfBatch}
+use Rattle.vx_balance.specs.Owned.{IsOfBatch, AreOfBatch, EachOfBatch}
 use Rattle.vx_balance.specs.Balances.{AreRunning, Balances}
 use Rattle.vx_balance.specs.Promises.{Bears, Splits, LeavesOpen, ClosesBatch, AsideKept, AnyInTurn}
 use Rattle.vx_balance.proofs.Sums.{of_batch}

@@ -1,15 +1,10 @@
 -- Copies in hand, and what a record says of them.
 use Rattle.std.specs.Prelude.{ℕ, ◌≡◌, ◌<◌, ◌≤◌, List, [], ◌∷◌}
-use Rattle.vx_ledger.specs.Copies.{Copy}
+use Rattle.vx_ledger.specs.Copies.{Copy, numbers_of}
 use Rattle.vx_record.specs.declared.child.Child.{Child}
 use Rattle.vx_record.specs.Records.{Record}
 use Rattle.vx_record.specs.Copies.{count, next_copy, IsLive}
 use Rattle.vx_record.specs.Batches.{batch_of}
-
--- the numbers of some copies, as an entry has them
-abbrev pub numbers_of : List Copy → List ℕ
-numbers_of [] = []
-numbers_of (c ∷ cs) = c.number ∷ numbers_of cs
 
 -- some lists of copies as the children of a split, one for each target
 abbrev pub noted : List ℕ → List (List Copy) → List Child

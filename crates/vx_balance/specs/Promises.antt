@@ -2,7 +2,7 @@
 use Rattle.std.specs.Prelude.{ℕ, ◌+◌, ◌*◌, ◌^◌, ◌<◌, ◌≤◌, ◌≡◌, ◌↔◌, Bool, true, false, List, [], ◌∷◌, ◌++◌, length}
 use Rattle.vx_value.specs.declared.event.Event.{Event}
 use Rattle.vx_status.specs.declared.outcome.Outcome.{Outcome}
-use Rattle.vx_ledger.specs.Copies.{Copy, children_of}
+use Rattle.vx_ledger.specs.Copies.{Copy, children_of, numbers_of}
 use Rattle.vx_ledger.specs.Ledger.{Ledger}
 use Rattle.vx_ledger.specs.Routing.{children_for}
 use Rattle.vx_ledger.specs.declared.child.Child.{Child as Sent}
@@ -24,7 +24,7 @@ use Rattle.vx_record.specs.Spending.{MayNotice}
 use Rattle.vx_record.specs.Legal.{IsLegal}
 use Rattle.vx_balance.specs.Live.{live_copies}
 use Rattle.vx_balance.specs.Births.{unnoticed, batches_in, borne_by, IsAmong}
-use Rattle.vx_balance.specs.Owned.{numbers_of, noted, IsOfBatch, AreOfBatch, EachOfBatch, AreHeld}
+use Rattle.vx_balance.specs.Owned.{noted, IsOfBatch, AreOfBatch, EachOfBatch, AreHeld}
 use Rattle.vx_balance.specs.Balances.{Balances}
 
 -- what balanced a record balances it with one entry more, where that is legal

@@ -34,3 +34,8 @@ children_of (suc k) first parent = renumbered first parent ∷ children_of k (fi
 abbrev pub joined : List (List Copy) → List Copy
 joined [] = []
 joined (cs ∷ rest) = cs ++ joined rest
+
+-- the numbers of some copies, as an entry has them
+abbrev pub numbers_of : List Copy → List ℕ
+numbers_of [] = []
+numbers_of (c ∷ cs) = c.number ∷ numbers_of cs

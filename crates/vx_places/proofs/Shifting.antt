@@ -4,7 +4,7 @@ use Rattle.std.specs.Prelude.{◌≢◌, ◌==◌, ◌⊎◌, if◌then◌else�
 use Rattle.std.specs.Option.{option_map}
 use Rattle.std.proofs.lemmas.Bool.Decides.{nat_tests}
 use Rattle.vx_value.specs.declared.event.Event.{Event}
-use Rattle.vx_ledger.specs.Copies.{Copy}
+use Rattle.vx_ledger.specs.Copies.{Copy, numbers_of}
 use Rattle.vx_ledger.specs.declared.parcel.Parcel.{Parcel}
 use Rattle.vx_ledger.specs.declared.child.Child.{Child}
 use Rattle.vx_record.specs.declared.output.Output.{Output}
@@ -17,7 +17,7 @@ use Rattle.vx_record.specs.Moving.{singles, children_for, parcels_of}
 use Rattle.vx_record.specs.Shifts.{younger, shift}
 use Rattle.vx_record.proofs.Changes.{same_place_is}
 use Rattle.vx_places.specs.declared.row.Row.{Row}
-use Rattle.vx_places.specs.Numbers.{numbers_of, numbers, parcels_in, for_target, noted, EachFilled}
+use Rattle.vx_places.specs.Numbers.{numbers, parcels_in, for_target, noted, EachFilled}
 use Rattle.vx_places.specs.Views.{parcels_here, numbers_here, Others, Same, IsAmong, IsIn, IsAt}
 use Rattle.vx_places.specs.Holding.{IsNoAnswer, Shifts}
 use Rattle.vx_places.specs.Calls.{Takes, Puts, Waits, Moves, PutsOut, Divides}

@@ -5,7 +5,7 @@ use Rattle.std.specs.Option.{option_map}
 use Rattle.std.proofs.lemmas.Bool.Decides.{nat_tests}
 use Rattle.vx_value.specs.declared.event.Event.{Event}
 use Rattle.vx_status.specs.declared.outcome.Outcome.{Outcome}
-use Rattle.vx_ledger.specs.Copies.{Copy}
+use Rattle.vx_ledger.specs.Copies.{Copy, numbers_of}
 use Rattle.vx_ledger.specs.declared.parcel.Parcel.{Parcel}
 use Rattle.vx_record.specs.declared.entry.Entry.TheVariants.{Spent}
 use Rattle.vx_record.specs.Records.{Record}
@@ -20,7 +20,7 @@ use Rattle.vx_record.proofs.Hands.{AreAt, others_stay}
 use Rattle.vx_record.proofs.OnePlace.{conserved}
 use Rattle.vx_record.proofs.Shifting.{stands_at}
 use Rattle.vx_places.specs.declared.row.Row.{Row}
-use Rattle.vx_places.specs.Numbers.{numbers_of, numbers, IsCopyIn}
+use Rattle.vx_places.specs.Numbers.{numbers, IsCopyIn}
 use Rattle.vx_places.specs.Views.{parcels_here, numbers_here, IsAmong, IsAt}
 use Rattle.vx_places.specs.Holding.{Holds, Shifts}
 use Rattle.vx_places.specs.Calls.{Loses, left_of}

@@ -2,7 +2,7 @@
 use Rattle.std.specs.Prelude.{◌≡◌, ◌≢◌, ◌<◌, ℕ, zero, suc, Bool, false, List, [], ◌∷◌, ◌++◌, Some, None, IsSome, IsSomeAnd, length}
 use Rattle.vx_value.specs.Filled.{Filled}
 use Rattle.vx_value.specs.declared.event.Event.{Event}
-use Rattle.vx_ledger.specs.Copies.{Copy}
+use Rattle.vx_ledger.specs.Copies.{Copy, numbers_of}
 use Rattle.vx_ledger.specs.declared.parcel.Parcel.{Parcel}
 use Rattle.vx_ledger.specs.declared.child.Child.{Child}
 use Rattle.vx_record.specs.declared.output.Output.{Output}
@@ -13,7 +13,7 @@ use Rattle.vx_record.specs.Places.{Place}
 use Rattle.vx_record.specs.Places.Place.{Outputs, Waiting, Held}
 use Rattle.vx_record.specs.Lists.{is_child_of}
 use Rattle.vx_places.specs.declared.row.Row.{Row}
-use Rattle.vx_places.specs.Numbers.{for_target, numbers_of, numbers, noted, parcels_in, EachFilled}
+use Rattle.vx_places.specs.Numbers.{for_target, numbers, noted, parcels_in, EachFilled}
 use Rattle.vx_places.specs.Views.{row_at, stage_at, parcels_here, Others}
 use Rattle.vx_places.specs.Holding.{Shifts}
 

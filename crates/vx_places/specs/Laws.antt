@@ -1,7 +1,7 @@
 -- What holds of the places of a record.
 use Rattle.std.specs.Prelude.{◌≡◌, ℕ, List, [], ◌∷◌, Some, None}
 use Rattle.vx_status.specs.declared.outcome.Outcome.{Outcome}
-use Rattle.vx_ledger.specs.Copies.{Copy}
+use Rattle.vx_ledger.specs.Copies.{Copy, numbers_of}
 use Rattle.vx_ledger.specs.declared.parcel.Parcel.{Parcel}
 use Rattle.vx_record.specs.declared.entry.Entry.{Entry}
 use Rattle.vx_record.specs.declared.entry.Entry.TheVariants.{Spent}
@@ -14,7 +14,7 @@ use Rattle.vx_record.specs.Sending.{IsOldest}
 use Rattle.vx_record.specs.Shifts.{at}
 use Rattle.vx_record.specs.Legal.{IsLegal}
 use Rattle.vx_places.specs.declared.row.Row.{Row}
-use Rattle.vx_places.specs.Numbers.{numbers_of, numbers}
+use Rattle.vx_places.specs.Numbers.{numbers}
 use Rattle.vx_places.specs.Views.{Same, parcels_here}
 use Rattle.vx_places.specs.Holding.{Holds, Shifts, AreKnown}
 use Rattle.vx_places.specs.Calls.{Lends, Loses, IsThere, IsKept, IsLent}

@@ -1,16 +1,11 @@
 -- Parcels by the numbers of their copies.
 use Rattle.std.specs.Prelude.{◌≡◌, ◌≢◌, ◌⊎◌, ℕ, ◌==◌, if◌then◌else◌, List, [], ◌∷◌}
-use Rattle.vx_ledger.specs.Copies.{Copy}
+use Rattle.vx_ledger.specs.Copies.{Copy, numbers_of}
 use Rattle.vx_ledger.specs.declared.parcel.Parcel.{Parcel}
 use Rattle.vx_ledger.specs.declared.child.Child.{Child}
 use Rattle.vx_record.specs.declared.child.Child.{Child as Noted}
 
--- the numbers of some copies, as an entry has them
-abbrev pub numbers_of : List Copy → List ℕ
-numbers_of [] = []
-numbers_of (c ∷ cs) = c.number ∷ numbers_of cs
-
--- and of the copies of some parcels
+-- the numbers of the copies of some parcels
 abbrev pub numbers : List Parcel → List (List ℕ)
 numbers [] = []
 numbers (parcel ∷ rest) = numbers_of parcel.finalizers ∷ numbers rest
