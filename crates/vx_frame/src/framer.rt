@@ -54,6 +54,18 @@ impl Framer {
         self.overlong
     }
 
+    /// How many lines were longer than the limit since this was asked last. The count begins anew.
+    pub fn take_overlong(&mut self) -> u64
+        ensures told { result ≡ self.old.overlong }
+        ensures anew { self.new.overlong ≡ 0 }
+        ensures limit { self.new.limit ≡ self.old.limit }
+        ensures streams { (stream : ℕ) → unfinished self.new stream ≡ unfinished self.old stream }
+    {
+        let overlong = self.overlong;
+        self.overlong = 0;
+        overlong
+    }
+
     // Takes out what a stream left unfinished. The stream has a place from then on, and is at its beginning.
     fn take_out(&mut self, stream: u64) -> Result<Unfinished, WantOfMemory>
         ensures taken { IfOk result (λ left. left ≡ unfinished self.old stream) }
