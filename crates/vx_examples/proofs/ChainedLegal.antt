@@ -32,7 +32,7 @@ seconds h runs = record { component = each_second; runs = runs; transform = refl
 repeats : (h : Record) → component_of h 2 ≡ Some no_repeats → RunsBy h 2 repeats_rule
 repeats h runs = record { component = no_repeats; runs = runs; transform = refl; tests = []; mean = tt; ruled = refl }
 
-host : (h : Record) → component_of h 3 ≡ Some handed_in → RunsBy h 3 is_free
+pub host : (h : Record) → component_of h 3 ≡ Some handed_in → RunsBy h 3 is_free
 host h runs = record { component = handed_in; runs = runs; transform = refl; tests = []; mean = tt; ruled = refl }
 
 pub legal1 : IsLegal after1

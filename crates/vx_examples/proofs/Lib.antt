@@ -26,3 +26,4 @@ pub mod GeneratedLegal
 pub mod TransformRefusals
 pub mod ChainedLegal
 mod PlanRefusals
+mod BeforeRefusals

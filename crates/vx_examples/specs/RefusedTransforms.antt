@@ -211,9 +211,13 @@ host_past_the_last_port = Answer 3 (record { ports = 2 ^ 65; copies = 8 ∷ []; 
 abbrev pub two_ticks : Record
 two_ticks = Tick 3 0 ∷ chained.after33
 
--- a Take while a Tick of an earlier turn waits for its Answer
+-- a host that came home behind a Tick without an Answer, and is leased again
+abbrev pub ticked_host : Record
+ticked_host = Lease 3 0 0 0 ∷ Home 3 ∷ Tick 3 0 ∷ chained.after31
+
+-- a Take while that Tick waits for its Answer
 abbrev pub take_behind_a_tick : Record
-take_behind_a_tick = Take 3 0 (8 ∷ []) ∷ Lease 3 0 0 0 ∷ Home 3 ∷ Tick 3 0 ∷ chained.after31
+take_behind_a_tick = Take 3 0 (8 ∷ []) ∷ ticked_host
 
 -- a host that holds a parcel when nothing more can come
 abbrev pub keeping_host : Record
