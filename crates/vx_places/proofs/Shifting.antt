@@ -18,7 +18,7 @@ use Rattle.vx_record.specs.Shifts.{younger, shift}
 use Rattle.vx_record.proofs.Changes.{same_place_is}
 use Rattle.vx_places.specs.declared.row.Row.{Row}
 use Rattle.vx_places.specs.Numbers.{numbers, parcels_in, for_target, noted, EachFilled}
-use Rattle.vx_places.specs.Views.{parcels_here, numbers_here, Others, Same, IsAmong, IsIn, IsAt}
+use Rattle.vx_places.specs.Views.{parcels_here, numbers_here, Others, IsAmong, IsIn, IsAt}
 use Rattle.vx_places.specs.Holding.{IsNoAnswer, Shifts}
 use Rattle.vx_places.specs.Calls.{Takes, Puts, Waits, Moves, PutsOut, Divides}
 
@@ -259,17 +259,6 @@ pub push_moves : (i t s : ℕ) (parcel : Parcel) (old mid new : List Row) → Ta
     Moves (λ copies. Push i t s copies) (Waiting i t) (Contents t s) old new
 push_moves i t s parcel old mid new taken put = record { parcel = parcel; mid = mid; taken = taken; put = put; shifts = push_shifts i t s parcel old mid new taken put }
 
--- more room changes nothing of it
-after_same : (q : Place) (parcel : Parcel) (old early mid : List Row) → Same old early → Takes q parcel early mid → Takes q parcel old mid
-after_same q parcel old early mid same taken = record {
-  rest = taken.rest;
-  was = sym (same q) ∙ taken.was;
-  now = taken.now;
-  others = λ p other. taken.others p other ∙ same p;
-}
-
-pub take_moves : (i s : ℕ) (parcel : Parcel) (old early mid new : List Row) → Same old early → Takes (Contents i s) parcel early mid → Puts (Held i) (parcel ∷ []) mid new →
+pub take_moves : (i s : ℕ) (parcel : Parcel) (old mid new : List Row) → Takes (Contents i s) parcel old mid → Puts (Held i) (parcel ∷ []) mid new →
     Moves (λ copies. Take i s copies) (Contents i s) (Held i) old new
-take_moves i s parcel old early mid new same later put =
-    let taken = after_same (Contents i s) parcel old early mid same later in
-    record { parcel = parcel; mid = mid; taken = taken; put = put; shifts = take_shifts i s parcel old mid new taken put }
+take_moves i s parcel old mid new taken put = record { parcel = parcel; mid = mid; taken = taken; put = put; shifts = take_shifts i s parcel old mid new taken put }

@@ -33,12 +33,10 @@ use Rattle.vx_places.specs.declared.row.Row.{Row}
 use Rattle.vx_places.specs.Numbers.{numbers, IsCopyIn}
 use Rattle.vx_places.specs.Views.{parcels_here, numbers_here, IsAmong, IsIn, IsAt}
 use Rattle.vx_places.specs.Holding.{IsKnown, Holds, IsNoAnswer}
+use Rattle.vx_places.proofs.Written.{one_some}
 use Rattle.vx_places.specs.Laws.{HoldsStep, StillShifts, SameHolds, OldestThere, LentIs, LentComesBack, NoneHolds}
 
 -- WHAT STANDS
-one_some : {X : Type 0} (x y : X) → Some x ≡ Some y → x ≡ y
-one_some x y same = cc
-
 stand_step : (F : List (List ℕ) → List (List ℕ)) (was : List (List ℕ)) (new old : Option (List Parcel)) →
     option_map numbers new ≡ option_map F (option_map numbers old) → IfSome old (λ ps. numbers ps ≡ was) → IfSome new (λ ps. numbers ps ≡ F was)
 stand_step F was None old same is = tt

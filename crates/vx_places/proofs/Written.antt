@@ -5,6 +5,9 @@ use Rattle.std.specs.Vec.{with_item}
 use Rattle.std.specs.Global.{Vec}
 use Rattle.std.proofs.lemmas.Bool.Decides.{nat_tests}
 use Rattle.std.proofs.lemmas.Bool.{cases_eq}
+use native.Mathlib.Nat.{ℕ_set}
+use native.Mathlib.Bridge.{le_prop}
+use Rattle.std.proofs.lemmas.List.{set-get_or}
 use Rattle.vx_value.specs.Filled.{Filled}
 use Rattle.vx_ledger.specs.Copies.{Copy}
 use Rattle.vx_ledger.specs.declared.parcel.Parcel.{Parcel}
@@ -15,13 +18,24 @@ use Rattle.vx_record.specs.Lists.{is_child_of}
 use Rattle.vx_places.specs.declared.row.Row.{Row}
 use Rattle.vx_places.specs.Numbers.{for_target}
 use Rattle.vx_places.specs.Views.{row_at, stage_at, stage_items, held_items, here, here_if, parcels_here, Others}
-use Rattle.vx_places.specs.Calls.{Takes, Puts, Waits, Lends, Loses, LosesCopy, IsRow, NoneBefore}
+use Rattle.vx_places.specs.Calls.{Takes, Puts, Waits, Lends, Loses, LosesCopy, NothingToLose, NothingToSpend, IsRow, NoneBefore}
+
+pub one_some : {X : Type 0} (x y : X) → Some x ≡ Some y → x ≡ y
+one_some x y same = cc
+
+pub if_none : {X Q : Type 0} (r : Option X) → Q → IfNone r Q
+if_none None q = q
+if_none (Some x) q = tt
+
+pub if_none_then : {X P Q : Type 0} (r : Option X) → (P → Q) → IfNone r P → IfNone r Q
+if_none_then None f p = f p
+if_none_then (Some x) f p = tt
 
 pub same_test : (n : ℕ) → (n == n) ≡ true
 same_test n = grind (arith, nat_tests)
 
 -- the row that was written
-row_written : (rows : List Row) (i : ℕ) (new : Row) → i < length rows → row_at (slice_set rows i new) i ≡ Some new
+pub row_written : (rows : List Row) (i : ℕ) (new : Row) → i < length rows → row_at (slice_set rows i new) i ≡ Some new
 row_written [] i new l = absurd (omega arith)
 row_written (r ∷ rows) zero new l = refl
 row_written (r ∷ rows) (suc i) new l = row_written rows i new (omega arith)
@@ -32,8 +46,11 @@ row_read [] i row l at = absurd (omega arith)
 row_read (r ∷ rows) zero row l at = ap Some (sym at)
 row_read (r ∷ rows) (suc i) row l at = row_read rows i row (omega arith) at
 
+pub same_read : (rows : List Row) (i : ℕ) (a b : Row) → i < length rows → a ≡ get_or rows i a → b ≡ get_or rows i b → a ≡ b
+same_read rows i a b l first second = one_some a b (sym (row_read rows i a l first) ∙ row_read rows i b l second)
+
 -- every other row
-rows_other : (rows : List Row) (i j : ℕ) (new : Row) → j ≢ i → row_at (slice_set rows i new) j ≡ row_at rows j
+pub rows_other : (rows : List Row) (i j : ℕ) (new : Row) → j ≢ i → row_at (slice_set rows i new) j ≡ row_at rows j
 rows_other [] i j new other = refl
 rows_other (r ∷ rows) zero zero new other = absurd (other refl)
 rows_other (r ∷ rows) zero (suc j) new other = refl
@@ -46,7 +63,7 @@ stage_written [] s new l = absurd (omega arith)
 stage_written (x ∷ xs) zero new l = refl
 stage_written (x ∷ xs) (suc s) new l = stage_written xs s new (omega arith)
 
-stage_read : (stages : List (Filled Parcel)) (s : ℕ) (stage : Filled Parcel) → s < length stages → stage ≡ get_or stages s stage → stage_at stages s ≡ Some stage
+pub stage_read : (stages : List (Filled Parcel)) (s : ℕ) (stage : Filled Parcel) → s < length stages → stage ≡ get_or stages s stage → stage_at stages s ≡ Some stage
 stage_read [] s stage l at = absurd (omega arith)
 stage_read (x ∷ xs) zero stage l at = ap Some (sym at)
 stage_read (x ∷ xs) (suc s) stage l at = stage_read xs s stage (omega arith) at
@@ -57,6 +74,11 @@ stages_other (x ∷ xs) zero zero new other = absurd cc
 stages_other (x ∷ xs) zero (suc r) new other = refl
 stages_other (x ∷ xs) (suc s) zero new other = refl
 stages_other (x ∷ xs) (suc s) (suc r) new other = stages_other xs s r new (let e : (suc s == suc r) ≡ (s == r) = grind (arith, nat_tests) in sym e ∙ other)
+
+pub stage_past : (stages : List (Filled Parcel)) (s : ℕ) → length stages ≤ s → stage_at stages s ≡ None
+stage_past [] s past = refl
+stage_past (x ∷ xs) zero past = absurd (omega arith)
+stage_past (x ∷ xs) (suc s) past = stage_past xs s (omega arith)
 
 -- a stage of which something is said is there
 pub stage_there : (F : Filled Parcel → Type 0) (stages : List (Filled Parcel)) (s : ℕ) → IsSomeAnd (stage_at stages s) F → s < length stages
@@ -78,7 +100,7 @@ child_there t zero (d ∷ cs) first = omega arith
 child_there t (suc k) (d ∷ cs) first = let l = child_there t k cs first.1 in omega (arith, l)
 
 -- the first child for its target is taken out
-first_removed : (t k : ℕ) (cs : List Child) (c : Child) → NoneBefore t k cs → c ≡ get_or cs k c →
+pub first_removed : (t k : ℕ) (cs : List Child) (c : Child) → NoneBefore t k cs → c ≡ get_or cs k c →
     (c.target ≡ t) × (for_target t cs ≡ c.parcel ∷ for_target t (remove cs k))
 first_removed t k [] c first at = absurd first
 first_removed t zero (d ∷ cs) c first at =
@@ -96,7 +118,7 @@ first_removed t (suc k) (d ∷ cs) c first at =
     )
 
 -- and of another target none is missed
-other_removed : (t u k : ℕ) (cs : List Child) (c : Child) → k < length cs → c ≡ get_or cs k c → c.target ≡ t → (t == u) ≡ false →
+pub other_removed : (t u k : ℕ) (cs : List Child) (c : Child) → k < length cs → c ≡ get_or cs k c → c.target ≡ t → (t == u) ≡ false →
     for_target u (remove cs k) ≡ for_target u cs
 other_removed t u k [] c l at is other = absurd (omega arith)
 other_removed t u zero (d ∷ cs) c l at is other =
@@ -123,6 +145,13 @@ pub no_length : (items : List Child) (r : Bool) (n : ℕ) → n ≡ length items
 no_length [] r n len is none = refl
 no_length (x ∷ xs) r n len is none = absurd (grind (arith, nat_tests, len, is, none))
 
+pub none_length : (items : List Child) (r : Bool) (n : ℕ) → n ≡ length items → r ≡ (n == 0) → items ≡ [] → r ≡ true
+none_length items r n len is none = let e = ap length none in grind (arith, nat_tests, len, is, e)
+
+-- past the last stage there is none
+pub no_stage : (F : Filled Parcel → Type 0) (stages : List (Filled Parcel)) (s : ℕ) → length stages ≤ s → IsSomeAnd (stage_at stages s) F → ⊥
+no_stage F stages s past is = let l = stage_there F stages s is in omega (arith, l, past)
+
 -- a list that isn't full, or isn't empty
 pub not_full : (r : Bool) (n m : ℕ) → ((r ≡ true) ↔ (n ≡ m)) → n ≤ m → not r ≡ true → n < m
 not_full true n m full within free = absurd cc
@@ -136,6 +165,14 @@ pub not_empty : (r : Bool) (items : List Parcel) → ((r ≡ true) ↔ (items �
 not_empty r [] empty some = let all : r ≡ true = empty.1 refl in absurd cc
 not_empty r (x ∷ xs) empty some = omega arith
 
+pub has_free : (r : Bool) (n m : ℕ) → ((r ≡ true) ↔ (n ≡ m)) → n < m → not r ≡ true
+has_free false n m full free = refl
+has_free true n m full free = let same : n ≡ m = full.0 refl in absurd (omega (arith, same, free))
+
+pub has_item : (r : Bool) (items : List Parcel) → ((r ≡ true) ↔ (items ≡ [])) → 0 < length items → not r ≡ true
+has_item false items empty some = refl
+has_item true items empty some = let none = ap length (empty.0 refl) in absurd (omega (arith, none, some))
+
 pub row_keeps : (F : Row → Type 0) (rows : List Row) (i : ℕ) (row new : Row) → i < length rows → row ≡ get_or rows i row → (F row → F new) →
     (j : ℕ) → IsRow F rows j → IsRow F (slice_set rows i new) j
 row_keeps F rows i row new l at keep j is = go (j == i) refl
@@ -147,6 +184,18 @@ row_keeps F rows i row new l at keep j is = go (j == i) refl
     go false e =
         let other : j ≢ i = grind (arith, nat_tests) in
         subst (λ (o : Option Row). IsSomeAnd o F) (sym (rows_other rows i j new other)) is
+
+-- a list in which an item is written that stood there
+pub one_ok : (n m k l : ℕ) (a b : (n ≡ m) × (k ≤ l)) → a ≡ b
+one_ok n m k l = hlevel (le_prop, ℕ_set)
+
+vec_still : (v : Vec (Filled Parcel)) (s : ℕ) (stage : Filled Parcel) → stage ≡ get_or v.items s stage → with_item v s stage ≡ v
+vec_still v s stage at = go (slice_set v.items s stage) (sym (ap (slice_set v.items s) at ∙ set-get_or v.items s stage)) (with_item v s stage).ok
+  where
+    go : (xs : List (Filled Parcel)) → v.items ≡ xs → (ok : (v.len ≡ length xs) × (v.len ≤ v.cap)) → record v { items = xs; ok = ok } ≡ v
+    go xs e =
+        subst (λ (ys : List (Filled Parcel)). (ok : (v.len ≡ length ys) × (v.len ≤ v.cap)) → record v { items = ys; ok = ok } ≡ v) e
+        (λ ok. ap (λ (o : (v.len ≡ length v.items) × (v.len ≤ v.cap)). record v { items = v.items; ok = o }) (one_ok v.len (length v.items) v.len v.cap ok v.ok))
 
 module _ (rows : List Row) (i : ℕ) (row : Row) (l : i < length rows) (at : row ≡ get_or rows i row) where
   pub read_at : (p : Place) → owner p ≡ i → parcels_here rows p ≡ here p row
@@ -168,6 +217,14 @@ module _ (rows : List Row) (i : ℕ) (row : Row) (l : i < length rows) (at : row
           let other : owner p ≢ i = grind (arith, nat_tests) in
           ap (here_if p) (rows_other rows i (owner p) new other)
 
+  pub nothing_waits : (t : ℕ) → NothingToLose (for_target t row.waiting.items) → NothingToSpend (Waiting i t) rows
+  nothing_waits t none = subst (λ (o : Option (List Parcel)). IsSomeAnd o NothingToLose) (sym (read_at (Waiting i t) refl)) none
+
+  pub nothing_past : (s : ℕ) → length row.stages.items ≤ s → NothingToSpend (Contents i s) rows
+  nothing_past s past =
+      subst (λ (o : Option (List Parcel)). IsSomeAnd o NothingToLose)
+      (sym (read_at (Contents i s) refl ∙ ap (λ (o : Option (Filled Parcel)). Some (stage_items o)) (stage_past row.stages.items s past))) tt
+
   -- outputs are written
   pub but_outputs : (outputs : Filled Parcel) → Others (Outputs i) rows (slice_set rows i (record row { outputs = outputs }))
   but_outputs outputs = places_but (record row { outputs = outputs }) (λ p. same_place (Outputs i) p ≡ false) keep
@@ -177,6 +234,16 @@ module _ (rows : List Row) (i : ℕ) (row : Row) (l : i < length rows) (at : row
       keep (Waiting j t) own other = refl
       keep (Contents j s) own other = refl
       keep (Held j) own other = refl
+
+  pub outputs_same : (outputs : Filled Parcel) → outputs.items ≡ row.outputs.items → (p : Place) →
+      parcels_here (slice_set rows i (record row { outputs = outputs })) p ≡ parcels_here rows p
+  outputs_same outputs is p = places_but (record row { outputs = outputs }) (λ q. Unit {0}) keep p tt
+    where
+      keep : (q : Place) → owner q ≡ i → Unit {0} → here q (record row { outputs = outputs }) ≡ here q row
+      keep (Outputs j) own u = ap Some is
+      keep (Waiting j t) own u = refl
+      keep (Contents j s) own u = refl
+      keep (Held j) own u = refl
 
   pub outputs_put : (outputs : Filled Parcel) (more : List Parcel) → outputs.items ≡ row.outputs.items ++ more →
       Puts (Outputs i) more rows (slice_set rows i (record row { outputs = outputs }))
@@ -239,16 +306,6 @@ module _ (rows : List Row) (i : ℕ) (row : Row) (l : i < length rows) (at : row
     others = but_held (Some new);
   }
 
-  pub held_same : (old new : Filled Parcel) → row.held ≡ Some old → new.items ≡ old.items → (p : Place) →
-      parcels_here (slice_set rows i (record row { held = Some new })) p ≡ parcels_here rows p
-  held_same old new there is p = places_but (record row { held = Some new }) (λ q. Unit {0}) keep p tt
-    where
-      keep : (q : Place) → owner q ≡ i → Unit {0} → here q (record row { held = Some new }) ≡ here q row
-      keep (Outputs j) own u = refl
-      keep (Waiting j t) own u = refl
-      keep (Contents j s) own u = refl
-      keep (Held j) own u = ap Some is ∙ sym (ap held_items there)
-
   pub held_lost : (old new : Filled Parcel) (copy : Copy) → row.held ≡ Some old → LosesCopy copy old.items new.items →
       Loses (Held i) copy rows (slice_set rows i (record row { held = Some new }))
   held_lost old new copy there loses = record {
@@ -288,11 +345,25 @@ module _ (rows : List Row) (i : ℕ) (row : Row) (l : i < length rows) (at : row
         keep (Contents j s) own q = ap (λ (v : Vec (Filled Parcel)). Some (stage_items (stage_at v.items s))) stages
         keep (Held j) own q = ap held_items held
 
+    off_target : (t j u : ℕ) → j ≡ i → same_place (Waiting i t) (Waiting j u) ≡ false → (t == u) ≡ false
+    off_target t j u own other = grind (arith, nat_tests)
+
     pub children_wait : (children : List Child) → row.waiting.items ≡ [] → new.waiting.items ≡ children → Waits i children rows (slice_set rows i new)
     children_wait children none is = record {
       was = λ t. read_at (Waiting i t) refl ∙ ap (λ cs. Some (for_target t cs)) none;
       now = λ t. written_at new (Waiting i t) refl ∙ ap (λ cs. Some (for_target t cs)) is;
       others = but_waiting (λ p. is_child_of i p ≡ false) (λ j t own other. let u = same_test i in let v = ap (λ k. k == i) own in cc);
+    }
+
+    pub child_lost : (t : ℕ) (copy : Copy) → LosesCopy copy (for_target t row.waiting.items) (for_target t new.waiting.items) →
+        ((u : ℕ) → (t == u) ≡ false → for_target u new.waiting.items ≡ for_target u row.waiting.items) → Loses (Waiting i t) copy rows (slice_set rows i new)
+    child_lost t copy loses same = record {
+      before = for_target t row.waiting.items;
+      after = for_target t new.waiting.items;
+      was = read_at (Waiting i t) refl;
+      now = written_at new (Waiting i t) refl;
+      loses = loses;
+      others = but_waiting (λ p. same_place (Waiting i t) p ≡ false) (λ j u own other. same u (off_target t j u own other));
     }
 
     pub child_taken : (t k : ℕ) (child : Child) → NoneBefore t k row.waiting.items → child ≡ get_or row.waiting.items k child → new.waiting.items ≡ remove row.waiting.items k →
@@ -303,11 +374,8 @@ module _ (rows : List Row) (i : ℕ) (row : Row) (l : i < length rows) (at : row
           was = read_at (Waiting i t) refl ∙ ap Some (r.1 ∙ ap (λ cs. child.parcel ∷ for_target t cs) (sym is));
           now = written_at new (Waiting i t) refl;
           others = but_waiting (λ p. same_place (Waiting i t) p ≡ false) (λ j u own other.
-              ap (for_target u) is ∙ other_removed t u k row.waiting.items child (child_there t k row.waiting.items first) read r.0 (off j u own other));
+              ap (for_target u) is ∙ other_removed t u k row.waiting.items child (child_there t k row.waiting.items first) read r.0 (off_target t j u own other));
         }
-      where
-        off : (j u : ℕ) → j ≡ i → same_place (Waiting i t) (Waiting j u) ≡ false → (t == u) ≡ false
-        off j u own other = grind (arith, nat_tests)
 
   -- a stage is written
   module _ (s : ℕ) (within : s < length row.stages.items) (stage : Filled Parcel) (read : stage ≡ get_or row.stages.items s stage) (new : Filled Parcel) where
@@ -334,6 +402,18 @@ module _ (rows : List Row) (i : ℕ) (row : Row) (l : i < length rows) (at : row
 
     pub stage_put : (more : List Parcel) → new.items ≡ stage.items ++ more → Puts (Contents i s) more rows (slice_set rows i written)
     stage_put more is = record { before = stage.items; was = old_stage; now = new_stage ∙ ap Some is; others = but_stage }
+
+    pub stage_lost : (copy : Copy) → LosesCopy copy stage.items new.items → Loses (Contents i s) copy rows (slice_set rows i written)
+    stage_lost copy loses = record { before = stage.items; after = new.items; was = old_stage; now = new_stage; loses = loses; others = but_stage }
+
+    -- or nothing is
+    pub stage_still : new ≡ stage → slice_set rows i written ≡ rows
+    stage_still same =
+        ap (λ (v : Vec (Filled Parcel)). slice_set rows i (record row { stages = v })) (vec_still row.stages s new (same ∙ read ∙ ap (get_or row.stages.items s) (sym same)))
+        ∙ ap (slice_set rows i) at ∙ set-get_or rows i row
+
+    pub nothing_in_stage : NothingToLose stage.items → NothingToSpend (Contents i s) rows
+    nothing_in_stage none = subst (λ (o : Option (List Parcel)). IsSomeAnd o NothingToLose) (sym old_stage) none
 
     pub stage_taken : (parcel : Parcel) → stage.items ≡ parcel ∷ new.items → Takes (Contents i s) parcel rows (slice_set rows i written)
     stage_taken parcel is = record { rest = new.items; was = old_stage ∙ ap Some is; now = new_stage; others = but_stage }

@@ -1,5 +1,5 @@
 -- What each call does to the parcels at the places.
-use Rattle.std.specs.Prelude.{◌≡◌, ◌≢◌, ◌<◌, ℕ, zero, suc, Bool, false, List, [], ◌∷◌, ◌++◌, Some, None, IsSome, IsSomeAnd, length}
+use Rattle.std.specs.Prelude.{◌≡◌, ◌≢◌, ◌<◌, ◌≤◌, ◌+◌, ℕ, zero, suc, Bool, false, List, [], ◌∷◌, ◌++◌, Some, None, IsSome, IsSomeAnd, length}
 use Rattle.vx_value.specs.Filled.{Filled}
 use Rattle.vx_value.specs.declared.event.Event.{Event}
 use Rattle.vx_ledger.specs.Copies.{Copy, numbers_of}
@@ -15,6 +15,7 @@ use Rattle.vx_record.specs.Lists.{is_child_of}
 use Rattle.vx_places.specs.declared.row.Row.{Row}
 use Rattle.vx_places.specs.Numbers.{for_target, numbers, noted, parcels_in, EachFilled}
 use Rattle.vx_places.specs.Views.{row_at, stage_at, parcels_here, Others}
+use Rattle.vx_places.specs.Rooms.{held_room}
 use Rattle.vx_places.specs.Holding.{Shifts}
 
 -- the oldest parcel of a place is taken from it
@@ -65,6 +66,15 @@ pub record Loses (q : Place) (copy : Copy) (old new : List Row) : Type 0 where
   pub loses : LosesCopy copy before after
   pub others : Others q old new
 
+-- there is no parcel of which a copy could be lost, or the oldest has none
+abbrev pub NothingToLose : List Parcel → Type 0
+NothingToLose [] = Unit {0}
+NothingToLose (parcel ∷ rest) = parcel.finalizers ≡ []
+
+-- so it is at a place, whose parcels are not lent
+abbrev pub NothingToSpend : Place → List Row → Type 0
+NothingToSpend q rows = IsSomeAnd (parcels_here rows q) NothingToLose
+
 -- the oldest parcel of a place goes behind those of another, as an entry with its copies says
 pub record Moves (entry : List ℕ → Entry) (from to : Place) (old new : List Row) : Type 0 where
   pub parcel : Parcel
@@ -99,6 +109,10 @@ IsRow F rows i = IsSomeAnd (row_at rows i) F
 abbrev pub HasOutputRoom : List Row → ℕ → Type 0
 HasOutputRoom rows i = IsRow (λ row. length row.outputs.items < row.outputs.room) rows i
 
+-- and for so many more
+abbrev pub HasOutputRoomFor : List Row → ℕ → ℕ → Type 0
+HasOutputRoomFor rows i n = IsRow (λ row. length row.outputs.items + n ≤ row.outputs.room) rows i
+
 -- no child of it waits
 abbrev pub NoneWaits : List Row → ℕ → Type 0
 NoneWaits rows i = IsRow (λ row. row.waiting.items ≡ []) rows i
@@ -129,9 +143,9 @@ IsKept rows i = IsRow (λ row. IsSome row.held) rows i
 abbrev pub IsLent : List Row → ℕ → Type 0
 IsLent rows i = IsRow (λ row. row.held ≡ None) rows i
 
--- it is not lent, and has room for one more parcel
+-- it is not lent, and there is room for one more parcel
 abbrev pub HasHeldRoom : List Row → ℕ → Type 0
-HasHeldRoom rows i = IsRow (λ row. IsSomeAnd row.held (λ held. length held.items < held.room)) rows i
+HasHeldRoom rows i = IsSomeAnd (parcels_here rows (Held i)) (λ parcels. IsSomeAnd (held_room rows i) (λ room. length parcels < room))
 
 -- empty stages with these rooms
 abbrev pub empty_stages : List ℕ → List (Filled Parcel)
@@ -143,9 +157,21 @@ abbrev pub AreEmpty : List (Filled Parcel) → Type 0
 AreEmpty [] = Unit {0}
 AreEmpty (stage ∷ stages) = (stage.items ≡ []) × AreEmpty stages
 
--- nothing stands at an instance, and its stages have these rooms
-pub record IsNew (rooms : List ℕ) (row : Row) : Type 0 where
+-- nothing stands at an instance, and nothing is lent
+pub record IsVacant (row : Row) : Type 0 where
+  pub outputs : row.outputs.items ≡ []
+  pub waiting : row.waiting.items ≡ []
+  pub stages : AreEmpty row.stages.items
+  pub held : IsSomeAnd row.held (λ held. held.items ≡ [])
+
+-- so it is at each of some instances
+abbrev pub EachVacant : List Row → Type 0
+EachVacant [] = Unit {0}
+EachVacant (row ∷ rows) = IsVacant row × EachVacant rows
+
+-- nothing stands at an instance, its stages have these rooms, and there is so much room for what it holds
+pub record IsNew (rooms : List ℕ) (room : ℕ) (row : Row) : Type 0 where
   pub outputs : row.outputs.items ≡ []
   pub waiting : row.waiting.items ≡ []
   pub stages : row.stages.items ≡ empty_stages rooms
-  pub held : IsSomeAnd row.held (λ held. held.items ≡ [])
+  pub held : IsSomeAnd row.held (λ held. (held.items ≡ []) × (held.room ≡ room))

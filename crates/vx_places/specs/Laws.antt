@@ -1,23 +1,29 @@
 -- What holds of the places of a record.
-use Rattle.std.specs.Prelude.{◌≡◌, ℕ, List, [], ◌∷◌, Some, None}
+use Rattle.std.specs.Prelude.{◌≡◌, ◌<◌, ◌↔◌, ℕ, true, List, [], ◌∷◌, length, map, Option, Some, None}
+use Rattle.vx_plan.specs.declared.stage.Stage.{Stage}
 use Rattle.vx_status.specs.declared.outcome.Outcome.{Outcome}
 use Rattle.vx_ledger.specs.Copies.{Copy, numbers_of}
 use Rattle.vx_ledger.specs.declared.parcel.Parcel.{Parcel}
 use Rattle.vx_record.specs.declared.entry.Entry.{Entry}
 use Rattle.vx_record.specs.declared.entry.Entry.TheVariants.{Spent}
 use Rattle.vx_record.specs.Records.{Record}
+use Rattle.vx_record.specs.Copies.{count, joined, IsLive}
 use Rattle.vx_record.specs.Places.{Place, owner}
 use Rattle.vx_record.specs.Places.Place.{Held}
-use Rattle.vx_record.specs.Lists.{stands, parcels_at}
+use Rattle.vx_record.specs.Lists.{stands, parcels_at, outputs, contents, held, all_waiting, buffered, is_bare, places}
 use Rattle.vx_record.specs.Moving.{IsStill}
+use Rattle.vx_record.specs.Routing.{is_sent}
 use Rattle.vx_record.specs.Sending.{IsOldest}
+use Rattle.vx_record.specs.Stages.{stages_of, first_room, first_filled}
 use Rattle.vx_record.specs.Shifts.{at}
 use Rattle.vx_record.specs.Legal.{IsLegal}
 use Rattle.vx_places.specs.declared.row.Row.{Row}
-use Rattle.vx_places.specs.Numbers.{numbers}
+use Rattle.vx_places.specs.Numbers.{numbers, EachFilled}
 use Rattle.vx_places.specs.Views.{Same, parcels_here}
+use Rattle.vx_places.specs.Rooms.{rooms_at}
 use Rattle.vx_places.specs.Holding.{Holds, Shifts, AreKnown}
-use Rattle.vx_places.specs.Calls.{Lends, Loses, IsThere, IsKept, IsLent}
+use Rattle.vx_places.specs.Calls.{Lends, Loses, IsThere, IsKept, IsLent, NoneWaits, HasSome}
+use Rattle.vx_places.specs.Looks.{HasOutput, HasSent, HasEmptyBuffer, HoldsMany, IsBare, IsFirstRoom, IsFirstFilled}
 
 -- places that are a record's are those of the record with one entry more, where they shift as that entry says, and it knows what is
 -- put
@@ -67,3 +73,59 @@ abbrev pub HeldSays : Type 0
 HeldSays =
     (rows : List Row) (i : ℕ) → IsThere rows i →
     ((parcels : List Parcel) → parcels_here rows (Held i) ≡ Some parcels → IsKept rows i) × (parcels_here rows (Held i) ≡ None → IsLent rows i)
+
+-- what is asked of the places is what the record has there: an output,
+abbrev pub OutputIs : Type 0
+OutputIs = (h : Record) (rows : List Row) (i : ℕ) → IsLegal h → Holds rows h → HasOutput rows i ↔ (0 < length (outputs h i))
+
+-- a waiting child,
+abbrev pub NoneWaitsIs : Type 0
+NoneWaitsIs = (h : Record) (rows : List Row) (i : ℕ) → IsThere rows i → IsLegal h → Holds rows h → NoneWaits rows i ↔ (all_waiting h i ≡ [])
+
+-- neither of them,
+abbrev pub SentIs : Type 0
+SentIs = (h : Record) (rows : List Row) (i : ℕ) → IsLegal h → Holds rows h → HasSent rows i ↔ (is_sent h i ≡ true)
+
+-- a parcel in a stage,
+abbrev pub SomeIs : Type 0
+SomeIs = (h : Record) (rows : List Row) (i s : ℕ) → IsLegal h → Holds rows h → HasSome rows i s ↔ (0 < length (contents h i s))
+
+-- and in no stage,
+abbrev pub BufferIs : Type 0
+BufferIs = (h : Record) (rows : List Row) (i : ℕ) → IsLegal h → Holds rows h → HasEmptyBuffer rows i ↔ (buffered h i ≡ [])
+
+-- how many parcels are held,
+abbrev pub HoldsIs : Type 0
+HoldsIs = (h : Record) (rows : List Row) (i n : ℕ) → IsLegal h → Holds rows h → HoldsMany rows i n → n ≡ length (held h i)
+
+-- and nothing at all; what is lent can't be seen
+abbrev pub BareIs : Type 0
+BareIs =
+    (h : Record) (rows : List Row) (i : ℕ) → IsLegal h → Holds rows h →
+    (IsBare rows i → is_bare h i ≡ true) × (IsKept rows i → is_bare h i ≡ true → IsBare rows i)
+
+-- the first stage with room is the record's where their rooms are those that the plan gives them,
+abbrev pub FirstRoomIs : Type 0
+FirstRoomIs =
+    (h : Record) (rows : List Row) (t : ℕ) (answer : Option ℕ) → IsLegal h → Holds rows h → rooms_at rows t ≡ map (λ (stage : Stage). stage.max_events) (stages_of h t) →
+    IsFirstRoom rows t answer → first_room h t ≡ answer
+
+-- and the first with a parcel where there are as many
+abbrev pub FirstFilledIs : Type 0
+FirstFilledIs =
+    (h : Record) (rows : List Row) (i : ℕ) (answer : Option ℕ) → IsLegal h → Holds rows h → length (rooms_at rows i) ≡ length (stages_of h i) →
+    IsFirstFilled rows i answer → first_filled h i ≡ answer
+
+-- no parcel at a place of a legal record is empty
+abbrev pub FilledThere : Type 0
+FilledThere =
+    (h : Record) (rows : List Row) (p : Place) (parcels : List Parcel) → IsLegal h → Holds rows h → parcels_here rows p ≡ Some parcels → EachFilled parcels
+
+-- nor one that is lent
+abbrev pub LentFilled : Type 0
+LentFilled = (h : Record) (i : ℕ) (parcels : List Parcel) (old new : List Row) → IsLegal h → Lends i parcels old new → Holds old h → EachFilled parcels
+
+-- a copy that a legal record has at a place is live, and stands at the place's owner
+abbrev pub StandsThere : Type 0
+StandsThere =
+    (h : Record) (c : ℕ) (p : Place) → IsLegal h → 0 < count c (joined (at h p)) → IsLive h c × (0 < count (owner p) (map owner (places h c)))

@@ -1,5 +1,7 @@
 pub mod Numbers
 pub mod Views
+pub mod Rooms
 pub mod Holding
 pub mod Calls
+pub mod Looks
 pub mod Laws

@@ -1,10 +1,11 @@
-//! What holds of the places beside their calls. The function does nothing: what it ensures is proved.
+//! What holds of the places beside their calls. The functions do nothing: what they ensure is proved.
 
-ghost use Rattle.vx_places.specs.Laws.{HoldsStep, StillShifts, SpentShifts, SameHolds, OldestThere, LentIs, LentComesBack, NoneHolds, HeldSays};
+ghost use Rattle.vx_places.specs.Laws.{HoldsStep, StillShifts, SpentShifts, SameHolds, OldestThere, LentIs, LentComesBack, NoneHolds, HeldSays, OutputIs, NoneWaitsIs, SentIs, SomeIs, BufferIs, HoldsIs, BareIs, FirstRoomIs, FirstFilledIs, FilledThere, LentFilled, StandsThere};
 
 /// Places that are a record's stay so with each entry as which they shift, of whatever kind; an entry that moves nothing shifts
 /// nothing, and where a copy is gone they shift as its spend. What stands first at a place is the record's oldest there. What is
-/// lent is what the record has there, and what it has there later may come back.
+/// lent is what the record has there, and what it has there later may come back. No parcel at a place is empty, and each copy at one
+/// is live and stands at the place's owner.
 pub fn places_laws()
     ensures step { HoldsStep }
     ensures still { StillShifts }
@@ -15,4 +16,22 @@ pub fn places_laws()
     ensures back { LentComesBack }
     ensures none { NoneHolds }
     ensures says { HeldSays }
+    ensures filled { FilledThere }
+    ensures lent_filled { LentFilled }
+    ensures stands { StandsThere }
+{}
+
+/// What is asked of the places of a legal record is what the record has there: outputs, waiting children, the parcels in the stages
+/// of a buffer and those that are held, whether an instance sent everything or is bare, and the first stage that has room, or a
+/// parcel.
+pub fn looks_laws()
+    ensures output { OutputIs }
+    ensures waiting { NoneWaitsIs }
+    ensures sent { SentIs }
+    ensures some { SomeIs }
+    ensures buffer { BufferIs }
+    ensures held { HoldsIs }
+    ensures bare { BareIs }
+    ensures room { FirstRoomIs }
+    ensures first { FirstFilledIs }
 {}

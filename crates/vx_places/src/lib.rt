@@ -4,10 +4,11 @@
 
 mod laws;
 mod line;
+mod looks;
 mod places;
 mod row;
 mod rows;
 
-pub use laws::places_laws;
+pub use laws::{looks_laws, places_laws};
 pub use line::Line;
 pub use places::Places;

@@ -1,4 +1,4 @@
-ghost use Rattle.std.specs.Prelude.{◌≡◌, ℕ, ◌+◌, ◌<◌, ◌≤◌, ◌↔◌, [], ◌∷◌, ◌++◌, List, length, IfOk, OnOk, OnErr, IfErr, IfSome, IfNone, IsNone, IsTrue, slice_get};
+ghost use Rattle.std.specs.Prelude.{◌≡◌, ◌+◌, ◌<◌, ◌≤◌, ◌↔◌, [], ◌∷◌, ◌++◌, List, length, IfOk, OnOk, OnErr, IfSome, IfNone, IsNone, IsTrue, slice_get};
 ghost use Rattle.std.specs.Option.{option_copied};
 
 use std::alloc::Global;
@@ -131,21 +131,15 @@ impl<T> Line<T> {
         self.items.pop_front()
     }
 
-    /// Adds a list's items behind the others. For want of memory the list comes back, and nothing has changed.
-    pub fn append(&mut self, more: ItemList<T>) -> Result<(), ItemList<T>>
-        ensures items { OnOk result (self.new.items ≡ self.old.items ++ more) }
-        ensures err { OnErr result (self.new ≡ self.old) }
-        ensures back { IfErr result (λ list. list ≡ more) }
+    /// Adds a list's items behind the others. It takes no memory.
+    pub fn append(&mut self, more: ItemList<T>)
+        requires { length self.old.items + length more ≤ self.old.room }
+        ensures items { self.new.items ≡ self.old.items ++ more }
+        ensures room { self.new.room ≡ self.old.room }
     {
-        if let Err(WantOfMemory) = self.reserve(more.len()) {
-            return Err(more);
-        }
         let mut more = VecDeque::from_vec(more.into_vec());
         match self.items.append(&mut more) {
-            Ok(()) => {
-                more.destroy_empty();
-                Ok(())
-            }
+            Ok(()) => more.destroy_empty(),
             Err(_) => unreachable!(),
         }
     }

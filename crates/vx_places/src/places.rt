@@ -1,12 +1,14 @@
-ghost use Rattle.std.specs.Prelude.{◌≡◌, ◌+◌, ◌<◌, ℕ, [], ◌∷◌, ◌++◌, ◌↔◌, length, OnOk, OnErr, IfOk, IfErr, IfSome, IfNone, IsTrue, Some};
+ghost use Rattle.std.specs.Prelude.{◌≡◌, ◌+◌, ◌<◌, ◌≤◌, ℕ, [], ◌↔◌, length, OnOk, OnErr, IfSome, IfNone, IsTrue, Some, false};
 ghost use Rattle.vx_record.specs.declared.entry.Entry.TheVariants.{Push, Take};
 ghost use Rattle.vx_record.specs.Places.Place.{Outputs, Waiting, Contents, Held};
 ghost use Rattle.vx_places.specs.Views.{Same, parcels_here};
-ghost use Rattle.vx_places.specs.Calls.{Takes, Lends, Loses, IsRow, IsNew, Moves, PutsOut, Divides, IsThere, HasOutputRoom, NoneWaits, IsOldestFor, HasRoom, HasSome, IsKept, IsLent};
+ghost use Rattle.vx_places.specs.Rooms.{SameRooms, LendsRoom, AddsRooms};
+ghost use Rattle.vx_places.specs.Calls.{Takes, Lends, Loses, IsRow, IsNew, Moves, PutsOut, Divides, IsThere, HasOutputRoom, HasOutputRoomFor, NoneWaits, IsOldestFor, HasRoom, HasSome, IsKept, IsLent, HasHeldRoom, NothingToSpend};
+ghost use Rattle.vx_places.specs.Looks.{HasOutput, HasSent, HasEmptyBuffer, HoldsMany, IsHeldFull, IsBare, IsFirstRoom, IsFirstFilled, AreBare};
 
 use crate::line::Line;
 use crate::row::{Row, make_row};
-use crate::rows;
+use crate::{looks, rows};
 use std::alloc::Global;
 use std::marker::Model;
 use vx_ledger::{ChildList, Finalizer, Parcel};
@@ -50,16 +52,17 @@ impl Places {
         self.rows.len()
     }
 
-    /// Adds an instance at which nothing stands, with a buffer of stages that have these rooms. For want of memory nothing has
-    /// changed.
-    pub fn add(&mut self, alloc: Global, rooms: &[usize]) -> Result<(), WantOfMemory>
+    /// Adds an instance at which nothing stands, with a buffer of stages that have these rooms, and with room for so many parcels
+    /// that it holds. For want of memory nothing has changed.
+    pub fn add(&mut self, alloc: Global, rooms: &[usize], held: usize) -> Result<(), WantOfMemory>
         ensures same { OnOk result (Same self.old self.new) }
         ensures size { OnOk result (length self.new ≡ length self.old + 1) }
-        ensures fresh { OnOk result (IsRow (IsNew rooms.now) self.new (length self.old)) }
+        ensures fresh { OnOk result (IsRow (IsNew rooms.now held) self.new (length self.old)) }
+        ensures rooms { OnOk result (AddsRooms rooms.now held self.old self.new) }
         ensures unchanged { OnErr result (self.new ≡ self.old) }
     {
         self.rows.reserve(1)?;
-        let row = make_row(alloc, rooms)?;
+        let row = make_row(alloc, rooms, held)?;
         self.rows.push_reserved(row);
         Ok(())
     }
@@ -67,42 +70,135 @@ impl Places {
     /// Whether no child of an instance waits.
     pub fn none_waits(&self, instance: u32) -> bool
         requires { IsThere self.now instance }
-        ensures none { IsTrue result → NoneWaits self.now instance }
+        ensures none { IsTrue result ↔ NoneWaits self.now instance }
     {
-        self.rows[instance as usize].waiting.is_empty()
+        looks::none_waits(&self.rows, instance as usize)
     }
 
     /// Whether a stage of an instance's buffer has room for one more parcel.
     pub fn has_room(&self, instance: u32, stage: usize) -> bool
         requires { IsThere self.now instance }
-        ensures room { IsTrue result → HasRoom self.now instance stage }
+        ensures room { IsTrue result ↔ HasRoom self.now instance stage }
     {
-        let stages = &self.rows[instance as usize].stages;
-        stage < stages.len() && !stages[stage].is_full()
+        looks::has_room(&self.rows, instance as usize, stage)
     }
 
     /// Whether a stage of an instance's buffer has a parcel.
     pub fn has_some(&self, instance: u32, stage: usize) -> bool
         requires { IsThere self.now instance }
-        ensures some { IsTrue result → HasSome self.now instance stage }
+        ensures some { IsTrue result ↔ HasSome self.now instance stage }
     {
-        let stages = &self.rows[instance as usize].stages;
-        stage < stages.len() && !stages[stage].is_empty()
+        looks::has_some(&self.rows, instance as usize, stage)
     }
 
-    /// Puts parcels out behind those that the instance put out. For want of memory they come back, and nothing has changed.
-    pub fn put_out(
-        &mut self,
-        instance: u32,
-        parcels: ItemList<Parcel>,
-    ) -> Result<(), ItemList<Parcel>>
-        requires { IsThere self.old instance }
-        ensures puts { OnOk result (PutsOut instance parcels self.old self.new) }
-        ensures size { length self.new ≡ length self.old }
-        ensures unchanged { OnErr result (self.new ≡ self.old) }
-        ensures back { IfErr result (λ list. list ≡ parcels) }
+    /// The first stage of an instance's buffer that has room for one more parcel. `None` exactly where all are full.
+    pub fn first_room(&self, instance: u32) -> Option<usize>
+        requires { IsThere self.now instance }
+        ensures first { IsFirstRoom self.now instance result }
     {
-        rows::append_outputs(&mut self.rows, instance as usize, parcels)
+        looks::first_room(&self.rows, instance as usize)
+    }
+
+    /// The first stage of an instance's buffer that has a parcel. `None` exactly where none has one.
+    pub fn first_filled(&self, instance: u32) -> Option<usize>
+        requires { IsThere self.now instance }
+        ensures first { IsFirstFilled self.now instance result }
+    {
+        looks::first_filled(&self.rows, instance as usize)
+    }
+
+    /// Whether an instance has an output.
+    pub fn has_output(&self, instance: u32) -> bool
+        requires { IsThere self.now instance }
+        ensures output { IsTrue result ↔ HasOutput self.now instance }
+    {
+        looks::has_output(&self.rows, instance as usize)
+    }
+
+    /// Whether an instance has neither an output nor a waiting child.
+    pub fn is_sent(&self, instance: u32) -> bool
+        requires { IsThere self.now instance }
+        ensures sent { IsTrue result ↔ HasSent self.now instance }
+    {
+        looks::is_sent(&self.rows, instance as usize)
+    }
+
+    /// Whether no stage of an instance's buffer has a parcel.
+    pub fn is_empty_buffer(&self, instance: u32) -> bool
+        requires { IsThere self.now instance }
+        ensures buffer { IsTrue result ↔ HasEmptyBuffer self.now instance }
+    {
+        looks::is_empty_buffer(&self.rows, instance as usize)
+    }
+
+    /// How many parcels an instance holds, which are not lent.
+    pub fn holds(&self, instance: u32) -> usize
+        requires there { IsThere self.now instance }
+        requires kept { IsKept self.now instance }
+        ensures held { HoldsMany self.now instance result }
+    {
+        looks::holds(&self.rows, instance as usize)
+    }
+
+    /// Whether an instance holds as many parcels as there is room for, where they are not lent.
+    pub fn is_held_full(&self, instance: u32) -> bool
+        requires there { IsThere self.now instance }
+        requires kept { IsKept self.now instance }
+        ensures full { IsTrue result ↔ IsHeldFull self.now instance }
+        ensures room { result ≡ false → HasHeldRoom self.now instance }
+    {
+        looks::is_held_full(&self.rows, instance as usize)
+    }
+
+    /// Whether nothing stands at any place of an instance, and nothing that it holds is lent.
+    pub fn is_bare(&self, instance: u32) -> bool
+        requires { IsThere self.now instance }
+        ensures bare { IsTrue result ↔ IsBare self.now instance }
+    {
+        looks::is_bare(&self.rows, instance as usize)
+    }
+
+    /// The target of the first waiting child of an instance, which is the oldest for it. `None` exactly where none waits.
+    pub fn first_waiting(&self, instance: u32) -> Option<u32>
+        requires { IsThere self.now instance }
+        ensures oldest { IfSome result (λ target. IsOldestFor self.now instance target 0) }
+        ensures none { IfNone result (NoneWaits self.now instance) }
+    {
+        looks::first_waiting(&self.rows, instance as usize)
+    }
+
+    /// The first place, from one on, at which a waiting child of an instance is the oldest for its target, and the target: those
+    /// that may be pushed, one after the other. `None` exactly where there is no more.
+    pub fn find_child(&self, instance: u32, from: usize) -> Option<(usize, u32)>
+        requires { IsThere self.now instance }
+        ensures oldest { IfSome result (λ found. (from ≤ found.0) × IsOldestFor self.now instance found.1 found.0) }
+        ensures first { IfSome result (λ found. (k t : ℕ) → from ≤ k → k < found.0 → IsOldestFor self.now instance t k → ⊥) }
+        ensures none { IfNone result ((k t : ℕ) → from ≤ k → IsOldestFor self.now instance t k → ⊥) }
+    {
+        looks::find_child(&self.rows, instance as usize, from)
+    }
+
+    /// Makes room for so many outputs more of an instance. For want of memory nothing has changed.
+    pub fn reserve_outputs(&mut self, instance: u32, n: usize) -> Result<(), WantOfMemory>
+        requires { IsThere self.old instance }
+        ensures same { Same self.old self.new }
+        ensures room { OnOk result (HasOutputRoomFor self.new instance n) }
+        ensures size { length self.new ≡ length self.old }
+        ensures rooms { SameRooms self.old self.new }
+        ensures unchanged { OnErr result (self.new ≡ self.old) }
+    {
+        rows::reserve_outputs(&mut self.rows, instance as usize, n)
+    }
+
+    /// Puts parcels out behind those that the instance put out, for which there is room. It takes no memory.
+    pub fn put_out(&mut self, instance: u32, parcels: ItemList<Parcel>)
+        requires there { IsThere self.old instance }
+        requires room { HasOutputRoomFor self.old instance (length parcels) }
+        ensures puts { PutsOut instance parcels self.old self.new }
+        ensures size { length self.new ≡ length self.old }
+        ensures rooms { SameRooms self.old self.new }
+    {
+        rows::append_outputs(&mut self.rows, instance as usize, parcels);
     }
 
     /// Takes the oldest output of an instance, to split it. `None` where there is none.
@@ -111,6 +207,7 @@ impl Places {
         ensures takes { IfSome result (λ parcel. Takes (Outputs instance) parcel self.old self.new) }
         ensures room { IfSome result (λ _. HasOutputRoom self.new instance) }
         ensures size { length self.new ≡ length self.old }
+        ensures rooms { SameRooms self.old self.new }
         ensures none { IfNone result (self.new ≡ self.old) }
         ensures empty { IfNone result (parcels_here self.old (Outputs instance) ≡ Some []) }
     {
@@ -123,6 +220,7 @@ impl Places {
         requires room { HasOutputRoom self.old instance }
         ensures takes { Takes (Outputs instance) parcel self.new self.old }
         ensures size { length self.new ≡ length self.old }
+        ensures rooms { SameRooms self.old self.new }
     {
         rows::unpop_output(&mut self.rows, instance as usize, parcel);
     }
@@ -133,6 +231,7 @@ impl Places {
         requires none { NoneWaits self.old instance }
         ensures divides { Divides instance children self.old self.new }
         ensures size { length self.new ≡ length self.old }
+        ensures rooms { SameRooms self.old self.new }
     {
         rows::put_children(&mut self.rows, instance as usize, children);
     }
@@ -145,25 +244,24 @@ impl Places {
         requires room { HasRoom self.old target stage }
         ensures moves { Moves (Push instance target stage) (Waiting instance target) (Contents target stage) self.old self.new }
         ensures size { length self.new ≡ length self.old }
+        ensures rooms { SameRooms self.old self.new }
     {
         let parcel = rows::take_child(&mut self.rows, instance as usize, child, target);
         rows::push_stage(&mut self.rows, target as usize, stage, parcel);
     }
 
-    /// Moves the oldest parcel of a stage of an instance's buffer behind those that it holds. For want of memory nothing has
-    /// changed.
-    pub fn take(&mut self, instance: u32, stage: usize) -> Result<(), WantOfMemory>
+    /// Moves the oldest parcel of a stage of an instance's buffer behind those that it holds, for which there is room. It takes no
+    /// memory.
+    pub fn take(&mut self, instance: u32, stage: usize)
         requires there { IsThere self.old instance }
         requires some { HasSome self.old instance stage }
-        requires kept { IsKept self.old instance }
-        ensures moves { OnOk result (Moves (Take instance stage) (Contents instance stage) (Held instance) self.old self.new) }
+        requires room { HasHeldRoom self.old instance }
+        ensures moves { Moves (Take instance stage) (Contents instance stage) (Held instance) self.old self.new }
         ensures size { length self.new ≡ length self.old }
-        ensures unchanged { OnErr result (self.new ≡ self.old) }
+        ensures rooms { SameRooms self.old self.new }
     {
-        rows::reserve_held(&mut self.rows, instance as usize)?;
         let parcel = rows::pop_stage(&mut self.rows, instance as usize, stage);
         rows::hold(&mut self.rows, instance as usize, parcel);
-        Ok(())
     }
 
     /// Lends what an instance holds, as to attempt it elsewhere. It takes no memory.
@@ -173,6 +271,7 @@ impl Places {
         ensures lends { Lends instance result.items self.old self.new }
         ensures lent { IsLent self.new instance }
         ensures size { length self.new ≡ length self.old }
+        ensures rooms { LendsRoom instance result.room self.old self.new }
     {
         rows::lend(&mut self.rows, instance as usize)
     }
@@ -184,30 +283,71 @@ impl Places {
         ensures lends { Lends instance held.items self.new self.old }
         ensures kept { IsKept self.new instance }
         ensures size { length self.new ≡ length self.old }
+        ensures rooms { LendsRoom instance held.room self.new self.old }
     {
         rows::give_back(&mut self.rows, instance as usize, held);
     }
 
-    /// Takes the last copy of an instance's oldest output, to spend it. `None` where there is none. It takes no memory.
+    /// Takes the last copy of an instance's oldest output, to spend it. `None` exactly where there is no output, or the oldest has
+    /// no copy. It takes no memory.
     pub fn spend_output(&mut self, instance: u32) -> Option<Finalizer>
         requires { IsThere self.old instance }
         ensures loses { IfSome result (λ copy. Loses (Outputs instance) copy self.old self.new) }
         ensures size { length self.new ≡ length self.old }
+        ensures rooms { SameRooms self.old self.new }
         ensures none { IfNone result (self.new ≡ self.old) }
+        ensures empty { IfNone result (NothingToSpend (Outputs instance) self.old) }
     {
         rows::spend_output(&mut self.rows, instance as usize)
     }
 
-    /// Takes the last copy of the oldest parcel that an instance holds, to spend it. `None` where there is none. It takes no
-    /// memory.
+    /// Takes the last copy of the oldest parcel that an instance holds, to spend it. `None` exactly where it holds none, or the
+    /// oldest has no copy. It takes no memory.
     pub fn spend_held(&mut self, instance: u32) -> Option<Finalizer>
         requires there { IsThere self.old instance }
         requires kept { IsKept self.old instance }
         ensures loses { IfSome result (λ copy. Loses (Held instance) copy self.old self.new) }
         ensures kept { IsKept self.new instance }
         ensures size { length self.new ≡ length self.old }
+        ensures rooms { SameRooms self.old self.new }
         ensures none { IfNone result (self.new ≡ self.old) }
+        ensures empty { IfNone result (NothingToSpend (Held instance) self.old) }
     {
         rows::spend_held(&mut self.rows, instance as usize)
+    }
+
+    /// Takes the last copy of the oldest parcel in a stage of an instance's buffer, to spend it. `None` exactly where the stage has
+    /// no parcel, or the oldest has no copy. It takes no memory.
+    pub fn spend_buffered(&mut self, instance: u32, stage: usize) -> Option<Finalizer>
+        requires { IsThere self.old instance }
+        ensures loses { IfSome result (λ copy. Loses (Contents instance stage) copy self.old self.new) }
+        ensures size { length self.new ≡ length self.old }
+        ensures rooms { SameRooms self.old self.new }
+        ensures none { IfNone result (self.new ≡ self.old) }
+        ensures empty { IfNone result (NothingToSpend (Contents instance stage) self.old) }
+    {
+        rows::spend_stage(&mut self.rows, instance as usize, stage)
+    }
+
+    /// Takes the last copy of a waiting child of an instance, the oldest for its target, to spend it; the child is gone where that
+    /// was its only copy. `None` exactly where it has no copy. It takes no memory.
+    pub fn spend_waiting(&mut self, instance: u32, child: usize, target: u32) -> Option<Finalizer>
+        requires there { IsThere self.old instance }
+        requires oldest { IsOldestFor self.old instance target child }
+        ensures loses { IfSome result (λ copy. Loses (Waiting instance target) copy self.old self.new) }
+        ensures size { length self.new ≡ length self.old }
+        ensures rooms { SameRooms self.old self.new }
+        ensures none { IfNone result (self.new ≡ self.old) }
+        ensures empty { IfNone result (NothingToSpend (Waiting instance target) self.old) }
+    {
+        rows::spend_child(&mut self.rows, instance as usize, child, target)
+    }
+
+    /// Ends the places, where nothing stands at any instance and nothing is lent. It takes no memory.
+    pub fn end(self)
+        requires { AreBare self }
+    {
+        let Places { rows } = self;
+        rows::end_rows(rows);
     }
 }

@@ -1,5 +1,6 @@
-ghost use Rattle.std.specs.Prelude.{◌≡◌, ◌<◌, ℕ, [], length, IfOk, IfSome, IfNone};
-ghost use Rattle.vx_places.specs.Calls.{LosesCopy, IsNew, AreEmpty, empty_stages, left_of};
+ghost use Rattle.std.specs.Prelude.{◌≡◌, ◌==◌, ◌<◌, ℕ, false, [], length, IfOk, IfSome, IfNone, remove, slice_index_or};
+ghost use Rattle.vx_places.specs.Numbers.{for_target};
+ghost use Rattle.vx_places.specs.Calls.{LosesCopy, NothingToLose, NoneBefore, IsNew, IsVacant, AreEmpty, empty_stages, left_of};
 
 use crate::line::Line;
 use std::alloc::Global;
@@ -47,17 +48,23 @@ fn make_stages(alloc: Global, rooms: &[usize]) -> Result<Vec<Line<Parcel>>, Want
     Ok(stages)
 }
 
-// An instance at which nothing stands.
-pub(crate) fn make_row(alloc: Global, rooms: &[usize]) -> Result<Row, WantOfMemory>
-    ensures { IfOk result (IsNew rooms.now) }
+// An instance at which nothing stands, with so much room for what it holds.
+pub(crate) fn make_row(alloc: Global, rooms: &[usize], held: usize) -> Result<Row, WantOfMemory>
+    ensures { IfOk result (IsNew rooms.now held) }
 {
     let stages = make_stages(alloc, rooms)?;
-    Ok(Row {
-        outputs: Line::new(alloc),
-        waiting: VecDeque::new(alloc),
-        stages,
-        held: Some(Line::new(alloc)),
-    })
+    match Line::with_room(alloc, held) {
+        Ok(line) => Ok(Row {
+            outputs: Line::new(alloc),
+            waiting: VecDeque::new(alloc),
+            stages,
+            held: Some(line),
+        }),
+        Err(WantOfMemory) => {
+            end_stages(stages);
+            Err(WantOfMemory)
+        }
+    }
 }
 
 // Puts what is left of the oldest parcel back, and ends it where nothing is left.
@@ -76,11 +83,13 @@ fn put_rest(line: &mut Line<Parcel>, event: Event, left: Finalizers)
     }
 }
 
-// Takes the last copy of the oldest parcel, and ends the parcel where it was the only one. `None` where there is none.
+// Takes the last copy of the oldest parcel, and ends the parcel where it was the only one. `None` where there is no parcel, or the
+// oldest has no copy.
 pub(crate) fn take_copy(line: &mut Line<Parcel>) -> Option<Finalizer>
     ensures loses { IfSome result (λ copy. LosesCopy copy line.old.items line.new.items) }
     ensures room { line.new.room ≡ line.old.room }
     ensures none { IfNone result (line.new ≡ line.old) }
+    ensures empty { IfNone result (NothingToLose line.old.items) }
 {
     let Parcel {
         event,
@@ -95,5 +104,62 @@ pub(crate) fn take_copy(line: &mut Line<Parcel>) -> Option<Finalizer>
             put_rest(line, event, finalizers);
             Some(copy)
         }
+    }
+}
+
+// Ends the waiting child at a place, of which no copy is left.
+fn end_child(waiting: &mut VecDeque<Child>, k: usize)
+    requires within { k < length waiting.old.items }
+    requires bare { (child : Child) → child ≡ slice_index_or waiting.old.items k child → child.parcel.finalizers ≡ [] }
+    ensures { waiting.new.items ≡ remove waiting.old.items k }
+{
+    match waiting.remove(k) {
+        Some(Child { target: _, parcel }) => {
+            let Parcel {
+                event: _,
+                finalizers,
+            } = parcel;
+            finalizers.end();
+        }
+        None => unreachable!(),
+    }
+}
+
+// Takes the last copy of the waiting child at a place, the oldest for its target, and ends the child where it was the only one.
+// `None` where it has no copy.
+pub(crate) fn take_child_copy(
+    waiting: &mut VecDeque<Child>,
+    k: usize,
+    target: u32,
+) -> Option<Finalizer>
+    requires { NoneBefore target k waiting.old.items }
+    ensures loses { IfSome result (λ copy. LosesCopy copy (for_target target waiting.old.items) (for_target target waiting.new.items)) }
+    ensures others { (t : ℕ) → (target == t) ≡ false → for_target t waiting.new.items ≡ for_target t waiting.old.items }
+    ensures none { IfNone result (waiting.new ≡ waiting.old) }
+    ensures empty { IfNone result (NothingToLose (for_target target waiting.old.items)) }
+{
+    let copy = waiting[k].parcel.finalizers.pop()?;
+    if waiting[k].parcel.finalizers.is_empty() {
+        end_child(waiting, k);
+    }
+    Some(copy)
+}
+
+// Ends the row of an instance at which nothing stands.
+pub(crate) fn end_row(row: Row)
+    requires { IsVacant row }
+{
+    let Row {
+        outputs,
+        waiting,
+        stages,
+        held,
+    } = row;
+    outputs.end();
+    waiting.destroy_empty();
+    end_stages(stages);
+    match held {
+        Some(held) => held.end(),
+        None => unreachable!(),
     }
 }

@@ -1,8 +1,9 @@
 // The places, one function for each way in which a parcel moves.
-ghost use Rattle.std.specs.Prelude.{◌≡◌, ◌<◌, ℕ, [], ◌∷◌, length, OnOk, OnErr, IfErr, IfSome, IfNone, Some};
+ghost use Rattle.std.specs.Prelude.{◌≡◌, ◌<◌, ℕ, [], ◌∷◌, length, OnOk, OnErr, IfSome, IfNone, Some};
 ghost use Rattle.vx_record.specs.Places.Place.{Outputs, Waiting, Contents, Held};
 ghost use Rattle.vx_places.specs.Views.{Same, parcels_here};
-ghost use Rattle.vx_places.specs.Calls.{Takes, Puts, Loses, Waits, Lends, HasOutputRoom, NoneWaits, IsOldestFor, HasRoom, HasSome, IsKept, IsLent, HasHeldRoom};
+ghost use Rattle.vx_places.specs.Rooms.{SameRooms, LendsRoom};
+ghost use Rattle.vx_places.specs.Calls.{Takes, Puts, Loses, Waits, Lends, HasOutputRoom, HasOutputRoomFor, NoneWaits, IsOldestFor, HasRoom, HasSome, IsKept, IsLent, HasHeldRoom, NothingToSpend, EachVacant};
 
 use crate::line::Line;
 use crate::row::{self, Row};
@@ -11,19 +12,27 @@ use std::mem;
 use vx_ledger::{Child, ChildList, Finalizer, Parcel};
 use vx_value::{ItemList, WantOfMemory};
 
-// Puts parcels behind the outputs of an instance.
-pub(crate) fn append_outputs(
-    rows: &mut Vec<Row>,
-    i: usize,
-    more: ItemList<Parcel>,
-) -> Result<(), ItemList<Parcel>>
+// Makes room for so many outputs more of an instance.
+pub(crate) fn reserve_outputs(rows: &mut Vec<Row>, i: usize, n: usize) -> Result<(), WantOfMemory>
     requires { i < length rows.old.items }
-    ensures puts { OnOk result (Puts (Outputs i) more rows.old.items rows.new.items) }
+    ensures same { Same rows.old.items rows.new.items }
+    ensures room { OnOk result (HasOutputRoomFor rows.new.items i n) }
     ensures size { length rows.new.items ≡ length rows.old.items }
+    ensures rooms { SameRooms rows.old.items rows.new.items }
     ensures err { OnErr result (rows.new.items ≡ rows.old.items) }
-    ensures back { IfErr result (λ list. list ≡ more) }
 {
-    rows[i].outputs.append(more)
+    rows[i].outputs.reserve(n)
+}
+
+// Puts parcels behind the outputs of an instance.
+pub(crate) fn append_outputs(rows: &mut Vec<Row>, i: usize, more: ItemList<Parcel>)
+    requires within { i < length rows.old.items }
+    requires room { HasOutputRoomFor rows.old.items i (length more) }
+    ensures puts { Puts (Outputs i) more rows.old.items rows.new.items }
+    ensures size { length rows.new.items ≡ length rows.old.items }
+    ensures rooms { SameRooms rows.old.items rows.new.items }
+{
+    rows[i].outputs.append(more);
 }
 
 // Takes the oldest output of an instance.
@@ -32,6 +41,7 @@ pub(crate) fn pop_output(rows: &mut Vec<Row>, i: usize) -> Option<Parcel>
     ensures takes { IfSome result (λ parcel. Takes (Outputs i) parcel rows.old.items rows.new.items) }
     ensures room { IfSome result (λ _. HasOutputRoom rows.new.items i) }
     ensures size { length rows.new.items ≡ length rows.old.items }
+    ensures rooms { SameRooms rows.old.items rows.new.items }
     ensures none { IfNone result (rows.new.items ≡ rows.old.items) }
     ensures empty { IfNone result (parcels_here rows.old.items (Outputs i) ≡ Some []) }
 {
@@ -44,6 +54,7 @@ pub(crate) fn unpop_output(rows: &mut Vec<Row>, i: usize, parcel: Parcel)
     requires room { HasOutputRoom rows.old.items i }
     ensures takes { Takes (Outputs i) parcel rows.new.items rows.old.items }
     ensures size { length rows.new.items ≡ length rows.old.items }
+    ensures rooms { SameRooms rows.old.items rows.new.items }
 {
     rows[i].outputs.put_back(parcel);
 }
@@ -54,6 +65,7 @@ pub(crate) fn put_children(rows: &mut Vec<Row>, i: usize, children: ChildList)
     requires none { NoneWaits rows.old.items i }
     ensures waits { Waits i children rows.old.items rows.new.items }
     ensures size { length rows.new.items ≡ length rows.old.items }
+    ensures rooms { SameRooms rows.old.items rows.new.items }
 {
     let none = mem::replace(
         &mut rows[i].waiting,
@@ -68,26 +80,11 @@ pub(crate) fn take_child(rows: &mut Vec<Row>, i: usize, k: usize, target: u32) -
     requires oldest { IsOldestFor rows.old.items i target k }
     ensures takes { Takes (Waiting i target) result rows.old.items rows.new.items }
     ensures size { length rows.new.items ≡ length rows.old.items }
-    ensures rooms { (t s : ℕ) → HasRoom rows.old.items t s → HasRoom rows.new.items t s }
+    ensures rooms { SameRooms rows.old.items rows.new.items }
+    ensures free { (t s : ℕ) → HasRoom rows.old.items t s → HasRoom rows.new.items t s }
 {
     match rows[i].waiting.remove(k) {
         Some(Child { target: _, parcel }) => parcel,
-        None => unreachable!(),
-    }
-}
-
-// Makes room for one more parcel among those that an instance holds.
-pub(crate) fn reserve_held(rows: &mut Vec<Row>, i: usize) -> Result<(), WantOfMemory>
-    requires within { i < length rows.old.items }
-    requires kept { IsKept rows.old.items i }
-    ensures same { Same rows.old.items rows.new.items }
-    ensures stages { (s : ℕ) → HasSome rows.old.items i s → HasSome rows.new.items i s }
-    ensures room { OnOk result (HasHeldRoom rows.new.items i) }
-    ensures size { length rows.new.items ≡ length rows.old.items }
-    ensures err { OnErr result (rows.new.items ≡ rows.old.items) }
-{
-    match &mut rows[i].held {
-        Some(held) => held.reserve(1),
         None => unreachable!(),
     }
 }
@@ -98,6 +95,7 @@ pub(crate) fn hold(rows: &mut Vec<Row>, i: usize, parcel: Parcel)
     requires room { HasHeldRoom rows.old.items i }
     ensures puts { Puts (Held i) (parcel ∷ []) rows.old.items rows.new.items }
     ensures size { length rows.new.items ≡ length rows.old.items }
+    ensures rooms { SameRooms rows.old.items rows.new.items }
 {
     match &mut rows[i].held {
         Some(held) => held.push(parcel),
@@ -112,6 +110,7 @@ pub(crate) fn lend(rows: &mut Vec<Row>, i: usize) -> Line<Parcel>
     ensures lends { Lends i result.items rows.old.items rows.new.items }
     ensures lent { IsLent rows.new.items i }
     ensures size { length rows.new.items ≡ length rows.old.items }
+    ensures rooms { LendsRoom i result.room rows.old.items rows.new.items }
 {
     match rows[i].held.take() {
         Some(held) => held,
@@ -126,6 +125,7 @@ pub(crate) fn give_back(rows: &mut Vec<Row>, i: usize, held: Line<Parcel>)
     ensures lends { Lends i held.items rows.new.items rows.old.items }
     ensures kept { IsKept rows.new.items i }
     ensures size { length rows.new.items ≡ length rows.old.items }
+    ensures rooms { LendsRoom i held.room rows.new.items rows.old.items }
 {
     match mem::replace(&mut rows[i].held, Some(held)) {
         None => {}
@@ -139,6 +139,7 @@ pub(crate) fn push_stage(rows: &mut Vec<Row>, t: usize, s: usize, parcel: Parcel
     requires room { HasRoom rows.old.items t s }
     ensures puts { Puts (Contents t s) (parcel ∷ []) rows.old.items rows.new.items }
     ensures size { length rows.new.items ≡ length rows.old.items }
+    ensures rooms { SameRooms rows.old.items rows.new.items }
 {
     rows[t].stages[s].push(parcel);
 }
@@ -149,7 +150,7 @@ pub(crate) fn pop_stage(rows: &mut Vec<Row>, i: usize, s: usize) -> Parcel
     requires some { HasSome rows.old.items i s }
     ensures takes { Takes (Contents i s) result rows.old.items rows.new.items }
     ensures size { length rows.new.items ≡ length rows.old.items }
-    ensures room { HasHeldRoom rows.old.items i → HasHeldRoom rows.new.items i }
+    ensures rooms { SameRooms rows.old.items rows.new.items }
 {
     match rows[i].stages[s].pop() {
         Some(parcel) => parcel,
@@ -162,7 +163,9 @@ pub(crate) fn spend_output(rows: &mut Vec<Row>, i: usize) -> Option<Finalizer>
     requires { i < length rows.old.items }
     ensures loses { IfSome result (λ copy. Loses (Outputs i) copy rows.old.items rows.new.items) }
     ensures size { length rows.new.items ≡ length rows.old.items }
+    ensures rooms { SameRooms rows.old.items rows.new.items }
     ensures none { IfNone result (rows.new.items ≡ rows.old.items) }
+    ensures empty { IfNone result (NothingToSpend (Outputs i) rows.old.items) }
 {
     row::take_copy(&mut rows[i].outputs)
 }
@@ -174,10 +177,52 @@ pub(crate) fn spend_held(rows: &mut Vec<Row>, i: usize) -> Option<Finalizer>
     ensures loses { IfSome result (λ copy. Loses (Held i) copy rows.old.items rows.new.items) }
     ensures kept { IsKept rows.new.items i }
     ensures size { length rows.new.items ≡ length rows.old.items }
+    ensures rooms { SameRooms rows.old.items rows.new.items }
     ensures none { IfNone result (rows.new.items ≡ rows.old.items) }
+    ensures empty { IfNone result (NothingToSpend (Held i) rows.old.items) }
 {
     match &mut rows[i].held {
         Some(held) => row::take_copy(held),
         None => unreachable!(),
     }
+}
+
+// Takes the last copy of the oldest parcel in a stage of an instance's buffer.
+pub(crate) fn spend_stage(rows: &mut Vec<Row>, i: usize, s: usize) -> Option<Finalizer>
+    requires { i < length rows.old.items }
+    ensures loses { IfSome result (λ copy. Loses (Contents i s) copy rows.old.items rows.new.items) }
+    ensures size { length rows.new.items ≡ length rows.old.items }
+    ensures rooms { SameRooms rows.old.items rows.new.items }
+    ensures none { IfNone result (rows.new.items ≡ rows.old.items) }
+    ensures empty { IfNone result (NothingToSpend (Contents i s) rows.old.items) }
+{
+    if s < rows[i].stages.len() {
+        row::take_copy(&mut rows[i].stages[s])
+    } else {
+        None
+    }
+}
+
+// Takes the last copy of the waiting child at a place, the oldest for its target.
+pub(crate) fn spend_child(rows: &mut Vec<Row>, i: usize, k: usize, target: u32) -> Option<Finalizer>
+    requires within { i < length rows.old.items }
+    requires oldest { IsOldestFor rows.old.items i target k }
+    ensures loses { IfSome result (λ copy. Loses (Waiting i target) copy rows.old.items rows.new.items) }
+    ensures size { length rows.new.items ≡ length rows.old.items }
+    ensures rooms { SameRooms rows.old.items rows.new.items }
+    ensures none { IfNone result (rows.new.items ≡ rows.old.items) }
+    ensures empty { IfNone result (NothingToSpend (Waiting i target) rows.old.items) }
+{
+    row::take_child_copy(&mut rows[i].waiting, k, target)
+}
+
+// Ends the rows of instances at which nothing stands.
+pub(crate) fn end_rows(rows: Vec<Row>)
+    requires { EachVacant rows.items }
+{
+    let mut rest = rows;
+    while let Some(row) = rest.pop() {
+        row::end_row(row);
+    }
+    rest.destroy_empty();
 }

@@ -1,6 +1,7 @@
 use Rattle.vx_places.proofs.Making.{held_says}
 use Rattle.vx_places.proofs.Spending.{spent_shifts}
 use Rattle.vx_places.proofs.Steps.{holds_step, still_shifts, same_holds, oldest_there, lent_is, lent_comes_back, none_holds}
+use Rattle.vx_places.proofs.Recorded.{filled_there, lent_filled, stands_there}
 use Rattle.vx_places.proofs.laws.places_laws.Goals as goal
 
 pub returns-clause-step : goal.returns-clause-step
@@ -29,3 +30,12 @@ returns-clause-spent c = spent_shifts
 
 pub returns-clause-says : goal.returns-clause-says
 returns-clause-says c = held_says
+
+pub returns-clause-filled : goal.returns-clause-filled
+returns-clause-filled c = filled_there
+
+pub returns-clause-lent_filled : goal.returns-clause-lent_filled
+returns-clause-lent_filled c = lent_filled
+
+pub returns-clause-stands : goal.returns-clause-stands
+returns-clause-stands c = stands_there

@@ -1,6 +1,7 @@
-use Rattle.std.proofs.Common.{ap, length, arith}
+use Rattle.std.proofs.Common.{ap, length, arith, refl}
 use Rattle.std.proofs.lemmas.Option.{IfSome_then}
 use Rattle.vx_places.proofs.Written.{outputs_taken, outputs_none, row_gets}
+use Rattle.vx_places.proofs.Rooms.{rooms_kept}
 use Rattle.vx_places.proofs.rows.pop_output.Goals as goal
 
 pub returns-clause-takes : goal.returns-clause-takes
@@ -12,3 +13,6 @@ returns-clause-room c = IfSome_then c.pop.result c.pop.ensures.some (λ parcel i
 
 pub returns-clause-empty : goal.returns-clause-empty
 returns-clause-empty c = outputs_none c.args.rows.now.items c.args.i c.index_mut.result.now c.requires c.index_mut.ensures.value c.pop.result c.pop.ensures.none
+
+pub returns-clause-rooms : goal.returns-clause-rooms
+returns-clause-rooms c = rooms_kept c.args.rows.now.items c.args.i c.index_mut.result.now c.index_mut.ensures.value _ refl refl

@@ -1,5 +1,6 @@
 use Rattle.std.proofs.Common.{arith, ap, length, refl}
-use Rattle.vx_places.proofs.Written.{stage_there, stage_has, stage_taken, row_has, row_keeps}
+use Rattle.vx_places.proofs.Written.{stage_there, stage_has, stage_taken, row_has}
+use Rattle.vx_places.proofs.Rooms.{rooms_kept, stage_room_kept}
 use Rattle.vx_places.proofs.rows.pop_stage.Goals as goal
 
 pub index_mut-requires-2 : goal.index_mut-requires-2
@@ -18,5 +19,5 @@ pub returns-clause-takes : goal.returns-clause-takes
 returns-clause-takes c = stage_taken c.args.rows.now.items c.args.i c.index_mut.result.now c.requires.within c.index_mut.ensures.value c.args.s (stage_there _ c.index_mut.result.now.stages.items c.args.s (row_has _ c.args.rows.now.items c.args.i c.index_mut.result.now c.requires.within c.index_mut.ensures.value c.requires.some))
     c.index_mut-2.result.now c.index_mut-2.ensures.value c.pop.new.self _ c.in-Some.ensures.some
 
-pub returns-clause-room : goal.returns-clause-room
-returns-clause-room c room = row_keeps _ c.args.rows.now.items c.args.i c.index_mut.result.now _ c.requires.within c.index_mut.ensures.value (λ is. is) c.args.i room
+pub returns-clause-rooms : goal.returns-clause-rooms
+returns-clause-rooms c = rooms_kept c.args.rows.now.items c.args.i c.index_mut.result.now c.index_mut.ensures.value _ (stage_room_kept c.index_mut.result.now.stages.items c.args.s c.index_mut-2.result.now c.pop.new.self c.index_mut-2.ensures.value c.pop.ensures.room) refl

@@ -1,5 +1,6 @@
-use Rattle.std.proofs.Common.{arith}
+use Rattle.std.proofs.Common.{arith, refl}
 use Rattle.vx_places.proofs.Written.{stage_there, stage_has, stage_put, row_has}
+use Rattle.vx_places.proofs.Rooms.{rooms_kept, stage_room_kept}
 use Rattle.vx_places.proofs.rows.push_stage.Goals as goal
 
 pub index_mut-requires-2 : goal.index_mut-requires-2
@@ -15,3 +16,6 @@ push-requires c = stage_has _ c.index_mut.result.now.stages.items c.args.s c.ind
 pub returns-clause-puts : goal.returns-clause-puts
 returns-clause-puts c = stage_put c.args.rows.now.items c.args.t c.index_mut.result.now c.requires.within c.index_mut.ensures.value c.args.s (stage_there _ c.index_mut.result.now.stages.items c.args.s (row_has _ c.args.rows.now.items c.args.t c.index_mut.result.now c.requires.within c.index_mut.ensures.value c.requires.room))
     c.index_mut-2.result.now c.index_mut-2.ensures.value c.push.new.self _ c.push.ensures.items
+
+pub returns-clause-rooms : goal.returns-clause-rooms
+returns-clause-rooms c = rooms_kept c.args.rows.now.items c.args.t c.index_mut.result.now c.index_mut.ensures.value _ (stage_room_kept c.index_mut.result.now.stages.items c.args.s c.index_mut-2.result.now c.push.new.self c.index_mut-2.ensures.value c.push.ensures.room) refl

@@ -1,9 +1,8 @@
 use Rattle.std.proofs.Common.{subst}
-use Rattle.std.proofs.lemmas.Result.{on_ok_weaker}
 use Rattle.vx_places.specs.Calls.{PutsOut}
 use Rattle.vx_places.proofs.Shifting.{births_put}
 use Rattle.vx_places.proofs.places.Places.put_out.Goals as goal
 
 pub returns-clause-puts : goal.returns-clause-puts
-returns-clause-puts c = on_ok_weaker c.append_outputs.result (λ puts. subst (λ old. PutsOut c.args.instance c.args.parcels old c.append_outputs.new.rows.items) c.self.view_is
-    (births_put c.args.instance c.args.parcels c.self.inside.rows.items c.append_outputs.new.rows.items puts)) c.append_outputs.ensures.puts
+returns-clause-puts c = subst (λ old. PutsOut c.args.instance c.args.parcels old c.append_outputs.new.rows.items) c.self.view_is
+    (births_put c.args.instance c.args.parcels c.self.inside.rows.items c.append_outputs.new.rows.items c.append_outputs.ensures.puts)

@@ -1,0 +1,6 @@
+use Rattle.std.proofs.Common.{ℕ, ◌<◌}
+use Rattle.vx_places.specs.Calls.{HasSome}
+use Rattle.vx_places.proofs.looks.first_filled.Given as goal
+
+abbrev pub invariant-loop-s : goal.invariant-loop-s
+invariant-loop-s l = (r : ℕ) → r < l.s → HasSome l.rows l.i r → ⊥
