@@ -1,4 +1,3 @@
-pub mod Framed
 pub mod Classes
 pub mod Once
 pub mod Beginnings

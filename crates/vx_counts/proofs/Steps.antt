@@ -27,10 +27,11 @@ use Rattle.vx_record.specs.declared.output.Output.{Output}
 use Rattle.vx_record.specs.Reads.{bytes_of, bytes_taken, new_lines, new_overlong, new_undecodable}
 use Rattle.vx_record.specs.Confirms.{Birth, births}
 use Rattle.vx_record.specs.Tallies.{is_newest, is_batch_of, same_status, tally, lines_read, overlong_read, undecodable_read, events_born, unread_parcels, newest_parcels, parcels_spent, notices, source_tally, transform_tally, sink_tally, takes, sent_parcels, dropped_parcels, is_first, one_if, attempts_made, bytes_sent}
-use Rattle.vx_counts.specs.declared.new_lines.NewLines.{NewLines}
+use Rattle.vx_sourcecore.specs.declared.new_lines.NewLines.{NewLines}
 use Rattle.vx_counts.specs.Spends.{BeginsUnread, BeginsNewest}
 use Rattle.vx_counts.specs.Classes.{class_at, IsGiver}
-use Rattle.vx_counts.specs.Meets.{Meets, AreNew}
+use Rattle.vx_sourcecore.specs.NewLines.{AreNew}
+use Rattle.vx_counts.specs.Meets.{Meets}
 use Rattle.vx_counts.proofs.Once.{itself}
 use Rattle.vx_counts.proofs.Passing.{unread_by, newest_by, newest_none, held_by, held_none}
 use Rattle.vx_counts.proofs.Classes.{source_is, transform_is, sink_is, taker_is, tally_is}

@@ -24,12 +24,10 @@ use Rattle.vx_record.specs.Tallies.{tally, is_batch_of, is_first, any_copy, one_
 use Rattle.vx_record.specs.Tasks.{is_of}
 use Rattle.vx_record.specs.TallyLists.{tallies_of}
 use Rattle.vx_counts.specs.Classes.{class_at}
-use Rattle.vx_counts.specs.Meets.{LeavesBe, CountsFor, ComesFromOthers, AreNew, EachMeets}
+use Rattle.vx_counts.specs.Meets.{LeavesBe, CountsFor, ComesFromOthers, EachMeets}
 use Rattle.vx_counts.specs.Spends.{StandsAt, WasPut, WasPutIn, HasPlace}
-use Rattle.vx_counts.specs.Lines.{AreFramed, AreCounted, AreTold, codec_of}
 use Rattle.vx_counts.specs.Answers.{WereTaken}
 use Rattle.vx_counts.specs.Folds.{folded_as, parcels_folded, tally_whole, AgreeOn, unread_whole, newest_whole, AllSpentAlike, AllOnes, IsLastOf, IsNotLastOf}
-use Rattle.vx_counts.specs.declared.new_lines.NewLines.{NewLines}
 
 -- an entry that counts for others alone leaves an instance's tally
 abbrev pub OthersStay : Type 0
@@ -48,18 +46,6 @@ abbrev pub ConfirmsAll : Type 0
 ConfirmsAll =
     (h : Record) (i : ℕ) (positions : List Position) → IsLegal (Confirm i positions true ∷ h) →
     last_of_each [] (confirmed (Confirm i positions true ∷ h) i) ≡ positions
-
--- the lines that a framer gives are those that the record counts
-abbrev pub FramedCounted : Type 0
-FramedCounted =
-    (h : Record) (i stream : ℕ) (took : Taken) (lines : List Frame) (over : ℕ) → AreFramed h i stream took lines over →
-    AreCounted h i stream took lines over
-
--- what was told of a framer's lines is what a Read adds
-abbrev pub ToldNew : Type 0
-ToldNew =
-    (h : Record) (i stream : ℕ) (took : Taken) (lines : List Frame) (over : ℕ) (d : Decoding) (new : NewLines) →
-    AreFramed h i stream took lines over → codec_of h i ≡ Some d → AreTold d lines over new → AreNew h i stream took new
 
 -- the class of sources, transforms and sinks
 abbrev pub SourceIs : Type 0

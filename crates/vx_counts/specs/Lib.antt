@@ -1,7 +1,6 @@
 pub mod Classes
 pub mod Spends
 pub mod Meets
-pub mod Lines
 pub mod Answers
 pub mod Folds
 pub mod Laws

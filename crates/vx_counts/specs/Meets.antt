@@ -1,14 +1,11 @@
 -- When the counts that are kept of an instance are those of a record so far.
 use Rattle.std.specs.Prelude.{ℕ, ◌≡◌, ◌==◌, ◌&&◌, true, false, length, ◌+◌, List, [], ◌∷◌}
 use Rattle.vx_status.specs.declared.outcome.Outcome.TheVariants.{NewestDropped}
-use Rattle.vx_record.specs.declared.taken.Taken.{Taken}
 use Rattle.vx_record.specs.declared.tally.Tally.{Tally}
 use Rattle.vx_record.specs.declared.entry.Entry.{Entry}
 use Rattle.vx_record.specs.declared.entry.Entry.TheVariants.{Install, Lease, Home, Read, Idle, SourceLost, Born, Split, Push, Take, Tick, Answer, Attempt, Spent, Notice, Confirm, Closed, Retired, Abandon}
-use Rattle.vx_record.specs.Records.{Record, capped}
-use Rattle.vx_record.specs.Reads.{new_lines, new_overlong, new_undecodable}
+use Rattle.vx_record.specs.Records.{Record}
 use Rattle.vx_record.specs.Tallies.{tally, is_batch_of}
-use Rattle.vx_counts.specs.declared.new_lines.NewLines.{NewLines}
 use Rattle.vx_counts.specs.Spends.{SpendsElsewhere, SpendsHere}
 
 -- what is kept of an instance is its tally
@@ -19,12 +16,6 @@ Meets i h kept = kept ≡ tally h i
 abbrev pub EachMeets : Record → ℕ → List Tally → Type 0
 EachMeets h i [] = Unit {0}
 EachMeets h i (kept ∷ rest) = Meets i h kept × EachMeets h (i + 1) rest
-
--- the lines that a Read completes
-pub record AreNew (h : Record) (i stream : ℕ) (took : Taken) (new : NewLines) : Type 0 where
-  pub lines : new.lines ≡ capped (length (new_lines h i stream took))
-  pub overlong : new.overlong ≡ capped (new_overlong h i stream took)
-  pub undecodable : new.undecodable ≡ capped (new_undecodable h i stream took)
 
 -- an entry that counts for other instances alone, or for none
 abbrev pub LeavesBe : Record → ℕ → Entry → Type 0

@@ -13,12 +13,13 @@ ghost use Rattle.vx_record.specs.Legal.{IsLegal};
 ghost use Rattle.vx_record.specs.Reads.{bytes_of};
 ghost use Rattle.vx_record.specs.Tallies.{is_batch_of, is_newest, is_first};
 ghost use Rattle.vx_counts.specs.Classes.{class_at, IsGiver};
-ghost use Rattle.vx_counts.specs.Meets.{Meets, AreNew};
+ghost use Rattle.vx_sourcecore.specs.NewLines.{AreNew};
+ghost use Rattle.vx_counts.specs.Meets.{Meets};
 ghost use Rattle.vx_counts.specs.Spends.{BeginsUnread, BeginsNewest};
 
-use crate::new_lines::NewLines;
 use vx_ends::Position;
 use vx_record::Tally;
+use vx_sourcecore::NewLines;
 use vx_status::{BatchStatus, EventStatus, Outcome};
 
 /// What one instance counted so far. Each call is one entry of the record that counts for the instance, takes no memory, and

@@ -1,6 +1,6 @@
 //! The laws of kept counts. A law's function does nothing: what it ensures is proved.
 
-ghost use Rattle.vx_counts.specs.Laws.{OthersStay, EachCounted, CountedByOwn, LegalPlace, StandsPut, PutNow, PutStays, FirstOfTaken, UnspentNone, DroppedWhole, AgreeWhere, WholeAlike, OnesAlike, OneCopyEach, HeldAtLast, UnreadAtLast, NewestAtLast, HeldNotBefore, UnreadNotBefore, NewestNotBefore, ConfirmsAll, FramedCounted, ToldNew, OneOwner, SourceIs, TransformIs, SinkIs, AllMet};
+ghost use Rattle.vx_counts.specs.Laws.{OthersStay, EachCounted, CountedByOwn, LegalPlace, StandsPut, PutNow, PutStays, FirstOfTaken, UnspentNone, DroppedWhole, AgreeWhere, WholeAlike, OnesAlike, OneCopyEach, HeldAtLast, UnreadAtLast, NewestAtLast, HeldNotBefore, UnreadNotBefore, NewestNotBefore, ConfirmsAll, OneOwner, SourceIs, TransformIs, SinkIs, AllMet};
 
 /// An entry leaves the counts of each instance that it doesn't count for; and it counts for an instance or leaves it be. One of
 /// another task counts only as a notice, or as a copy that was dropped as the newest.
@@ -52,12 +52,6 @@ pub fn last_copy()
 /// A confirm names each stream that was confirmed before it.
 pub fn confirms()
     ensures { ConfirmsAll }
-{}
-
-/// What a framer gives at a read is what the record counts.
-pub fn lines()
-    ensures counted { FramedCounted }
-    ensures told { ToldNew }
 {}
 
 /// A batch is of one instance.

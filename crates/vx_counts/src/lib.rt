@@ -3,12 +3,10 @@
 
 mod counts;
 mod laws;
-mod new_lines;
 #[cfg(test)]
 mod tests;
 
 pub use counts::Counts;
 pub use laws::{
-    all, confirms, discards, firsts, last_copy, lines, others, owners, parcels, places, roles,
+    all, confirms, discards, firsts, last_copy, others, owners, parcels, places, roles,
 };
-pub use new_lines::NewLines;

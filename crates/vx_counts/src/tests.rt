@@ -1,8 +1,9 @@
 //! Each call made once.
 
-use crate::{Counts, NewLines};
+use crate::Counts;
 use vx_ends::Position;
 use vx_record::Tally;
+use vx_sourcecore::NewLines;
 use vx_status::{BatchStatus, Outcome};
 
 #[test]

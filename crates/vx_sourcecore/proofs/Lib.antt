@@ -1,2 +1,7 @@
 mod Dues
 pub mod Prefixing
+pub mod Framed
+pub mod Lining
+pub mod Bridging
+pub mod Following
+pub mod Keeping

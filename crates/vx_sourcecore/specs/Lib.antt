@@ -1,1 +1,6 @@
 pub mod Prefixes
+pub mod NewLines
+pub mod Turns
+pub mod Sources
+pub mod Abreast
+pub mod Laws

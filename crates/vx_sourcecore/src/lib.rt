@@ -1,9 +1,16 @@
-//! What a source does beside its port: which of its batches may be confirmed.
+//! What a source does beside its port: how it cuts what it takes into lines and their events, and which of its batches may be
+//! confirmed.
 #![tactic(auto)]
 
 mod ends;
+mod laws;
+mod new_lines;
 mod positions;
 mod prefix;
+mod source;
 
 pub use ends::Ends;
+pub use laws::{lines, source_laws};
+pub use new_lines::NewLines;
 pub use prefix::{Due, Passing, Prefix};
+pub use source::{Cut, SourceCore, Turned};

@@ -1,5 +1,5 @@
-use Rattle.vx_counts.proofs.Framed.{framed_counted, told_new}
-use Rattle.vx_counts.proofs.laws.lines.Goals as goal
+use Rattle.vx_sourcecore.proofs.Framed.{framed_counted, told_new}
+use Rattle.vx_sourcecore.proofs.laws.lines.Goals as goal
 
 pub returns-clause-counted : goal.returns-clause-counted
 returns-clause-counted c = framed_counted

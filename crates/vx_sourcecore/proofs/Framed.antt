@@ -4,14 +4,14 @@ use Rattle.vx_frame.specs.Frames.{Frame, frames}
 use Rattle.vx_json.specs.declared.decoding.Decoding.{Decoding}
 use Rattle.vx_plan.specs.declared.component.Component.{Component}
 use Rattle.vx_plan.specs.Options.{decoding}
+use Rattle.vx_record.specs.declared.taken.Taken.{Taken}
+use Rattle.vx_record.specs.Records.{Record, capped}
 use Rattle.vx_record.specs.Installs.{component_of}
 use Rattle.vx_record.specs.Reads.{stream_of, open_bytes, limit_of, new_lines, undecodable_among, undecodable_lines}
 use Rattle.vx_record.proofs.PastLines.{past-dropped, past-less}
-use Rattle.vx_counts.specs.Lines.{codec_of, undecodable_by}
-use Rattle.vx_counts.specs.Laws.{FramedCounted, ToldNew}
+use Rattle.vx_sourcecore.specs.NewLines.{codec_of, undecodable_by, AreFramed, FramedCounted, ToldNew}
 use Rattle.std.specs.Prelude.{if◌then◌else◌}
 use Rattle.vx_json.specs.LineEvents.{is_undecodable}
-use Rattle.vx_record.specs.Records.{capped}
 
 drop-front : (xs ys : List Frame) → drop (length xs) (xs ++ ys) ≡ ys
 drop-front [] ys = refl
@@ -27,20 +27,22 @@ by_codec (Some c) lines = go (decoding c.settings)
     go None = refl
     go (Some d) = refl
 
-pub framed_counted : FramedCounted
-framed_counted h i stream took lines over framed = record {
-  within = ap length same;
-  overlong = let x = framed.discards in let y = past-less (limit_of h i) (open_bytes h i (stream_of h i stream took)) took in omega (arith, x, y);
-  undecodable = by_codec (component_of h i) (new_lines h i stream took) ∙ ap (undecodable_by (codec_of h i)) same;
-}
+-- the lines that a framer gave are those that the record has the Read complete
+pub framed_lines : (h : Record) (i stream : ℕ) (took : Taken) (lines : List Frame) (over : ℕ) → AreFramed h i stream took lines over → new_lines h i stream took ≡ lines
+framed_lines h i stream took lines over framed =
+    past-dropped (limit_of h i) (open_bytes h i (stream_of h i stream took)) took ∙ ap (drop (length before)) framed.frames_are ∙ drop-front before lines
   where
     before : List Frame
     before = frames (open_bytes h i (stream_of h i stream took)) (limit_of h i) false
 
-    same : new_lines h i stream took ≡ lines
-    same =
-        past-dropped (limit_of h i) (open_bytes h i (stream_of h i stream took)) took ∙ ap (drop (length before)) framed.frames_are
-        ∙ drop-front before lines
+pub framed_counted : FramedCounted
+framed_counted h i stream took lines over framed =
+    let same = framed_lines h i stream took lines over framed in
+    record {
+      within = ap length same;
+      overlong = let x = framed.discards in let y = past-less (limit_of h i) (open_bytes h i (stream_of h i stream took)) took in omega (arith, x, y);
+      undecodable = by_codec (component_of h i) (new_lines h i stream took) ∙ ap (undecodable_by (codec_of h i)) same;
+    }
 
 pub told_new : ToldNew
 told_new h i stream took lines over d new framed codec told =

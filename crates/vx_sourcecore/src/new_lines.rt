@@ -2,7 +2,7 @@ ghost use Rattle.std.specs.Prelude.{◌≡◌, ℕ, List, [], ◌∷◌, ◌++�
 ghost use Rattle.vx_frame.specs.Frames.{Frame};
 ghost use Rattle.vx_json.specs.declared.decoding.Decoding.{Decoding};
 ghost use Rattle.vx_record.specs.Records.{capped};
-ghost use Rattle.vx_counts.specs.Lines.{AreTold, IsToldOf};
+ghost use Rattle.vx_sourcecore.specs.NewLines.{AreTold, IsToldOf};
 
 /// The lines that one read of a source completes. Each count stands still at its type's end.
 #[derive(Clone, Copy, PartialEq, Eq, Debug)]

@@ -2,7 +2,7 @@
 use Rattle.std.specs.Prelude.{ℕ, ◌≡◌, ◌+◌, ◌++◌, Bool, false, Option, Some, None, is_some, List, length}
 use Rattle.vx_value.specs.Texts.{Word, is_empty}
 use Rattle.vx_json.specs.LineEvents.{line_fields}
-use Rattle.vx_counts.specs.declared.new_lines.NewLines.{NewLines}
+use Rattle.vx_sourcecore.specs.declared.new_lines.NewLines.{NewLines}
 use Rattle.vx_frame.specs.Frames.{Frame, frames, discarded}
 use Rattle.vx_json.specs.declared.decoding.Decoding.{Decoding}
 use Rattle.vx_plan.specs.declared.component.Component.{Component}
@@ -47,3 +47,21 @@ pub record AreTold (d : Decoding) (given : List Frame) (over : ℕ) (new : NewLi
 pub record IsToldOf (d : Decoding) (frame : Frame) (empty gives : Bool) : Type 0 where
   pub empty_is : empty ≡ is_empty frame.bytes
   pub gives_is : (type : Word) × (gives ≡ is_some (line_fields d type None frame.bytes))
+
+-- the lines that a Read completes
+pub record AreNew (h : Record) (i stream : ℕ) (took : Taken) (new : NewLines) : Type 0 where
+  pub lines : new.lines ≡ capped (length (new_lines h i stream took))
+  pub overlong : new.overlong ≡ capped (new_overlong h i stream took)
+  pub undecodable : new.undecodable ≡ capped (new_undecodable h i stream took)
+
+-- the lines that a framer gives are those that the record counts
+abbrev pub FramedCounted : Type 0
+FramedCounted =
+    (h : Record) (i stream : ℕ) (took : Taken) (lines : List Frame) (over : ℕ) → AreFramed h i stream took lines over →
+    AreCounted h i stream took lines over
+
+-- what was told of a framer's lines is what a Read adds
+abbrev pub ToldNew : Type 0
+ToldNew =
+    (h : Record) (i stream : ℕ) (took : Taken) (lines : List Frame) (over : ℕ) (d : Decoding) (new : NewLines) →
+    AreFramed h i stream took lines over → codec_of h i ≡ Some d → AreTold d lines over new → AreNew h i stream took new

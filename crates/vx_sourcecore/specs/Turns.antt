@@ -1,0 +1,86 @@
+-- What one turn of a source brought, as the record and the port have it.
+use Rattle.std.specs.Prelude.{◌≡◌, ℕ, ◌≤◌, ◌==◌, not, if◌then◌else◌, List, [], ◌∷◌, ◌++◌, take, Option, Some, None, IfSome}
+use Rattle.vx_value.specs.Texts.{Word}
+use Rattle.vx_ends.specs.Told.{Told, Rose, Grows}
+use Rattle.vx_record.specs.declared.taken.Taken.{Taken}
+use Rattle.vx_record.specs.declared.taken.Taken.TheVariants as taken
+use Rattle.vx_record.specs.Reads.{bytes_of}
+use Rattle.vx_sourcecore.specs.declared.source.Cut.{Cut}
+use Rattle.vx_sourcecore.specs.declared.source.Turned.{Turned}
+use Rattle.vx_sourcecore.specs.declared.source.Turned.TheVariants.{Lines, StreamEnded, AllEnded, Idle, Failed}
+
+-- a read, as an entry has it
+pub record Reading : Type 0 where
+  pub stream : ℕ
+  pub took : Taken
+
+-- the read that a turn made, if it made one
+abbrev pub reading_of : Turned → Option Reading
+reading_of (Lines stream n room cut) = Some (record { stream = stream; took = taken.Bytes (take n room.value.items) })
+reading_of (StreamEnded stream cut) = Some (record { stream = stream; took = taken.StreamEnded })
+reading_of (AllEnded stream cut) = Some (record { stream = stream; took = taken.AllEnded })
+reading_of Idle = None
+reading_of (Failed at_start) = None
+
+-- the lines that it completed, if it made a read, and memory was found for them
+abbrev pub cut_of : Turned → Option Cut
+cut_of (Lines stream n room cut) = cut
+cut_of (StreamEnded stream cut) = cut
+cut_of (AllEnded stream cut) = cut
+cut_of Idle = None
+cut_of (Failed at_start) = None
+
+-- the bytes of a stream that a read took
+abbrev pub read_bytes : Option Reading → ℕ → Word
+read_bytes None stream = []
+read_bytes (Some reading) stream = if reading.stream == stream then bytes_of reading.took else []
+
+-- the stream whose end a read told, if it is one
+abbrev pub end_told : ℕ → Taken → List ℕ
+end_told stream (taken.Bytes bytes) = []
+end_told stream taken.StreamEnded = stream ∷ []
+end_told stream taken.AllEnded = []
+
+-- the streams whose end it told
+abbrev pub ends_told : Option Reading → List ℕ
+ends_told None = []
+ends_told (Some reading) = end_told reading.stream reading.took
+
+-- nothing is left of any stream, where that is told
+abbrev pub NothingLeft : Told → Type 0
+NothingLeft told = (stream : ℕ) → IfSome (told.left stream) (λ rest. rest ≡ [])
+
+-- a turn tells a failure only where the count of faults rose, and that there is nothing only where the count of idles did
+abbrev pub FailsBy : Told → Told → Turned → Type 0
+FailsBy old new (Failed at_start) = Rose old.faults new.faults × (new.started ≡ not at_start)
+FailsBy old new Idle = Rose old.idles new.idles
+FailsBy old new other = Unit {0}
+
+-- it tells the end of all only where nothing is left
+abbrev pub LeavesNothing : Told → Turned → Type 0
+LeavesNothing new (AllEnded stream cut) = NothingLeft new
+LeavesNothing new other = Unit {0}
+
+-- a turn gives and confirms nothing, brings nothing back, and no count falls
+pub record OnlyTakes (old new : Told) : Type 0 where
+  pub given : new.given ≡ old.given
+  pub confirmed : new.confirmed ≡ old.confirmed
+  pub spec : new.spec ≡ old.spec
+  pub left : NothingLeft old → NothingLeft new
+  pub faults : old.faults ≤ new.faults
+  pub refusals : old.refusals ≤ new.refusals
+  pub idles : old.idles ≤ new.idles
+
+-- what a turn did to the port, by what that tells before and after: it took what the turn says, and nothing else
+pub record DidTake (old : Told) (turned : Turned) (new : Told) : Type 0 where
+  pub taken : (stream : ℕ) → Grows (old.taken stream) (new.taken stream) (read_bytes (reading_of turned) stream)
+  pub ended : new.ended ≡ old.ended ++ ends_told (reading_of turned)
+  pub rest : OnlyTakes old new
+  pub failed : FailsBy old new turned
+  pub over : LeavesNothing new turned
+
+-- nothing was taken, given or confirmed, and no count fell
+pub record IsUnmoved (old new : Told) : Type 0 where
+  pub taken : new.taken ≡ old.taken
+  pub ended : new.ended ≡ old.ended
+  pub rest : OnlyTakes old new

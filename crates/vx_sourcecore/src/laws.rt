@@ -1,0 +1,22 @@
+//! The laws of what a source cuts. A law's function does nothing: what it ensures is proved.
+
+ghost use Rattle.vx_sourcecore.specs.NewLines.{FramedCounted, ToldNew};
+ghost use Rattle.vx_sourcecore.specs.Laws.{FreshAbreast, ComponentStays, ComponentKept, AbreastKept, TurnedKept, AbreastUnder, TurnedUnder};
+
+/// What a framer gives at a read is what the record counts.
+pub fn lines()
+    ensures counted { FramedCounted }
+    ensures told { ToldNew }
+{}
+
+/// A fresh source is abreast of a record in which its instance read nothing. It stays so while others go on, since they leave the
+/// component that it runs, and behind each entry that is no read; and so does what it brings home of a turn that isn't told yet.
+pub fn source_laws()
+    ensures fresh { FreshAbreast }
+    ensures component { ComponentStays }
+    ensures component_kept { ComponentKept }
+    ensures kept { AbreastKept }
+    ensures turned_kept { TurnedKept }
+    ensures under { AbreastUnder }
+    ensures turned_under { TurnedUnder }
+{}

@@ -1,0 +1,212 @@
+ghost use Rattle.std.specs.Prelude.{◌≡◌, ◌++◌, length, OnOk};
+ghost use Rattle.vx_json.specs.LineEvents.{event_fields};
+ghost use Rattle.vx_record.specs.Reads.{event_with};
+
+use crate::new_lines::NewLines;
+use std::alloc::Global;
+use std::snapshot::Snapshot;
+use vx_ends::{Port, Took, Trouble};
+use vx_frame::{Framer, LineList};
+use vx_json::{Decoding, line_event};
+use vx_value::{Event, EventList, Text, WantOfMemory};
+
+/// The greatest number of bytes that one take asks for.
+const ROOM: usize = 65_536;
+
+/// The lines that one read completes: their events, the end of the last of them in its stream's bytes, also where that
+/// gave no event (0 where no line was completed), and how many lines there were.
+#[derive(Drop)]
+pub struct Cut {
+    pub events: EventList,
+    pub end: u64,
+    pub new: NewLines,
+}
+
+/// What one turn of a source brought. Where memory was wanting while its lines were cut there is no `Cut`: then the port
+/// took what is said, and the source is of no use any more.
+#[derive(Drop)]
+pub enum Turned {
+    /// Bytes of a stream: the first `n` of the room as it was then.
+    Lines {
+        stream: u64,
+        n: u32,
+        room: Snapshot<Vec<u8>>,
+        cut: Option<Cut>,
+    },
+    /// The stream has ended, and that completes its unfinished line, if there is one.
+    StreamEnded {
+        stream: u64,
+        cut: Option<Cut>,
+    },
+    /// All has ended, and with it the stream that bytes were last taken of.
+    AllEnded {
+        stream: u64,
+        cut: Option<Cut>,
+    },
+    /// There is nothing now.
+    Idle,
+    /// The device failed, at its start or at the take.
+    Failed {
+        at_start: bool,
+    },
+}
+
+/// A source at work: it cuts the bytes that it takes into lines, and makes the events of those by its codec.
+#[derive(Drop)]
+pub struct SourceCore {
+    alloc: Global,
+    decoding: Decoding,
+    source_type: Text,
+    room: Vec<u8>,
+    framer: Framer,
+    last: Option<u64>,
+    ghost roomy: { length room.items ≡ 65536 },
+    ghost told: { framer.overlong ≡ 0 },
+}
+
+impl SourceCore {
+    ghost use Rattle.std.specs.Prelude.{◌≡◌, ℕ, ◌≤◌, length, take, IfOk, OnErr, IfSome, IsTrue};
+    ghost use Rattle.vx_record.specs.Records.{Record, capped};
+    ghost use Rattle.vx_sourcecore.specs.Turns.{DidTake, IsUnmoved, cut_of};
+    ghost use Rattle.vx_sourcecore.specs.Sources.{IsOf, HasFed, HasFinished, HasBrought, BringsSome, IsOfOpen, IsSame, IsFresh};
+    ghost use Rattle.vx_sourcecore.specs.Abreast.{IsAbreast, HasTurned, MayTurnOn};
+
+    /// A source that takes lines of at most `limit` bytes, and decodes each.
+    ///
+    /// Answers `Err` where no memory is found.
+    pub fn new(
+        alloc: Global,
+        limit: u32,
+        decoding: Decoding,
+        source_type: Text,
+    ) -> Result<Self, WantOfMemory>
+        ensures { IfOk result (IsFresh limit decoding source_type) }
+    {
+        let room = vec![in alloc; 0u8; ROOM]?;
+        Ok(SourceCore {
+            alloc,
+            decoding,
+            source_type,
+            room,
+            framer: Framer::new(alloc, limit),
+            last: None,
+        })
+    }
+
+    /// Starts the port if it isn't started, and makes one take, of at most 65,536 bytes.
+    ///
+    /// Answers `Err` where the port finds no memory: then nothing moved, and the source is as it was. Where no memory is found to cut
+    /// what was taken, the answer tells that without a `Cut`.
+    pub fn turn<P: Port>(&mut self, port: &mut P) -> Result<Turned, WantOfMemory>
+        ensures did { IfOk result (λ turned. DidTake (P.told port.old) turned (P.told port.new)) }
+        ensures unmoved { OnErr result (IsUnmoved (P.told port.old) (P.told port.new)) }
+        ensures few { IfOk result (λ turned. IfSome (cut_of turned) (λ cut. length cut.events ≤ 65536)) }
+        ensures turned { IfOk result (λ turned. (h : Record) → (i : ℕ) → MayTurnOn h i (P.told port.old).ended → IsAbreast h i self.old → HasTurned h i self.new turned) }
+        ensures stays { OnErr result ((h : Record) → (i : ℕ) → IsAbreast h i self.old → IsAbreast h i self.new) }
+    {
+        match port.start() {
+            Ok(()) => self.take(port),
+            Err(Trouble::WantOfMemory) => Err(WantOfMemory),
+            Err(_) => Ok(Turned::Failed { at_start: true }),
+        }
+    }
+
+    /// Makes one take of a port.
+    fn take<P: Port>(&mut self, port: &mut P) -> Result<Turned, WantOfMemory>
+        requires { IsTrue (P.told port.old).started }
+        ensures did { IfOk result (λ turned. DidTake (P.told port.old) turned (P.told port.new)) }
+        ensures unmoved { OnErr result (IsUnmoved (P.told port.old) (P.told port.new)) }
+        ensures some { IfOk result BringsSome }
+        ensures open { IfOk result (IsOfOpen (P.told port.old).ended) }
+        ensures brings { IfOk result (λ turned. HasBrought self.old turned self.new) }
+        ensures same { OnErr result (IsSame self.old self.new) }
+    {
+        match port.take(self.room.as_mut_slice()) {
+            Ok(Took::Bytes { stream, n }) => {
+                let room = Snapshot::of(&self.room);
+                let cut = self.cut(stream, n);
+                Ok(Turned::Lines {
+                    stream,
+                    n,
+                    room,
+                    cut,
+                })
+            }
+            Ok(Took::StreamEnded { stream }) => {
+                let cut = self.finish(stream);
+                Ok(Turned::StreamEnded { stream, cut })
+            }
+            Ok(Took::AllEnded) => {
+                let stream = self.last.unwrap_or(0);
+                let cut = self.finish(stream);
+                Ok(Turned::AllEnded { stream, cut })
+            }
+            Ok(Took::Idle) => Ok(Turned::Idle),
+            Err(Trouble::WantOfMemory) => Err(WantOfMemory),
+            Err(_) => Ok(Turned::Failed { at_start: false }),
+        }
+    }
+
+    /// The lines that the first `n` bytes of the room complete, which are of a stream; `None` where no memory is found.
+    fn cut(&mut self, stream: u64, n: u32) -> Option<Cut>
+        requires { n ≤ 65536 }
+        ensures { IfSome result (λ cut. HasFed self.old stream (take n self.old.room.items) cut self.new) }
+    {
+        let mut lines = LineList::new(self.alloc);
+        let fed = self
+            .framer
+            .feed(stream, &self.room[..n as usize], &mut lines);
+        let overlong = self.framer.take_overlong();
+        if fed.is_err() {
+            return None;
+        }
+        self.last = Some(stream);
+        self.lines(&lines, overlong).ok()
+    }
+
+    /// The unfinished line with which a stream ends, if there is one; `None` where no memory is found.
+    fn finish(&mut self, stream: u64) -> Option<Cut>
+        ensures { IfSome result (λ cut. HasFinished self.old stream cut self.new) }
+    {
+        let mut lines = LineList::new(self.alloc);
+        let finished = self.framer.finish(stream, &mut lines);
+        let overlong = self.framer.take_overlong();
+        if finished.is_err() {
+            return None;
+        }
+        self.lines(&lines, overlong).ok()
+    }
+
+    /// What some lines give, beside so many that were too long.
+    fn lines(&self, lines: &LineList, overlong: u64) -> Result<Cut, WantOfMemory>
+        ensures { IfOk result (λ cut. (over : ℕ) → overlong ≡ capped over → IsOf self.now.decoding self.now.source_type lines.now over cut) }
+    {
+        let mut cut = Cut {
+            events: EventList::new(self.alloc),
+            end: 0,
+            new: NewLines::none(),
+        };
+        for line in lines.as_slice() {
+            let bytes = line.bytes.as_slice();
+            let event = line_event(self.alloc, self.decoding, bytes, &self.source_type, None)?;
+            cut.new.line(bytes.is_empty(), event.is_some());
+            push(&mut cut.events, event)?;
+            cut.end = line.end;
+        }
+        cut.new.too_long(overlong);
+        Ok(cut)
+    }
+}
+
+/// Adds an event, if there is one.
+fn push(events: &mut EventList, event: Option<Event>) -> Result<(), WantOfMemory>
+    ensures { OnOk result (events.new ≡ events.old ++ event_with (event_fields event)) }
+{
+    let Some(event) = event else {
+        return Ok(());
+    };
+    match events.push(event) {
+        Ok(()) => Ok(()),
+        Err(_) => Err(WantOfMemory),
+    }
+}
