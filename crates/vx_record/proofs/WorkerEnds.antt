@@ -115,7 +115,7 @@ source_dry h j legal dry is =
     ap (λ (b : Bool). not b || is_dry h j) (sym is) ∙ all_among (λ k. not (source_at h k) || is_dry h k) (started h) j dry (started_told h j is_source legal is)
 
 -- and stays so
-all_dry_on : (h : Record) (e : Entry) → IsLegal (e ∷ h) → installs e ≡ false → all_dry h ≡ true → all_dry (e ∷ h) ≡ true
+pub all_dry_on : (h : Record) (e : Entry) → IsLegal (e ∷ h) → installs e ≡ false → all_dry h ≡ true → all_dry (e ∷ h) ≡ true
 all_dry_on h e legal kept dry =
     ap (λ (ns : List ℕ). list_all (λ k. not (source_at (e ∷ h) k) || is_dry (e ∷ h) k) ns) (started_same e h kept)
     ∙ all_on (λ k. not (source_at h k) || is_dry h k) (λ k. not (source_at (e ∷ h) k) || is_dry (e ∷ h) k) (started h) one dry
@@ -257,7 +257,7 @@ unnamed_by h e j i legal kept off none =
     (ap (λ (ps : List (List ℕ)). not (is_empty ps)) (unwaited h e j i legal before empty))
 
 -- so what nobody names stays unnamed
-unnamed_on : (h : Record) (e : Entry) (i : ℕ) → IsLegal (e ∷ h) → installs e ≡ false → ((j : ℕ) → bears j e ≡ false) → is_named h i ≡ false → is_named (e ∷ h) i ≡ false
+pub unnamed_on : (h : Record) (e : Entry) (i : ℕ) → IsLegal (e ∷ h) → installs e ≡ false → ((j : ℕ) → bears j e ≡ false) → is_named h i ≡ false → is_named (e ∷ h) i ≡ false
 unnamed_on h e i legal kept off none =
     ap (λ (ns : List ℕ). list_any (λ j. not (is_retired (e ∷ h) j) && names (e ∷ h) j i) ns) (started_same e h kept)
     ∙ any_on (λ j. not (is_retired h j) && names h j i) (λ j. not (is_retired (e ∷ h) j) && names (e ∷ h) j i) (started h) one none

@@ -1,0 +1,89 @@
+-- A task that was done comes home as its record will have it.
+use Rattle.std.proofs.Common.{◌≡◌, ℕ, Bool, true, false, ◌++◌, Option, Some, None, refl, ap, ◌∙◌}
+use Rattle.std.specs.Prelude.{◌&&◌, ◌||◌, not, is_some}
+use Rattle.std.proofs.lemmas.List.{append-nil}
+use Rattle.vx_ends.specs.Told.{Told}
+use Rattle.vx_record.specs.Records.{Record}
+use Rattle.vx_record.specs.Legal.{IsLegal}
+use Rattle.vx_record.specs.Installs.{source_at}
+use Rattle.vx_record.specs.Reads.{all_ended, is_lost, ended_streams}
+use Rattle.vx_record.specs.Routing.{drains, is_out_from_before}
+use Rattle.vx_record.specs.Tasks.{out_to}
+use Rattle.vx_record.proofs.TasksOut.{out_to_worker}
+use Rattle.vx_record.proofs.Turning.{turn_undry}
+use Rattle.vx_tasks.specs.declared.confirming.Confirmed.{Confirmed}
+use Rattle.vx_tasks.specs.declared.landing.Done.{Done}
+use Rattle.vx_tasks.specs.declared.landing.Done.TheVariants.{Short}
+use Rattle.vx_tasks.specs.declared.landing.Landing.{Landing}
+use Rattle.vx_tasks.specs.declared.task.Role.{Role}
+use Rattle.vx_tasks.specs.declared.work.Job.{Job}
+use Rattle.vx_tasks.specs.declared.work.Job.TheVariants as job
+use Rattle.vx_tasks.specs.declared.work.Work.{Work}
+use Rattle.vx_tasks.specs.Telling.{IsTold}
+use Rattle.vx_tasks.specs.Doing.{MayAct}
+use Rattle.vx_tasks.specs.Out.{IsIdle, MayReadNow, IsGiven, AreDue, HasLeft, confirm_entries, IsConfirmedSo, TellsDone, HasActed, HasDone}
+
+-- a source that isn't dry wasn't told the end of all
+unended : (s a l d : Bool) → s ≡ true → (s && (a || l || d)) ≡ false → a ≡ false
+unended false a l d is dry = cc
+unended true true l d is dry = cc
+unended true false l d is dry = refl
+
+read_unended : (h : Record) (i worker : ℕ) → IsLegal h → out_to h i ≡ Some worker → IsIdle h i → MayReadNow h i → all_ended h i ≡ false
+read_unended h i worker legal out idle may =
+    unended (source_at h i) (all_ended h i) (is_lost h i) (drains h i && not (is_out_from_before h i)) may.source
+    (turn_undry h i legal (record { source = may.source; out = out_to_worker h i ∙ ap is_some out; readable = may.readable; once = idle.no_turn }))
+
+reads_unended : (h : Record) (i worker : ℕ) (wanted : Job) → IsLegal h → out_to h i ≡ Some worker → IsIdle h i → IsGiven h i wanted → wanted ≡ job.Read → all_ended h i ≡ false
+reads_unended h i worker job.Read legal out idle given is = read_unended h i worker legal out idle given
+reads_unended h i worker job.Confirm legal out idle given is = cc
+reads_unended h i worker job.Collect legal out idle given is = cc
+reads_unended h i worker job.Attempt legal out idle given is = cc
+reads_unended h i worker job.Close legal out idle given is = cc
+
+-- a confirm ends no stream
+ended_behind : (h : Record) (i : ℕ) (confirmed : Option Confirmed) → ended_streams (confirm_entries i confirmed ++ h) i ≡ ended_streams h i
+ended_behind h i None = refl
+ended_behind h i (Some c) = append-nil (ended_streams h i)
+
+-- a task as it comes home
+abbrev pub landed : {P : Type 0} → Work P → P → Role → Option Confirmed → Done → Landing P
+landed work port role confirmed done =
+    record { instance = work.instance; worker = work.worker; task = record { port = port; role = role }; held = work.held; confirmed = confirmed; done = done }
+
+module _ {P : Type 0} (told_by : P → Told) (h : Record) (work : Work P) (legal : IsLegal h) (left : HasLeft told_by h work) where
+  -- what was confirmed, and then done
+  pub done_of : (mid port : P) (role : Role) (confirmed : Option Confirmed) (done : Done) →
+      ((k : Record) (i : ℕ) → IsTold (told_by work.task.port) k i → IsTold (told_by mid) (confirm_entries i confirmed ++ k) i) →
+      ((k : Record) (i : ℕ) (d : Done) → AreDue k i work.positions → IsConfirmedSo k i d confirmed) →
+      ((k : Record) (i : ℕ) → IsTold (told_by mid) k i → TellsDone (told_by port) k i work.held.items done) →
+      ((k : Record) (i : ℕ) → MayAct (told_by mid) k i work.task.role work.held.items work.job → HasActed (told_by port) k i role done) →
+      HasDone told_by h (landed work port role confirmed done)
+  done_of mid port role confirmed done confirms due tells acts =
+      let told = confirms h work.instance left.home.told in
+      record {
+        out = left.out;
+        idle = left.idle;
+        held = left.held;
+        confirmed = due h work.instance done left.asked;
+        told = tells (confirm_entries work.instance confirmed ++ h) work.instance told;
+        acted = acts h work.instance (record {
+          given = left.job;
+          come = left.home.come;
+          held = left.held;
+          ended = told.ended ∙ ended_behind h work.instance confirmed;
+          unended = reads_unended h work.instance work.worker work.job legal left.out left.idle left.job;
+        });
+      }
+
+  -- no memory was found to confirm
+  pub short_of : (port : P) → ((k : Record) (i : ℕ) → IsTold (told_by work.task.port) k i → IsTold (told_by port) k i) →
+      HasDone told_by h (landed work port work.task.role None Short)
+  short_of port same = record {
+    out = left.out;
+    idle = left.idle;
+    held = left.held;
+    confirmed = tt;
+    told = same h work.instance left.home.told;
+    acted = left.home.come;
+  }

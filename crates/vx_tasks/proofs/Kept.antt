@@ -1,0 +1,257 @@
+-- A task that is out is kept by whatever spares it.
+use Rattle.std.proofs.Common.{◌≡◌, ℕ, Bool, true, false, List, [], ◌∷◌, ◌++◌, Option, Some, None, refl, sym, ap, ◌∙◌, subst}
+use Rattle.std.specs.Prelude.{◌&&◌, IsSomeAnd, map, nat_lt, if◌then◌else◌}
+use Rattle.std.specs.List.{list_any}
+use Rattle.vx_value.specs.declared.event.Event.{Event}
+use Rattle.vx_ends.specs.Told.{Told}
+use Rattle.vx_ends.specs.declared.position.Position.{Position}
+use Rattle.vx_ledger.specs.declared.parcel.Parcel.{Parcel}
+use Rattle.vx_plan.specs.declared.component.Component.{Component}
+use Rattle.vx_plan.specs.Components.{is_source}
+use Rattle.vx_plan.specs.Options.{encoding}
+use Rattle.vx_record.specs.declared.entry.Entry.{Entry}
+use Rattle.vx_record.specs.declared.entry.Entry.TheVariants as entry
+use Rattle.vx_record.specs.Records.{Record, capped}
+use Rattle.vx_record.specs.Legal.{IsLegal}
+use Rattle.vx_record.specs.Places.Place.{Held}
+use Rattle.vx_record.specs.Shifts.{at}
+use Rattle.vx_record.specs.Turns.{at_lease, lease_now, since_lease, is_turn_of, is_attempt_of, is_confirm_of}
+use Rattle.vx_record.specs.Installs.{component_of, source_at}
+use Rattle.vx_record.specs.Parcels.{parcel_event}
+use Rattle.vx_record.specs.Encoding.{bytes_for, encoded}
+use Rattle.vx_record.specs.Reads.{bytes_taken}
+use Rattle.vx_record.specs.Sourcing.{failed_starts}
+use Rattle.vx_record.specs.Confirms.{due, is_confirm_due}
+use Rattle.vx_record.specs.Owing.{is_done}
+use Rattle.vx_record.specs.Ready.{can_read}
+use Rattle.vx_record.specs.Tasks.{is_of, mine, out_to}
+use Rattle.vx_record.specs.Makers.{Spares}
+use Rattle.vx_record.specs.Additions.{OnlyAdds}
+use Rattle.vx_record.proofs.OwnTurns.{worker_own, moment_own}
+use Rattle.vx_record.proofs.OwnLeases.{turned_own, tried_own, confirmed_own, lease_stays}
+use Rattle.vx_record.proofs.OwnReads.{bytes_own, starts_own}
+use Rattle.vx_record.proofs.TasksOut.{spared_stays}
+use Rattle.vx_sourcecore.specs.declared.source.Turned.{Turned}
+use Rattle.vx_sourcecore.specs.declared.source.Turned.TheVariants as turned
+use Rattle.vx_sourcecore.proofs.Keeping.{component_kept, abreast_kept, turned_kept}
+use Rattle.vx_places.specs.Numbers.{numbers}
+use Rattle.vx_tasks.specs.declared.confirming.Confirmed.{Confirmed}
+use Rattle.vx_tasks.specs.declared.landing.Done.{Done}
+use Rattle.vx_tasks.specs.declared.landing.Done.TheVariants as done
+use Rattle.vx_tasks.specs.declared.task.Role.{Role}
+use Rattle.vx_tasks.specs.declared.task.Role.TheVariants as role
+use Rattle.vx_tasks.specs.declared.work.Job.{Job}
+use Rattle.vx_tasks.specs.declared.work.Job.TheVariants as job
+use Rattle.vx_tasks.specs.Telling.{IsTold}
+use Rattle.vx_tasks.specs.Home.{HasCome}
+use Rattle.vx_tasks.specs.Out.{IsIdle, IsHeld, MayAttemptNow, MayReadNow, MayCloseNow, IsGiven, AreDue, turn_entry, deeds, confirm_entries, IsConfirmedSo, TellsDone, HasRoleTurned, HasActed}
+use Rattle.vx_tasks.specs.Laws.{LeftKept, DoneKept}
+use Rattle.vx_tasks.proofs.Staying.{stays, runs, told_same, held_stays}
+use Rattle.vx_tasks.proofs.Closing.{told_by, attempt_stays}
+use Rattle.vx_tasks.proofs.Writing.{events_said}
+
+-- RECORDS WITH THE SAME ENTRIES OF A TASK
+-- entries in front of both
+mine_behind : (es : List Entry) (old new : Record) (i : ℕ) → mine new i ≡ mine old i → mine (es ++ new) i ≡ mine (es ++ old) i
+mine_behind [] old new i same = same
+mine_behind (e ∷ es) old new i same = ap (λ (m : Record). if is_of i e then e ∷ m else m) (mine_behind es old new i same)
+
+-- a turn is told alike
+turn_same : (old new : Record) (i : ℕ) (turned : Turned) → mine new i ≡ mine old i → turn_entry new i turned ≡ turn_entry old i turned
+turn_same old new i (turned.Lines stream n room cut) same = refl
+turn_same old new i (turned.StreamEnded stream cut) same = refl
+turn_same old new i (turned.AllEnded stream cut) same = refl
+turn_same old new i turned.Idle same = refl
+turn_same old new i (turned.Failed at_start) same =
+    ap (λ n. if at_start && nat_lt n 4 then entry.Idle i true else entry.SourceLost i (capped (bytes_taken new i)) at_start) (stays failed_starts starts_own old new i same)
+    ∙ ap (λ n. if at_start && nat_lt (failed_starts old i) 4 then entry.Idle i true else entry.SourceLost i (capped n) at_start) (stays bytes_taken bytes_own old new i same)
+
+deeds_same : (old new : Record) (i : ℕ) (parcels : List Parcel) (d : Done) → mine new i ≡ mine old i → deeds new i parcels d ≡ deeds old i parcels d
+deeds_same old new i parcels done.Nothing same = refl
+deeds_same old new i parcels (done.Read turned) same = ap (λ (e : Entry). e ∷ []) (turn_same old new i turned same)
+deeds_same old new i parcels (done.Attempted all sent answer) same = refl
+deeds_same old new i parcels done.Closed same = refl
+deeds_same old new i parcels done.Short same = refl
+deeds_same old new i parcels done.Starved same = refl
+
+-- and no deed installs anything
+turn_runs : (h : Record) (i : ℕ) (turned : Turned) → component_of (turn_entry h i turned ∷ h) i ≡ component_of h i
+turn_runs h i (turned.Lines stream n room cut) = refl
+turn_runs h i (turned.StreamEnded stream cut) = refl
+turn_runs h i (turned.AllEnded stream cut) = refl
+turn_runs h i turned.Idle = refl
+turn_runs h i (turned.Failed at_start) = go (at_start && nat_lt (failed_starts h i) 4)
+  where
+    go : (b : Bool) → component_of ((if b then entry.Idle i true else entry.SourceLost i (capped (bytes_taken h i)) at_start) ∷ h) i ≡ component_of h i
+    go true = refl
+    go false = refl
+
+deeds_run : (h : Record) (i : ℕ) (parcels : List Parcel) (d : Done) → component_of (deeds h i parcels d ++ h) i ≡ component_of h i
+deeds_run h i parcels done.Nothing = refl
+deeds_run h i parcels (done.Read turned) = turn_runs h i turned
+deeds_run h i parcels (done.Attempted all sent answer) = refl
+deeds_run h i parcels done.Closed = refl
+deeds_run h i parcels done.Short = refl
+deeds_run h i parcels done.Starved = refl
+
+confirm_runs : (h : Record) (i : ℕ) (confirmed : Option Confirmed) → component_of (confirm_entries i confirmed ++ h) i ≡ component_of h i
+confirm_runs h i None = refl
+confirm_runs h i (Some c) = refl
+
+-- so a port that tells what one of them will have tells what the other will
+module _ (told : Told) (old new : Record) (i : ℕ) (same : mine new i ≡ mine old i) (run : component_of new i ≡ component_of old i) where
+  deeds_told : (parcels : List Parcel) (d : Done) → IsTold told (deeds old i parcels d ++ old) i → IsTold told (deeds new i parcels d ++ new) i
+  deeds_told parcels d is =
+      told_same told (deeds old i parcels d ++ old) (deeds new i parcels d ++ new) i
+      (ap (λ (es : List Entry). mine (es ++ new) i) (deeds_same old new i parcels d same) ∙ mine_behind (deeds old i parcels d) old new i same)
+      (deeds_run new i parcels d ∙ run ∙ sym (deeds_run old i parcels d))
+      is
+
+  tells_same : (parcels : List Parcel) (d : Done) → TellsDone told old i parcels d → TellsDone told new i parcels d
+  tells_same parcels done.Nothing is = deeds_told parcels done.Nothing is
+  tells_same parcels (done.Read turned) is = deeds_told parcels (done.Read turned) is
+  tells_same parcels (done.Attempted all sent answer) is = deeds_told parcels (done.Attempted all sent answer) is
+  tells_same parcels done.Closed is = deeds_told parcels done.Closed is
+  tells_same parcels done.Short is = deeds_told parcels done.Short is
+  tells_same parcels done.Starved is = told_same (record told { given = None }) old new i same run is
+
+tells_behind : (told : Told) (old new : Record) (i : ℕ) → mine new i ≡ mine old i → component_of new i ≡ component_of old i → (confirmed : Option Confirmed) (parcels : List Parcel) (d : Done) →
+    TellsDone told (confirm_entries i confirmed ++ old) i parcels d → TellsDone told (confirm_entries i confirmed ++ new) i parcels d
+tells_behind told old new i same run confirmed parcels d is =
+    tells_same told (confirm_entries i confirmed ++ old) (confirm_entries i confirmed ++ new) i
+    (mine_behind (confirm_entries i confirmed) old new i same)
+    (confirm_runs new i confirmed ∙ run ∙ sym (confirm_runs old i confirmed))
+    parcels d is
+
+-- WHAT IS KEPT
+module _ (old new : Record) (i worker : ℕ) (legal : IsLegal old) (adds : OnlyAdds (Spares i) old new) (out : out_to old i ≡ Some worker) where
+  same : mine new i ≡ mine old i
+  same = spared_stays old new i adds
+
+  run : component_of new i ≡ component_of old i
+  run = component_kept old new i (runs old i worker legal out) adds
+
+  lease : at_lease new i ≡ at_lease old i
+  lease = lease_stays old new i adds
+
+  moment : lease_now new i ≡ lease_now old i
+  moment = stays lease_now moment_own old new i same
+
+  source : source_at new i ≡ source_at old i
+  source = told_by false is_source new old i run
+
+  out_kept : out_to new i ≡ Some worker
+  out_kept = stays out_to worker_own old new i same ∙ out
+
+  idle_kept : IsIdle old i → IsIdle new i
+  idle_kept idle = record {
+    no_turn = stays (λ h k. list_any (is_turn_of k) (since_lease h k)) turned_own old new i same ∙ idle.no_turn;
+    no_attempt = stays (λ h k. list_any (is_attempt_of k) (since_lease h k)) tried_own old new i same ∙ idle.no_attempt;
+    no_confirm = stays (λ h k. list_any (is_confirm_of k) (since_lease h k)) confirmed_own old new i same ∙ idle.no_confirm;
+  }
+
+  come_kept : (r : Role) → HasCome old i r → HasCome new i r
+  come_kept (role.Source core) is = abreast_kept old new i core adds is
+  come_kept (role.Sink codec) is = subst (λ (o : Option Component). IsSomeAnd o (λ (c : Component). encoding c.settings ≡ Some codec)) (sym run) is
+  come_kept role.Unfit is = tt
+
+  due_kept : (positions : Option (List Position)) → AreDue old i positions → AreDue new i positions
+  due_kept None is = subst (λ (h : Record). is_confirm_due h i ≡ false) (sym lease) is
+  due_kept (Some positions) is =
+      (source ∙ is.0, (subst (λ (h : Record). is_confirm_due h i ≡ true) (sym lease) is.1.0, subst (λ (h : Record). positions ≡ due h i) (sym lease) is.1.1))
+
+  read_kept : MayReadNow old i → MayReadNow new i
+  read_kept may = record {
+    source = source ∙ may.source;
+    readable = subst (λ (h : Record). can_read h i (lease_now new i) ≡ true) (sym lease) (subst (λ (t : ℕ). can_read (at_lease old i) i t ≡ true) (sym moment) may.readable);
+  }
+
+  close_kept : MayCloseNow old i → MayCloseNow new i
+  close_kept may = record {
+    over = subst (λ (h : Record). is_done h i ≡ true) (sym lease) may.over;
+    confirmed = subst (λ (h : Record). is_confirm_due h i ≡ false) (sym lease) may.confirmed;
+  }
+
+  attempt_kept : MayAttemptNow old i → MayAttemptNow new i
+  attempt_kept may = attempt_stays old new i same run adds legal may
+
+  given_kept : (wanted : Job) → IsGiven old i wanted → IsGiven new i wanted
+  given_kept job.Read is = read_kept is
+  given_kept job.Confirm is = tt
+  given_kept job.Collect is = tt
+  given_kept job.Attempt is = attempt_kept is
+  given_kept job.Close is = close_kept is
+
+  undue_kept : is_confirm_due (at_lease old i) i ≡ false → is_confirm_due (at_lease new i) i ≡ false
+  undue_kept is = subst (λ (h : Record). is_confirm_due h i ≡ false) (sym lease) is
+
+  so_kept : (d : Done) (confirmed : Option Confirmed) → IsConfirmedSo old i d confirmed → IsConfirmedSo new i d confirmed
+  so_kept done.Nothing None is = undue_kept is
+  so_kept (done.Read turned) None is = undue_kept is
+  so_kept (done.Attempted all sent answer) None is = undue_kept is
+  so_kept done.Closed None is = undue_kept is
+  so_kept done.Short None is = tt
+  so_kept done.Starved None is = undue_kept is
+  so_kept done.Nothing (Some c) is = due_kept (Some c.positions) is
+  so_kept (done.Read turned) (Some c) is = due_kept (Some c.positions) is
+  so_kept (done.Attempted all sent answer) (Some c) is = due_kept (Some c.positions) is
+  so_kept done.Closed (Some c) is = due_kept (Some c.positions) is
+  so_kept done.Short (Some c) is = due_kept (Some c.positions) is
+  so_kept done.Starved (Some c) is = due_kept (Some c.positions) is
+
+  -- what was done
+  turned_role_kept : (r : Role) (turned : Turned) → HasRoleTurned old i r turned → HasRoleTurned new i r turned
+  turned_role_kept (role.Source core) turned is = turned_kept old new i core turned adds is
+  turned_role_kept (role.Sink codec) turned is = is
+  turned_role_kept role.Unfit turned is = tt
+
+  encoded_kept : (parcels : List Parcel) → IsHeld old i parcels → IsHeld new i parcels → encoded new i (at new (Held i)) ≡ encoded old i (at old (Held i))
+  encoded_kept parcels was is =
+      ap (encoded new i) (sym is.held)
+      ∙ told_by [] (λ (c : Component). bytes_for c.settings (map (parcel_event new) (numbers parcels))) new old i run
+      ∙ ap (λ (events : List Event). elim (component_of old i) [ None ↦ [] | Some c ↦ bytes_for c.settings events ]) (events_said new parcels is.known is.filled ∙ sym (events_said old parcels was.known was.filled))
+      ∙ ap (encoded old i) was.held
+
+  acted_kept : (told : Told) (r : Role) (parcels : List Parcel) (d : Done) → IsHeld old i parcels → IsHeld new i parcels → HasActed told old i r d → HasActed told new i r d
+  acted_kept told r parcels done.Nothing was now is = come_kept r is
+  acted_kept told r parcels (done.Read turned) was now is = record { may = read_kept is.may; come = turned_role_kept r turned is.come; few = is.few; fit = is.fit }
+  acted_kept told r parcels (done.Attempted all sent answer) was now is = record {
+    may = attempt_kept is.may;
+    come = come_kept r is.come;
+    whole = is.whole ∙ sym (encoded_kept parcels was now);
+    within = is.within;
+    ok = is.ok;
+  }
+  acted_kept told r parcels done.Closed was now is = record { may = close_kept is.may; come = come_kept r is.come; shut = is.shut }
+  acted_kept told r parcels done.Short was now is = come_kept r is
+  acted_kept told r parcels done.Starved was now is = come_kept r is
+
+pub left_kept : {P : Type 0} (told : P → Told) → LeftKept told
+left_kept told old new work legal adds left =
+    let i = work.instance in
+    let w = work.worker in
+    record {
+      out = out_kept old new i w legal adds left.out;
+      idle = idle_kept old new i w legal adds left.out left.idle;
+      home = record {
+        told = told_same (told work.task.port) old new i (same old new i w legal adds left.out) (run old new i w legal adds left.out) left.home.told;
+        come = come_kept old new i w legal adds left.out work.task.role left.home.come;
+      };
+      held = held_stays work.held.items old new i adds legal left.held;
+      asked = due_kept old new i w legal adds left.out work.positions left.asked;
+      job = given_kept old new i w legal adds left.out work.job left.job;
+    }
+
+pub done_kept : {P : Type 0} (told : P → Told) → DoneKept told
+done_kept told old new landing legal adds back =
+    let i = landing.instance in
+    let w = landing.worker in
+    let now = held_stays landing.held.items old new i adds legal back.held in
+    record {
+      out = out_kept old new i w legal adds back.out;
+      idle = idle_kept old new i w legal adds back.out back.idle;
+      held = now;
+      confirmed = so_kept old new i w legal adds back.out landing.done landing.confirmed back.confirmed;
+      told = tells_behind (told landing.task.port) old new i (same old new i w legal adds back.out) (run old new i w legal adds back.out) landing.confirmed landing.held.items landing.done back.told;
+      acted = acted_kept old new i w legal adds back.out (told landing.task.port) landing.task.role landing.held.items landing.done back.held now back.acted;
+    }

@@ -1,0 +1,7 @@
+pub mod Telling
+pub mod Writing
+pub mod Saying
+pub mod Doing
+pub mod Staying
+pub mod Closing
+pub mod Kept

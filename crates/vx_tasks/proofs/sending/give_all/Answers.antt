@@ -1,0 +1,19 @@
+use Rattle.std.proofs.Common.{arith}
+use Rattle.vx_tasks.proofs.Telling.{grows_on, take_on, gives_on}
+use Rattle.vx_tasks.proofs.sending.give_all.Goals as goal
+
+pub loop-at-preserved : goal.loop-at-preserved
+loop-at-preserved g c = record {
+  within = omega (arith, c.in-Ok.ensures.within);
+  given = grows_on _ _ _ _ _ _ c.loop-at.invariant.given c.in-Ok.ensures.given (take_on _ _ _);
+  others = gives_on (g.P.Port.told c.args.port.now) (g.P.Port.told c.loop-at.port) (g.P.Port.told c.give.new.self) c.loop-at.invariant.others (record {
+    taken = c.give.ensures.rest.taken;
+    left = c.give.ensures.rest.left;
+    confirmed = c.give.ensures.rest.confirmed;
+    spec = c.give.ensures.rest.spec;
+    ended = c.give.ensures.rest.ended;
+    faults = c.give.ensures.cause.later;
+    refusals = c.give.ensures.refusal.later;
+    idles = c.give.ensures.idles;
+  });
+}

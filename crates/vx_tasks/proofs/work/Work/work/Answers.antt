@@ -1,0 +1,23 @@
+use Rattle.std.proofs.Common.{sym, subst, Option, None}
+use Rattle.vx_tasks.specs.Out.{HasDone}
+use Rattle.vx_tasks.specs.declared.confirming.Confirmed.{Confirmed}
+use Rattle.vx_tasks.specs.declared.landing.Done.TheVariants.{Short}
+use Rattle.vx_tasks.specs.declared.work.Deed.{Deed}
+use Rattle.vx_tasks.proofs.Doing.{landed, done_of, short_of}
+use Rattle.vx_tasks.proofs.work.Work.work.Goals as goal
+use Rattle.vx_tasks.proofs.work.Work.work.Goals.{in-Ok, in-Err}
+
+pub returns-clause-done : goal.returns-clause-done
+returns-clause-done g c h legal left =
+    let told = g.P.Port.told in
+    let work = c.args.self in
+    elim c.match-confirm.branch [
+      | in-Ok w ↦
+          subst (λ (both : Option Confirmed × Deed). HasDone told h (landed work c.match-confirm.port both.1.role both.0 both.1.done)) (sym w.confirmed-is)
+          (subst (λ (port : g.row.P.Denot). HasDone told h (landed work port w.act.result.role w.in-Ok.confirmed w.act.result.done)) (sym w.port-is)
+          (done_of told h work legal left c.confirm.new.port w.act.new.port w.act.result.role w.in-Ok.confirmed w.act.result.done w.in-Ok.ensures.told w.in-Ok.ensures.due w.act.ensures.told w.act.ensures.acted))
+      | in-Err w ↦
+          subst (λ (both : Option Confirmed × Deed). HasDone told h (landed work c.match-confirm.port both.1.role both.0 both.1.done)) (sym w.confirmed-is)
+          (subst (λ (port : g.row.P.Denot). HasDone told h (landed work port work.task.role None Short)) (sym w.port-is)
+          (short_of told h work legal left c.confirm.new.port w.in-Err.ensures.short))
+    ]

@@ -1,0 +1,24 @@
+-- A task that is out is kept by whatever spares it.
+use Rattle.std.specs.Prelude.{◌≡◌, ℕ, true}
+use Rattle.vx_ends.specs.Told.{Told}
+use Rattle.vx_record.specs.Records.{Record}
+use Rattle.vx_record.specs.Turns.{lease_now}
+use Rattle.vx_record.specs.SinkBatches.{is_batch_closed}
+use Rattle.vx_record.specs.Legal.{IsLegal}
+use Rattle.vx_record.specs.Makers.{Spares}
+use Rattle.vx_record.specs.Additions.{OnlyAdds}
+use Rattle.vx_tasks.specs.declared.landing.Landing.{Landing}
+use Rattle.vx_tasks.specs.declared.work.Work.{Work}
+use Rattle.vx_tasks.specs.Out.{IsUnread, StaysClosed, HasLeft, HasDone}
+
+-- while others go on, a task stays as it left
+abbrev pub LeftKept : {P : Type 0} → (P → Told) → Type 0
+LeftKept told_by = (old new : Record) (work : Work _) → IsLegal old → OnlyAdds (Spares work.instance) old new → HasLeft told_by old work → HasLeft told_by new work
+
+-- and as it comes home
+abbrev pub DoneKept : {P : Type 0} → (P → Told) → Type 0
+DoneKept told_by = (old new : Record) (landing : Landing _) → IsLegal old → OnlyAdds (Spares landing.instance) old new → HasDone told_by old landing → HasDone told_by new landing
+
+-- a batch that is closed stays so where no birth is due, as behind a Lease or a Take
+abbrev pub ClosedStays : Type 0
+ClosedStays = (h : Record) (i : ℕ) → IsUnread h → is_batch_closed h i (lease_now h i) ≡ true → StaysClosed h i

@@ -1,0 +1,6 @@
+pub mod Telling
+pub mod Home
+pub mod Out
+pub mod Attempts
+pub mod Doing
+pub mod Laws

@@ -1,0 +1,191 @@
+-- What is known of a task that is out, said of the record and the instance alone.
+use Rattle.std.specs.Prelude.{◌≡◌, ℕ, ◌⊎◌, ◌≤◌, ◌++◌, ◌&&◌, ◌||◌, nat_lt, Bool, true, false, List, [], ◌∷◌, length, take, Option, Some, None, IfSome, if◌then◌else◌}
+use Rattle.std.specs.List.{list_any}
+use Rattle.vx_value.specs.Texts.{Word}
+use Rattle.vx_ends.specs.Told.{Told}
+use Rattle.vx_ends.specs.declared.position.Position.{Position}
+use Rattle.vx_ends.specs.declared.trouble.Reply.{Reply}
+use Rattle.vx_ends.specs.declared.trouble.Reply.TheVariants as reply
+use Rattle.vx_ledger.specs.declared.parcel.Parcel.{Parcel}
+use Rattle.vx_record.specs.declared.entry.Entry.{Entry}
+use Rattle.vx_record.specs.declared.entry.Entry.TheVariants as entry
+use Rattle.vx_record.specs.Records.{Record, capped}
+use Rattle.vx_record.specs.Copies.{joined}
+use Rattle.vx_record.specs.Tasks.{out_to}
+use Rattle.vx_record.specs.Turns.{at_lease, lease_now, since_lease, is_turn_of, is_attempt_of, is_confirm_of}
+use Rattle.vx_record.specs.Installs.{source_at, sink_at}
+use Rattle.vx_record.specs.Confirms.{due, is_confirm_due}
+use Rattle.vx_record.specs.Reads.{bytes_taken}
+use Rattle.vx_record.specs.Sourcing.{failed_starts}
+use Rattle.vx_record.specs.SinkBatches.{is_full_batch, is_timed_out, is_last_batch, was_attempted, is_batch_closed, retry_from}
+use Rattle.vx_record.specs.Encoding.{encoded}
+use Rattle.vx_record.specs.Owing.{is_done}
+use Rattle.vx_record.specs.Ready.{can_read}
+use Rattle.vx_record.specs.Places.Place.{Held}
+use Rattle.vx_record.specs.Shifts.{at}
+use Rattle.vx_sourcecore.specs.declared.source.Turned.{Turned}
+use Rattle.vx_sourcecore.specs.declared.source.Turned.TheVariants as turned
+use Rattle.vx_sourcecore.specs.Turns.{Reading, reading_of, cut_of}
+use Rattle.vx_sourcecore.specs.Abreast.{HasTurned}
+use Rattle.vx_places.specs.Numbers.{numbers, EachFilled}
+use Rattle.vx_places.specs.Holding.{AreKnown}
+use Rattle.vx_tasks.specs.declared.confirming.Confirmed.{Confirmed}
+use Rattle.vx_tasks.specs.declared.landing.Done.{Done}
+use Rattle.vx_tasks.specs.declared.landing.Done.TheVariants as done
+use Rattle.vx_tasks.specs.declared.landing.Landing.{Landing}
+use Rattle.vx_tasks.specs.declared.task.Role.{Role}
+use Rattle.vx_tasks.specs.declared.task.Role.TheVariants as role
+use Rattle.vx_tasks.specs.declared.work.Job.{Job}
+use Rattle.vx_tasks.specs.declared.work.Job.TheVariants as job
+use Rattle.vx_tasks.specs.declared.work.Work.{Work}
+use Rattle.vx_tasks.specs.Telling.{IsTold, IsToldButGiven}
+use Rattle.vx_tasks.specs.Home.{HasCome, IsAtHome}
+
+-- since it was leased an instance took no turn, made no attempt and confirmed nothing
+pub record IsIdle (h : Record) (i : ℕ) : Type 0 where
+  pub no_turn : list_any (is_turn_of i) (since_lease h i) ≡ false
+  pub no_attempt : list_any (is_attempt_of i) (since_lease h i) ≡ false
+  pub no_confirm : list_any (is_confirm_of i) (since_lease h i) ≡ false
+
+-- what the parcels that were lent are: what the record has the instance hold, with the events that it has for them, and a copy each
+pub record IsHeld (h : Record) (i : ℕ) (parcels : List Parcel) : Type 0 where
+  pub held : numbers parcels ≡ at h (Held i)
+  pub known : AreKnown h parcels
+  pub filled : EachFilled parcels
+
+-- the newest entry is no Read: a birth stands directly behind its Read, so then none is due
+abbrev pub IsUnread : Record → Type 0
+IsUnread (entry.Read i stream took ∷ h) = ⊥
+IsUnread h = Unit {0}
+
+-- whether the batch of an instance is closed by what the instance did
+abbrev pub is_closed_alone : Record → ℕ → Bool
+is_closed_alone h i = is_full_batch h i || is_timed_out h i (lease_now h i) || was_attempted h i
+
+-- a sink batch is closed whatever others do: by its own, or as the last one, where no birth is due that could fill the buffer
+abbrev pub StaysClosed : Record → ℕ → Type 0
+StaysClosed h i = (is_closed_alone h i ≡ true) ⊎ ((is_last_batch h i ≡ true) × IsUnread h)
+
+-- a sink batch is closed, and needn't wait
+pub record MayAttemptNow (h : Record) (i : ℕ) : Type 0 where
+  pub sink : sink_at h i ≡ true
+  pub batch_closed : is_batch_closed h i (lease_now h i) ≡ true
+  pub stays : StaysClosed h i
+  pub waited : retry_from h i ≤ lease_now h i
+
+-- a source that could be read when it was leased
+pub record MayReadNow (h : Record) (i : ℕ) : Type 0 where
+  pub source : source_at h i ≡ true
+  pub readable : can_read (at_lease h i) i (lease_now h i) ≡ true
+
+-- an instance that was done when it was leased, and had nothing to confirm
+pub record MayCloseNow (h : Record) (i : ℕ) : Type 0 where
+  pub over : is_done (at_lease h i) i ≡ true
+  pub confirmed : is_confirm_due (at_lease h i) i ≡ false
+
+-- what a job rests on
+abbrev pub IsGiven : Record → ℕ → Job → Type 0
+IsGiven h i job.Read = MayReadNow h i
+IsGiven h i job.Confirm = Unit {0}
+IsGiven h i job.Collect = Unit {0}
+IsGiven h i job.Attempt = MayAttemptNow h i
+IsGiven h i job.Close = MayCloseNow h i
+
+-- positions that are to be confirmed are those that were due when the instance was leased, and where there are none, none was due
+abbrev pub AreDue : Record → ℕ → Option (List Position) → Type 0
+AreDue h i None = is_confirm_due (at_lease h i) i ≡ false
+AreDue h i (Some positions) = (source_at h i ≡ true) × ((is_confirm_due (at_lease h i) i ≡ true) × (positions ≡ due (at_lease h i) i))
+
+-- a task as it left
+pub record HasLeft {P : Type 0} (told_by : P → Told) (h : Record) (work : Work P) : Type 0 where
+  pub out : out_to h work.instance ≡ Some work.worker
+  pub idle : IsIdle h work.instance
+  pub home : IsAtHome told_by h work.instance work.task
+  pub held : IsHeld h work.instance work.held.items
+  pub asked : AreDue h work.instance work.positions
+  pub job : IsGiven h work.instance work.job
+
+-- the entry of a read, and where there is none, of an idle take
+abbrev pub read_entry : ℕ → Option Reading → Entry
+read_entry i None = entry.Idle i false
+read_entry i (Some reading) = entry.Read i reading.stream reading.took
+
+-- the entry that tells a turn: the fifth failed start in a row loses the source, and so does each failed take
+abbrev pub turn_entry : Record → ℕ → Turned → Entry
+turn_entry h i (turned.Failed at_start) =
+    if at_start && nat_lt (failed_starts h i) 4 then entry.Idle i true else entry.SourceLost i (capped (bytes_taken h i)) at_start
+turn_entry h i turned.Idle = entry.Idle i false
+turn_entry h i (turned.Lines stream n room cut) = read_entry i (reading_of (turned.Lines stream n room cut))
+turn_entry h i (turned.StreamEnded stream cut) = read_entry i (reading_of (turned.StreamEnded stream cut))
+turn_entry h i (turned.AllEnded stream cut) = read_entry i (reading_of (turned.AllEnded stream cut))
+
+-- the entries that tell what went through the port: a turn, or an attempt with the parcels that the instance holds
+abbrev pub deeds : Record → ℕ → List Parcel → Done → List Entry
+deeds h i parcels done.Nothing = []
+deeds h i parcels (done.Read turned) = turn_entry h i turned ∷ []
+deeds h i parcels (done.Attempted all sent answer) = entry.Attempt i (joined (numbers parcels)) (take sent all.value) answer ∷ []
+deeds h i parcels done.Closed = []
+deeds h i parcels done.Short = []
+deeds h i parcels done.Starved = []
+
+-- and the entry of the confirm before it
+abbrev pub confirm_entries : ℕ → Option Confirmed → List Entry
+confirm_entries i None = []
+confirm_entries i (Some c) = entry.Confirm i c.positions c.made ∷ []
+
+-- a confirm names what was due when the instance was leased; there is none where nothing was due, or no memory was found
+abbrev pub IsConfirmedSo : Record → ℕ → Done → Option Confirmed → Type 0
+IsConfirmedSo h i done.Short None = Unit {0}
+IsConfirmedSo h i done None = is_confirm_due (at_lease h i) i ≡ false
+IsConfirmedSo h i done (Some c) = AreDue h i (Some c.positions)
+
+-- what the port tells is what the record will have
+abbrev pub TellsDone : Told → Record → ℕ → List Parcel → Done → Type 0
+TellsDone told h i parcels done.Starved = IsToldButGiven told h i
+TellsDone told h i parcels done = IsTold told (deeds h i parcels done ++ h) i
+
+-- what a source does comes back as far as its turn says
+abbrev pub HasRoleTurned : Record → ℕ → Role → Turned → Type 0
+HasRoleTurned h i (role.Source core) turned = HasTurned h i core turned
+HasRoleTurned h i (role.Sink codec) turned = ⊥
+HasRoleTurned h i role.Unfit turned = Unit {0}
+
+-- a turn of a source that could be read when it was leased
+pub record HasRead (h : Record) (i : ℕ) (worker_role : Role) (turned : Turned) : Type 0 where
+  pub may : MayReadNow h i
+  pub come : HasRoleTurned h i worker_role turned
+  pub few : IfSome (cut_of turned) (λ cut. length cut.events ≤ 65536)
+  pub fit : IfSome (cut_of turned) (λ cut. worker_role ≡ role.Unfit → ⊥)
+
+-- an attempt of a closed sink batch: the first bytes of what its codec writes of all that it holds, and all of them where the
+-- answer is `Ok`
+pub record HasAttempted (h : Record) (i : ℕ) (worker_role : Role) (all : Word) (sent : ℕ) (answer : Reply) : Type 0 where
+  pub may : MayAttemptNow h i
+  pub come : HasCome h i worker_role
+  pub whole : all ≡ encoded h i (at h (Held i))
+  pub within : sent ≤ length all
+  pub ok : answer ≡ reply.Ok → sent ≡ length all
+
+-- a port that was closed for good
+pub record HasClosed (told : Told) (h : Record) (i : ℕ) (worker_role : Role) : Type 0 where
+  pub may : MayCloseNow h i
+  pub come : HasCome h i worker_role
+  pub shut : told.started ≡ false
+
+-- what was done
+abbrev pub HasActed : Told → Record → ℕ → Role → Done → Type 0
+HasActed told h i worker_role done.Nothing = HasCome h i worker_role
+HasActed told h i worker_role (done.Read turned) = HasRead h i worker_role turned
+HasActed told h i worker_role (done.Attempted all sent answer) = HasAttempted h i worker_role all.value sent answer
+HasActed told h i worker_role done.Closed = HasClosed told h i worker_role
+HasActed told h i worker_role done.Short = HasCome h i worker_role
+HasActed told h i worker_role done.Starved = HasCome h i worker_role
+
+-- a task with what was done: its port tells what the record will have
+pub record HasDone {P : Type 0} (told_by : P → Told) (h : Record) (landing : Landing P) : Type 0 where
+  pub out : out_to h landing.instance ≡ Some landing.worker
+  pub idle : IsIdle h landing.instance
+  pub held : IsHeld h landing.instance landing.held.items
+  pub confirmed : IsConfirmedSo h landing.instance landing.done landing.confirmed
+  pub told : TellsDone (told_by landing.task.port) (confirm_entries landing.instance landing.confirmed ++ h) landing.instance landing.held.items landing.done
+  pub acted : HasActed (told_by landing.task.port) h landing.instance landing.task.role landing.done

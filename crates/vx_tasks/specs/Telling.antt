@@ -1,0 +1,35 @@
+-- When a port tells what a record has of its instance.
+use Rattle.std.specs.Prelude.{◌≡◌, ℕ, ◌≤◌, true, Option, Some, None, IfSome}
+use Rattle.vx_ends.specs.Told.{Told}
+use Rattle.vx_ends.specs.declared.port_spec.PortSpec.{PortSpec}
+use Rattle.vx_plan.specs.declared.component.Component.{Component}
+use Rattle.vx_plan.specs.Ports.{port_of}
+use Rattle.vx_record.specs.Records.{Record, capped}
+use Rattle.vx_record.specs.Installs.{component_of}
+use Rattle.vx_record.specs.Reads.{taken, ended_streams, all_ended}
+use Rattle.vx_record.specs.Encoding.{given}
+use Rattle.vx_record.specs.Confirms.{confirmed}
+use Rattle.vx_record.specs.PortCounts.{fault_count, refusal_count, idle_count}
+use Rattle.vx_sourcecore.specs.Turns.{NothingLeft}
+
+-- what the port of an instance is made for
+abbrev pub spec_of : Option Component → Option PortSpec
+spec_of None = None
+spec_of (Some component) = port_of component
+
+-- what a port tells is what the record has of its instance: bytes, confirmed positions and ends, what it is made for, and at
+-- least as many failures, refusals and idle takes
+pub record IsTold (told : Told) (h : Record) (i : ℕ) : Type 0 where
+  pub taken : (stream : ℕ) → IfSome (told.taken stream) (λ bytes. bytes ≡ taken h i stream)
+  pub given : IfSome told.given (λ bytes. bytes ≡ given h i)
+  pub spec : IfSome told.spec (λ spec. spec_of (component_of h i) ≡ Some spec)
+  pub confirmed : IfSome told.confirmed (λ positions. positions ≡ confirmed h i)
+  pub ended : told.ended ≡ ended_streams h i
+  pub over : all_ended h i ≡ true → NothingLeft told
+  pub faults : capped (fault_count h i) ≤ told.faults
+  pub refusals : capped (refusal_count h i) ≤ told.refusals
+  pub idles : capped (idle_count h i) ≤ told.idles
+
+-- the same, but for the bytes that were given, of which the record doesn't have all
+abbrev pub IsToldButGiven : Told → Record → ℕ → Type 0
+IsToldButGiven told h i = IsTold (record told { given = None }) h i

@@ -1,0 +1,40 @@
+ghost use Rattle.std.specs.Prelude.{ℕ, ◌++◌, IfOk, OnErr};
+ghost use Rattle.vx_record.specs.Records.{Record};
+ghost use Rattle.vx_tasks.specs.Telling.{IsTold};
+ghost use Rattle.vx_tasks.specs.Out.{AreDue, IsConfirmedSo, confirm_entries};
+ghost use Rattle.vx_tasks.specs.declared.landing.Done.{Done};
+
+use vx_ends::{Port, PositionList, Trouble};
+use vx_value::WantOfMemory;
+
+/// Positions that were confirmed to a port, if the confirm was `made`; else it failed.
+#[derive(Drop)]
+pub struct Confirmed {
+    pub positions: PositionList,
+    pub made: bool,
+}
+
+/// Confirms positions to a port, if there are any to confirm. For want of memory nothing was confirmed.
+pub(crate) fn confirm<P: Port>(
+    port: &mut P,
+    positions: Option<PositionList>,
+) -> Result<Option<Confirmed>, WantOfMemory>
+    ensures told { IfOk result (λ confirmed. (h : Record) (i : ℕ) → IsTold (P.told port.old) h i → IsTold (P.told port.new) (confirm_entries i confirmed ++ h) i) }
+    ensures short { OnErr result ((h : Record) (i : ℕ) → IsTold (P.told port.old) h i → IsTold (P.told port.new) h i) }
+    ensures due { IfOk result (λ confirmed. (h : Record) (i : ℕ) (done : Done) → AreDue h i positions → IsConfirmedSo h i done confirmed) }
+{
+    let Some(positions) = positions else {
+        return Ok(None);
+    };
+    match port.confirm(&positions) {
+        Ok(()) => Ok(Some(Confirmed {
+            positions,
+            made: true,
+        })),
+        Err(Trouble::WantOfMemory) => Err(WantOfMemory),
+        Err(_) => Ok(Some(Confirmed {
+            positions,
+            made: false,
+        })),
+    }
+}

@@ -1,0 +1,15 @@
+//! What a worker takes along of an instance, what it does with that, and what it brings home. Nothing here knows of the hub.
+#![tactic(auto)]
+
+mod confirming;
+mod landing;
+mod laws;
+mod sending;
+mod task;
+mod work;
+
+pub use confirming::Confirmed;
+pub use landing::{Done, Landing};
+pub use laws::task_laws;
+pub use task::{Role, Task};
+pub use work::{Job, Work};

@@ -1,0 +1,90 @@
+ghost use Rattle.std.specs.Prelude.{◌≡◌, ◌≤◌, length, take, IfOk, IfErr, OnErr, OnOk, IsNone, IsErrOf, Some, false};
+ghost use Rattle.vx_ends.specs.Told.{Grows, Rose};
+ghost use Rattle.vx_tasks.specs.Attempts.{OnlyGives, IsCaused, IsWhole};
+
+use vx_ends::{Port, Reply, Trouble};
+
+/// What one attempt sent, in bytes, and what the device answered.
+#[derive(Clone, Copy, Debug)]
+pub(crate) struct Attempted {
+    pub(crate) sent: u64,
+    pub(crate) reply: Reply,
+}
+
+/// An attempt for which memory was wanting after that many bytes were sent.
+#[derive(Clone, Copy, Debug)]
+pub(crate) struct CutShort {
+    pub(crate) sent: u64,
+}
+
+/// Starts the port if it isn't started, gives it the bytes, and finishes. After a failure or want of memory the port is closed.
+pub(crate) fn attempt<P: Port>(port: &mut P, bytes: &[u8]) -> Result<Attempted, CutShort>
+    ensures within { IfOk result (λ attempted. attempted.sent ≤ length bytes.now) }
+    ensures given { IfOk result (λ attempted. Grows (P.told port.old).given (P.told port.new).given (take attempted.sent bytes.now)) }
+    ensures whole { IfOk result (IsWhole (length bytes.now)) }
+    ensures cause { IfOk result (IsCaused (P.told port.old) (P.told port.new)) }
+    ensures others { OnlyGives (P.told port.old) (P.told port.new) }
+    ensures short { IfErr result (λ short. Grows (P.told port.old).given (P.told port.new).given (take short.sent bytes.now)) }
+    ensures closed { OnErr result ((P.told port.new).started ≡ false) }
+{
+    let (sent, answer) = match port.start() {
+        Ok(()) => give_and_finish(port, bytes),
+        Err(trouble) => (0, Err(trouble)),
+    };
+    match answer {
+        Ok(()) => Ok(Attempted {
+            sent,
+            reply: Reply::Ok,
+        }),
+        Err(Trouble::Refused) => Ok(Attempted {
+            sent,
+            reply: Reply::Refused,
+        }),
+        Err(Trouble::Failed) => {
+            port.close();
+            Ok(Attempted {
+                sent,
+                reply: Reply::Failed,
+            })
+        }
+        Err(Trouble::WantOfMemory) => {
+            port.close();
+            Err(CutShort { sent })
+        }
+    }
+}
+
+/// Gives the bytes, and finishes where all were given.
+fn give_and_finish<P: Port>(port: &mut P, bytes: &[u8]) -> (u64, Result<(), Trouble>)
+    ensures within { result.0 ≤ length bytes.now }
+    ensures given { Grows (P.told port.old).given (P.told port.new).given (take result.0 bytes.now) }
+    ensures whole { OnOk result.1 (result.0 ≡ length bytes.now) }
+    ensures failed { IsErrOf result.1 Trouble.Failed → Rose (P.told port.old).faults (P.told port.new).faults }
+    ensures refused { IsErrOf result.1 Trouble.Refused → Rose (P.told port.old).refusals (P.told port.new).refusals }
+    ensures others { OnlyGives (P.told port.old) (P.told port.new) }
+{
+    let (sent, trouble) = give_all(port, bytes);
+    match trouble {
+        Some(trouble) => (sent as u64, Err(trouble)),
+        None => (sent as u64, port.finish()),
+    }
+}
+
+/// Gives the bytes until a give fails: how many were given, and why not all of them.
+fn give_all<P: Port>(port: &mut P, bytes: &[u8]) -> (usize, Option<Trouble>)
+    ensures within { result.0 ≤ length bytes.now }
+    ensures given { Grows (P.told port.old).given (P.told port.new).given (take result.0 bytes.now) }
+    ensures whole { IsNone result.1 → result.0 ≡ length bytes.now }
+    ensures failed { result.1 ≡ Some Trouble.Failed → Rose (P.told port.old).faults (P.told port.new).faults }
+    ensures refused { result.1 ≡ Some Trouble.Refused → Rose (P.told port.old).refusals (P.told port.new).refusals }
+    ensures others { OnlyGives (P.told port.old) (P.told port.new) }
+{
+    let mut at = 0;
+    while at < bytes.len() {
+        match port.give(&bytes[at..]) {
+            Ok(n) => at += n as usize,
+            Err(trouble) => return (at, Some(trouble)),
+        }
+    }
+    (at, None)
+}

@@ -1,0 +1,20 @@
+use vx_json::Codec;
+use vx_sourcecore::SourceCore;
+
+/// What an instance does with its port.
+#[derive(Drop)]
+pub enum Role {
+    /// Reads lines.
+    Source(SourceCore),
+    /// Writes what it holds by a codec.
+    Sink(Codec),
+    /// Nothing any more: memory was wanting while it cut what it had read.
+    Unfit,
+}
+
+/// What an instance works with: its port, and what it does with that.
+#[derive(Drop)]
+pub struct Task<P> {
+    pub port: P,
+    pub role: Role,
+}

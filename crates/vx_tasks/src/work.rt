@@ -1,0 +1,205 @@
+ghost use Rattle.std.specs.Prelude.{◌≡◌, ℕ, List, IfOk, IfSome, IsTrue, None, false};
+ghost use Rattle.vx_record.specs.Records.{Record};
+ghost use Rattle.vx_record.specs.Legal.{IsLegal};
+ghost use Rattle.vx_ledger.specs.declared.parcel.Parcel.{Parcel};
+ghost use Rattle.vx_sourcecore.specs.Turns.{cut_of};
+ghost use Rattle.vx_sourcecore.specs.Abreast.{HasTurned};
+ghost use Rattle.vx_tasks.specs.Telling.{IsTold};
+ghost use Rattle.vx_tasks.specs.Out.{HasLeft, HasDone, TellsDone, HasActed, HasRoleTurned};
+ghost use Rattle.vx_tasks.specs.Doing.{MayAct, written};
+ghost use Rattle.vx_tasks.specs.declared.landing.Done.{Done};
+ghost use Rattle.vx_tasks.specs.declared.task.Role.{Role};
+
+use crate::confirming::confirm;
+use crate::landing::{Done, Landing};
+use crate::sending::attempt;
+use crate::task::{Role, Task};
+use std::alloc::Global;
+use std::snapshot::Snapshot;
+use vx_ends::{Clock, Port, PositionList};
+use vx_json::{Codec, encode_event};
+use vx_ledger::Parcel;
+use vx_places::Line;
+use vx_sourcecore::{SourceCore, Turned};
+use vx_value::{Bytes, WantOfMemory};
+
+/// What a leased instance has to do.
+#[derive(Clone, Copy, PartialEq, Eq, Debug)]
+pub enum Job {
+    /// Read its port.
+    Read,
+    /// Nothing but to confirm what is due.
+    Confirm,
+    /// Wait for more parcels.
+    Collect,
+    /// Write its sink batch.
+    Attempt,
+    /// Close its port.
+    Close,
+}
+
+/// An instance that is out: its task, what it holds, and what is to be done.
+pub struct Work<P> {
+    pub instance: u32,
+    pub worker: u32,
+    pub task: Task<P>,
+    pub held: Line<Parcel>,
+    /// What is confirmed before that.
+    pub positions: Option<PositionList>,
+    pub job: Job,
+}
+
+impl<P: Port> Work<P> {
+    /// Does the work, without the hub: confirms what is due, and reads, writes or closes the port. Where no memory is found for
+    /// the confirm, nothing else is done.
+    pub fn work<C: Clock>(self, alloc: Global, _clock: &C) -> Landing<P>
+        ensures instance { result.instance ≡ self.instance }
+        ensures worker { result.worker ≡ self.worker }
+        ensures done { (h : Record) → IsLegal h → HasLeft P.told h self → HasDone P.told h result }
+    {
+        let Work {
+            instance,
+            worker,
+            task,
+            held,
+            positions,
+            job,
+        } = self;
+        let Task { mut port, role } = task;
+        let (confirmed, deed) = match confirm(&mut port, positions) {
+            Ok(confirmed) => (confirmed, act(alloc, job, &mut port, role, &held)),
+            Err(WantOfMemory) => (
+                None,
+                Deed {
+                    role,
+                    done: Done::Short,
+                },
+            ),
+        };
+        Landing {
+            instance,
+            worker,
+            task: Task {
+                port,
+                role: deed.role,
+            },
+            held,
+            confirmed,
+            done: deed.done,
+        }
+    }
+}
+
+/// What an instance does with its port from now on, and what was done.
+#[derive(Drop)]
+struct Deed {
+    role: Role,
+    done: Done,
+}
+
+/// Does a job with a port.
+fn act<P: Port>(alloc: Global, job: Job, port: &mut P, role: Role, held: &Line<Parcel>) -> Deed
+    ensures told { (h : Record) (i : ℕ) → IsTold (P.told port.old) h i → TellsDone (P.told port.new) h i held.now.items result.done }
+    ensures acted { (h : Record) (i : ℕ) → MayAct (P.told port.old) h i role held.now.items job → HasActed (P.told port.new) h i result.role result.done }
+{
+    match (job, role) {
+        (Job::Read, Role::Source(core)) => read(port, core),
+        (Job::Attempt, Role::Sink(codec)) => Deed {
+            role: Role::Sink(codec),
+            done: send(alloc, port, codec, held),
+        },
+        (Job::Close, role) => Deed {
+            role,
+            done: close(port),
+        },
+        (_, role) => Deed {
+            role,
+            done: Done::Nothing,
+        },
+    }
+}
+
+/// Takes from a source's port. Where no memory was found to cut what was taken, the source is of no use any more.
+fn read<P: Port>(port: &mut P, core: SourceCore) -> Deed
+    ensures told { (h : Record) (i : ℕ) (parcels : List Parcel) → IsTold (P.told port.old) h i → TellsDone (P.told port.new) h i parcels result.done }
+    ensures acted { (h : Record) (i : ℕ) (parcels : List Parcel) → MayAct (P.told port.old) h i (Role.Source core) parcels Job.Read → HasActed (P.told port.new) h i result.role result.done }
+{
+    let mut core = core;
+    match core.turn(port) {
+        Ok(turned) => Deed {
+            role: role_behind(core, &turned),
+            done: Done::Read(turned),
+        },
+        Err(WantOfMemory) => Deed {
+            role: Role::Source(core),
+            done: Done::Short,
+        },
+    }
+}
+
+/// What an instance does that took this turn.
+fn role_behind(core: SourceCore, turned: &Turned) -> Role
+    ensures turned { (h : Record) (i : ℕ) → HasTurned h i core turned.now → HasRoleTurned h i result turned.now }
+    ensures fit { IfSome (cut_of turned.now) (λ cut. result ≡ Role.Unfit → ⊥) }
+{
+    if is_uncut(turned) {
+        Role::Unfit
+    } else {
+        Role::Source(core)
+    }
+}
+
+/// Whether something was taken, and no memory was found to cut it.
+fn is_uncut(turned: &Turned) -> bool
+    ensures { IsTrue result → cut_of turned.now ≡ None }
+{
+    match turned {
+        Turned::Lines { cut, .. }
+        | Turned::StreamEnded { cut, .. }
+        | Turned::AllEnded { cut, .. } => cut.is_none(),
+        Turned::Idle | Turned::Failed { .. } => false,
+    }
+}
+
+/// Closes a port.
+fn close<P: Port>(port: &mut P) -> Done
+    ensures closed { result ≡ Done.Closed }
+    ensures told { (h : Record) (i : ℕ) → IsTold (P.told port.old) h i → IsTold (P.told port.new) h i }
+    ensures shut { (P.told port.new).started ≡ false }
+{
+    port.close();
+    Done::Closed
+}
+
+/// Writes a sink batch.
+fn send<P: Port>(alloc: Global, port: &mut P, codec: Codec, held: &Line<Parcel>) -> Done
+    ensures told { (h : Record) (i : ℕ) → IsTold (P.told port.old) h i → TellsDone (P.told port.new) h i held.now.items result }
+    ensures acted { (h : Record) (i : ℕ) → MayAct (P.told port.old) h i (Role.Sink codec) held.now.items Job.Attempt → HasActed (P.told port.new) h i (Role.Sink codec) result }
+{
+    let Ok(bytes) = encode(alloc, codec, held) else {
+        return Done::Short;
+    };
+    let all = Snapshot::of(&bytes);
+    match attempt(port, bytes.as_slice()) {
+        Ok(attempted) => Done::Attempted {
+            all,
+            sent: attempted.sent,
+            reply: attempted.reply,
+        },
+        Err(short) if short.sent == 0 => Done::Short,
+        Err(_) => Done::Starved,
+    }
+}
+
+/// What parcels are written as: each of their events by a codec, the oldest first.
+fn encode(alloc: Global, codec: Codec, parcels: &Line<Parcel>) -> Result<Bytes, WantOfMemory>
+    ensures { IfOk result (λ bytes. bytes ≡ written codec parcels.now.items) }
+{
+    let mut out = Bytes::new(alloc);
+    for i in 0..parcels.len() {
+        if let Some(parcel) = parcels.get(i) {
+            encode_event(codec, &parcel.event, &mut out)?;
+        }
+    }
+    Ok(out)
+}
