@@ -1,0 +1,13 @@
+pub mod Telling
+pub mod Owing
+pub mod Births
+pub mod Progressing
+pub mod Asking
+pub mod Knowing
+pub mod Steps
+pub mod Turns
+pub mod Holding
+pub mod Taken
+pub mod Spends
+pub mod Aside
+pub mod Beginning

@@ -1,0 +1,14 @@
+use Rattle.vx_seats.proofs.Aside.{aside_known, given_up_known, noticed_all, confirm_due}
+use Rattle.vx_seats.proofs.laws.seats_laws.Goals as goal
+
+pub returns-clause-aside : goal.returns-clause-aside
+returns-clause-aside g c = aside_known g.P.Port.told
+
+pub returns-clause-given_up : goal.returns-clause-given_up
+returns-clause-given_up g c = given_up_known g.P.Port.told
+
+pub returns-clause-noticed : goal.returns-clause-noticed
+returns-clause-noticed g c = noticed_all g.P.Port.told
+
+pub returns-clause-due : goal.returns-clause-due
+returns-clause-due g c = confirm_due g.P.Port.told

@@ -1,0 +1,112 @@
+-- When what is known of the instances is what a record has of them.
+use Rattle.std.specs.Prelude.{◌≡◌, ℕ, ◌+◌, ◌||◌, ◌&&◌, not, Bool, true, false, List, [], ◌∷◌, length, Option, Some, None, IfSome, IfNone, IsSomeAnd, slice_get, if◌then◌else◌}
+use Rattle.vx_ends.specs.Told.{Told}
+use Rattle.vx_ends.specs.declared.position.Position.{Position}
+use Rattle.vx_plan.specs.declared.component.Component.{Component}
+use Rattle.vx_plan.specs.Components.{batch_max_events, batch_timeout}
+use Rattle.vx_plan.specs.Components.{is_sink}
+use Rattle.vx_record.specs.Records.{Record}
+use Rattle.vx_record.specs.Installs.{component_of, sink_at, started, is_closed, is_retired}
+use Rattle.vx_record.specs.Turns.{is_out, at_lease}
+use Rattle.vx_record.specs.Reads.{all_ended}
+use Rattle.vx_record.specs.Ceasing.{lost_at, readers_at, cause_of}
+use Rattle.vx_record.specs.Sourcing.{failed_starts, must_wait}
+use Rattle.vx_record.specs.Confirms.{Birth, births, is_noticed, was_delivered, is_unconfirmed, last_confirm, due}
+use Rattle.vx_record.specs.Owing.{owes}
+use Rattle.vx_record.specs.Parcels.{first_copy}
+use Rattle.vx_record.specs.Places.Place.{Held}
+use Rattle.vx_record.specs.Shifts.{at}
+use Rattle.vx_record.specs.SinkBatches.{attempts_with, taken_at}
+use Rattle.vx_sourcecore.specs.Prefixes.{Judgement, IsPrefixOf}
+use Rattle.vx_counts.specs.Meets.{Meets}
+use Rattle.vx_tasks.specs.declared.task.Task.{Task}
+use Rattle.vx_tasks.specs.Telling.{IsToldButGiven}
+use Rattle.vx_tasks.specs.Home.{HasCome, IsAtHome}
+use Rattle.vx_seats.specs.declared.facts.Batching.{Batching}
+use Rattle.vx_seats.specs.declared.facts.Facts.{Facts}
+use Rattle.vx_seats.specs.declared.progress.Progress.{Progress}
+use Rattle.vx_seats.specs.declared.seat.Seat.{Seat}
+
+-- how a component collects, if it is a sink
+abbrev pub batching_of : Component → Option Batching
+batching_of c =
+    if is_sink c then Some (record { max_events = batch_max_events c.settings; timeout = batch_timeout c.settings }) else None
+
+-- a seat is for a component
+pub record IsFittedTo {P : Type 0} (seat : Seat P) (c : Component) : Type 0 where
+  pub name : seat.name ≡ c.name
+  pub class : seat.class ≡ c.class
+  pub batching : seat.batching ≡ batching_of c
+
+-- for that of its instance, and it sends to the readers of that
+pub record IsFitted {P : Type 0} (seat : Seat P) (h : Record) (i : ℕ) : Type 0 where
+  pub component : IsSomeAnd (component_of h i) (IsFittedTo seat)
+  pub outlet : seat.outlet ≡ readers_at h i ∷ []
+
+-- the moment that is kept is that of the take of the oldest parcel that the instance holds, until that one is attempted or the
+-- run is given up
+abbrev pub IsSince : Record → ℕ → ℕ → List (List ℕ) → Type 0
+IsSince h i since [] = Unit {0}
+IsSince h i since (copies ∷ rest) =
+    cause_of h ≡ None → attempts_with h i (first_copy copies) ≡ 0 → since ≡ taken_at h i (first_copy copies)
+
+-- what happened to the instance
+pub record HasFacts (f : Facts) (h : Record) (i : ℕ) : Type 0 where
+  pub over : f.over ≡ all_ended h i
+  pub lost : f.lost ≡ lost_at h i
+  pub failed_starts : f.failed_starts ≡ failed_starts h i
+  pub confirm_failed : f.confirm_failed ≡ is_unconfirmed h i
+  pub closed : f.closed ≡ is_closed h i
+  pub retired : f.retired ≡ is_retired h i
+  pub since : sink_at h i ≡ true → IsSince h i f.since (at h (Held i))
+
+-- how many of some births have no notice yet
+abbrev pub count_unnoticed : Record → List Birth → ℕ
+count_unnoticed h [] = 0
+count_unnoticed h (birth ∷ rest) = (if is_noticed h birth.batch then 0 else 1) + count_unnoticed h rest
+
+-- whether a batch may be confirmed as soon as those before it are: it needn't wait, or was delivered; and whether it has another
+-- notice, by which it never will, if it has to wait
+abbrev pub judged_by : Record → Judgement
+judged_by h = record {
+  may = λ (birth : Birth). not birth.waits || was_delivered h birth.batch;
+  never = λ (birth : Birth). is_noticed h birth.batch && not (was_delivered h birth.batch);
+}
+
+-- what was due at an instance when it was last leased
+abbrev pub asked : Record → ℕ → List Position
+asked h i = due (at_lease h i) i
+
+-- how far the instance has come: its batches without a notice, and those that may be confirmed
+pub record HasProgress (p : Progress) (h : Record) (i : ℕ) : Type 0 where
+  pub unnoticed : p.unnoticed ≡ count_unnoticed h (births h i)
+  pub waits : p.prefix.waits ≡ must_wait h i
+  pub prefix : IsPrefixOf p.prefix (judged_by h) (births h i) (asked h i)
+
+-- a task at home is as the record has it; where memory was wanting in the midst of an attempt the port may have given more
+abbrev pub IsAtHomeBut : {P : Type 0} → (P → Told) → Bool → Record → ℕ → Task P → Type 0
+IsAtHomeBut told_by true h i task = IsToldButGiven (told_by task.port) h i × HasCome h i task.role
+IsAtHomeBut told_by false h i task = IsAtHome told_by h i task
+
+-- what is at home isn't out, owes nothing where its batch was born, nor a confirm that it was leased for, and its port isn't
+-- started where it is closed for good
+pub record HasHome {P : Type 0} (told_by : P → Told) (f : Facts) (h : Record) (i : ℕ) (task : Task P) : Type 0 where
+  pub home : is_out h i ≡ false
+  pub settled : f.owing ≡ false → cause_of h ≡ None → owes h i ≡ false
+  pub answered : f.owing ≡ false → cause_of h ≡ None → last_confirm h i ≡ asked h i
+  pub task_is : IsAtHomeBut told_by f.starved h i task
+  pub shut : f.closed ≡ true → (told_by task.port).started ≡ false
+
+-- what is known of one instance
+pub record IsKnown {P : Type 0} (told_by : P → Told) (seat : Seat P) (h : Record) (i : ℕ) : Type 0 where
+  pub fitted : IsFitted seat h i
+  pub facts : HasFacts seat.facts h i
+  pub progress : HasProgress seat.progress h i
+  pub counts : seat.facts.behind ≡ false → Meets i h seat.counts.tally
+  pub home : IfSome seat.task (HasHome told_by seat.facts h i)
+  pub away : IfNone seat.task (is_out h i ≡ true)
+
+-- what is known of all
+pub record Knows {P : Type 0} (told_by : P → Told) (seats : List (Seat P)) (h : Record) : Type 0 where
+  pub size : length seats ≡ length (started h)
+  pub each : (i : ℕ) → IfSome (slice_get seats i) (λ seat. IsKnown told_by seat h i)

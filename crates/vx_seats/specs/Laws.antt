@@ -1,0 +1,48 @@
+-- What holds of the seats beside their calls.
+use Rattle.std.specs.Prelude.{◌≡◌, ◌↔◌, ℕ, true, false, List, ◌∷◌, Some, None, is_some, slice_get}
+use Rattle.vx_ends.specs.Told.{Told}
+use Rattle.vx_status.specs.declared.outcome.Outcome.TheVariants.{Abandoned}
+use Rattle.vx_record.specs.declared.entry.Entry.{Entry}
+use Rattle.vx_record.specs.declared.entry.Entry.TheVariants.{Split, Push, Tick, Spent, Abandon}
+use Rattle.vx_record.specs.Records.{Record}
+use Rattle.vx_record.specs.Legal.{IsLegal}
+use Rattle.vx_record.specs.Installs.{device_at}
+use Rattle.vx_record.specs.Ceasing.{cause_of}
+use Rattle.vx_record.specs.Confirms.{is_confirm_due}
+use Rattle.vx_record.specs.Owing.{all_noticed}
+use Rattle.vx_record.specs.Copies.{count, joined}
+use Rattle.vx_record.specs.Places.Place.{Held}
+use Rattle.vx_record.specs.Shifts.{at}
+use Rattle.vx_tasks.specs.declared.task.Task.{Task}
+use Rattle.vx_seats.specs.declared.seat.Seat.{Seat}
+use Rattle.vx_seats.specs.Knowing.{Knows}
+
+-- a kind of entry of which no seat has anything
+abbrev pub IsAside : Entry → Type 0
+IsAside (Split i ports copies event children) = Unit {0}
+IsAside (Push i t s copies) = Unit {0}
+IsAside (Tick i now) = Unit {0}
+IsAside (Abandon cause) = Unit {0}
+IsAside other = ⊥
+
+-- such an entry leaves what is known
+abbrev pub AsideKnown : {P : Type 0} → (P → Told) → Type 0
+AsideKnown told_by = (e : Entry) (h : Record) (seats : List (Seat _)) → IsAside e → IsLegal (e ∷ h) → Knows told_by seats h → Knows told_by seats (e ∷ h)
+
+-- so does the spend of a copy that is given up, where the instance doesn't hold it
+abbrev pub GivenUpKnown : {P : Type 0} → (P → Told) → Type 0
+GivenUpKnown told_by =
+    (h : Record) (i c : ℕ) (seats : List (Seat _)) → count c (joined (at h (Held i))) ≡ 0 → IsLegal (Spent i c Abandoned ∷ h) →
+    Knows told_by seats h → Knows told_by seats (Spent i c Abandoned ∷ h)
+
+-- no batch of an instance is without a notice exactly where none is counted
+abbrev pub NoticedAll : {P : Type 0} → (P → Told) → Type 0
+NoticedAll told_by =
+    (h : Record) (i : ℕ) (seats : List (Seat _)) (seat : Seat _) → slice_get seats i ≡ Some seat → Knows told_by seats h →
+    (seat.progress.unnoticed ≡ 0) ↔ (all_noticed h i ≡ true)
+
+-- a confirm is due at an instance at home exactly where something is to be confirmed
+abbrev pub ConfirmDue : {P : Type 0} → (P → Told) → Type 0
+ConfirmDue told_by =
+    (h : Record) (i : ℕ) (seats : List (Seat _)) (seat : Seat _) (task : Task _) → slice_get seats i ≡ Some seat → seat.task ≡ Some task → seat.facts.owing ≡ false →
+    cause_of h ≡ None → IsLegal h → device_at h i ≡ true → Knows told_by seats h → is_some seat.progress.prefix.due ≡ is_confirm_due h i

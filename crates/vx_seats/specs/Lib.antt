@@ -1,0 +1,4 @@
+pub mod Knowing
+pub mod Calls
+pub mod Beginning
+pub mod Laws

@@ -1,0 +1,43 @@
+ghost use Rattle.std.specs.Prelude.{◌≡◌, IfSome, IfNone, None};
+ghost use Rattle.vx_seats.specs.Calls.{Leaves};
+
+use crate::facts::{Batching, Facts};
+use crate::progress::Progress;
+use vx_counts::Counts;
+use vx_ends::PositionList;
+use vx_ledger::Outlet;
+use vx_plan::Class;
+use vx_tasks::Task;
+use vx_value::Text;
+
+/// An instance: what its component says, what is known of it, and its task unless that is out.
+#[derive(Drop)]
+pub struct Seat<P> {
+    /// The name of its component.
+    pub name: Text,
+    pub class: Class,
+    /// The instances that read each of its ports, in byte order of their components' names.
+    pub outlet: Outlet,
+    /// How it collects, if it is a sink.
+    pub batching: Option<Batching>,
+    pub facts: Facts,
+    pub progress: Progress,
+    pub counts: Counts,
+    /// Its port, and what it does with that; `None` while a worker has them.
+    pub task: Option<Task<P>>,
+}
+
+/// Takes the task of a seat along, with what is to be confirmed.
+pub(crate) fn leave_seat<P>(seat: &mut Seat<P>) -> Option<(Task<P>, Option<PositionList>)>
+    ensures some { IfSome result (λ r. Leaves seat.old seat.new r.0 r.1) }
+    ensures none { IfNone result (seat.old.task ≡ None) }
+    ensures same { IfNone result (seat.new ≡ seat.old) }
+{
+    match seat.task.take() {
+        Some(task) => {
+            let positions = seat.progress.prefix.take_due();
+            Some((task, positions))
+        }
+        None => None,
+    }
+}

@@ -1,0 +1,391 @@
+ghost use Rattle.std.specs.Prelude.{◌≡◌, ◌<◌, ◌+◌, ◌⊎◌, ◌||◌, ◌&&◌, not, if◌then◌else◌, ℕ, Bool, true, false, List, [], ◌∷◌, length, IfOk, IfSome, IfNone, IsSome, Some, None, slice_get};
+ghost use Rattle.vx_ends.specs.declared.trouble.Reply.{Reply};
+ghost use Rattle.vx_value.specs.Texts.{Word, is_empty};
+ghost use Rattle.vx_record.specs.Records.{Record, capped};
+ghost use Rattle.vx_record.specs.Legal.{IsLegal};
+ghost use Rattle.vx_record.specs.Installs.{source_at, device_at};
+ghost use Rattle.vx_record.specs.Reads.{bytes_taken, bytes_of, is_end};
+ghost use Rattle.vx_record.specs.Tallies.{is_batch_of, is_first, is_newest, is_unread, any_copy};
+ghost use Rattle.vx_record.specs.Turns.{lease_now};
+ghost use Rattle.vx_record.specs.Shifts.{at};
+ghost use Rattle.vx_record.specs.Places.Place.{Outputs, Waiting, Held};
+ghost use Rattle.vx_plan.specs.declared.class.Class.TheVariants.{Sink};
+ghost use Rattle.vx_status.specs.declared.outcome.Outcome.TheVariants.{NewestDropped, NoConsumer};
+ghost use Rattle.vx_counts.specs.Classes.{class_at, IsGiver};
+ghost use Rattle.vx_counts.specs.Spends.{WasPutIn};
+ghost use Rattle.vx_record.specs.declared.taken.Taken.{Taken};
+ghost use Rattle.vx_ends.specs.declared.position.Position.{Position};
+ghost use Rattle.vx_value.specs.declared.event.Event.{Event};
+ghost use Rattle.vx_record.specs.declared.entry.Entry.TheVariants as Entry;
+ghost use Rattle.vx_counts.specs.Meets.{Meets};
+ghost use Rattle.vx_sourcecore.specs.NewLines.{AreNew};
+ghost use Rattle.vx_tasks.specs.Out.{AreDue};
+ghost use Rattle.vx_record.specs.declared.entry.Entry.TheVariants.{Lease, Home, Read, Idle, SourceLost, Born, Take, Attempt, Spent, Confirm, Closed, Retired};
+ghost use Rattle.vx_plan.specs.declared.plan.Plan.{Plan};
+ghost use Rattle.vx_plan.specs.Accepted.{IsPlan};
+ghost use Rattle.vx_record.specs.Wirings.{begun};
+ghost use Rattle.vx_seats.specs.Beginning.{AreFresh};
+ghost use Rattle.vx_seats.specs.Knowing.{Knows};
+ghost use Rattle.vx_seats.specs.Calls.{CountsAt, IsSettledAt, IsShutAt, HadHome, HadNobody, HasTaskBack, HasPlaceFor};
+
+use crate::seat::{Seat, leave_seat};
+use std::alloc::Global;
+use std::marker::Model;
+use vx_counts::Counts;
+use vx_ends::{Port, Position, PositionList};
+use vx_ledger::Notice;
+use vx_plan::Class;
+use vx_sourcecore::{Ends, NewLines};
+use vx_status::Outcome;
+use vx_tasks::Task;
+use vx_value::WantOfMemory;
+
+/// What is known of all instances, by their numbers.
+///
+/// Contracts see the seats. `Knows` says that they are as a record has them: what a call ensures is that they are so with its
+/// entry.
+#[derive(Drop)]
+pub struct Seats<P: Port> {
+    seats: Vec<Seat<P>>,
+}
+
+impl<P: Port> Model for Seats<P> {
+    ghost use Rattle.std.specs.Prelude.{List};
+    ghost use Rattle.vx_seats.specs.declared.seat.Seat.{Seat};
+
+    ghost Value = { List (Seat P) };
+
+    ghost view = { λ s. s.seats.items };
+}
+
+impl<P: Port> Seats<P> {
+    /// Seats as they begin. Where they are fresh for a plan that may be installed, they are as a record has them that begins with it.
+    pub fn new(seats: Vec<Seat<P>>) -> Self
+        ensures size { length result ≡ length seats.items }
+        ensures knows { (plan : Plan) → (once : Bool) → (now : ℕ) → IsPlan plan → AreFresh P.told plan seats.items → Knows P.told result (begun plan once now) }
+    {
+        Seats { seats }
+    }
+
+    /// How many instances there are.
+    pub fn len(&self) -> usize
+        ensures { result ≡ length self.now }
+    {
+        self.seats.len()
+    }
+
+    /// What is known of an instance.
+    pub fn get(&self, i: u32) -> &Seat<P>
+        requires { i < length self.now }
+        ensures { slice_get self.now i ≡ Some result.now }
+    {
+        &self.seats[i as usize]
+    }
+
+    /// Takes the task of an instance along, with what is to be confirmed, if it is at home. It is leased with that.
+    pub fn leave(&mut self, i: u32) -> Option<(Task<P>, Option<PositionList>)>
+        requires { i < length self.old }
+        ensures size { length self.new ≡ length self.old }
+        ensures home { IfSome result (λ r. (h : Record) → Knows P.told self.old h → HadHome P.told self.old h i r.0) }
+        ensures due { IfSome result (λ r. (h : Record) → (worker now polls : ℕ) → IsSettledAt self.old i → device_at h i ≡ true → Knows P.told self.old h →
+            IsLegal (Lease i worker now polls ∷ h) → AreDue (Lease i worker now polls ∷ h) i r.1) }
+        ensures knows { IfSome result (λ r. (h : Record) → (worker now polls : ℕ) → Knows P.told self.old h → IsLegal (Lease i worker now polls ∷ h) →
+            Knows P.told self.new (Lease i worker now polls ∷ h)) }
+        ensures nobody { IfNone result (HadNobody self.old i) }
+        ensures same { IfNone result (self.new ≡ self.old) }
+    {
+        leave_seat(&mut self.seats[i as usize])
+    }
+
+    /// Brings the task of an instance home.
+    pub fn arrive(&mut self, i: u32, task: Task<P>)
+        requires { i < length self.old }
+        ensures size { length self.new ≡ length self.old }
+        ensures knows { (h : Record) → HasTaskBack P.told self.old h i task → Knows P.told self.old h → IsLegal (Home i ∷ h) → Knows P.told self.new (Home i ∷ h) }
+    {
+        self.seats[i as usize].task = Some(task);
+    }
+
+    /// A source took so many bytes, or was told an end, and that completed some lines; or memory was wanting for these, and then what
+    /// it counts isn't known any more. `all` tells the end of all.
+    pub fn read(&mut self, i: u32, bytes: u64, new: Option<NewLines>, all: bool)
+        requires { i < length self.old }
+        ensures size { length self.new ≡ length self.old }
+        ensures knows { (h : Record) → (stream : ℕ) → (took : Taken) → bytes ≡ capped (length (bytes_of took)) → all ≡ is_end took → IfSome new (AreNew h i stream took) →
+            Knows P.told self.old h → IsLegal (Read i stream took ∷ h) → Knows P.told self.new (Read i stream took ∷ h) }
+    {
+        let seat = &mut self.seats[i as usize];
+        let counted = count_read(&mut seat.counts, bytes, new);
+        seat.facts.behind = either(!counted, seat.facts.behind);
+        seat.facts.over = either(all, seat.facts.over);
+        seat.facts.failed_starts = 0;
+    }
+
+    /// Takes the memory for one batch more of a source, which ends at a position, and for its notice.
+    pub fn prepare(
+        &mut self,
+        i: u32,
+        alloc: Global,
+        position: Position,
+    ) -> Result<Ends, WantOfMemory>
+        requires { i < length self.old }
+        ensures size { length self.new ≡ length self.old }
+        ensures ready { IfOk result (HasPlaceFor self.new i position) }
+        ensures knows { (h : Record) → Knows P.told self.old h → Knows P.told self.new h }
+    {
+        self.seats[i as usize]
+            .progress
+            .prefix
+            .prepare(alloc, position)
+    }
+
+    /// A source bore a batch of so many events, for which memory was taken.
+    pub fn born(&mut self, i: u32, batch: u64, ends: Ends, events: u64)
+        requires within { i < length self.old }
+        requires ready { (position : Position) × HasPlaceFor self.old i position ends }
+        ensures size { length self.new ≡ length self.old }
+        ensures knows { (h : Record) → (place stream end : ℕ) → (copies : List ℕ) → (made : List Event) → (waits : Bool) →
+            HasPlaceFor self.old i (record { stream = stream; end = end }) ends → events ≡ capped (length made) →
+            Knows P.told self.old h → IsLegal (Born i batch place copies made waits stream end ∷ h) → Knows P.told self.new (Born i batch place copies made waits stream end ∷ h) }
+    {
+        let seat = &mut self.seats[i as usize];
+        seat.counts.bore(events);
+        seat.progress.unnoticed = seat.progress.unnoticed.saturating_add(1);
+        seat.progress.prefix.born(batch, ends);
+    }
+
+    /// A batch has its notice. The notice is told to the instance that bore it.
+    pub fn noticed(&mut self, notice: Notice)
+        requires { notice.instance < length self.old }
+        ensures size { length self.new ≡ length self.old }
+        ensures knows { (h : Record) → is_batch_of h notice.instance notice.batch ≡ true → Knows P.told self.old h → IsLegal (Entry.Notice notice.batch notice.status ∷ h) →
+            Knows P.told self.new (Entry.Notice notice.batch notice.status ∷ h) }
+    {
+        let seat = &mut self.seats[notice.instance as usize];
+        seat.counts.noticed(notice.status);
+        seat.progress.unnoticed = seat.progress.unnoticed.saturating_sub(1);
+        seat.progress.prefix.notice(notice);
+    }
+
+    /// The port of an instance is closed for good. It isn't started.
+    pub fn closed(&mut self, i: u32)
+        requires { i < length self.old }
+        ensures size { length self.new ≡ length self.old }
+        ensures knows { (h : Record) → IsShutAt P.told self.old i → Knows P.told self.old h → IsLegal (Closed i ∷ h) → Knows P.told self.new (Closed i ∷ h) }
+    {
+        self.seats[i as usize].facts.closed = true;
+    }
+
+    /// An instance ended.
+    pub fn retired(&mut self, i: u32)
+        requires { i < length self.old }
+        ensures size { length self.new ≡ length self.old }
+        ensures knows { (h : Record) → Knows P.told self.old h → IsLegal (Retired i ∷ h) → Knows P.told self.new (Retired i ∷ h) }
+    {
+        self.seats[i as usize].facts.retired = true;
+    }
+
+    /// A source found nothing, or its port failed to start.
+    pub fn idle(&mut self, i: u32, failed: bool)
+        requires { i < length self.old }
+        ensures size { length self.new ≡ length self.old }
+        ensures knows { (h : Record) → Knows P.told self.old h → IsLegal (Idle i failed ∷ h) → Knows P.told self.new (Idle i failed ∷ h) }
+    {
+        let facts = &mut self.seats[i as usize].facts;
+        facts.failed_starts = starts_after(facts.failed_starts, failed);
+    }
+
+    /// A source is lost. Answers after how many bytes, at most 2^64 - 1.
+    pub fn lost(&mut self, i: u32) -> u64
+        requires { i < length self.old }
+        ensures size { length self.new ≡ length self.old }
+        ensures after { (h : Record) → CountsAt self.old i → source_at h i ≡ true → Knows P.told self.old h → result ≡ capped (bytes_taken h i) }
+        ensures knows { (h : Record) → (failed : Bool) → Knows P.told self.old h → IsLegal (SourceLost i result failed ∷ h) → Knows P.told self.new (SourceLost i result failed ∷ h) }
+    {
+        let seat = &mut self.seats[i as usize];
+        let after = seat.counts.tally.read;
+        seat.facts.lost = Some(after);
+        after
+    }
+
+    /// An instance took a parcel at a moment, in milliseconds, that of its lease. `first` says that it held none before.
+    pub fn took(&mut self, i: u32, now: u64, first: bool)
+        requires { i < length self.old }
+        ensures size { length self.new ≡ length self.old }
+        ensures knows { (h : Record) → (s : ℕ) → (copies : List ℕ) → first ≡ is_empty (at h (Held i)) → now ≡ lease_now h i → Knows P.told self.old h →
+            IsLegal (Take i s copies ∷ h) → Knows P.told self.new (Take i s copies ∷ h) }
+    {
+        let seat = &mut self.seats[i as usize];
+        seat.counts.took();
+        seat.facts.since = since_after(seat.facts.since, now, first);
+    }
+
+    /// A copy was spent that an instance held, as answered or given up. `first` says that it came first in the parcel that was taken:
+    /// its other copies don't count.
+    pub fn spent(&mut self, i: u32, outcome: Outcome, first: bool)
+        requires { i < length self.old }
+        ensures size { length self.new ≡ length self.old }
+        ensures knows { (h : Record) → (c : ℕ) → is_newest outcome ≡ false → is_unread outcome ≡ false → first ≡ is_first h i c → Knows P.told self.old h →
+            IsLegal (Spent i c outcome ∷ h) → Knows P.told self.new (Spent i c outcome ∷ h) }
+    {
+        let seat = &mut self.seats[i as usize];
+        let sink = is_sink(seat.class);
+        count_spent(&mut seat.counts, sink, first, outcome);
+    }
+
+    /// A copy that an instance put out was spent for want of a reader. `first` says that no other copy of its parcel was spent so
+    /// before.
+    pub fn unread(&mut self, i: u32, first: bool)
+        requires { i < length self.old }
+        ensures size { length self.new ≡ length self.old }
+        ensures knows { (h : Record) → (c : ℕ) → (copies : List ℕ) → WasPutIn h (Outputs i) copies c → first ≡ not (any_copy is_unread h copies) → Knows P.told self.old h →
+            IsLegal (Spent i c NoConsumer ∷ h) → Knows P.told self.new (Spent i c NoConsumer ∷ h) }
+    {
+        let seat = &mut self.seats[i as usize];
+        let sink = is_sink(seat.class);
+        count_unread(&mut seat.counts, sink, first);
+    }
+
+    /// A copy that waited for a target was dropped as the newest. `first` says that no other copy of its parcel was dropped so before.
+    pub fn dropped(&mut self, target: u32, first: bool)
+        requires { target < length self.old }
+        ensures size { length self.new ≡ length self.old }
+        ensures knows { (h : Record) → (i c : ℕ) → (copies : List ℕ) → WasPutIn h (Waiting i target) copies c → first ≡ not (any_copy is_newest h copies) → Knows P.told self.old h →
+            IsLegal (Spent i c NewestDropped ∷ h) → Knows P.told self.new (Spent i c NewestDropped ∷ h) }
+    {
+        let seat = &mut self.seats[target as usize];
+        let sink = is_sink(seat.class);
+        count_dropped(&mut seat.counts, sink, first);
+    }
+
+    /// A batch that a source read can't be born, or memory was wanting before a confirm: what the instance owes isn't known any more.
+    pub fn owed(&mut self, i: u32)
+        requires { i < length self.old }
+        ensures size { length self.new ≡ length self.old }
+        ensures knows { (h : Record) → Knows P.told self.old h → Knows P.told self.new h }
+    {
+        self.seats[i as usize].facts.owing = true;
+    }
+
+    /// Memory was wanting in the midst of an attempt: the port of the instance may have given bytes that no entry tells.
+    pub fn mark_starved(&mut self, i: u32)
+        requires { i < length self.old }
+        ensures size { length self.new ≡ length self.old }
+        ensures knows { (h : Record) → Knows P.told self.old h → Knows P.told self.new h }
+    {
+        self.seats[i as usize].facts.starved = true;
+    }
+
+    /// A sink gave its port so many bytes.
+    pub fn attempted(&mut self, i: u32, bytes: u64)
+        requires { i < length self.old }
+        ensures size { length self.new ≡ length self.old }
+        ensures knows { (h : Record) → (copies : List ℕ) → (gave : Word) → (reply : Reply) → bytes ≡ capped (length gave) → Knows P.told self.old h →
+            IsLegal (Attempt i copies gave reply ∷ h) → Knows P.told self.new (Attempt i copies gave reply ∷ h) }
+    {
+        self.seats[i as usize].counts.attempted(bytes);
+    }
+
+    /// Positions were confirmed to the port of a source, if that was `made`.
+    pub fn confirmed(&mut self, i: u32, positions: &PositionList, made: bool)
+        requires { i < length self.old }
+        ensures size { length self.new ≡ length self.old }
+        ensures knows { (h : Record) → Knows P.told self.old h → IsLegal (Confirm i positions.now made ∷ h) → Knows P.told self.new (Confirm i positions.now made ∷ h) }
+    {
+        let seat = &mut self.seats[i as usize];
+        seat.facts.confirm_failed = !made;
+        count_confirm(&mut seat.counts, positions, made);
+    }
+}
+
+/// How often in a row a port failed to start, after one more time or a time when it had nothing.
+fn starts_after(before: u32, failed: bool) -> u32
+    ensures { before < 4 ⊎ (failed ≡ false) → result ≡ (if failed then before + 1 else 0) }
+{
+    if failed { before.saturating_add(1) } else { 0 }
+}
+
+/// Whether one of two holds.
+fn either(a: bool, b: bool) -> bool
+    ensures { result ≡ (a || b) }
+{
+    a || b
+}
+
+/// Whether two hold.
+fn both(a: bool, b: bool) -> bool
+    ensures { result ≡ (a && b) }
+{
+    a && b
+}
+
+/// Whether a class is that of sinks.
+fn is_sink(class: Class) -> bool
+    ensures yes { result ≡ true → class ≡ Sink }
+    ensures no { result ≡ false → class ≡ Sink → ⊥ }
+{
+    matches!(class, Class::Sink)
+}
+
+/// The moment of the oldest parcel, behind one more.
+fn since_after(before: u64, now: u64, first: bool) -> u64
+    ensures { result ≡ (if first then now else before) }
+{
+    if first { now } else { before }
+}
+
+/// Counts a spend of a copy that was held, if it is that of a sink's first copy.
+fn count_spent(counts: &mut Counts, sink: bool, first: bool, outcome: Outcome)
+    ensures { (h : Record) → (i c : ℕ) → is_newest outcome ≡ false → is_unread outcome ≡ false → IsLegal (Spent i c outcome ∷ h) →
+        (sink ≡ true → class_at h i ≡ Some Sink) → (sink ≡ false → class_at h i ≡ Some Sink → ⊥) → first ≡ is_first h i c →
+        Meets i h counts.old.tally → Meets i (Spent i c outcome ∷ h) counts.new.tally }
+{
+    if both(sink, first) {
+        counts.spent(outcome);
+    }
+}
+
+/// Counts a spend for want of a reader, if it is the first of its parcel.
+fn count_unread(counts: &mut Counts, sink: bool, first: bool)
+    ensures { (h : Record) → (i c : ℕ) → (copies : List ℕ) → IsLegal (Spent i c NoConsumer ∷ h) →
+        (sink ≡ true → class_at h i ≡ Some Sink) → (sink ≡ false → IsGiver (class_at h i)) → WasPutIn h (Outputs i) copies c → first ≡ not (any_copy is_unread h copies) →
+        Meets i h counts.old.tally → Meets i (Spent i c NoConsumer ∷ h) counts.new.tally }
+{
+    if both(!sink, first) {
+        counts.unread();
+    }
+}
+
+/// Counts a drop of the newest for a sink, if it is the first of its parcel.
+fn count_dropped(counts: &mut Counts, sink: bool, first: bool)
+    ensures { (h : Record) → (i j c : ℕ) → (copies : List ℕ) → IsLegal (Spent i c NewestDropped ∷ h) →
+        (sink ≡ true → class_at h j ≡ Some Sink) → (sink ≡ false → class_at h j ≡ Some Sink → ⊥) → WasPutIn h (Waiting i j) copies c → first ≡ not (any_copy is_newest h copies) →
+        Meets j h counts.old.tally → Meets j (Spent i c NewestDropped ∷ h) counts.new.tally }
+{
+    if both(sink, first) {
+        counts.dropped_newest();
+    }
+}
+
+/// Counts a read, if its lines were counted. Answers whether they were.
+fn count_read(counts: &mut Counts, bytes: u64, new: Option<NewLines>) -> bool
+    ensures { result ≡ true → (h : Record) → (i stream : ℕ) → (took : Taken) → IsLegal (Read i stream took ∷ h) → bytes ≡ capped (length (bytes_of took)) →
+        IfSome new (AreNew h i stream took) → Meets i h counts.old.tally → Meets i (Read i stream took ∷ h) counts.new.tally }
+{
+    match new {
+        Some(new) => {
+            counts.read(bytes, new);
+            true
+        }
+        None => false,
+    }
+}
+
+/// Counts a confirm, if it was made.
+fn count_confirm(counts: &mut Counts, positions: &PositionList, made: bool)
+    ensures { (h : Record) → (i : ℕ) → IsLegal (Confirm i positions.now made ∷ h) → Meets i h counts.old.tally → Meets i (Confirm i positions.now made ∷ h) counts.new.tally }
+{
+    if made {
+        counts.confirmed(positions.as_slice());
+    }
+}
