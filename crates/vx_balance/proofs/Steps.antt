@@ -5,13 +5,13 @@ use Rattle.std.proofs.lemmas.Bool.Decides.{nat_tests}
 use Rattle.vx_value.specs.declared.event.Event.{Event}
 use Rattle.vx_status.specs.declared.outcome.Outcome.{Outcome}
 use Rattle.vx_status.specs.declared.batch_status.BatchStatus.TheVariants.{Delivered}
-use Rattle.vx_ledger.specs.Copies.{Copy, copies_of, numbered, children_of, joined, numbers_of}
+use Rattle.vx_ledger.specs.Copies.{Copy, copies_of, numbered, children_of, joined, each_alone, numbers_of}
 use Rattle.vx_ledger.specs.Ledger.{Ledger, IsKept, Exchanges, live_count, grown_rows, spent_rows, notice_of}
 use Rattle.vx_ledger.specs.declared.open_batch.OpenBatch.{OpenBatch}
 use Rattle.vx_ledger.specs.declared.notice.Notice.{Notice as Told}
 use Rattle.vx_ledger.specs.declared.short.Short.{Short}
 use Rattle.vx_ledger.specs.declared.split_refused.SplitRefused.{SplitRefused}
-use Rattle.vx_ledger.proofs.CopyLaws.{copies_of-numbered, copies_of-children_of}
+use Rattle.vx_ledger.proofs.CopyLaws.{copies_of-numbered, copies_of-children_of, joined-each_alone}
 use Rattle.vx_record.specs.Records.{Record}
 use Rattle.vx_record.specs.declared.child.Child.{Child}
 use Rattle.vx_record.specs.declared.entry.Entry.TheVariants.{Born, Split, Spent, Notice}
@@ -113,12 +113,19 @@ bears i n b made old new number are next rows exchange sound = record {
     size : length (numbers_of made) ≡ n
     size = ap (λ (ns : List ℕ). length ns) numbers ∙ length-counting old.next n
 
--- where the batch was born
-pub bears_of : (i n : ℕ) (old new : Ledger) (answer : Result (ℕ × List Copy) Short) → IfOk answer (λ r. r.0 ≡ old.next) → IfOk answer (λ r. r.1 ≡ numbered n old.next old.next old.next) → OnOk answer (new.next ≡ old.next + n) →
-    OnOk answer (new.open_rows ≡ old.open_rows ++ record { number = old.next; place = old.next; instance = i; count = n; status = Delivered } ∷ []) → IfOk answer (λ r. Exchanges old [] new r.1) → IsKept new →
-    IfOk answer (λ r. Bears i n r.0 r.1 old new)
-bears_of i n old new (Ok r) number are next rows exchange sound = bears i n r.0 r.1 old new number are next rows exchange sound
-bears_of i n old new (Err e) number are next rows exchange sound = tt
+-- where the batch was born, each copy in a list of its own
+pub bears_each : (i n : ℕ) (old new : Ledger) (answer : Result (ℕ × List (List Copy)) Short) → IfOk answer (λ r. r.0 ≡ old.next) → IfOk answer (λ r. r.1 ≡ each_alone (numbered n old.next old.next old.next)) → OnOk answer (new.next ≡ old.next + n) →
+    OnOk answer (new.open_rows ≡ old.open_rows ++ record { number = old.next; place = old.next; instance = i; count = n; status = Delivered } ∷ []) → IfOk answer (λ r. Exchanges old [] new (joined r.1)) → IsKept new →
+    IfOk answer (λ r. Bears i n r.0 (joined r.1) old new)
+bears_each i n old new (Ok r) number are next rows exchange sound =
+    bears i n r.0 (joined r.1) old new number (ap joined are ∙ joined-each_alone (numbered n old.next old.next old.next)) next rows exchange sound
+bears_each i n old new (Err e) number are next rows exchange sound = tt
+
+-- lists of one copy each are those of the copies behind one another
+pub each_again : (copies : List Copy) (answer : Result (ℕ × List (List Copy)) Short) → IfOk answer (λ r. r.1 ≡ each_alone copies) →
+    IfOk answer (λ r. r.1 ≡ each_alone (joined r.1))
+each_again copies (Ok r) are = are ∙ ap each_alone (sym (ap joined are ∙ joined-each_alone copies))
+each_again copies (Err e) are = tt
 
 -- A SPLIT
 pub split_balances : (h : Record) (i ports k : ℕ) (parent : List Copy) (event : Event) (noted : List Child) (children : List (List Copy)) (old new : Ledger) → length noted ≡ k → AreOfBatch h parent →

@@ -1,4 +1,5 @@
 ghost use Rattle.std.specs.Prelude.{◌≡◌, ℕ, ◌+◌, ◌*◌, ◌^◌, ◌<◌, ◌≤◌, ◌↔◌, [], ◌∷◌, length, IfOk, IfErr, OnErr, IfSome, IfNone, IsErr, IsTrue};
+ghost use Rattle.vx_ledger.specs.Copies.{joined, each_alone};
 ghost use Rattle.vx_ledger.specs.Ledger.{IsShort};
 ghost use Rattle.vx_ledger.specs.Routing.{targets_of, IfChildren, IsNoConsumer, IfNoConsumer};
 ghost use Rattle.vx_record.specs.Records.{Record};
@@ -55,18 +56,19 @@ impl Balance {
         self.batches.is_settled()
     }
 
-    /// Bears a batch of `n` copies to an instance. Gives its number and the copies.
+    /// Bears a batch of `n` copies to an instance. Gives its number and the copies in order, each in a list of its own.
     ///
     /// `Numbers` comes exactly where their numbers would pass 2^63, and before memory is asked for. After a refusal nothing
     /// has changed.
-    pub fn bear(&mut self, instance: u32, n: u32) -> Result<(u64, Finalizers), Short>
+    pub fn bear_each(&mut self, instance: u32, n: u32) -> Result<(u64, FinalizersList), Short>
         requires { 0 < n }
-        ensures bears { IfOk result (λ r. Bears instance n r.0 r.1 self.old self.new) }
+        ensures bears { IfOk result (λ r. Bears instance n r.0 (joined r.1) self.old self.new) }
+        ensures each { IfOk result (λ r. r.1 ≡ each_alone (joined r.1)) }
         ensures numbers { 2 ^ 63 < self.old.next + n → IsErr result }
         ensures cause { IfErr result (IsShort self.old.next n) }
         ensures unchanged { OnErr result (self.new ≡ self.old) }
     {
-        self.batches.born(instance, n)
+        self.batches.born_each(instance, n)
     }
 
     /// Replaces each copy in hand by a child for each of `k` targets. Gives one list a target.

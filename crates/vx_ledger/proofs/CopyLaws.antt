@@ -2,7 +2,7 @@
 use Rattle.std.proofs.Common.{◌≡◌, ℕ, zero, suc, ◌+◌, ◌*◌, ◌<◌, ◌≤◌, List, [], ◌∷◌, ◌++◌, length, take, drop, get_or, set, Some, refl, sym, append_assoc, arith, add-one, ◌==◌, ◌&&◌, if◌then◌else◌}
 use Rattle.std.specs.List.{slice_get}
 use Rattle.std.proofs.lemmas.Grind.{common_steps}
-use Rattle.vx_ledger.specs.Copies.{Copy, copies_of, numbered, renumbered, children_of, joined}
+use Rattle.vx_ledger.specs.Copies.{Copy, copies_of, numbered, renumbered, children_of, joined, each_alone}
 
 -- copies of two lists
 pub copies_of-append : (batch place : ℕ) (xs ys : List Copy) →
@@ -101,3 +101,13 @@ copies_of-joined_push batch place (x ∷ xs) y =
       copies_of-append batch place x (joined xs),
       copies_of-append batch place x (joined (xs ++ y ∷ [])),
     )
+
+-- one more copy alone at the end
+pub each_alone-push : (cs : List Copy) (c : Copy) → each_alone (cs ++ c ∷ []) ≡ each_alone cs ++ (c ∷ []) ∷ []
+each_alone-push [] c = refl
+each_alone-push (x ∷ xs) c = rw (each_alone-push xs c) refl
+
+-- copies that stand alone, one behind the other
+pub joined-each_alone : (cs : List Copy) → joined (each_alone cs) ≡ cs
+joined-each_alone [] = refl
+joined-each_alone (c ∷ cs) = rw (joined-each_alone cs) refl

@@ -35,6 +35,11 @@ abbrev pub joined : List (List Copy) → List Copy
 joined [] = []
 joined (cs ∷ rest) = cs ++ joined rest
 
+-- each copy in a list of its own
+abbrev pub each_alone : List Copy → List (List Copy)
+each_alone [] = []
+each_alone (c ∷ cs) = (c ∷ []) ∷ each_alone cs
+
 -- the numbers of some copies, as an entry has them
 abbrev pub numbers_of : List Copy → List ℕ
 numbers_of [] = []

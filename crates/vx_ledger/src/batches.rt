@@ -1,5 +1,5 @@
 ghost use Rattle.std.specs.Prelude.{◌≡◌, ℕ, ◌+◌, ◌-◌, ◌*◌, ◌^◌, ◌<◌, ◌≤◌, ◌↔◌, [], ◌∷◌, ◌++◌, List, length, OnOk, IfOk, IfErr, OnErr, IfSome, IsSome, IsErr, IsTrue, Some, slice_get};
-ghost use Rattle.vx_ledger.specs.Copies.{numbered, renumbered, children_of, joined};
+ghost use Rattle.vx_ledger.specs.Copies.{numbered, renumbered, children_of, joined, each_alone};
 ghost use Rattle.vx_ledger.specs.Ledger.{AreLive, Exchanges, IsKept, IsShort, live_count, grown_rows, spent_rows, notice_of};
 
 use crate::finalizer::Finalizer;
@@ -8,12 +8,12 @@ use crate::notice::Notice;
 use crate::open_batch::OpenBatch;
 use crate::short::Short;
 use crate::split_refused::SplitRefused;
-use crate::{children, rows};
+use crate::{alone, children, rows};
 use std::alloc::Global;
 use std::collections::VecDeque;
 use std::marker::Model;
 use vx_status::{BatchStatus, Outcome};
-use vx_value::WantOfMemory;
+use vx_value::{ItemList, WantOfMemory};
 
 // No copy has this number or a greater one.
 const LIMIT: u64 = 1 << 63;
@@ -97,6 +97,66 @@ impl Batches {
         ensures cause { IfErr result (IsShort self.old.next n) }
         ensures unchanged { OnErr result (self.new ≡ self.old) }
     {
+        let first = match self.first_of(n) {
+            Ok(first) => first,
+            Err(short) => return Err(short),
+        };
+        let Ok(copies) = Finalizers::numbered(self.allocator(), first, n) else {
+            return Err(Short::WantOfMemory);
+        };
+        match self.add_row(instance, n) {
+            Ok(()) => Ok((first, copies)),
+            Err(_) => {
+                copies.unmake();
+                Err(Short::WantOfMemory)
+            }
+        }
+    }
+
+    /// Opens a batch of `n` copies, one an event. Gives its number, which is that of its first copy, and the
+    /// copies in order, each in a list of its own.
+    ///
+    /// The copies have the numbers that `born` gives, and all memory is taken before the batch is opened. `Numbers`
+    /// comes exactly where their numbers would pass 2^63, and before memory is asked for. After a refusal nothing has
+    /// changed.
+    pub fn born_each(&mut self, instance: u32, n: u32) -> Result<(u64, FinalizersList), Short>
+        requires { 0 < n }
+
+        // The copies have the next numbers, and their batch is the last of the open ones.
+        ensures number { IfOk result (λ r. r.0 ≡ self.old.next) }
+        ensures singly { IfOk result (λ r. r.1 ≡ each_alone (numbered n self.old.next self.old.next self.old.next)) }
+        ensures next { OnOk result (self.new.next ≡ self.old.next + n) }
+        ensures rows { OnOk result (self.new.open_rows ≡ self.old.open_rows ++ record { number = self.old.next; place = self.old.next; instance = instance; count = n; status = BatchStatus.Delivered } ∷ []) }
+        ensures exchange { IfOk result (λ r. Exchanges self.old [] self.new (joined r.1)) }
+        ensures kept { IsKept self.new }
+
+        ensures numbers { 2 ^ 63 < self.old.next + n → IsErr result }
+        ensures cause { IfErr result (IsShort self.old.next n) }
+        ensures unchanged { OnErr result (self.new ≡ self.old) }
+    {
+        let first = match self.first_of(n) {
+            Ok(first) => first,
+            Err(short) => return Err(short),
+        };
+        let Ok(lists) = alone::each_numbered(self.allocator(), first, n) else {
+            return Err(Short::WantOfMemory);
+        };
+        match self.add_row(instance, n) {
+            Ok(()) => Ok((first, ItemList::from_vec(lists))),
+            Err(_) => {
+                children::unmake_all(lists);
+                Err(Short::WantOfMemory)
+            }
+        }
+    }
+
+    // The number of the first of `n` new copies, where there are numbers for all of them.
+    fn first_of(&self, n: u32) -> Result<u64, Short>
+        ensures first { IfOk result (λ first. first ≡ self.now.next) }
+        ensures fits { OnOk result (self.now.next + n ≤ 2 ^ 63) }
+        ensures cause { IfErr result (IsShort self.now.next n) }
+        ensures kept { IsKept self.now }
+    {
         let wanted = u64::from(n);
         if wanted > numbers_left(self.next) {
             return Err(Short::Numbers {
@@ -104,26 +164,33 @@ impl Batches {
                 wanted,
             });
         }
-        let first = self.next;
+        Ok(self.next)
+    }
+
+    // Opens a batch of the next `n` copies. For want of memory nothing has changed.
+    fn add_row(&mut self, instance: u32, n: u32) -> Result<(), WantOfMemory>
+        requires some { 0 < n }
+        requires fits { self.old.next + n ≤ 2 ^ 63 }
+        ensures next { OnOk result (self.new.next ≡ self.old.next + n) }
+        ensures rows { OnOk result (self.new.open_rows ≡ self.old.open_rows ++ record { number = self.old.next; place = self.old.next; instance = instance; count = n; status = BatchStatus.Delivered } ∷ []) }
+        ensures exchange { OnOk result (Exchanges self.old [] self.new (numbered n self.old.next self.old.next self.old.next)) }
+        ensures kept { IsKept self.new }
+        ensures unchanged { OnErr result (self.new ≡ self.old) }
+    {
+        let count = u64::from(n);
         let row = OpenBatch {
-            number: first,
-            place: first,
+            number: self.next,
+            place: self.next,
             instance,
-            count: wanted,
+            count,
             status: BatchStatus::Delivered,
-        };
-        let Ok(finalizers) = Finalizers::numbered(self.allocator(), first, n) else {
-            return Err(Short::WantOfMemory);
         };
         match self.rows.push_back(row) {
             Ok(()) => {
-                self.next += wanted;
-                Ok((first, finalizers))
+                self.next += count;
+                Ok(())
             }
-            Err(_) => {
-                finalizers.unmake();
-                Err(Short::WantOfMemory)
-            }
+            Err(_) => Err(WantOfMemory),
         }
     }
 

@@ -7,7 +7,7 @@ use std::alloc::Global;
 use vx_value::{ItemList, WantOfMemory};
 
 // Ends lists of copies that were never handed out.
-fn unmake_all(lists: Vec<Finalizers>) {
+pub(crate) fn unmake_all(lists: Vec<Finalizers>) {
     let mut rest = lists;
     while let Some(list) = rest.pop() {
         list.unmake();

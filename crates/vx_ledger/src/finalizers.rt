@@ -118,6 +118,15 @@ impl Finalizers {
         Ok(Finalizers { items })
     }
 
+    // One copy of the batch that has the number `batch`, in a list of its own.
+    pub(crate) fn alone(alloc: Global, batch: u64, number: u64) -> Result<Self, WantOfMemory>
+        ensures { IfOk result (λ f. f ≡ record { batch = batch; number = number; place = batch } ∷ []) }
+    {
+        let mut items = Vec::with_capacity(alloc, 1)?;
+        items.push_reserved(Finalizer::make(batch, number, batch));
+        Ok(Finalizers { items })
+    }
+
     // The same copies with fresh numbers, from `first` on, in a list of their own.
     pub(crate) fn renumbered(&self, alloc: Global, first: u64) -> Result<Self, WantOfMemory>
         requires { first + length self.now ≤ 2 ^ 63 }

@@ -1,6 +1,7 @@
 //! The ledger of copies: finalizers, which must be spent, and the open batches that they belong to.
 #![tactic(auto)]
 
+mod alone;
 mod batches;
 mod child;
 mod children;
