@@ -1,5 +1,5 @@
 -- A task that was done comes home as its record will have it.
-use Rattle.std.proofs.Common.{◌≡◌, ℕ, Bool, true, false, ◌++◌, Option, Some, None, refl, ap, ◌∙◌}
+use Rattle.std.proofs.Common.{◌≡◌, ℕ, Bool, true, false, List, ◌++◌, Option, Some, None, IfSome, refl, sym, ap, subst, ◌∙◌}
 use Rattle.std.specs.Prelude.{◌&&◌, ◌||◌, not, is_some}
 use Rattle.std.proofs.lemmas.List.{append-nil}
 use Rattle.vx_ends.specs.Told.{Told}
@@ -7,19 +7,23 @@ use Rattle.vx_record.specs.Records.{Record}
 use Rattle.vx_record.specs.Legal.{IsLegal}
 use Rattle.vx_record.specs.Installs.{source_at}
 use Rattle.vx_record.specs.Reads.{all_ended, is_lost, ended_streams}
+use Rattle.vx_record.specs.Encoding.{given, encoded}
+use Rattle.vx_record.specs.Places.Place.{Held}
+use Rattle.vx_record.specs.Shifts.{at}
 use Rattle.vx_record.specs.Routing.{drains, is_out_from_before}
 use Rattle.vx_record.specs.Tasks.{out_to}
 use Rattle.vx_record.proofs.TasksOut.{out_to_worker}
 use Rattle.vx_record.proofs.Turning.{turn_undry}
 use Rattle.vx_tasks.specs.declared.confirming.Confirmed.{Confirmed}
 use Rattle.vx_tasks.specs.declared.landing.Done.{Done}
-use Rattle.vx_tasks.specs.declared.landing.Done.TheVariants.{Short}
+use Rattle.vx_tasks.specs.declared.landing.Done.TheVariants.{Short, Starved}
 use Rattle.vx_tasks.specs.declared.landing.Landing.{Landing}
 use Rattle.vx_tasks.specs.declared.task.Role.{Role}
 use Rattle.vx_tasks.specs.declared.work.Job.{Job}
 use Rattle.vx_tasks.specs.declared.work.Job.TheVariants as job
 use Rattle.vx_tasks.specs.declared.work.Work.{Work}
-use Rattle.vx_tasks.specs.Telling.{IsTold}
+use Rattle.vx_tasks.specs.Telling.{IsTold, GoesBeyond, IsToldBeyond}
+use Rattle.vx_tasks.specs.Laws.{StarvedBeyond}
 use Rattle.vx_tasks.specs.Doing.{MayAct}
 use Rattle.vx_tasks.specs.Out.{IsIdle, MayReadNow, IsGiven, AreDue, HasLeft, confirm_entries, IsConfirmedSo, TellsDone, HasActed, HasDone}
 
@@ -45,6 +49,11 @@ reads_unended h i worker job.Close legal out idle given is = cc
 ended_behind : (h : Record) (i : ℕ) (confirmed : Option Confirmed) → ended_streams (confirm_entries i confirmed ++ h) i ≡ ended_streams h i
 ended_behind h i None = refl
 ended_behind h i (Some c) = append-nil (ended_streams h i)
+
+-- nor gives it anything
+given_behind : (h : Record) (i : ℕ) (confirmed : Option Confirmed) → given (confirm_entries i confirmed ++ h) i ≡ given h i
+given_behind h i None = refl
+given_behind h i (Some c) = append-nil (given h i)
 
 -- a task as it comes home
 abbrev pub landed : {P : Type 0} → Work P → P → Role → Option Confirmed → Done → Landing P
@@ -72,6 +81,7 @@ module _ {P : Type 0} (told_by : P → Told) (h : Record) (work : Work P) (legal
           come = left.home.come;
           held = left.held;
           ended = told.ended ∙ ended_behind h work.instance confirmed;
+          wrote = subst (λ (w : List ℕ). IfSome (told_by mid).given (λ bytes. bytes ≡ w)) (given_behind h work.instance confirmed) told.given;
           unended = reads_unended h work.instance work.worker work.job legal left.out left.idle left.job;
         });
       }
@@ -87,3 +97,18 @@ module _ {P : Type 0} (told_by : P → Told) (h : Record) (work : Work P) (legal
     told = same h work.instance left.home.told;
     acted = left.home.come;
   }
+
+-- where the attempt starved the port goes beyond the record
+pub starved_beyond : {P : Type 0} (told_by : P → Told) → StarvedBeyond told_by
+starved_beyond told_by h landing back starved = go landing.done starved back.told back.acted
+  where
+    port : Told
+    port = told_by landing.task.port
+
+    go : (d : Done) → d ≡ Starved → TellsDone port (confirm_entries landing.instance landing.confirmed ++ h) landing.instance landing.held.items d → HasActed port h landing.instance landing.task.role d →
+        IsToldBeyond port (confirm_entries landing.instance landing.confirmed ++ h) landing.instance (encoded h landing.instance (at h (Held landing.instance)))
+    go Starved is told acted = record {
+      rest = told;
+      beyond = subst (λ (w : List ℕ). GoesBeyond port.given w (encoded h landing.instance (at h (Held landing.instance)))) (sym (given_behind h landing.instance landing.confirmed)) acted.beyond;
+    }
+    go d is told acted = cc

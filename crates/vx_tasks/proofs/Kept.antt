@@ -18,7 +18,7 @@ use Rattle.vx_record.specs.Shifts.{at}
 use Rattle.vx_record.specs.Turns.{at_lease, lease_now, since_lease, is_turn_of, is_attempt_of, is_confirm_of}
 use Rattle.vx_record.specs.Installs.{component_of, source_at}
 use Rattle.vx_record.specs.Parcels.{parcel_event}
-use Rattle.vx_record.specs.Encoding.{bytes_for, encoded}
+use Rattle.vx_record.specs.Encoding.{given, bytes_for, encoded}
 use Rattle.vx_record.specs.Reads.{bytes_taken}
 use Rattle.vx_record.specs.Sourcing.{failed_starts}
 use Rattle.vx_record.specs.Confirms.{due, is_confirm_due}
@@ -29,6 +29,7 @@ use Rattle.vx_record.specs.Makers.{Spares}
 use Rattle.vx_record.specs.Additions.{OnlyAdds}
 use Rattle.vx_record.proofs.OwnTurns.{worker_own, moment_own}
 use Rattle.vx_record.proofs.OwnLeases.{turned_own, tried_own, confirmed_own, lease_stays}
+use Rattle.vx_record.proofs.OwnConfirms.{given_own}
 use Rattle.vx_record.proofs.OwnReads.{bytes_own, starts_own}
 use Rattle.vx_record.proofs.TasksOut.{spared_stays}
 use Rattle.vx_sourcecore.specs.declared.source.Turned.{Turned}
@@ -42,7 +43,7 @@ use Rattle.vx_tasks.specs.declared.task.Role.{Role}
 use Rattle.vx_tasks.specs.declared.task.Role.TheVariants as role
 use Rattle.vx_tasks.specs.declared.work.Job.{Job}
 use Rattle.vx_tasks.specs.declared.work.Job.TheVariants as job
-use Rattle.vx_tasks.specs.Telling.{IsTold}
+use Rattle.vx_tasks.specs.Telling.{IsTold, GoesBeyond}
 use Rattle.vx_tasks.specs.Home.{HasCome}
 use Rattle.vx_tasks.specs.Out.{IsIdle, IsHeld, MayAttemptNow, MayReadNow, MayCloseNow, IsGiven, AreDue, turn_entry, deeds, confirm_entries, IsConfirmedSo, TellsDone, HasRoleTurned, HasActed}
 use Rattle.vx_tasks.specs.Laws.{LeftKept, DoneKept}
@@ -224,7 +225,13 @@ module _ (old new : Record) (i worker : ℕ) (legal : IsLegal old) (adds : OnlyA
   }
   acted_kept told r parcels done.Closed was now is = record { may = close_kept is.may; come = come_kept r is.come; shut = is.shut }
   acted_kept told r parcels done.Short was now is = come_kept r is
-  acted_kept told r parcels done.Starved was now is = come_kept r is
+  acted_kept told r parcels done.Starved was now is = record {
+    may = attempt_kept is.may;
+    come = come_kept r is.come;
+    beyond = subst (λ (w : List ℕ). GoesBeyond told.given w (encoded new i (at new (Held i)))) (sym (stays given given_own old new i same))
+        (subst (λ (w : List ℕ). GoesBeyond told.given (given old i) w) (sym (encoded_kept parcels was now)) is.beyond);
+    shut = is.shut;
+  }
 
 pub left_kept : {P : Type 0} (told : P → Told) → LeftKept told
 left_kept told old new work legal adds left =

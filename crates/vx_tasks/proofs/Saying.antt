@@ -45,7 +45,7 @@ record Says (e : Entry) (h : Record) (i : ℕ) (old new : Told) : Type 0 where
   refusals : Counts old.refusals (refusals_in i e) new.refusals
   idles : Counts old.idles (idles_in i e) new.idles
 
-grown : {X : Type 0} (o n : Option (List X)) (more had : List X) → Grows o n more → IfSome o (λ xs. xs ≡ had) → IfSome n (λ xs. xs ≡ had ++ more)
+pub grown : {X : Type 0} (o n : Option (List X)) (more had : List X) → Grows o n more → IfSome o (λ xs. xs ≡ had) → IfSome n (λ xs. xs ≡ had ++ more)
 grown None n more had g is = subst (λ (x : Option (List _)). IfSome x (λ xs. xs ≡ had ++ more)) (sym g) tt
 grown (Some xs) n more had g is = subst (λ (x : Option (List _)). IfSome x (λ ys. ys ≡ had ++ more)) (sym g) (ap (λ ys. ys ++ more) is)
 

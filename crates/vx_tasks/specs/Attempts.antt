@@ -1,5 +1,5 @@
 -- What an attempt does to the port, and what its answer says.
-use Rattle.std.specs.Prelude.{◌≡◌, ℕ, ◌≤◌, false}
+use Rattle.std.specs.Prelude.{◌≡◌, ℕ, ◌≤◌, true, false}
 use Rattle.vx_ends.specs.Told.{Told, Rose}
 use Rattle.vx_ends.specs.declared.trouble.Reply.TheVariants.{Ok, Failed, Refused}
 use Rattle.vx_ends.specs.declared.trouble.Reply.{Reply}
@@ -16,11 +16,11 @@ pub record OnlyGives (old new : Told) : Type 0 where
   pub refusals : old.refusals ≤ new.refusals
   pub idles : old.idles ≤ new.idles
 
--- what a reply says of the port's counts, and that a failure closes the port
+-- what a reply says of the port: it is started, and a failure closes it; a failure and a refusal raise their counts
 abbrev pub RepliesBy : Told → Told → Reply → Type 0
-RepliesBy old new Ok = Unit {0}
+RepliesBy old new Ok = new.started ≡ true
 RepliesBy old new Failed = Rose old.faults new.faults × (new.started ≡ false)
-RepliesBy old new Refused = Rose old.refusals new.refusals
+RepliesBy old new Refused = Rose old.refusals new.refusals × (new.started ≡ true)
 
 -- the reply has its cause
 abbrev pub IsCaused : Told → Told → Attempted → Type 0

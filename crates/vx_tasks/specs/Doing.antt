@@ -1,12 +1,12 @@
 -- What a task's work does with its port, job by job.
-use Rattle.std.specs.Prelude.{◌≡◌, ℕ, false, List, [], ◌∷◌, ◌++◌}
+use Rattle.std.specs.Prelude.{◌≡◌, ℕ, false, List, [], ◌∷◌, ◌++◌, IfSome}
 use Rattle.vx_value.specs.Texts.{Word}
 use Rattle.vx_ends.specs.Told.{Told}
 use Rattle.vx_json.specs.declared.codec.Codec.{Codec}
 use Rattle.vx_ledger.specs.declared.parcel.Parcel.{Parcel}
 use Rattle.vx_record.specs.Records.{Record}
 use Rattle.vx_record.specs.Reads.{all_ended, ended_streams}
-use Rattle.vx_record.specs.Encoding.{encode_event}
+use Rattle.vx_record.specs.Encoding.{encode_event, given}
 use Rattle.vx_tasks.specs.declared.task.Role.{Role}
 use Rattle.vx_tasks.specs.declared.work.Job.{Job}
 use Rattle.vx_tasks.specs.declared.work.Job.TheVariants as job
@@ -20,6 +20,7 @@ written codec (p ∷ ps) = encode_event codec p.event ++ written codec ps
 
 -- what a job needs of a record, of what the port tells and of what the instance does
 pub record MayAct (told : Told) (h : Record) (i : ℕ) (does : Role) (parcels : List Parcel) (wanted : Job) : Type 0 where
+  pub wrote : IfSome told.given (λ bytes. bytes ≡ given h i)
   pub given : IsGiven h i wanted
   pub come : HasCome h i does
   pub held : IsHeld h i parcels

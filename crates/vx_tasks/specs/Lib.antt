@@ -2,5 +2,6 @@ pub mod Telling
 pub mod Home
 pub mod Out
 pub mod Attempts
+pub mod Jobs
 pub mod Doing
 pub mod Laws

@@ -1,5 +1,5 @@
 -- What is known of a task that is out, said of the record and the instance alone.
-use Rattle.std.specs.Prelude.{◌≡◌, ℕ, ◌⊎◌, ◌≤◌, ◌++◌, ◌&&◌, ◌||◌, nat_lt, Bool, true, false, List, [], ◌∷◌, length, take, Option, Some, None, IfSome, if◌then◌else◌}
+use Rattle.std.specs.Prelude.{◌≡◌, ℕ, ◌⊎◌, ◌≤◌, ◌++◌, ◌&&◌, ◌||◌, nat_lt, is_some, is_none, Bool, true, false, List, [], ◌∷◌, length, take, Option, Some, None, IfSome, if◌then◌else◌}
 use Rattle.std.specs.List.{list_any}
 use Rattle.vx_value.specs.Texts.{Word}
 use Rattle.vx_ends.specs.Told.{Told}
@@ -18,7 +18,7 @@ use Rattle.vx_record.specs.Confirms.{due, is_confirm_due}
 use Rattle.vx_record.specs.Reads.{bytes_taken}
 use Rattle.vx_record.specs.Sourcing.{failed_starts}
 use Rattle.vx_record.specs.SinkBatches.{is_full_batch, is_timed_out, is_last_batch, was_attempted, is_batch_closed, retry_from}
-use Rattle.vx_record.specs.Encoding.{encoded}
+use Rattle.vx_record.specs.Encoding.{given, encoded}
 use Rattle.vx_record.specs.Owing.{is_done}
 use Rattle.vx_record.specs.Ready.{can_read}
 use Rattle.vx_record.specs.Places.Place.{Held}
@@ -38,7 +38,7 @@ use Rattle.vx_tasks.specs.declared.task.Role.TheVariants as role
 use Rattle.vx_tasks.specs.declared.work.Job.{Job}
 use Rattle.vx_tasks.specs.declared.work.Job.TheVariants as job
 use Rattle.vx_tasks.specs.declared.work.Work.{Work}
-use Rattle.vx_tasks.specs.Telling.{IsTold, IsToldButGiven}
+use Rattle.vx_tasks.specs.Telling.{IsTold, IsToldButGiven, GoesBeyond}
 use Rattle.vx_tasks.specs.Home.{HasCome, IsAtHome}
 
 -- since it was leased an instance took no turn, made no attempt and confirmed nothing
@@ -144,18 +144,27 @@ abbrev pub TellsDone : Told → Record → ℕ → List Parcel → Done → Type
 TellsDone told h i parcels done.Starved = IsToldButGiven told h i
 TellsDone told h i parcels done = IsTold told (deeds h i parcels done ++ h) i
 
+-- whether a turn read what no memory was found to cut
+abbrev pub lacks_cut : Turned → Bool
+lacks_cut turned = is_some (reading_of turned) && is_none (cut_of turned)
+
+abbrev pub is_unfit : Role → Bool
+is_unfit (role.Source core) = false
+is_unfit (role.Sink codec) = false
+is_unfit role.Unfit = true
+
 -- what a source does comes back as far as its turn says
 abbrev pub HasRoleTurned : Record → ℕ → Role → Turned → Type 0
 HasRoleTurned h i (role.Source core) turned = HasTurned h i core turned
 HasRoleTurned h i (role.Sink codec) turned = ⊥
 HasRoleTurned h i role.Unfit turned = Unit {0}
 
--- a turn of a source that could be read when it was leased
+-- a turn of a source that could be read when it was leased; the source is of no use any more exactly where what it read wasn't cut
 pub record HasRead (h : Record) (i : ℕ) (worker_role : Role) (turned : Turned) : Type 0 where
   pub may : MayReadNow h i
   pub come : HasRoleTurned h i worker_role turned
   pub few : IfSome (cut_of turned) (λ cut. length cut.events ≤ 65536)
-  pub fit : IfSome (cut_of turned) (λ cut. worker_role ≡ role.Unfit → ⊥)
+  pub fit : is_unfit worker_role ≡ lacks_cut turned
 
 -- an attempt of a closed sink batch: the first bytes of what its codec writes of all that it holds, and all of them where the
 -- answer is `Ok`
@@ -165,6 +174,14 @@ pub record HasAttempted (h : Record) (i : ℕ) (worker_role : Role) (all : Word)
   pub whole : all ≡ encoded h i (at h (Held i))
   pub within : sent ≤ length all
   pub ok : answer ≡ reply.Ok → sent ≡ length all
+
+-- an attempt of a closed sink batch in whose midst no memory was found: the port was given the first bytes of what its codec
+-- writes of all that it holds, at least one, and is closed
+pub record HasStarved (told : Told) (h : Record) (i : ℕ) (worker_role : Role) : Type 0 where
+  pub may : MayAttemptNow h i
+  pub come : HasCome h i worker_role
+  pub beyond : GoesBeyond told.given (given h i) (encoded h i (at h (Held i)))
+  pub shut : told.started ≡ false
 
 -- a port that was closed for good
 pub record HasClosed (told : Told) (h : Record) (i : ℕ) (worker_role : Role) : Type 0 where
@@ -179,7 +196,7 @@ HasActed told h i worker_role (done.Read turned) = HasRead h i worker_role turne
 HasActed told h i worker_role (done.Attempted all sent answer) = HasAttempted h i worker_role all.value sent answer
 HasActed told h i worker_role done.Closed = HasClosed told h i worker_role
 HasActed told h i worker_role done.Short = HasCome h i worker_role
-HasActed told h i worker_role done.Starved = HasCome h i worker_role
+HasActed told h i worker_role done.Starved = HasStarved told h i worker_role
 
 -- a task with what was done: its port tells what the record will have
 pub record HasDone {P : Type 0} (told_by : P → Told) (h : Record) (landing : Landing P) : Type 0 where

@@ -1,5 +1,6 @@
 -- When a port tells what a record has of its instance.
-use Rattle.std.specs.Prelude.{◌≡◌, ℕ, ◌≤◌, true, Option, Some, None, IfSome}
+use Rattle.std.specs.Prelude.{◌≡◌, ℕ, ◌<◌, ◌≤◌, ◌++◌, length, take, true, Option, Some, None, IfSome}
+use Rattle.vx_value.specs.Texts.{Word}
 use Rattle.vx_ends.specs.Told.{Told}
 use Rattle.vx_ends.specs.declared.port_spec.PortSpec.{PortSpec}
 use Rattle.vx_plan.specs.declared.component.Component.{Component}
@@ -33,3 +34,15 @@ pub record IsTold (told : Told) (h : Record) (i : ℕ) : Type 0 where
 -- the same, but for the bytes that were given, of which the record doesn't have all
 abbrev pub IsToldButGiven : Told → Record → ℕ → Type 0
 IsToldButGiven told h i = IsTold (record told { given = None }) h i
+
+-- where what was given is told, it goes beyond what was given before by the first `sent` bytes of others, at least one
+pub record GoesBeyond (now : Option Word) (before all : Word) : Type 0 where
+  pub sent : ℕ
+  pub some : 0 < sent
+  pub within : sent ≤ length all
+  pub are : IfSome now (λ bytes. bytes ≡ before ++ take sent all)
+
+-- so a port goes beyond a record that has none of the last bytes that it was given, and else tells what the record has
+pub record IsToldBeyond (told : Told) (h : Record) (i : ℕ) (all : Word) : Type 0 where
+  pub rest : IsToldButGiven told h i
+  pub beyond : GoesBeyond told.given (given h i) all

@@ -10,7 +10,7 @@ use vx_value::Bytes;
 /// What the port did in a call of `work`, beside the confirm.
 #[derive(Drop)]
 pub enum Done {
-    /// Nothing was to be done.
+    /// There was nothing to do, or nothing that the instance can do.
     Nothing,
     /// A source took something, or didn't.
     Read(Turned),
@@ -22,9 +22,10 @@ pub enum Done {
     },
     /// The port is closed.
     Closed,
-    /// No memory was found, and nothing was done.
+    /// No memory was found to confirm, to read or to write, and nothing was confirmed, taken or given for want of it.
     Short,
-    /// No memory was found in the midst of an attempt. The port may have given bytes of it that no entry tells.
+    /// No memory was found in the midst of an attempt. The port was given the first bytes of it, at least one, which no entry tells,
+    /// and is closed.
     Starved,
 }
 
@@ -34,7 +35,7 @@ pub struct Landing<P> {
     pub worker: u32,
     pub task: Task<P>,
     pub held: Line<Parcel>,
-    /// The confirm that was made before, or failed.
+    /// The confirm that was made before, or failed. There is none where none was asked, or no memory was found for it.
     pub confirmed: Option<Confirmed>,
     pub done: Done,
 }

@@ -18,6 +18,7 @@ pub(crate) struct CutShort {
 }
 
 /// Starts the port if it isn't started, gives it the bytes, and finishes. After a failure or want of memory the port is closed.
+/// What a finish does to the device no port tells, so no clause says that it is made.
 pub(crate) fn attempt<P: Port>(port: &mut P, bytes: &[u8]) -> Result<Attempted, CutShort>
     ensures within { IfOk result (λ attempted. attempted.sent ≤ length bytes.now) }
     ensures given { IfOk result (λ attempted. Grows (P.told port.old).given (P.told port.new).given (take attempted.sent bytes.now)) }
@@ -25,6 +26,7 @@ pub(crate) fn attempt<P: Port>(port: &mut P, bytes: &[u8]) -> Result<Attempted, 
     ensures cause { IfOk result (IsCaused (P.told port.old) (P.told port.new)) }
     ensures others { OnlyGives (P.told port.old) (P.told port.new) }
     ensures short { IfErr result (λ short. Grows (P.told port.old).given (P.told port.new).given (take short.sent bytes.now)) }
+    ensures part { IfErr result (λ short. short.sent ≤ length bytes.now) }
     ensures closed { OnErr result ((P.told port.new).started ≡ false) }
 {
     let (sent, answer) = match port.start() {
@@ -62,6 +64,7 @@ fn give_and_finish<P: Port>(port: &mut P, bytes: &[u8]) -> (u64, Result<(), Trou
     ensures failed { IsErrOf result.1 Trouble.Failed → Rose (P.told port.old).faults (P.told port.new).faults }
     ensures refused { IsErrOf result.1 Trouble.Refused → Rose (P.told port.old).refusals (P.told port.new).refusals }
     ensures others { OnlyGives (P.told port.old) (P.told port.new) }
+    ensures started { (P.told port.new).started ≡ (P.told port.old).started }
 {
     let (sent, trouble) = give_all(port, bytes);
     match trouble {
@@ -78,6 +81,7 @@ fn give_all<P: Port>(port: &mut P, bytes: &[u8]) -> (usize, Option<Trouble>)
     ensures failed { result.1 ≡ Some Trouble.Failed → Rose (P.told port.old).faults (P.told port.new).faults }
     ensures refused { result.1 ≡ Some Trouble.Refused → Rose (P.told port.old).refusals (P.told port.new).refusals }
     ensures others { OnlyGives (P.told port.old) (P.told port.new) }
+    ensures started { (P.told port.new).started ≡ (P.told port.old).started }
 {
     let mut at = 0;
     while at < bytes.len() {

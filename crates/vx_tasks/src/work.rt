@@ -1,14 +1,16 @@
-ghost use Rattle.std.specs.Prelude.{◌≡◌, ℕ, List, IfOk, IfSome, IsTrue, None, false};
+ghost use Rattle.std.specs.Prelude.{◌≡◌, ◌⊎◌, ℕ, List, IfOk, false};
 ghost use Rattle.vx_record.specs.Records.{Record};
 ghost use Rattle.vx_record.specs.Legal.{IsLegal};
 ghost use Rattle.vx_ledger.specs.declared.parcel.Parcel.{Parcel};
-ghost use Rattle.vx_sourcecore.specs.Turns.{cut_of};
+ghost use Rattle.vx_sourcecore.specs.declared.source.SourceCore.{SourceCore};
 ghost use Rattle.vx_sourcecore.specs.Abreast.{HasTurned};
 ghost use Rattle.vx_tasks.specs.Telling.{IsTold};
-ghost use Rattle.vx_tasks.specs.Out.{HasLeft, HasDone, TellsDone, HasActed, HasRoleTurned};
+ghost use Rattle.vx_tasks.specs.Out.{HasLeft, HasDone, TellsDone, HasActed, HasRoleTurned, is_unfit, lacks_cut};
 ghost use Rattle.vx_tasks.specs.Doing.{MayAct, written};
+ghost use Rattle.vx_tasks.specs.Jobs.{DoesJob, LacksConfirm, KeepsRole, NoneFell, ShowsDone};
 ghost use Rattle.vx_tasks.specs.declared.landing.Done.{Done};
 ghost use Rattle.vx_tasks.specs.declared.task.Role.{Role};
+ghost use Rattle.vx_tasks.specs.declared.work.Job.{Job};
 
 use crate::confirming::confirm;
 use crate::landing::{Done, Landing};
@@ -50,11 +52,17 @@ pub struct Work<P> {
 }
 
 impl<P: Port> Work<P> {
-    /// Does the work, without the hub: confirms what is due, and reads, writes or closes the port. Where no memory is found for
-    /// the confirm, nothing else is done.
+    /// Does the work, without the hub: confirms what is due, and then reads, writes or closes the port, as the job says, or does
+    /// nothing where the instance can't do that job. Where no memory is found for the confirm, nothing else is done. What the instance
+    /// holds comes home as it left. docs/DEFINITIONS.md has what is meant by a task as it left and as it comes home.
     pub fn work<C: Clock>(self, alloc: Global, _clock: &C) -> Landing<P>
         ensures instance { result.instance ≡ self.instance }
         ensures worker { result.worker ≡ self.worker }
+        ensures held { result.held ≡ self.held }
+        ensures does { DoesJob self.job self.task.role result.done ⊎ LacksConfirm self.positions result.confirmed result.done }
+        ensures role { KeepsRole self.task.role result.task.role result.done }
+        ensures counts { NoneFell (P.told self.task.port) (P.told result.task.port) }
+        ensures shows { ShowsDone (P.told self.task.port) (P.told result.task.port) result.done }
         ensures done { (h : Record) → IsLegal h → HasLeft P.told h self → HasDone P.told h result }
     {
         let Work {
@@ -101,6 +109,10 @@ struct Deed {
 fn act<P: Port>(alloc: Global, job: Job, port: &mut P, role: Role, held: &Line<Parcel>) -> Deed
     ensures told { (h : Record) (i : ℕ) → IsTold (P.told port.old) h i → TellsDone (P.told port.new) h i held.now.items result.done }
     ensures acted { (h : Record) (i : ℕ) → MayAct (P.told port.old) h i role held.now.items job → HasActed (P.told port.new) h i result.role result.done }
+    ensures does { DoesJob job role result.done }
+    ensures keeps { KeepsRole role result.role result.done }
+    ensures counts { NoneFell (P.told port.old) (P.told port.new) }
+    ensures shows { ShowsDone (P.told port.old) (P.told port.new) result.done }
 {
     match (job, role) {
         (Job::Read, Role::Source(core)) => read(port, core),
@@ -123,6 +135,10 @@ fn act<P: Port>(alloc: Global, job: Job, port: &mut P, role: Role, held: &Line<P
 fn read<P: Port>(port: &mut P, core: SourceCore) -> Deed
     ensures told { (h : Record) (i : ℕ) (parcels : List Parcel) → IsTold (P.told port.old) h i → TellsDone (P.told port.new) h i parcels result.done }
     ensures acted { (h : Record) (i : ℕ) (parcels : List Parcel) → MayAct (P.told port.old) h i (Role.Source core) parcels Job.Read → HasActed (P.told port.new) h i result.role result.done }
+    ensures does { DoesJob Job.Read (Role.Source core) result.done }
+    ensures keeps { KeepsRole (Role.Source core) result.role result.done }
+    ensures counts { NoneFell (P.told port.old) (P.told port.new) }
+    ensures shows { ShowsDone (P.told port.old) (P.told port.new) result.done }
 {
     let mut core = core;
     match core.turn(port) {
@@ -140,7 +156,8 @@ fn read<P: Port>(port: &mut P, core: SourceCore) -> Deed
 /// What an instance does that took this turn.
 fn role_behind(core: SourceCore, turned: &Turned) -> Role
     ensures turned { (h : Record) (i : ℕ) → HasTurned h i core turned.now → HasRoleTurned h i result turned.now }
-    ensures fit { IfSome (cut_of turned.now) (λ cut. result ≡ Role.Unfit → ⊥) }
+    ensures keeps { (old : SourceCore) → KeepsRole (Role.Source old) result (Done.Read turned.now) }
+    ensures fit { is_unfit result ≡ lacks_cut turned.now }
 {
     if is_uncut(turned) {
         Role::Unfit
@@ -151,7 +168,7 @@ fn role_behind(core: SourceCore, turned: &Turned) -> Role
 
 /// Whether something was taken, and no memory was found to cut it.
 fn is_uncut(turned: &Turned) -> bool
-    ensures { IsTrue result → cut_of turned.now ≡ None }
+    ensures { result ≡ lacks_cut turned.now }
 {
     match turned {
         Turned::Lines { cut, .. }
@@ -166,6 +183,7 @@ fn close<P: Port>(port: &mut P) -> Done
     ensures closed { result ≡ Done.Closed }
     ensures told { (h : Record) (i : ℕ) → IsTold (P.told port.old) h i → IsTold (P.told port.new) h i }
     ensures shut { (P.told port.new).started ≡ false }
+    ensures counts { NoneFell (P.told port.old) (P.told port.new) }
 {
     port.close();
     Done::Closed
@@ -175,6 +193,9 @@ fn close<P: Port>(port: &mut P) -> Done
 fn send<P: Port>(alloc: Global, port: &mut P, codec: Codec, held: &Line<Parcel>) -> Done
     ensures told { (h : Record) (i : ℕ) → IsTold (P.told port.old) h i → TellsDone (P.told port.new) h i held.now.items result }
     ensures acted { (h : Record) (i : ℕ) → MayAct (P.told port.old) h i (Role.Sink codec) held.now.items Job.Attempt → HasActed (P.told port.new) h i (Role.Sink codec) result }
+    ensures does { DoesJob Job.Attempt (Role.Sink codec) result }
+    ensures counts { NoneFell (P.told port.old) (P.told port.new) }
+    ensures shows { ShowsDone (P.told port.old) (P.told port.new) result }
 {
     let Ok(bytes) = encode(alloc, codec, held) else {
         return Done::Short;

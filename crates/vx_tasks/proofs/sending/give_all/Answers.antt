@@ -1,4 +1,4 @@
-use Rattle.std.proofs.Common.{arith}
+use Rattle.std.proofs.Common.{arith, ◌∙◌}
 use Rattle.vx_tasks.proofs.Telling.{grows_on, take_on, gives_on}
 use Rattle.vx_tasks.proofs.sending.give_all.Goals as goal
 
@@ -16,4 +16,5 @@ loop-at-preserved g c = record {
     refusals = c.give.ensures.refusal.later;
     idles = c.give.ensures.idles;
   });
+  started = c.give.ensures.started ∙ c.loop-at.invariant.started;
 }

@@ -1,4 +1,9 @@
-use Rattle.std.proofs.Common.{◌≡◌, ◌∙◌, ap, length, subst, sym, List, ◌≤◌, ℕ}
+use Rattle.std.proofs.Common.{◌≡◌, ◌∙◌, ap, arith, length, subst, sym, take, List, ◌≤◌, ℕ}
+use Rattle.vx_ends.specs.Told.{Grows}
+use Rattle.vx_record.specs.Encoding.{given, encoded}
+use Rattle.vx_record.specs.Places.Place.{Held}
+use Rattle.vx_record.specs.Shifts.{at}
+use Rattle.vx_tasks.proofs.Saying.{grown}
 use Rattle.vx_tasks.proofs.Writing.{written_all}
 use Rattle.vx_tasks.proofs.work.send.Goals as goal
 
@@ -11,4 +16,23 @@ returns-in-Ok-attempt-clause-acted g c h i may =
       whole = c.of-all.ensures ∙ c.in-Ok.ensures ∙ written_all h i c.args.codec c.args.held.now.items may.come may.held;
       within = subst (λ (w : List ℕ). c.in-Ok-attempt.attempted.sent ≤ length w) sent c.in-Ok-attempt.ensures.within;
       ok = λ ok. c.in-Ok-attempt.ensures.whole ok ∙ ap length sent;
+    }
+
+pub returns-clause-acted : goal.returns-clause-acted
+returns-clause-acted g c h i may =
+    let old = (g.P.Port.told c.args.port.now).given in
+    let new = (g.P.Port.told c.attempt.new.port).given in
+    let all : c.as_slice.result.now ≡ encoded h i (at h (Held i)) = c.as_slice.ensures ∙ c.in-Ok.ensures ∙ written_all h i c.args.codec c.args.held.now.items may.come may.held in
+    let nonzero = c.if-short-eq0.false in
+    record {
+      may = may.given;
+      come = may.come;
+      beyond = record {
+        sent = c.in-Err.short.sent;
+        some = omega (arith, nonzero);
+        within = subst (λ (w : List ℕ). c.in-Err.short.sent ≤ length w) all c.in-Err.ensures.part;
+        are = grown old new (take c.in-Err.short.sent (encoded h i (at h (Held i)))) (given h i)
+            (subst (λ (w : List ℕ). Grows old new (take c.in-Err.short.sent w)) all c.in-Err.ensures.short) may.wrote;
+      };
+      shut = c.in-Err.ensures.closed;
     }

@@ -1,5 +1,7 @@
-use Rattle.std.proofs.Common.{sym, subst, Option, None}
+use Rattle.std.proofs.Common.{sym, subst, Option, None, inl, inr, refl}
+use Rattle.std.specs.Prelude.{◌⊎◌}
 use Rattle.vx_tasks.specs.Out.{HasDone}
+use Rattle.vx_tasks.specs.Jobs.{DoesJob, LacksConfirm}
 use Rattle.vx_tasks.specs.declared.confirming.Confirmed.{Confirmed}
 use Rattle.vx_tasks.specs.declared.landing.Done.TheVariants.{Short}
 use Rattle.vx_tasks.specs.declared.work.Deed.{Deed}
@@ -20,4 +22,12 @@ returns-clause-done g c h legal left =
           subst (λ (both : Option Confirmed × Deed). HasDone told h (landed work c.match-confirm.port both.1.role both.0 both.1.done)) (sym w.confirmed-is)
           (subst (λ (port : g.row.P.Denot). HasDone told h (landed work port work.task.role None Short)) (sym w.port-is)
           (short_of told h work legal left c.confirm.new.port w.in-Err.ensures.short))
+    ]
+
+pub returns-clause-does : goal.returns-clause-does
+returns-clause-does g c =
+    let work = c.args.self in
+    elim c.match-confirm.branch [
+      | in-Ok w ↦ subst (λ (both : Option Confirmed × Deed). DoesJob work.job work.task.role both.1.done ⊎ LacksConfirm work.positions both.0 both.1.done) (sym w.confirmed-is) (inl w.act.ensures.does)
+      | in-Err w ↦ subst (λ (both : Option Confirmed × Deed). DoesJob work.job work.task.role both.1.done ⊎ LacksConfirm work.positions both.0 both.1.done) (sym w.confirmed-is) (inr (w.in-Err.ensures.asked, refl, refl))
     ]

@@ -1,0 +1,58 @@
+-- What comes of a job, whatever the record has.
+use Rattle.std.specs.Prelude.{◌≡◌, ◌≤◌, false, List, Option, IsSome, IsNone}
+use Rattle.vx_ends.specs.Told.{Told}
+use Rattle.vx_ends.specs.declared.position.Position.{Position}
+use Rattle.vx_sourcecore.specs.Turns.{FailsBy}
+use Rattle.vx_tasks.specs.declared.confirming.Confirmed.{Confirmed}
+use Rattle.vx_tasks.specs.declared.landing.Done.{Done}
+use Rattle.vx_tasks.specs.declared.landing.Done.TheVariants as done
+use Rattle.vx_tasks.specs.declared.task.Role.{Role}
+use Rattle.vx_tasks.specs.declared.task.Role.TheVariants as role
+use Rattle.vx_tasks.specs.declared.work.Job.{Job}
+use Rattle.vx_tasks.specs.declared.work.Job.TheVariants as job
+use Rattle.vx_tasks.specs.Attempts.{RepliesBy}
+
+-- what was done is the job: a source reads, a sink writes, and each closes. Nothing is done only where there is nothing to do, or
+-- another could. Memory can be wanting only for a read or an attempt
+abbrev pub DoesJob : Job → Role → Done → Type 0
+DoesJob job.Read (role.Source core) (done.Read turned) = Unit {0}
+DoesJob job.Read (role.Source core) done.Short = Unit {0}
+DoesJob job.Read (role.Sink codec) done.Nothing = Unit {0}
+DoesJob job.Read role.Unfit done.Nothing = Unit {0}
+DoesJob job.Attempt (role.Sink codec) (done.Attempted all sent answer) = Unit {0}
+DoesJob job.Attempt (role.Sink codec) done.Short = Unit {0}
+DoesJob job.Attempt (role.Sink codec) done.Starved = Unit {0}
+DoesJob job.Attempt (role.Source core) done.Nothing = Unit {0}
+DoesJob job.Attempt role.Unfit done.Nothing = Unit {0}
+DoesJob job.Close does done.Closed = Unit {0}
+DoesJob job.Confirm does done.Nothing = Unit {0}
+DoesJob job.Collect does done.Nothing = Unit {0}
+DoesJob wanted does other = ⊥
+
+-- no memory was found to confirm, and nothing was done
+abbrev pub LacksConfirm : Option (List Position) → Option Confirmed → Done → Type 0
+LacksConfirm positions confirmed outcome = IsSome positions × IsNone confirmed × (outcome ≡ done.Short)
+
+-- who reads goes on reading, and who writes by a codec goes on writing by it; only a read can leave a source of no use
+abbrev pub KeepsRole : Role → Role → Done → Type 0
+KeepsRole (role.Source core) (role.Source next) outcome = Unit {0}
+KeepsRole (role.Source core) role.Unfit (done.Read turned) = Unit {0}
+KeepsRole (role.Sink codec) (role.Sink next) outcome = next ≡ codec
+KeepsRole role.Unfit role.Unfit outcome = Unit {0}
+KeepsRole was now outcome = ⊥
+
+-- no count of a port fell
+pub record NoneFell (old new : Told) : Type 0 where
+  pub faults : old.faults ≤ new.faults
+  pub refusals : old.refusals ≤ new.refusals
+  pub idles : old.idles ≤ new.idles
+
+-- what the port tells before and after shows what was done: a failure, a refusal and an idle turn raised their counts; a port is
+-- started behind an attempt, but closed where that failed or starved, and where it was closed for good
+abbrev pub ShowsDone : Told → Told → Done → Type 0
+ShowsDone old new done.Nothing = new.started ≡ old.started
+ShowsDone old new (done.Read turned) = FailsBy old new turned
+ShowsDone old new (done.Attempted all sent answer) = RepliesBy old new answer
+ShowsDone old new done.Closed = new.started ≡ false
+ShowsDone old new done.Short = Unit {0}
+ShowsDone old new done.Starved = new.started ≡ false
