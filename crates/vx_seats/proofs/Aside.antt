@@ -66,7 +66,7 @@ module _ {P : Type 0} (told_by : P → Told) where
       (progress_on seat.progress h e i stands k.progress)
       (counts_on seat.facts.behind seat.counts.tally h e i legal leaves k.counts)
       (home_map told_by seat.task (HasHome told_by seat.facts h i) (HasHome told_by seat.facts (e ∷ h) i)
-      (λ task home. home_still told_by seat.facts seat.facts h e i task mute less same.out refl refl home.shut home) k.home)
+      (λ task home. home_still told_by seat.facts seat.facts h e i task mute less same.out refl refl refl home.shut home) k.home)
       (subst (λ (b : Bool). IfNone seat.task (b ≡ true)) (sym same.out) k.away) k.fitted
 
   pub aside_known : AsideKnown told_by
@@ -102,4 +102,4 @@ module _ {P : Type 0} (told_by : P → Told) where
   confirm_due h i seats seat task at home owing going legal device knows =
       let k = known_there h i seats seat at knows in
       let here : HasHome told_by seat.facts h i task = subst (λ (o : Option (Task P)). IfSome o (HasHome told_by seat.facts h i)) home k.home in
-      due_is h i legal (here.answered owing going) seat.progress device k.progress
+      due_is h i legal (here.answered device owing going) seat.progress device k.progress

@@ -1,5 +1,5 @@
 -- What is known of seats as they begin.
-use Rattle.std.proofs.Common.{◌≡◌, ◌∙◌, ℕ, zero, suc, ◌+◌, Bool, true, false, List, [], ◌∷◌, Option, Some, None, IfSome, IfNone, length, refl, sym, ap, subst, slice_get}
+use Rattle.std.proofs.Common.{◌≡◌, ◌≢◌, ◌∙◌, ℕ, zero, suc, ◌+◌, Bool, true, false, List, [], ◌∷◌, Option, Some, None, IfSome, IfNone, length, refl, sym, ap, subst, slice_get}
 use Rattle.std.specs.Prelude.{◌&&◌, IsSomeAnd}
 use Rattle.vx_ends.specs.Told.{Told}
 use Rattle.vx_value.specs.Texts.{Word}
@@ -17,6 +17,7 @@ use Rattle.vx_record.specs.Sourcing.{must_wait}
 use Rattle.vx_record.proofs.FirstWiring.{started_stays, targets_of_first, wiring_of_first}
 use Rattle.vx_record.proofs.Wired.{begun_legal, component_there}
 use Rattle.vx_counts.proofs.Stays.{others_stay}
+use Rattle.vx_tasks.specs.declared.task.Role.TheVariants.{Unfit}
 use Rattle.vx_tasks.specs.declared.task.Task.{Task}
 use Rattle.vx_tasks.specs.Home.{IsAtHome}
 use Rattle.vx_seats.specs.declared.seat.Seat.{Seat}
@@ -41,17 +42,18 @@ owes_nothing plan once now i = go (transform_at (begun plan once now) i)
 
 module _ {P : Type 0} (told_by : P → Told) (plan : Plan) (once : Bool) (now : ℕ) (accepted : IsPlan plan) where
   home_fresh : (i : ℕ) (seat : Seat P) → seat.facts.starved ≡ false → seat.facts.closed ≡ false → IsSomeAnd seat.task (λ task. (once : Bool) (now : ℕ) → IsAtHome told_by (begun plan once now) i task) →
-      IfSome seat.task (HasHome told_by seat.facts (begun plan once now) i)
-  home_fresh i seat starved closed home = go seat.task home
+      IfSome seat.task (λ task. task.role ≢ Unfit) → IfSome seat.task (HasHome told_by seat.facts (begun plan once now) i)
+  home_fresh i seat starved closed home fit = go seat.task home fit
     where
-      go : (o : Option (Task P)) → IsSomeAnd o (λ task. (once : Bool) (now : ℕ) → IsAtHome told_by (begun plan once now) i task) → IfSome o (HasHome told_by seat.facts (begun plan once now) i)
-      go None home = tt
-      go (Some task) home = record {
+      go : (o : Option (Task P)) → IsSomeAnd o (λ task. (once : Bool) (now : ℕ) → IsAtHome told_by (begun plan once now) i task) → IfSome o (λ task. task.role ≢ Unfit) → IfSome o (HasHome told_by seat.facts (begun plan once now) i)
+      go None home fit = tt
+      go (Some task) home fit = record {
         home = refl;
         settled = λ owing going. owes_nothing plan once now i;
-        answered = λ owing going. refl;
+        answered = λ device owing going. refl;
         task_is = subst (λ (b : Bool). IsAtHomeBut told_by b (begun plan once now) i task) (sym starved) (home once now);
         shut = λ is. let contrary : false ≡ true = sym closed ∙ is in cc;
+        fit = λ known. fit;
       }
 
   away_fresh : (o : Option (Task P)) (F : Task P → Type 0) (A : Type 0) → IsSomeAnd o F → IfNone o A
@@ -79,7 +81,7 @@ module _ {P : Type 0} (told_by : P → Told) (plan : Plan) (once : Bool) (now : 
       prefix = fresh.progress.prefix (judged_by (begun plan once now));
     };
     counts = λ none. fresh.counts ∙ sym (others_stay (Install 0 plan once (first_instances 0 plan.components) now) [] i (begun_legal plan once now accepted) tt);
-    home = home_fresh i seat fresh.facts.starved fresh.facts.closed fresh.home;
+    home = home_fresh i seat fresh.facts.starved fresh.facts.closed fresh.home fresh.fit;
     away = away_fresh seat.task _ _ fresh.home;
   }
 

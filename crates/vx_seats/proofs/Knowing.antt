@@ -1,5 +1,5 @@
 -- What is known of the instances follows the record.
-use Rattle.std.proofs.Common.{◌≡◌, ◌∙◌, ◌≢◌, ◌<◌, inl, inr, ◌⊎◌, ℕ, zero, suc, Bool, true, false, List, [], ◌∷◌, Option, Some, None, IfSome, IfNone, length, refl, sym, ap, subst, arith, slice_get}
+use Rattle.std.proofs.Common.{◌≡◌, ◌∙◌, ◌≢◌, ◌<◌, inl, inr, ◌⊎◌, ℕ, Bool, true, false, List, [], ◌∷◌, Option, Some, None, IfSome, IfNone, length, refl, sym, ap, subst, arith, slice_get}
 use Rattle.std.specs.Prelude.{◌==◌, slice_set, get_or}
 use Rattle.std.proofs.lemmas.Bool.Decides.{nat_tests}
 use Rattle.std.proofs.lemmas.List.{append-nil}
@@ -11,7 +11,7 @@ use Rattle.vx_record.specs.Legal.{IsLegal}
 use Rattle.vx_record.specs.Tasks.{is_of}
 use Rattle.vx_record.specs.Turns.{is_out, at_lease}
 use Rattle.vx_record.specs.Reads.{all_ended}
-use Rattle.vx_record.specs.Installs.{sink_at, is_closed, is_retired, started}
+use Rattle.vx_record.specs.Installs.{device_at, sink_at, is_closed, is_retired, started}
 use Rattle.vx_record.specs.Ceasing.{lost_at, cause_of}
 use Rattle.vx_record.specs.Sourcing.{failed_starts}
 use Rattle.vx_record.specs.Confirms.{is_unconfirmed, last_confirm, due}
@@ -34,6 +34,7 @@ use Rattle.vx_tasks.specs.Home.{HasCome}
 use Rattle.vx_seats.specs.declared.facts.Facts.{Facts}
 use Rattle.vx_seats.specs.declared.seat.Seat.{Seat}
 use Rattle.vx_seats.specs.Knowing.{IsFitted, IsSince, HasFacts, IsAtHomeBut, HasHome, IsKnown, Knows, asked}
+use Rattle.vx_seats.proofs.Staying.{other_seat, read_seat, size_set, written}
 use Rattle.vx_seats.proofs.Telling.{InstallsNothing, IsMute, stays, told_far, come_far, told_mute, come_mute}
 use Rattle.vx_seats.proofs.Owing.{OwesNoMore, owes_far, owes_still}
 use Rattle.vx_seats.proofs.Progressing.{NotesNone, far_stands, progress_on}
@@ -47,6 +48,15 @@ cause_earlier h e going = going
 sink_on : (h : Record) (e : Entry) (i : ℕ) → InstallsNothing e → sink_at (e ∷ h) i ≡ sink_at h i
 sink_on h (Install version plan once instances now) i none = absurd none
 sink_on h e i none = refl
+
+-- whether an instance has a device
+device_on : (h : Record) (e : Entry) (i : ℕ) → InstallsNothing e → device_at (e ∷ h) i ≡ device_at h i
+device_on h (Install version plan once instances now) i none = absurd none
+device_on h e i none = refl
+
+device_mute : (h : Record) (e : Entry) (i : ℕ) → IsMute e → device_at (e ∷ h) i ≡ device_at h i
+device_mute h (Install version plan once instances now) i mute = absurd mute
+device_mute h e i mute = refl
 
 -- the moment of the oldest parcel stays where that is the same, its take, and no attempt of it is lost
 pub since_by : (h k : Record) (i since : ℕ) (held : List (List ℕ)) → (cause_of k ≡ None → cause_of h ≡ None) →
@@ -127,22 +137,24 @@ module _ {P : Type 0} (told_by : P → Told) where
   home_far f h e i task none is has = record {
     home = stays is_out out_own h e i is ∙ has.home;
     settled = λ owing going. owes_far h e i none is (has.settled owing (cause_earlier h e going));
-    answered = λ owing going. answered_far h e i is (has.answered owing (cause_earlier h e going));
+    answered = λ device owing going. answered_far h e i is (has.answered (sym (device_on h e i none) ∙ device) owing (cause_earlier h e going));
     task_is = but_by f.starved h (e ∷ h) i task (λ t. told_far t h e i none is) (come_far task.role h e i none is) has.task_is;
     shut = has.shut;
+    fit = has.fit;
   }
 
   -- behind an entry that tells and owes nothing, and neither leases nor brings home
   pub home_still : (f g : Facts) (h : Record) (e : Entry) (i : ℕ) (task : Task P) → IsMute e → OwesNoMore e → is_out (e ∷ h) i ≡ is_out h i →
-      g.owing ≡ f.owing → g.starved ≡ f.starved → (g.closed ≡ true → (told_by task.port).started ≡ false) →
+      g.owing ≡ f.owing → g.behind ≡ f.behind → g.starved ≡ f.starved → (g.closed ≡ true → (told_by task.port).started ≡ false) →
       HasHome told_by f h i task → HasHome told_by g (e ∷ h) i task
-  home_still f g h e i task mute less out owing starved shut has = record {
+  home_still f g h e i task mute less out owing behind starved shut has = record {
     home = out ∙ has.home;
     settled = λ owes going. owes_still h e i less (has.settled (sym owing ∙ owes) (cause_earlier h e going));
-    answered = λ owes going. answered_still h e i mute less (has.answered (sym owing ∙ owes) (cause_earlier h e going));
+    answered = λ device owes going. answered_still h e i mute less (has.answered (sym (device_mute h e i mute) ∙ device) (sym owing ∙ owes) (cause_earlier h e going));
     task_is = subst (λ (b : Bool). IsAtHomeBut told_by b (e ∷ h) i task) (sym starved)
         (but_by f.starved h (e ∷ h) i task (λ t. told_mute t h e i mute) (come_mute task.role h e i mute) has.task_is);
     shut = shut;
+    fit = λ known. has.fit (sym behind ∙ known);
   }
 
   -- OTHERS
@@ -166,28 +178,6 @@ module _ {P : Type 0} (told_by : P → Told) where
   }
 
   -- ONE SEAT WRITTEN
-  written : (seats : List (Seat P)) (i : ℕ) (new : Seat P) → i < length seats → slice_get (slice_set seats i new) i ≡ Some new
-  written [] i new l = absurd (omega arith)
-  written (r ∷ seats) zero new l = refl
-  written (r ∷ seats) (suc i) new l = written seats i new (omega arith)
-
-  pub read_seat : (seats : List (Seat P)) (i : ℕ) (seat : Seat P) → i < length seats → seat ≡ get_or seats i seat → slice_get seats i ≡ Some seat
-  read_seat [] i seat l at = absurd (omega arith)
-  read_seat (r ∷ seats) zero seat l at = ap Some (sym at)
-  read_seat (r ∷ seats) (suc i) seat l at = read_seat seats i seat (omega arith) at
-
-  other_seat : (seats : List (Seat P)) (i j : ℕ) (new : Seat P) → j ≢ i → slice_get (slice_set seats i new) j ≡ slice_get seats j
-  other_seat [] i j new other = refl
-  other_seat (r ∷ seats) zero zero new other = absurd (other refl)
-  other_seat (r ∷ seats) zero (suc j) new other = refl
-  other_seat (r ∷ seats) (suc i) zero new other = refl
-  other_seat (r ∷ seats) (suc i) (suc j) new other = other_seat seats i j new (λ e. other (ap suc e))
-
-  size_set : (seats : List (Seat P)) (i : ℕ) (new : Seat P) → length (slice_set seats i new) ≡ length seats
-  size_set [] i new = refl
-  size_set (r ∷ seats) zero new = refl
-  size_set (r ∷ seats) (suc i) new = ap suc (size_set seats i new)
-
   -- what is known of one seat
   pub known_at : (seats : List (Seat P)) (h : Record) (i : ℕ) (seat : Seat P) → i < length seats → seat ≡ get_or seats i seat → Knows told_by seats h → IsKnown told_by seat h i
   known_at seats h i seat l at knows = subst (λ (o : Option (Seat P)). IfSome o (λ s. IsKnown told_by s h i)) (read_seat seats i seat l at) (knows.each i)

@@ -166,7 +166,7 @@ module _ {P : Type 0} (told_by : P → Told) where
       (progress_on was.progress h (Spent i c outcome) i tt k.progress)
       counts
       (home_map told_by was.task (HasHome told_by was.facts h i) (HasHome told_by was.facts (Spent i c outcome ∷ h) i)
-      (λ task home. home_still told_by was.facts was.facts h (Spent i c outcome) i task tt tt refl refl refl home.shut home) k.home)
+      (λ task home. home_still told_by was.facts was.facts h (Spent i c outcome) i task tt tt refl refl refl refl home.shut home) k.home)
       k.away k.fitted
 
   -- the seat of whatever instance, behind a spend

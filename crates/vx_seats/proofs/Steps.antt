@@ -29,8 +29,9 @@ use Rattle.vx_tasks.specs.Telling.{IsTold, IsToldButGiven}
 use Rattle.vx_seats.specs.declared.seat.Seat.{Seat}
 use Rattle.vx_seats.specs.Knowing.{IsFitted, IsFittedTo, IsSince, HasFacts, HasProgress, HasHome, IsAtHomeBut, IsKnown, Knows}
 use Rattle.vx_seats.proofs.Telling.{InstallsNothing}
+use Rattle.vx_seats.proofs.Staying.{read_seat}
 use Rattle.vx_seats.proofs.Progressing.{progress_on, this_side}
-use Rattle.vx_seats.proofs.Knowing.{IsOwnOf, counts_on, fitted_on, home_still, known_at, knows_own, knows_same, nobody, away_out, read_seat, since_by}
+use Rattle.vx_seats.proofs.Knowing.{IsOwnOf, counts_on, fitted_on, home_still, known_at, knows_own, knows_same, nobody, away_out, since_by}
 
 pub itself : (i : ℕ) → (i == i) ≡ true
 itself i = grind (arith, nat_tests)
@@ -111,14 +112,14 @@ module _ {P : Type 0} (told_by : P → Told) where
 
     -- what is said of the seat
     pub of_seat : (F : Seat P → Type 0) → IfSome (slice_get now i) F → F was
-    of_seat F said = subst (λ (o : Option (Seat P)). IfSome o F) (read_seat told_by items i was within read) (subst (λ (s : List (Seat P)). IfSome (slice_get s i) F) (sym view) said)
+    of_seat F said = subst (λ (o : Option (Seat P)). IfSome o F) (read_seat items i was within read) (subst (λ (s : List (Seat P)). IfSome (slice_get s i) F) (sym view) said)
 
     pub of_there : (F : Seat P → Type 0) → IsSomeAnd (slice_get now i) F → F was
-    of_there F said = subst (λ (o : Option (Seat P)). IsSomeAnd o F) (read_seat told_by items i was within read) (subst (λ (s : List (Seat P)). IsSomeAnd (slice_get s i) F) (sym view) said)
+    of_there F said = subst (λ (o : Option (Seat P)). IsSomeAnd o F) (read_seat items i was within read) (subst (λ (s : List (Seat P)). IsSomeAnd (slice_get s i) F) (sym view) said)
 
     -- what is said of it the other way round
     pub says_seat : (F : Seat P → Type 0) → F was → IfSome (slice_get now i) F
-    says_seat F is = subst (λ (s : List (Seat P)). IfSome (slice_get s i) F) view (subst (λ (o : Option (Seat P)). IfSome o F) (sym (read_seat told_by items i was within read)) is)
+    says_seat F is = subst (λ (s : List (Seat P)). IfSome (slice_get s i) F) view (subst (λ (o : Option (Seat P)). IfSome o F) (sym (read_seat items i was within read)) is)
 
     pub known_was : (h : Record) → Knows told_by now h → IsKnown told_by was h i
     known_was h knows = known_at told_by items h i was within read (subst (λ (s : List (Seat P)). Knows told_by s h) (sym view) knows)
@@ -161,7 +162,7 @@ module _ {P : Type 0} (told_by : P → Told) where
       homes : (o : Option (Task P)) → IfSome o (HasHome told_by was.facts h i) → IfSome o (λ task. (told_by task.port).started ≡ false) →
           IfSome o (HasHome told_by (record was.facts { closed = true }) (Closed i ∷ h) i)
       homes None home shut = tt
-      homes (Some task) home shut = home_still told_by was.facts (record was.facts { closed = true }) h (Closed i) i task tt tt refl refl refl (λ closed. shut) home
+      homes (Some task) home shut = home_still told_by was.facts (record was.facts { closed = true }) h (Closed i) i task tt tt refl refl refl refl (λ closed. shut) home
 
   pub retired_known : (was : Seat P) (h : Record) (i : ℕ) → IsLegal (Retired i ∷ h) → IsKnown told_by was h i →
       IsKnown told_by (record was { facts = record was.facts { retired = true } }) (Retired i ∷ h) i
@@ -179,7 +180,7 @@ module _ {P : Type 0} (told_by : P → Told) where
       (progress_on was.progress h (Retired i) i tt k.progress)
       (counts_on was.facts.behind was.counts.tally h (Retired i) i legal tt k.counts)
       (home_map was.task (HasHome told_by was.facts h i) (HasHome told_by (record was.facts { retired = true }) (Retired i ∷ h) i)
-      (λ task home. home_still told_by was.facts (record was.facts { retired = true }) h (Retired i) i task tt tt refl refl refl home.shut home) k.home)
+      (λ task home. home_still told_by was.facts (record was.facts { retired = true }) h (Retired i) i task tt tt refl refl refl refl home.shut home) k.home)
       k.away k.fitted
 
   pub idle_known : (was : Seat P) (h : Record) (i after : ℕ) (failed : Bool) → IsLegal (Idle i failed ∷ h) →
@@ -284,9 +285,10 @@ module _ {P : Type 0} (told_by : P → Told) where
       (λ task home. record {
         home = home.home;
         settled = λ owing going. let contrary : true ≡ false = owing in cc;
-        answered = λ owing going. let contrary : true ≡ false = owing in cc;
+        answered = λ device owing going. let contrary : true ≡ false = owing in cc;
         task_is = home.task_is;
         shut = home.shut;
+        fit = home.fit;
       }) k.home)
       k.away k.fitted
 
@@ -328,5 +330,6 @@ module _ {P : Type 0} (told_by : P → Told) where
         answered = home.answered;
         task_is = but_less was.facts.starved h i task home.task_is;
         shut = home.shut;
+        fit = home.fit;
       }) k.home)
       k.away k.fitted

@@ -88,7 +88,7 @@ module _ {P : Type 0} (told_by : P → Told) where
   pub left_due : (was is : Seat P) (task : Task P) (positions : Option (List Position)) (h : Record) (i worker now polls : ℕ) → Leaves was is task positions → was.facts.owing ≡ false → device_at h i ≡ true →
       IsLegal (Lease i worker now polls ∷ h) → IsKnown told_by was h i → AreDue (Lease i worker now polls ∷ h) i positions
   left_due was is task positions h i worker now polls leaves owing device legal k =
-      asked_due h i legal.1 ((left_home was is task positions h i leaves k).answered owing (going_on h legal.0.still)) positions worker now polls device
+      asked_due h i legal.1 ((left_home was is task positions h i leaves k).answered device owing (going_on h legal.0.still)) positions worker now polls device
       (leaves.asked.due (judged_by h) (births h i) (asked h i) k.progress.prefix)
 
   -- HOMES
@@ -113,6 +113,7 @@ module _ {P : Type 0} (told_by : P → Told) where
         answered = back.answered;
         task_is = but_by told_by was.facts.starved h (Home i ∷ h) i task (λ t. told_mute t h (Home i) i tt) (come_mute task.role h (Home i) i tt) back.task_is;
         shut = back.shut;
+        fit = back.fit;
       })
       tt k.fitted
 

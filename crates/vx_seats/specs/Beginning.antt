@@ -1,5 +1,5 @@
 -- Seats as they begin.
-use Rattle.std.specs.Prelude.{◌≡◌, ℕ, Bool, false, List, [], ◌∷◌, length, None, IfSome, IsSomeAnd, slice_get}
+use Rattle.std.specs.Prelude.{◌≡◌, ◌≢◌, ℕ, Bool, false, List, [], ◌∷◌, length, None, IfSome, IsSomeAnd, slice_get}
 use Rattle.vx_ends.specs.Told.{Told}
 use Rattle.vx_plan.specs.declared.plan.Plan.{Plan}
 use Rattle.vx_plan.specs.declared.component.Component.{Component}
@@ -8,13 +8,14 @@ use Rattle.vx_plan.specs.Targets.{acknowledged}
 use Rattle.vx_record.specs.Wirings.{begun}
 use Rattle.vx_counts.specs.Meets.{Meets}
 use Rattle.vx_sourcecore.specs.Prefixes.{Judgement, IsPrefixOf}
+use Rattle.vx_tasks.specs.declared.task.Role.TheVariants.{Unfit}
 use Rattle.vx_tasks.specs.Home.{IsAtHome}
 use Rattle.vx_seats.specs.declared.facts.Facts.{Facts}
 use Rattle.vx_seats.specs.declared.progress.Progress.{Progress}
 use Rattle.vx_seats.specs.declared.seat.Seat.{Seat}
 use Rattle.vx_seats.specs.Knowing.{IsFittedTo}
 
--- nothing happened yet
+-- nothing happened yet, and all is known
 pub record AreNew (f : Facts) : Type 0 where
   pub over : f.over ≡ false
   pub lost : f.lost ≡ None
@@ -22,6 +23,8 @@ pub record AreNew (f : Facts) : Type 0 where
   pub confirm_failed : f.confirm_failed ≡ false
   pub closed : f.closed ≡ false
   pub retired : f.retired ≡ false
+  pub owing : f.owing ≡ false
+  pub behind : f.behind ≡ false
   pub starved : f.starved ≡ false
 
 -- nothing was born, and the batches will wait as the plan says
@@ -30,7 +33,8 @@ pub record HasBorneNone (p : Progress) (waits : Bool) : Type 0 where
   pub waits_are : p.prefix.waits ≡ waits
   pub prefix : (judged : Judgement) → IsPrefixOf p.prefix judged [] []
 
--- a seat as it begins, for a component of a plan: its task is at home as a record has it that begins with the plan
+-- a seat as it begins, for a component of a plan: its task is at home as a record has it that begins with the plan, and is fit for
+-- work
 pub record IsFresh {P : Type 0} (told_by : P → Told) (plan : Plan) (i : ℕ) (seat : Seat P) (c : Component) : Type 0 where
   pub fitted : IsFittedTo seat c
   pub outlet : seat.outlet ≡ reader_numbers plan c.name 0 ∷ []
@@ -38,6 +42,7 @@ pub record IsFresh {P : Type 0} (told_by : P → Told) (plan : Plan) (i : ℕ) (
   pub progress : HasBorneNone seat.progress (acknowledged plan c.name)
   pub counts : Meets i [] seat.counts.tally
   pub home : IsSomeAnd seat.task (λ task. (once : Bool) (now : ℕ) → IsAtHome told_by (begun plan once now) i task)
+  pub fit : IfSome seat.task (λ task. task.role ≢ Unfit)
 
 -- a seat for each component, in the plan's order
 pub record AreFresh {P : Type 0} (told_by : P → Told) (plan : Plan) (seats : List (Seat P)) : Type 0 where

@@ -1,13 +1,15 @@
 -- What the calls of the seats need and tell.
-use Rattle.std.specs.Prelude.{◌≡◌, ℕ, true, false, List, Option, Some, None, IfSome, IsSomeAnd, slice_get, take_while}
+use Rattle.std.specs.Prelude.{◌≡◌, ◌≢◌, ℕ, true, false, List, Option, Some, None, IfSome, IsSomeAnd, slice_get, take_while}
 use Rattle.vx_ends.specs.Told.{Told}
 use Rattle.vx_ends.specs.declared.position.Position.{Position}
 use Rattle.vx_record.specs.Records.{Record}
 use Rattle.vx_record.specs.Ceasing.{cause_of}
+use Rattle.vx_record.specs.Installs.{device_at}
 use Rattle.vx_record.specs.Confirms.{Birth, last_confirm}
 use Rattle.vx_record.specs.Owing.{owes}
 use Rattle.vx_sourcecore.specs.declared.ends.Ends.{Ends}
 use Rattle.vx_sourcecore.specs.Prefixes.{Judgement, IsPrefixOf, IsReadyFor, IsAskFor, ends_of}
+use Rattle.vx_tasks.specs.declared.task.Role.TheVariants.{Unfit}
 use Rattle.vx_tasks.specs.declared.task.Task.{Task}
 use Rattle.vx_seats.specs.declared.facts.Facts.{Facts}
 use Rattle.vx_seats.specs.declared.progress.Progress.{Progress}
@@ -34,13 +36,15 @@ HadHome told_by seats h i task = IfSome (slice_get seats i) (λ seat. HasHome to
 abbrev pub HadNobody : {P : Type 0} → List (Seat P) → ℕ → Type 0
 HadNobody seats i = IfSome (slice_get seats i) (λ seat. seat.task ≡ None)
 
--- a task comes home as the record has it: its instance owes nothing where its batch was born, nor a confirm that it was leased
--- for, and its port isn't started where it is closed for good
+-- a task comes home as the record has it: its instance owes nothing where its batch was born, nor, where it has a device, a confirm
+-- that it was leased for, its port isn't started where it is closed for good, and it is fit for work where what the instance counts
+-- is known
 pub record IsBack {P : Type 0} (told_by : P → Told) (f : Facts) (h : Record) (i : ℕ) (task : Task P) : Type 0 where
   pub settled : f.owing ≡ false → cause_of h ≡ None → owes h i ≡ false
-  pub answered : f.owing ≡ false → cause_of h ≡ None → last_confirm h i ≡ asked h i
+  pub answered : device_at h i ≡ true → f.owing ≡ false → cause_of h ≡ None → last_confirm h i ≡ asked h i
   pub task_is : IsAtHomeBut told_by f.starved h i task
   pub shut : f.closed ≡ true → (told_by task.port).started ≡ false
+  pub fit : f.behind ≡ false → task.role ≢ Unfit
 
 abbrev pub HasTaskBack : {P : Type 0} → (P → Told) → List (Seat P) → Record → ℕ → Task P → Type 0
 HasTaskBack told_by seats h i task = IfSome (slice_get seats i) (λ seat. IsBack told_by seat.facts h i task)

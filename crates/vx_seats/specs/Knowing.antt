@@ -1,12 +1,12 @@
 -- When what is known of the instances is what a record has of them.
-use Rattle.std.specs.Prelude.{◌≡◌, ℕ, ◌+◌, ◌||◌, ◌&&◌, not, Bool, true, false, List, [], ◌∷◌, length, Option, Some, None, IfSome, IfNone, IsSomeAnd, slice_get, if◌then◌else◌}
+use Rattle.std.specs.Prelude.{◌≡◌, ◌≢◌, ℕ, ◌+◌, ◌||◌, ◌&&◌, not, Bool, true, false, List, [], ◌∷◌, length, Option, Some, None, IfSome, IfNone, IsSomeAnd, slice_get, if◌then◌else◌}
 use Rattle.vx_ends.specs.Told.{Told}
 use Rattle.vx_ends.specs.declared.position.Position.{Position}
 use Rattle.vx_plan.specs.declared.component.Component.{Component}
 use Rattle.vx_plan.specs.Components.{batch_max_events, batch_timeout}
 use Rattle.vx_plan.specs.Components.{is_sink}
 use Rattle.vx_record.specs.Records.{Record}
-use Rattle.vx_record.specs.Installs.{component_of, sink_at, started, is_closed, is_retired}
+use Rattle.vx_record.specs.Installs.{component_of, device_at, sink_at, started, is_closed, is_retired}
 use Rattle.vx_record.specs.Turns.{is_out, at_lease}
 use Rattle.vx_record.specs.Reads.{all_ended}
 use Rattle.vx_record.specs.Ceasing.{lost_at, readers_at, cause_of}
@@ -19,6 +19,7 @@ use Rattle.vx_record.specs.Shifts.{at}
 use Rattle.vx_record.specs.SinkBatches.{attempts_with, taken_at}
 use Rattle.vx_sourcecore.specs.Prefixes.{Judgement, IsPrefixOf}
 use Rattle.vx_counts.specs.Meets.{Meets}
+use Rattle.vx_tasks.specs.declared.task.Role.TheVariants.{Unfit}
 use Rattle.vx_tasks.specs.declared.task.Task.{Task}
 use Rattle.vx_tasks.specs.Telling.{IsToldButGiven}
 use Rattle.vx_tasks.specs.Home.{HasCome, IsAtHome}
@@ -88,14 +89,15 @@ abbrev pub IsAtHomeBut : {P : Type 0} → (P → Told) → Bool → Record → �
 IsAtHomeBut told_by true h i task = IsToldButGiven (told_by task.port) h i × HasCome h i task.role
 IsAtHomeBut told_by false h i task = IsAtHome told_by h i task
 
--- what is at home isn't out, owes nothing where its batch was born, nor a confirm that it was leased for, and its port isn't
--- started where it is closed for good
+-- what is at home isn't out, owes nothing where its batch was born, nor, where it has a device, a confirm that it was leased for,
+-- its port isn't started where it is closed for good, and it is fit for work where what it counts is known
 pub record HasHome {P : Type 0} (told_by : P → Told) (f : Facts) (h : Record) (i : ℕ) (task : Task P) : Type 0 where
   pub home : is_out h i ≡ false
   pub settled : f.owing ≡ false → cause_of h ≡ None → owes h i ≡ false
-  pub answered : f.owing ≡ false → cause_of h ≡ None → last_confirm h i ≡ asked h i
+  pub answered : device_at h i ≡ true → f.owing ≡ false → cause_of h ≡ None → last_confirm h i ≡ asked h i
   pub task_is : IsAtHomeBut told_by f.starved h i task
   pub shut : f.closed ≡ true → (told_by task.port).started ≡ false
+  pub fit : f.behind ≡ false → task.role ≢ Unfit
 
 -- what is known of one instance
 pub record IsKnown {P : Type 0} (told_by : P → Told) (seat : Seat P) (h : Record) (i : ℕ) : Type 0 where

@@ -16,6 +16,8 @@ use Rattle.vx_record.specs.Shifts.{at}
 use Rattle.vx_tasks.specs.declared.task.Task.{Task}
 use Rattle.vx_seats.specs.declared.seat.Seat.{Seat}
 use Rattle.vx_seats.specs.Knowing.{Knows}
+use Rattle.vx_seats.specs.Calls.{CountsAt, IsSettledAt, IsShutAt}
+use Rattle.vx_seats.specs.Staying.{EachSeat, Stays}
 
 -- a kind of entry of which no seat has anything
 abbrev pub IsAside : Entry → Type 0
@@ -46,3 +48,13 @@ abbrev pub ConfirmDue : {P : Type 0} → (P → Told) → Type 0
 ConfirmDue told_by =
     (h : Record) (i : ℕ) (seats : List (Seat _)) (seat : Seat _) (task : Task _) → slice_get seats i ≡ Some seat → seat.task ≡ Some task → seat.facts.owing ≡ false →
     cause_of h ≡ None → IsLegal h → device_at h i ≡ true → Knows told_by seats h → is_some seat.progress.prefix.due ≡ is_confirm_due h i
+
+-- what is known of what an instance owes and counts, and that its port is shut
+pub record AreCarried {P : Type 0} (told_by : P → Told) (old new : List (Seat P)) (i : ℕ) : Type 0 where
+  pub settled : IsSettledAt old i → IsSettledAt new i
+  pub counts : CountsAt old i → CountsAt new i
+  pub shut : IsShutAt told_by old i → IsShutAt told_by new i
+
+-- stays known behind a call that leaves that of each seat
+abbrev pub StaysKnown : {P : Type 0} → (P → Told) → Type 0
+StaysKnown told_by = (old new : List (Seat _)) (i : ℕ) → EachSeat Stays old new → AreCarried told_by old new i

@@ -1,15 +1,17 @@
 //! What holds of the seats beside their calls. The function does nothing: what it ensures is proved.
 
-ghost use Rattle.vx_seats.specs.Laws.{AsideKnown, GivenUpKnown, NoticedAll, ConfirmDue};
+ghost use Rattle.vx_seats.specs.Laws.{AsideKnown, GivenUpKnown, NoticedAll, ConfirmDue, StaysKnown};
 
 use vx_ends::Port;
 
 /// Entries of which no seat has anything leave what is known, and so does the spend of a copy that is given up and isn't held. All
-/// batches of an instance have their notice exactly where none is counted without, and a confirm is due at home exactly where
-/// something is to be confirmed.
+/// batches of an instance have their notice exactly where none is counted without. Where an instance with a device is at home, all
+/// that it owes is known and done, and the run isn't given up, a confirm is due exactly where something is to be confirmed. What is
+/// known of an instance beside the record stays known behind a call that leaves it.
 pub fn seats_laws<P: Port>()
     ensures aside { AsideKnown P.told }
     ensures given_up { GivenUpKnown P.told }
     ensures noticed { NoticedAll P.told }
     ensures due { ConfirmDue P.told }
+    ensures stays { StaysKnown P.told }
 {}

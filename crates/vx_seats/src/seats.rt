@@ -1,4 +1,4 @@
-ghost use Rattle.std.specs.Prelude.{◌≡◌, ◌<◌, ◌+◌, ◌⊎◌, ◌||◌, ◌&&◌, not, if◌then◌else◌, ℕ, Bool, true, false, List, [], ◌∷◌, length, IfOk, IfSome, IfNone, IsSome, Some, None, slice_get};
+ghost use Rattle.std.specs.Prelude.{◌≡◌, ◌<◌, ◌+◌, ◌⊎◌, ◌||◌, ◌&&◌, not, if◌then◌else◌, ℕ, Bool, true, false, List, [], ◌∷◌, length, IfOk, IfSome, IfNone, IsSome, Some, None, is_some, slice_get};
 ghost use Rattle.vx_ends.specs.declared.trouble.Reply.{Reply};
 ghost use Rattle.vx_value.specs.Texts.{Word, is_empty};
 ghost use Rattle.vx_record.specs.Records.{Record, capped};
@@ -26,6 +26,7 @@ ghost use Rattle.vx_plan.specs.Accepted.{IsPlan};
 ghost use Rattle.vx_record.specs.Wirings.{begun};
 ghost use Rattle.vx_seats.specs.Beginning.{AreFresh};
 ghost use Rattle.vx_seats.specs.Knowing.{Knows};
+ghost use Rattle.vx_seats.specs.Staying.{EachSeat, OneSeat, Stays, IsLeft, HasRead};
 ghost use Rattle.vx_seats.specs.Calls.{CountsAt, IsSettledAt, IsShutAt, HadHome, HadNobody, HasTaskBack, HasPlaceFor};
 
 use crate::seat::{Seat, leave_seat};
@@ -43,7 +44,8 @@ use vx_value::WantOfMemory;
 /// What is known of all instances, by their numbers.
 ///
 /// Contracts see the seats. `Knows` says that they are as a record has them: what a call ensures is that they are so with its
-/// entry.
+/// entry. `Stays` says what a call leaves of each seat: what its component says, its task, and whether what it owes, what it counts
+/// and what its port gave is known; `leave`, `arrive`, `read`, `owed` and `mark_starved` say what they change of that.
 #[derive(Drop)]
 pub struct Seats<P: Port> {
     seats: Vec<Seat<P>>,
@@ -62,6 +64,7 @@ impl<P: Port> Seats<P> {
     /// Seats as they begin. Where they are fresh for a plan that may be installed, they are as a record has them that begins with it.
     pub fn new(seats: Vec<Seat<P>>) -> Self
         ensures size { length result ≡ length seats.items }
+        ensures same { result ≡ seats.items }
         ensures knows { (plan : Plan) → (once : Bool) → (now : ℕ) → IsPlan plan → AreFresh P.told plan seats.items → Knows P.told result (begun plan once now) }
     {
         Seats { seats }
@@ -86,6 +89,7 @@ impl<P: Port> Seats<P> {
     pub fn leave(&mut self, i: u32) -> Option<(Task<P>, Option<PositionList>)>
         requires { i < length self.old }
         ensures size { length self.new ≡ length self.old }
+        ensures left { IfSome result (λ r. OneSeat (IsLeft r.0) i self.old self.new) }
         ensures home { IfSome result (λ r. (h : Record) → Knows P.told self.old h → HadHome P.told self.old h i r.0) }
         ensures due { IfSome result (λ r. (h : Record) → (worker now polls : ℕ) → IsSettledAt self.old i → device_at h i ≡ true → Knows P.told self.old h →
             IsLegal (Lease i worker now polls ∷ h) → AreDue (Lease i worker now polls ∷ h) i r.1) }
@@ -101,6 +105,7 @@ impl<P: Port> Seats<P> {
     pub fn arrive(&mut self, i: u32, task: Task<P>)
         requires { i < length self.old }
         ensures size { length self.new ≡ length self.old }
+        ensures back { OneSeat (λ was is. is ≡ record was { task = Some task }) i self.old self.new }
         ensures knows { (h : Record) → HasTaskBack P.told self.old h i task → Knows P.told self.old h → IsLegal (Home i ∷ h) → Knows P.told self.new (Home i ∷ h) }
     {
         self.seats[i as usize].task = Some(task);
@@ -111,6 +116,7 @@ impl<P: Port> Seats<P> {
     pub fn read(&mut self, i: u32, bytes: u64, new: Option<NewLines>, all: bool)
         requires { i < length self.old }
         ensures size { length self.new ≡ length self.old }
+        ensures stays { OneSeat (HasRead (not (is_some new))) i self.old self.new }
         ensures knows { (h : Record) → (stream : ℕ) → (took : Taken) → bytes ≡ capped (length (bytes_of took)) → all ≡ is_end took → IfSome new (AreNew h i stream took) →
             Knows P.told self.old h → IsLegal (Read i stream took ∷ h) → Knows P.told self.new (Read i stream took ∷ h) }
     {
@@ -130,6 +136,7 @@ impl<P: Port> Seats<P> {
     ) -> Result<Ends, WantOfMemory>
         requires { i < length self.old }
         ensures size { length self.new ≡ length self.old }
+        ensures stays { EachSeat Stays self.old self.new }
         ensures ready { IfOk result (HasPlaceFor self.new i position) }
         ensures knows { (h : Record) → Knows P.told self.old h → Knows P.told self.new h }
     {
@@ -144,6 +151,7 @@ impl<P: Port> Seats<P> {
         requires within { i < length self.old }
         requires ready { (position : Position) × HasPlaceFor self.old i position ends }
         ensures size { length self.new ≡ length self.old }
+        ensures stays { EachSeat Stays self.old self.new }
         ensures knows { (h : Record) → (place stream end : ℕ) → (copies : List ℕ) → (made : List Event) → (waits : Bool) →
             HasPlaceFor self.old i (record { stream = stream; end = end }) ends → events ≡ capped (length made) →
             Knows P.told self.old h → IsLegal (Born i batch place copies made waits stream end ∷ h) → Knows P.told self.new (Born i batch place copies made waits stream end ∷ h) }
@@ -158,6 +166,7 @@ impl<P: Port> Seats<P> {
     pub fn noticed(&mut self, notice: Notice)
         requires { notice.instance < length self.old }
         ensures size { length self.new ≡ length self.old }
+        ensures stays { EachSeat Stays self.old self.new }
         ensures knows { (h : Record) → is_batch_of h notice.instance notice.batch ≡ true → Knows P.told self.old h → IsLegal (Entry.Notice notice.batch notice.status ∷ h) →
             Knows P.told self.new (Entry.Notice notice.batch notice.status ∷ h) }
     {
@@ -171,6 +180,7 @@ impl<P: Port> Seats<P> {
     pub fn closed(&mut self, i: u32)
         requires { i < length self.old }
         ensures size { length self.new ≡ length self.old }
+        ensures stays { EachSeat Stays self.old self.new }
         ensures knows { (h : Record) → IsShutAt P.told self.old i → Knows P.told self.old h → IsLegal (Closed i ∷ h) → Knows P.told self.new (Closed i ∷ h) }
     {
         self.seats[i as usize].facts.closed = true;
@@ -180,6 +190,7 @@ impl<P: Port> Seats<P> {
     pub fn retired(&mut self, i: u32)
         requires { i < length self.old }
         ensures size { length self.new ≡ length self.old }
+        ensures stays { EachSeat Stays self.old self.new }
         ensures knows { (h : Record) → Knows P.told self.old h → IsLegal (Retired i ∷ h) → Knows P.told self.new (Retired i ∷ h) }
     {
         self.seats[i as usize].facts.retired = true;
@@ -189,6 +200,7 @@ impl<P: Port> Seats<P> {
     pub fn idle(&mut self, i: u32, failed: bool)
         requires { i < length self.old }
         ensures size { length self.new ≡ length self.old }
+        ensures stays { EachSeat Stays self.old self.new }
         ensures knows { (h : Record) → Knows P.told self.old h → IsLegal (Idle i failed ∷ h) → Knows P.told self.new (Idle i failed ∷ h) }
     {
         let facts = &mut self.seats[i as usize].facts;
@@ -199,6 +211,7 @@ impl<P: Port> Seats<P> {
     pub fn lost(&mut self, i: u32) -> u64
         requires { i < length self.old }
         ensures size { length self.new ≡ length self.old }
+        ensures stays { EachSeat Stays self.old self.new }
         ensures after { (h : Record) → CountsAt self.old i → source_at h i ≡ true → Knows P.told self.old h → result ≡ capped (bytes_taken h i) }
         ensures knows { (h : Record) → (failed : Bool) → Knows P.told self.old h → IsLegal (SourceLost i result failed ∷ h) → Knows P.told self.new (SourceLost i result failed ∷ h) }
     {
@@ -212,6 +225,7 @@ impl<P: Port> Seats<P> {
     pub fn took(&mut self, i: u32, now: u64, first: bool)
         requires { i < length self.old }
         ensures size { length self.new ≡ length self.old }
+        ensures stays { EachSeat Stays self.old self.new }
         ensures knows { (h : Record) → (s : ℕ) → (copies : List ℕ) → first ≡ is_empty (at h (Held i)) → now ≡ lease_now h i → Knows P.told self.old h →
             IsLegal (Take i s copies ∷ h) → Knows P.told self.new (Take i s copies ∷ h) }
     {
@@ -225,6 +239,7 @@ impl<P: Port> Seats<P> {
     pub fn spent(&mut self, i: u32, outcome: Outcome, first: bool)
         requires { i < length self.old }
         ensures size { length self.new ≡ length self.old }
+        ensures stays { EachSeat Stays self.old self.new }
         ensures knows { (h : Record) → (c : ℕ) → is_newest outcome ≡ false → is_unread outcome ≡ false → first ≡ is_first h i c → Knows P.told self.old h →
             IsLegal (Spent i c outcome ∷ h) → Knows P.told self.new (Spent i c outcome ∷ h) }
     {
@@ -238,6 +253,7 @@ impl<P: Port> Seats<P> {
     pub fn unread(&mut self, i: u32, first: bool)
         requires { i < length self.old }
         ensures size { length self.new ≡ length self.old }
+        ensures stays { EachSeat Stays self.old self.new }
         ensures knows { (h : Record) → (c : ℕ) → (copies : List ℕ) → WasPutIn h (Outputs i) copies c → first ≡ not (any_copy is_unread h copies) → Knows P.told self.old h →
             IsLegal (Spent i c NoConsumer ∷ h) → Knows P.told self.new (Spent i c NoConsumer ∷ h) }
     {
@@ -250,6 +266,7 @@ impl<P: Port> Seats<P> {
     pub fn dropped(&mut self, target: u32, first: bool)
         requires { target < length self.old }
         ensures size { length self.new ≡ length self.old }
+        ensures stays { EachSeat Stays self.old self.new }
         ensures knows { (h : Record) → (i c : ℕ) → (copies : List ℕ) → WasPutIn h (Waiting i target) copies c → first ≡ not (any_copy is_newest h copies) → Knows P.told self.old h →
             IsLegal (Spent i c NewestDropped ∷ h) → Knows P.told self.new (Spent i c NewestDropped ∷ h) }
     {
@@ -262,6 +279,7 @@ impl<P: Port> Seats<P> {
     pub fn owed(&mut self, i: u32)
         requires { i < length self.old }
         ensures size { length self.new ≡ length self.old }
+        ensures owing { OneSeat (λ was is. is ≡ record was { facts = record was.facts { owing = true } }) i self.old self.new }
         ensures knows { (h : Record) → Knows P.told self.old h → Knows P.told self.new h }
     {
         self.seats[i as usize].facts.owing = true;
@@ -271,6 +289,7 @@ impl<P: Port> Seats<P> {
     pub fn mark_starved(&mut self, i: u32)
         requires { i < length self.old }
         ensures size { length self.new ≡ length self.old }
+        ensures starved { OneSeat (λ was is. is ≡ record was { facts = record was.facts { starved = true } }) i self.old self.new }
         ensures knows { (h : Record) → Knows P.told self.old h → Knows P.told self.new h }
     {
         self.seats[i as usize].facts.starved = true;
@@ -280,6 +299,7 @@ impl<P: Port> Seats<P> {
     pub fn attempted(&mut self, i: u32, bytes: u64)
         requires { i < length self.old }
         ensures size { length self.new ≡ length self.old }
+        ensures stays { EachSeat Stays self.old self.new }
         ensures knows { (h : Record) → (copies : List ℕ) → (gave : Word) → (reply : Reply) → bytes ≡ capped (length gave) → Knows P.told self.old h →
             IsLegal (Attempt i copies gave reply ∷ h) → Knows P.told self.new (Attempt i copies gave reply ∷ h) }
     {
@@ -290,6 +310,7 @@ impl<P: Port> Seats<P> {
     pub fn confirmed(&mut self, i: u32, positions: &PositionList, made: bool)
         requires { i < length self.old }
         ensures size { length self.new ≡ length self.old }
+        ensures stays { EachSeat Stays self.old self.new }
         ensures knows { (h : Record) → Knows P.told self.old h → IsLegal (Confirm i positions.now made ∷ h) → Knows P.told self.new (Confirm i positions.now made ∷ h) }
     {
         let seat = &mut self.seats[i as usize];
@@ -369,7 +390,8 @@ fn count_dropped(counts: &mut Counts, sink: bool, first: bool)
 
 /// Counts a read, if its lines were counted. Answers whether they were.
 fn count_read(counts: &mut Counts, bytes: u64, new: Option<NewLines>) -> bool
-    ensures { result ≡ true → (h : Record) → (i stream : ℕ) → (took : Taken) → IsLegal (Read i stream took ∷ h) → bytes ≡ capped (length (bytes_of took)) →
+    ensures told { result ≡ is_some new }
+    ensures counts { result ≡ true → (h : Record) → (i stream : ℕ) → (took : Taken) → IsLegal (Read i stream took ∷ h) → bytes ≡ capped (length (bytes_of took)) →
         IfSome new (AreNew h i stream took) → Meets i h counts.old.tally → Meets i (Read i stream took ∷ h) counts.new.tally }
 {
     match new {

@@ -1,4 +1,5 @@
 use Rattle.vx_seats.proofs.Aside.{aside_known, given_up_known, noticed_all, confirm_due}
+use Rattle.vx_seats.proofs.Staying.{stays_known}
 use Rattle.vx_seats.proofs.laws.seats_laws.Goals as goal
 
 pub returns-clause-aside : goal.returns-clause-aside
@@ -12,3 +13,6 @@ returns-clause-noticed g c = noticed_all g.P.Port.told
 
 pub returns-clause-due : goal.returns-clause-due
 returns-clause-due g c = confirm_due g.P.Port.told
+
+pub returns-clause-stays : goal.returns-clause-stays
+returns-clause-stays g c = stays_known g.P.Port.told

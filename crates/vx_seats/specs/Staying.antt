@@ -1,0 +1,47 @@
+-- What the calls leave of the seats as it was.
+use Rattle.std.specs.Prelude.{◌≡◌, ◌≢◌, ◌||◌, ℕ, Bool, List, Some, None, IfSome, IsSomeAnd, slice_get}
+use Rattle.vx_tasks.specs.declared.task.Task.{Task}
+use Rattle.vx_seats.specs.declared.seat.Seat.{Seat}
+
+-- each seat is to the one of before as the relation says
+abbrev pub EachSeat : {P : Type 0} → (Seat P → Seat P → Type 0) → List (Seat P) → List (Seat P) → Type 0
+EachSeat F old new = (i : ℕ) → IfSome (slice_get new i) (λ is. IsSomeAnd (slice_get old i) (λ was. F was is))
+
+-- one is, and the others are as they were
+pub record OneSeat {P : Type 0} (F : Seat P → Seat P → Type 0) (i : ℕ) (old new : List (Seat P)) : Type 0 where
+  pub one : IsSomeAnd (slice_get old i) (λ was. IsSomeAnd (slice_get new i) (λ is. F was is))
+  pub others : (j : ℕ) → j ≢ i → slice_get new j ≡ slice_get old j
+
+-- what its component says is as it was
+pub record SameWiring {P : Type 0} (was is : Seat P) : Type 0 where
+  pub name : is.name ≡ was.name
+  pub class : is.class ≡ was.class
+  pub outlet : is.outlet ≡ was.outlet
+  pub batching : is.batching ≡ was.batching
+
+-- what isn't known any more is as it was: what it owes, what it counts, and what its port gave
+pub record SameFlags {P : Type 0} (was is : Seat P) : Type 0 where
+  pub owing : is.facts.owing ≡ was.facts.owing
+  pub behind : is.facts.behind ≡ was.facts.behind
+  pub starved : is.facts.starved ≡ was.facts.starved
+
+-- so are both, and its task
+pub record Stays {P : Type 0} (was is : Seat P) : Type 0 where
+  pub wiring : SameWiring was is
+  pub flags : SameFlags was is
+  pub task : is.task ≡ was.task
+
+-- so are all but its task, which was at home and is taken along
+pub record IsLeft {P : Type 0} (task : Task P) (was is : Seat P) : Type 0 where
+  pub wiring : SameWiring was is
+  pub flags : SameFlags was is
+  pub had : was.task ≡ Some task
+  pub gone : is.task ≡ None
+
+-- so are all but what it counts: that isn't known any more from a read on whose lines weren't told
+pub record HasRead {P : Type 0} (untold : Bool) (was is : Seat P) : Type 0 where
+  pub wiring : SameWiring was is
+  pub owing : is.facts.owing ≡ was.facts.owing
+  pub behind : is.facts.behind ≡ (untold || was.facts.behind)
+  pub starved : is.facts.starved ≡ was.facts.starved
+  pub task : is.task ≡ was.task
