@@ -1,0 +1,17 @@
+pub mod Abandoning
+pub mod Bearing
+pub mod Counting
+pub mod Emptying
+pub mod Leasing
+pub mod Leaving
+pub mod Lending
+pub mod Looping
+pub mod Moving
+pub mod Noticing
+pub mod Pairing
+pub mod Pushing
+pub mod Reading
+pub mod Spending
+pub mod Splitting
+pub mod Stepping
+pub mod Taking

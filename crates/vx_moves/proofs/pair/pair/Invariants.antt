@@ -1,0 +1,13 @@
+use Rattle.std.proofs.Common.{◌≡◌, ◌≤◌, ◌+◌, ◌++◌, length, reverse, vec_capacity}
+use Rattle.vx_moves.specs.Bearing.{paired}
+use Rattle.vx_moves.proofs.pair.pair.Given as goal
+
+abbrev pub invariant-loop-event : goal.invariant-loop-event
+invariant-loop-event l = record {
+  pairs : paired l.events l.copies ++ reverse l.parcels.items ≡ paired l.fn.events l.fn.copies;
+  each : length l.events ≡ length l.copies;
+  room : length l.events + length l.parcels.items ≤ vec_capacity l.parcels;
+}
+
+abbrev pub decreases-loop-event : goal.decreases-loop-event
+decreases-loop-event l = length l.events

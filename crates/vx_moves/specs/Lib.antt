@@ -1,0 +1,10 @@
+pub mod Returns
+pub mod Rooms
+pub mod Stands
+pub mod Leaving
+pub mod Leasing
+pub mod Reading
+pub mod Taking
+pub mod Splitting
+pub mod Bearing
+pub mod Spends

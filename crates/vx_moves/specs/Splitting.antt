@@ -1,0 +1,26 @@
+-- What a split of an instance's oldest output does, and when it isn't made.
+use Rattle.std.specs.Prelude.{◌*◌, ℕ, List, length}
+use Rattle.vx_ends.specs.Told.{Told}
+use Rattle.vx_value.specs.declared.event.Event.{Event}
+use Rattle.vx_ledger.specs.Ledger.{IsShort}
+use Rattle.vx_ledger.specs.declared.short.Short.{Short}
+use Rattle.vx_record.specs.declared.child.Child.{Child}
+use Rattle.vx_record.specs.declared.entry.Entry.TheVariants.{Split}
+use Rattle.vx_record.specs.Records.{Record}
+use Rattle.vx_record.specs.Copies.{next_copy}
+use Rattle.vx_record.specs.Ceasing.{readers_at}
+use Rattle.vx_record.specs.Places.Place.{Outputs}
+use Rattle.vx_record.specs.Shifts.{at}
+use Rattle.vx_record.specs.Spending.{oldest}
+use Rattle.vx_moves.specs.Stands.{Steps}
+use Rattle.vx_moves.specs.declared.books.Books.{Books}
+
+-- the oldest output, which was put out on the first port, was replaced by a child for each reader
+pub record HasSplit {P : Type 0} (told_by : P → Told) (i : ℕ) (old new : Books P) : Type 0 where
+  pub event : Event
+  pub children : List Child
+  pub steps : Steps told_by (Split i 1 (oldest (at old.log (Outputs i))) event children) old new
+
+-- it wasn't, for want of the numbers of its children, or of memory
+abbrev pub IsSplitShort : Record → ℕ → Short → Type 0
+IsSplitShort h i = IsShort (next_copy h) (length (readers_at h i) * length (oldest (at h (Outputs i))))

@@ -1,0 +1,153 @@
+ghost use Rattle.std.specs.Prelude.{◌≡◌, ◌<◌, ℕ, [], length, true, false, IsTrue};
+ghost use Rattle.vx_status.specs.declared.outcome.Outcome.TheVariants.{Abandoned};
+ghost use Rattle.vx_record.specs.Abandoning.{abandoned};
+ghost use Rattle.vx_record.specs.Places.{Place, owner};
+ghost use Rattle.vx_record.specs.Places.Place.{Outputs, Waiting, Contents};
+ghost use Rattle.vx_record.specs.Shifts.{at};
+ghost use Rattle.vx_record.specs.Turns.{is_out};
+ghost use Rattle.vx_moves.specs.Spends.{HasSpent, OnlySpends};
+ghost use Rattle.vx_moves.specs.Stands.{Stands};
+
+use crate::books::Books;
+use crate::settle::settle;
+use vx_ends::Port;
+use vx_status::Outcome;
+
+impl<P: Port> Books<P> {
+    /// Gives up a copy of the oldest output of an instance at home, where the run is given up. Whether there was one; where
+    /// there was none, nothing has changed.
+    pub fn give_up_output(&mut self, i: u32) -> bool
+        requires stands { Stands P.told self.old }
+        requires within { i < length self.old.seats }
+        requires over { abandoned self.old.log ≡ true }
+        requires home { is_out self.old.log i ≡ false }
+        ensures spent { IsTrue result → HasSpent P.told (Outputs i) Abandoned self.old self.new }
+        ensures none { result ≡ false → at self.old.log (Outputs i) ≡ [] }
+        ensures unchanged { result ≡ false → self.new ≡ self.old }
+    {
+        let Some(copy) = self.places.spend_output(i) else {
+            return false;
+        };
+        settle(
+            &mut self.seats,
+            &mut self.balance,
+            &mut self.log,
+            i,
+            copy,
+            Outcome::Abandoned,
+        );
+        true
+    }
+
+    /// Gives up a copy of a waiting child of an instance at home, the oldest for its target, where the run is given up. Whether one
+    /// waited; where none did, nothing has changed.
+    pub fn give_up_waiting(&mut self, i: u32) -> bool
+        requires stands { Stands P.told self.old }
+        requires within { i < length self.old.seats }
+        requires over { abandoned self.old.log ≡ true }
+        requires home { is_out self.old.log i ≡ false }
+        ensures spent { IsTrue result → (target : ℕ) × HasSpent P.told (Waiting i target) Abandoned self.old self.new }
+        ensures none { result ≡ false → (target : ℕ) → at self.old.log (Waiting i target) ≡ [] }
+        ensures unchanged { result ≡ false → self.new ≡ self.old }
+    {
+        let Some(target) = self.places.first_waiting(i) else {
+            return false;
+        };
+        let Some(copy) = self.places.spend_waiting(i, 0, target) else {
+            unreachable!();
+        };
+        settle(
+            &mut self.seats,
+            &mut self.balance,
+            &mut self.log,
+            i,
+            copy,
+            Outcome::Abandoned,
+        );
+        true
+    }
+
+    /// Gives up a copy of the oldest parcel in a stage of an instance's buffer, where the run is given up and the instance is at home. Whether there was one; where there was none, nothing has changed.
+    pub fn give_up_buffered(&mut self, i: u32) -> bool
+        requires stands { Stands P.told self.old }
+        requires within { i < length self.old.seats }
+        requires over { abandoned self.old.log ≡ true }
+        requires home { is_out self.old.log i ≡ false }
+        ensures spent { IsTrue result → (stage : ℕ) × HasSpent P.told (Contents i stage) Abandoned self.old self.new }
+        ensures none { result ≡ false → (stage : ℕ) → at self.old.log (Contents i stage) ≡ [] }
+        ensures unchanged { result ≡ false → self.new ≡ self.old }
+    {
+        let Some(stage) = self.places.first_filled(i) else {
+            return false;
+        };
+        let Some(copy) = self.places.spend_buffered(i, stage) else {
+            unreachable!();
+        };
+        settle(
+            &mut self.seats,
+            &mut self.balance,
+            &mut self.log,
+            i,
+            copy,
+            Outcome::Abandoned,
+        );
+        true
+    }
+
+    /// Gives up all that stands at an instance at home, where the run is given up, and gives the notices that are due then.
+    pub fn give_up(&mut self, i: u32)
+        requires stands { Stands P.told self.old }
+        requires within { i < length self.old.seats }
+        requires over { abandoned self.old.log ≡ true }
+        requires home { is_out self.old.log i ≡ false }
+        ensures spent { OnlySpends P.told i Abandoned self.old self.new }
+        ensures bare { (p : Place) → owner p ≡ i → at self.new.log p ≡ [] }
+    {
+        self.give_up_outputs(i);
+        self.give_up_children(i);
+        self.give_up_buffer(i);
+        self.spend_all_held(i, Outcome::Abandoned);
+    }
+
+    /// Gives up all outputs of an instance.
+    fn give_up_outputs(&mut self, i: u32)
+        requires stands { Stands P.told self.old }
+        requires within { i < length self.old.seats }
+        requires over { abandoned self.old.log ≡ true }
+        requires home { is_out self.old.log i ≡ false }
+        ensures spent { OnlySpends P.told i Abandoned self.old self.new }
+        ensures over { abandoned self.new.log ≡ true }
+        ensures home { is_out self.new.log i ≡ false }
+        ensures none { at self.new.log (Outputs i) ≡ [] }
+    {
+        while self.give_up_output(i) {}
+    }
+
+    /// Gives up all children of an instance that wait.
+    fn give_up_children(&mut self, i: u32)
+        requires stands { Stands P.told self.old }
+        requires within { i < length self.old.seats }
+        requires over { abandoned self.old.log ≡ true }
+        requires home { is_out self.old.log i ≡ false }
+        ensures spent { OnlySpends P.told i Abandoned self.old self.new }
+        ensures over { abandoned self.new.log ≡ true }
+        ensures home { is_out self.new.log i ≡ false }
+        ensures none { (target : ℕ) → at self.new.log (Waiting i target) ≡ [] }
+    {
+        while self.give_up_waiting(i) {}
+    }
+
+    /// Gives up all that is in an instance's buffer.
+    fn give_up_buffer(&mut self, i: u32)
+        requires stands { Stands P.told self.old }
+        requires within { i < length self.old.seats }
+        requires over { abandoned self.old.log ≡ true }
+        requires home { is_out self.old.log i ≡ false }
+        ensures spent { OnlySpends P.told i Abandoned self.old self.new }
+        ensures over { abandoned self.new.log ≡ true }
+        ensures home { is_out self.new.log i ≡ false }
+        ensures none { (stage : ℕ) → at self.new.log (Contents i stage) ≡ [] }
+    {
+        while self.give_up_buffered(i) {}
+    }
+}

@@ -1,0 +1,32 @@
+ghost use Rattle.std.specs.Prelude.{◌≡◌, ◌<◌, ◌≤◌, length, true, false};
+ghost use Rattle.vx_record.specs.Abandoning.{abandoned};
+ghost use Rattle.vx_record.specs.Installs.{device_at};
+ghost use Rattle.vx_record.specs.Starting.{MayLease};
+ghost use Rattle.vx_moves.specs.Stands.{Stands};
+ghost use Rattle.vx_moves.specs.Leasing.{HasLent, IsFitAt};
+
+use crate::books::Books;
+use vx_ends::{Port, PositionList};
+use vx_tasks::Task;
+
+impl<P: Port> Books<P> {
+    /// Leases an instance to a worker at a moment in milliseconds, and gives its task and what is to be confirmed. Its port has a
+    /// device, which every component of a plan has today.
+    pub fn lease(&mut self, i: u32, worker: u32, now: u64) -> (Task<P>, Option<PositionList>)
+        requires stands { Stands P.told self.old }
+        requires within { i < length self.old.seats }
+        requires may { MayLease self.old.log i worker now 0 }
+        requires going { abandoned self.old.log ≡ false }
+        requires latest { self.old.run.latest ≤ now }
+        requires fit { IsFitAt self.old.seats i }
+        requires device { device_at self.old.log i ≡ true }
+        ensures lent { HasLent P.told i worker now result.0 result.1 self.old self.new }
+    {
+        let Some((task, positions)) = self.seats.leave(i) else {
+            unreachable!();
+        };
+        self.run.latest = now;
+        self.log.note(&(i, worker, now));
+        (task, positions)
+    }
+}

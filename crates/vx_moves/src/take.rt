@@ -1,0 +1,36 @@
+ghost use Rattle.std.specs.Prelude.{◌≡◌, ◌<◌, length, Some, IsSome};
+ghost use Rattle.vx_record.specs.declared.entry.Entry.TheVariants.{Take};
+ghost use Rattle.vx_record.specs.Places.Place.{Contents, Held};
+ghost use Rattle.vx_record.specs.Shifts.{at};
+ghost use Rattle.vx_record.specs.Spending.{oldest};
+ghost use Rattle.vx_record.specs.Turns.{lease_now};
+ghost use Rattle.vx_places.specs.Calls.{HasHeldRoom};
+ghost use Rattle.vx_places.specs.Looks.{IsFirstFilled};
+ghost use Rattle.vx_places.specs.Views.{parcels_here};
+ghost use Rattle.vx_moves.specs.Leaving.{Leaves};
+ghost use Rattle.vx_moves.specs.Taking.{MayTakeNow};
+ghost use Rattle.vx_moves.specs.Stands.{Stands, Steps};
+
+use crate::books::Books;
+use vx_ends::Port;
+
+impl<P: Port> Books<P> {
+    /// Moves the oldest parcel of the first stage that has one, of the buffer of an instance that is out, behind those that it
+    /// holds, at the moment of its lease in milliseconds. It takes no memory.
+    pub fn take(&mut self, i: u32, stage: usize, now: u64)
+        requires stands { Stands P.told self.old }
+        requires within { i < length self.old.seats }
+        requires first { IsFirstFilled self.old.places i (Some stage) }
+        requires room { HasHeldRoom self.old.places i }
+        requires may { MayTakeNow self.old.log i }
+        requires moment { now ≡ lease_now self.old.log i }
+        ensures steps { Steps P.told (Take i stage (oldest (at self.old.log (Contents i stage)))) self.old self.new }
+        ensures leaves { Leaves self.old self.new }
+        ensures kept { IsSome (parcels_here self.new.places (Held i)) }
+    {
+        let first = self.places.holds(i) == 0;
+        self.places.take(i, stage);
+        self.seats.took(i, now, first);
+        self.log.note(&(i, stage));
+    }
+}
