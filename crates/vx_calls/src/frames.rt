@@ -115,6 +115,8 @@ fn has_short_lines(rt: &impl Abort, alloc: Global) -> Result<(), Fail> {
     feed(&mut framer, b"abcd", &mut out)?;
     finish(&mut framer, &mut out)?;
     has_counts(rt, &framer, &out, 2, 2);
+    assert_eq!(rt; framer.take_overlong(), 2);
+    has_counts(rt, &framer, &out, 2, 0);
     Ok(())
 }
 

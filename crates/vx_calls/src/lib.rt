@@ -28,6 +28,8 @@ mod probes;
 #[cfg(test)]
 mod records;
 #[cfg(test)]
+mod sources;
+#[cfg(test)]
 mod statuses;
 #[cfg(test)]
 mod tallies;
