@@ -4,7 +4,8 @@ use Rattle.vx_places.specs.Rooms.{SameRooms}
 use Rattle.vx_seats.specs.Staying.{EachSeat, OneSeat, Stays, HasRead}
 use Rattle.vx_moves.specs.declared.books.Books.{Books}
 
--- of each seat what its component says, its task, and what is known of it; the rooms, and who is lent one; and the run
+-- of each seat what its component says, its task, and whether what it owes, what it counts and what its port gave is known; the
+-- rooms, and who is lent one; and the run
 pub record Leaves {P : Type 0} (old new : Books P) : Type 0 where
   pub seats : EachSeat Stays old.seats new.seats
   pub rooms : SameRooms old.places new.places

@@ -8,8 +8,8 @@ pub struct Run {
     pub plan: Plan,
     /// Why the run was abandoned.
     pub abandoned: Option<AbandonCause>,
-    /// The latest moment of a lease, in milliseconds; 0 before the first.
+    /// No lease was later than this moment, in milliseconds.
     pub latest: u64,
-    /// Whether an instance came home for which memory was wanting.
+    /// Whether the caller marked the run as short of memory. Until then, what came home had done what it was asked to.
     pub short: bool,
 }
