@@ -26,8 +26,6 @@ mod prefixes;
 #[cfg(test)]
 mod probes;
 #[cfg(test)]
-mod records;
-#[cfg(test)]
 mod sources;
 #[cfg(test)]
 mod statuses;

@@ -7,7 +7,7 @@ use Rattle.vx_graph.specs.declared.graph_fault.GraphFault.TheVariants as graph
 use Rattle.vx_reading.specs.declared.plan_fault.PlanFault.{PlanFault}
 use Rattle.vx_reading.specs.declared.plan_fault.PlanFault.TheVariants as plan
 use Rattle.vx_cli.specs.declared.fault.Fault.{Fault}
-use Rattle.vx_cli.specs.declared.fault.Fault.TheVariants.{Usage, ConfigRead, ConfigRefused, Numbers, TooLong, SourceFailed, ConfirmFailed, PrintFailed, WantOfMemory}
+use Rattle.vx_cli.specs.declared.fault.Fault.TheVariants.{Usage, ConfigRead, ConfigRefused, Numbers, SourceFailed, ConfirmFailed, PrintFailed, WantOfMemory}
 
 -- where a source failed
 abbrev pub failed_after : ℕ → Word
@@ -52,7 +52,6 @@ reason_of (ConfigRead path) = codes "cannot read " ++ path
 reason_of (ConfigRefused fault) = codes "configuration refused: " ++ plan_text fault
 reason_of (Numbers next wanted) =
     codes "copy numbers are used up: next " ++ (decimal next ++ (codes ", wanted " ++ decimal wanted))
-reason_of TooLong = codes "too many bytes in one run"
 reason_of (SourceFailed name at) = codes "source " ++ (name ++ failed_after at)
 reason_of (ConfirmFailed name) = codes "source " ++ (name ++ codes " could not be confirmed")
 reason_of PrintFailed = []

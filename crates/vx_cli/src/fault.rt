@@ -16,8 +16,6 @@ pub enum Fault {
     ConfigRefused(PlanFault),
     /// The numbers of copies are used up: `next` is the next one, and `wanted` more were asked for.
     Numbers { next: u64, wanted: u64 },
-    /// The sources of the run took as many bytes as one run may take.
-    TooLong,
     /// The port of that source failed after it had taken `at` bytes.
     SourceFailed { name: Text, at: u64 },
     /// The last confirm that was due at that source failed.
@@ -40,7 +38,6 @@ impl Fault {
             Fault::WantOfMemory => 71,
             Fault::ConfigRead { path: _ } => 74,
             Fault::ConfirmFailed { name: _ } => 74,
-            Fault::TooLong => 74,
             Fault::PrintFailed => 74,
             Fault::ConfigRefused(PlanFault::WantOfMemory) => 71,
             Fault::ConfigRefused(PlanFault::Graph(GraphFault::WantOfMemory)) => 71,

@@ -51,7 +51,6 @@ fn reason(alloc: Global, fault: &Fault) -> Result<String, AllocError>
         Fault::Numbers { next, wanted } => {
             format!(in alloc; "copy numbers are used up: next {next}, wanted {wanted}")
         }
-        Fault::TooLong => format!(in alloc; "too many bytes in one run"),
         Fault::SourceFailed { name, at } => {
             let name = name.as_str();
             let place = failed_after(alloc, *at)?;

@@ -30,8 +30,6 @@ ghost use Rattle.vx_examples.specs.RefusedMore.{born_of_nothing, born_of_too_few
 ghost use Rattle.vx_examples.specs.RefusedToo.{no_install, later_version, missing_instances, polled_lease, falling_moment, lease_of_the_retired, fifth_idle, lost_too_soon, lost_at_another_byte, take_of_a_later_stage, take_after_an_attempt, early_attempt, second_attempt, attempt_of_a_part, spent_by_no_failure, filtered_by_a_sink, unread_though_read, newest_with_room, given_up_without_an_abandon, spent_after_a_split, confirmed_again, retired_with_a_copy, second_abandon, waiting_missed, confirmed_before_its_notice, confirmed_past_an_error, home_twice, read_at_home, read_of_a_sink, born_by_another, born_of_another_stream, born_late, split_while_a_child_waits, split_on_another_port, split_to_nobody, push_while_out, take_at_home, attempt_at_home, confirmed_twice, closed_twice, retired_while_out, retired_twice, numbers_not_used_up};
 ghost use Rattle.vx_examples.specs.Refused.{NeverLegal, second_install, lease_without_work, lease_of_one_out, second_read, lost_line, wrong_position, needless_wait, used_number, split_of_the_younger, split_while_out, shared_copy, child_for_another, changed_event, push_past_room, pushed_twice, take_of_the_younger, take_past_the_batch, part_answered_ok, other_bytes, delivered_after_a_failure, spent_twice, spent_elsewhere, early_notice, late_notice, wrong_status, early_confirm, confirm_of_less, lease_of_a_debtor, read_past_the_end, close_too_soon, retired_with_its_port_open, grace_without_a_stop, lease_after_an_abandon, delivered_after_an_abandon};
 
-pub mod built;
-
 /// The record of a run of the first configuration on two lines is legal, and nothing is left to do in it.
 pub fn first_run()
     ensures legal { IsLegal first_run }

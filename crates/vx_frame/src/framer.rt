@@ -47,7 +47,7 @@ impl Framer {
         }
     }
 
-    /// How many lines were longer than the limit, and so left out.
+    /// How many lines beyond the limit were left out that `take_overlong` has not told yet.
     pub fn overlong(&self) -> u64
         ensures { result ≡ self.now.overlong }
     {

@@ -7,7 +7,7 @@ pub struct Line {
     pub stream: u64,
     /// The bytes of the line, without its line feed.
     pub bytes: Bytes,
-    /// The number of the stream's bytes up to and with the line feed, since the stream's last end.
+    /// How many bytes of the stream came before the next line, counted from its last end.
     pub end: u64,
 }
 

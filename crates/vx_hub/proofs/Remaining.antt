@@ -1,155 +1,262 @@
--- What is left when each instance ended.
-use Rattle.std.proofs.Common.{◌≡◌, ℕ, zero, suc, ◌+◌, ◌<◌, List, [], ◌∷◌, ◌++◌, length, Option, Some, None, IfSome, IsSome, IsSomeAnd, true, false, refl, sym, ap, subst, ◌∙◌, arith}
-use Rattle.std.specs.Prelude.{All, ◌↔◌}
-use Rattle.std.proofs.lemmas.List.Elements.{All-head, All-tail}
+-- What is left of a run whose instances all ended.
+use Rattle.std.proofs.Common.{◌≡◌, ◌∙◌, ℕ, zero, suc, ◌+◌, ◌<◌, ◌≤◌, Bool, true, false, List, [], ◌∷◌, ◌++◌, Option, Some, None, IfSome, IsSome, length, refl, sym, ap, subst, arith}
+use Rattle.std.specs.Prelude.{◌==◌, ◌↔◌, ◌||◌, not, IsSomeAnd, nat_lt, slice_get, if◌then◌else◌}
+use Rattle.std.proofs.lemmas.Bool.Decides.{nat_tests}
+use Rattle.vx_value.specs.Texts.{is_empty}
 use Rattle.vx_ends.specs.Told.{Told}
-use Rattle.vx_record.specs.Records.{Record}
-use Rattle.vx_hub.specs.declared.facts.Facts.{Facts}
-use Rattle.vx_hub.specs.declared.row.Row.{Row}
-use Rattle.vx_hub.specs.declared.task.Task.{Task}
-use Rattle.vx_hub.specs.Rows.{IsBare, row_at, task_port, port_at}
-use Rattle.vx_hub.specs.Stands.{IsGone, IsShut, IsTold, IsKnown, facts_at, NoneAwaited}
-use Rattle.vx_record.specs.Places.{Place, owner}
-use Rattle.vx_record.specs.Moving.{IsConserved}
-use Rattle.vx_record.specs.Accounting.{IsAccounted}
-use Rattle.vx_record.proofs.Dues.{has_none_live}
-use Rattle.vx_record.proofs.Notices.{accounted_once}
 use Rattle.vx_status.specs.declared.batch_status.BatchStatus.TheVariants.{Delivered}
+use Rattle.vx_ledger.specs.declared.parcel.Parcel.{Parcel}
+use Rattle.vx_record.specs.declared.entry.Entry.TheVariants.{Install, Lease, Home, Closed, Retired}
+use Rattle.vx_record.specs.Records.{Record}
+use Rattle.vx_record.specs.Copies.{IsLive, count}
+use Rattle.vx_record.specs.Installs.{started, device_at, is_closed, is_retired}
+use Rattle.vx_record.specs.Legal.{IsLegal, IsClosed}
+use Rattle.vx_record.specs.Places.{Place, owner}
+use Rattle.vx_record.specs.Shifts.{at}
 use Rattle.vx_record.specs.Statuses.{AllGood}
-use Rattle.vx_record.proofs.LegalNotices.{accounted_so}
-use Rattle.vx_record.proofs.After.{accounted_tells}
-use Rattle.vx_hub.proofs.Noticing.{accounted}
-use Rattle.vx_record.proofs.OnePlace.{conserved_place}
+use Rattle.vx_record.specs.Turns.{is_out}
+use Rattle.vx_record.proofs.After.{notice_tells}
+use Rattle.vx_record.proofs.Counts.{counting_after}
 use Rattle.vx_record.proofs.Hands.{nowhere}
-use Rattle.vx_hub.specs.Order.{IsLegalWithReturns, IsClosing}
-use Rattle.vx_hub.specs.Places.{copies_at, copies_if, all_numbers, IsPlaced}
-use Rattle.vx_hub.proofs.Beginning.{unused_here}
-use Rattle.vx_hub.proofs.Placing.{conserved, places_all}
-use Rattle.vx_hub.specs.Remains.{AreBare, numbered_port, ports_in, AreNumbered, AreClosed, AreTold, HasOnePlace, AllSpent, HasNotices}
+use Rattle.vx_record.proofs.Lasting.{stays_bare}
+use Rattle.vx_record.proofs.LegalNotices.{one_notice_at_last, notice_at_once}
+use Rattle.vx_record.proofs.OnePlace.{one_place}
+use Rattle.vx_record.proofs.Shifting.{stands_at}
+use Rattle.vx_balance.proofs.Settling.{settled_closes}
+use Rattle.vx_places.specs.Looks.{AreBare}
+use Rattle.vx_places.specs.Numbers.{numbers}
+use Rattle.vx_places.specs.Views.{here_if, parcels_here}
+use Rattle.vx_places.proofs.Recorded.{bare_is_bare}
+use Rattle.vx_tasks.specs.declared.task.Task.{Task}
+use Rattle.vx_tasks.specs.Telling.{IsTold}
+use Rattle.vx_seats.specs.declared.seat.Seat.{Seat}
+use Rattle.vx_seats.specs.Knowing.{IsAtHomeBut, HasHome}
+use Rattle.vx_seats.specs.Staying.{OneSeat, IsLeft}
+use Rattle.vx_moves.specs.declared.books.Books.{Books}
+use Rattle.vx_moves.specs.Stands.{Stands}
+use Rattle.vx_moves.proofs.Moving.{seen_kept}
+use Rattle.vx_ready.specs.Asking.{IsServed}
+use Rattle.vx_ready.proofs.Counting.{started_are}
+use Rattle.vx_ready.proofs.Done.{device_there}
+use Rattle.vx_ready.proofs.Knowing.{known}
+use Rattle.vx_ready.proofs.Testing.{empty_tests}
+use Rattle.vx_hub.specs.declared.parts.Numbered.{Numbered}
+use Rattle.vx_hub.specs.Ending.{IsOver}
+use Rattle.vx_hub.specs.Making.{ArePorted}
+use Rattle.vx_hub.specs.Remains.{AllSpent, HasEnds, AreNumbered, AreHome, IsPortOf, ArePortsOf, AreClosed, AreTold, HasEnded}
+use Rattle.vx_hub.specs.Standing.{IsFed, IsFedAt}
+use Rattle.vx_hub.specs.Telling.{HasLive}
+use Rattle.vx_hub.proofs.Begun.{past_end, row_past}
+use Rattle.vx_hub.proofs.Known.{live_is}
+use Rattle.vx_hub.proofs.Retiring.{task_so}
 
--- where all instances ended, nothing stands at any
-pub all_bare : {P : Type 0} (fs : List Facts) (rows : List (Row P)) → length fs ≡ length rows → All (λ f. f.retired ≡ true) fs →
-    ((i : ℕ) → IfSome (facts_at fs i) (IsGone rows i)) → AreBare rows
-all_bare [] [] size over gone = tt
-all_bare [] (r ∷ rows) size over gone = absurd (omega arith)
-all_bare (f ∷ fs) [] size over gone = absurd (omega arith)
-all_bare {P} (f ∷ fs) (r ∷ rows) size over gone =
-    let retired : f.retired ≡ true = All-head (λ g. g.retired ≡ true) f fs over in
-    ((gone 0 retired).1, all_bare fs rows (omega arith) (All-tail (λ g. g.retired ≡ true) f fs over) (λ i. gone (suc i)))
+-- WHAT IS RETIRED
+equal : (i j : ℕ) → (i == j) ≡ true → i ≡ j
+equal i j same = grind (arith, nat_tests)
 
--- where all instances ended, each port is closed
-pub all_shut : {P : Type 0} (told_by : P → Told) (fs : List Facts) (rows : List (Row P)) (first : ℕ) → length fs ≡ length rows → All (λ f. f.retired ≡ true) fs →
-    ((i : ℕ) → IfSome (facts_at fs i) (IsGone rows i)) → ((i : ℕ) → IfSome (facts_at fs i) (IsShut told_by rows i)) → AreClosed told_by (ports_in first rows)
-all_shut told_by [] [] first size over gone shut = tt
-all_shut told_by [] (r ∷ rows) first size over gone shut = absurd (omega arith)
-all_shut told_by (f ∷ fs) [] first size over gone shut = absurd (omega arith)
-all_shut {P} told_by (f ∷ fs) (r ∷ rows) first size over gone shut =
-    let retired : f.retired ≡ true = All-head (λ g. g.retired ≡ true) f fs over in
-    put (all_shut told_by fs rows (first + 1) (omega arith) (All-tail (λ g. g.retired ≡ true) f fs over) (λ i. gone (suc i)) (λ i. shut (suc i)))
-    (task_port r.task) (shut 0 (gone 0 retired).0)
+-- is at home
+pub retired_home : (h : Record) (i : ℕ) → IsLegal h → is_retired h i ≡ true → is_out h i ≡ false
+retired_home [] i legal is = refl
+retired_home (Lease j worker now polls ∷ h) i legal is = go (j == i) refl (retired_home h i legal.1 is)
   where
-    put : AreClosed told_by (ports_in (first + 1) rows) → (o : Option P) → IsSomeAnd o (λ port. (told_by port).started ≡ false) → AreClosed told_by (numbered_port first o ++ ports_in (first + 1) rows)
-    put rest None s = absurd s
-    put rest (Some p) s = (s, rest)
-
--- each port tells what the record has
-pub all_told : {P : Type 0} (told_by : P → Told) (h : Record) (rows : List (Row P)) (first : ℕ) →
-    ((i : ℕ) → IfSome (port_at rows i) (λ port. IsTold (told_by port) h (first + i))) → AreTold told_by h (ports_in first rows)
-all_told told_by h [] first told = tt
-all_told {P} told_by h (r ∷ rows) first told =
-    put (all_told told_by h rows (first + 1) (λ i. next i (told (suc i)))) (task_port r.task) (here (told 0))
+    go : (b : Bool) → (j == i) ≡ b → is_out h i ≡ false → (if b then true else is_out h i) ≡ false
+    go true here home = let no : true ≡ false = sym (subst (λ (k : ℕ). is_retired h k ≡ true) (sym (equal j i here)) is) ∙ legal.0.row.unretired in cc
+    go false here home = home
+retired_home (Home j ∷ h) i legal is = go (j == i) (retired_home h i legal.1 is)
   where
-    same_first : first + 0 ≡ first
-    same_first = omega arith
-
-    here : IfSome (task_port r.task) (λ port. IsTold (told_by port) h (first + 0)) → IfSome (task_port r.task) (λ port. IsTold (told_by port) h first)
-    here t = subst (λ (n : ℕ). IfSome (task_port r.task) (λ port. IsTold (told_by port) h n)) same_first t
-
-    next : (i : ℕ) → IfSome (port_at rows i) (λ port. IsTold (told_by port) h (first + suc i)) → IfSome (port_at rows i) (λ port. IsTold (told_by port) h (first + 1 + i))
-    next i t = let same : first + suc i ≡ first + 1 + i = omega arith in subst (λ (n : ℕ). IfSome (port_at rows i) (λ port. IsTold (told_by port) h n)) same t
-
-    put : AreTold told_by h (ports_in (first + 1) rows) → (o : Option P) → IfSome o (λ port. IsTold (told_by port) h first) → AreTold told_by h (numbered_port first o ++ ports_in (first + 1) rows)
-    put rest None s = rest
-    put rest (Some p) s = (s, rest)
-
--- a task at home has a port
-bare_port : {P : Type 0} (row : Row P) → IsBare row → IsSome (task_port row.task)
-bare_port {P} row b = go row.task b.home
+    go : (b : Bool) → is_out h i ≡ false → (if b then false else is_out h i) ≡ false
+    go true home = refl
+    go false home = home
+retired_home (Retired j ∷ h) i legal is = go (j == i) refl is (retired_home h i legal.1)
   where
-    go : (t : Option (Task P)) → IsSome t → IsSome (task_port t)
-    go None e = cc
-    go (Some task) e = refl
+    go : (b : Bool) → (j == i) ≡ b → (b || is_retired h i) ≡ true → (is_retired h i ≡ true → is_out h i ≡ false) → is_out h i ≡ false
+    go true here e before = subst (λ (k : ℕ). is_out h k ≡ false) (equal j i here) legal.0.row.home
+    go false here e before = before e
+retired_home (e ∷ h) i legal is = retired_home h i legal.1 is
 
--- each instance has its port
-pub all_numbered : {P : Type 0} (rows : List (Row P)) (first : ℕ) → AreBare rows → AreNumbered first (ports_in first rows)
-all_numbered [] first bare = tt
-all_numbered {P} (r ∷ rows) first bare = put (all_numbered rows (first + 1) bare.1) (task_port r.task) (bare_port r bare.0)
+-- and its port is closed for good, if it has one
+pub retired_closed : (h : Record) (i : ℕ) → IsLegal h → is_retired h i ≡ true → device_at h i ≡ true → is_closed h i ≡ true
+retired_closed [] i legal is device = cc
+retired_closed (Install version plan once instances now ∷ h) i legal is device = let no : is_retired [] i ≡ true = subst (λ (k : Record). is_retired k i ≡ true) legal.0.row.first is in cc
+retired_closed (Closed j ∷ h) i legal is device = go (j == i) (retired_closed h i legal.1 is device)
   where
-    put : AreNumbered (first + 1) (ports_in (first + 1) rows) → (o : Option P) → IsSome o → AreNumbered first (numbered_port first o ++ ports_in (first + 1) rows)
-    put rest None s = cc
-    put rest (Some p) s = (refl, rest)
-
-pub all_counted : {P : Type 0} (rows : List (Row P)) (first : ℕ) → AreBare rows → length (ports_in first rows) ≡ length rows
-all_counted [] first bare = refl
-all_counted {P} (r ∷ rows) first bare = put (all_counted rows (first + 1) bare.1) (task_port r.task) (bare_port r bare.0)
+    go : (b : Bool) → is_closed h i ≡ true → (b || is_closed h i) ≡ true
+    go true closed = refl
+    go false closed = closed
+retired_closed (Retired j ∷ h) i legal is device = go (j == i) refl is (λ before. retired_closed h i legal.1 before device)
   where
-    put : length (ports_in (first + 1) rows) ≡ length rows → (o : Option P) → IsSome o → length (numbered_port first o ++ ports_in (first + 1) rows) ≡ suc (length rows)
-    put rest None s = cc
-    put rest (Some p) s = ap suc rest
+    go : (b : Bool) → (j == i) ≡ b → (b || is_retired h i) ≡ true → (is_retired h i ≡ true → is_closed h i ≡ true) → is_closed h i ≡ true
+    go true here e before =
+        let same = equal j i here in
+        subst (λ (k : ℕ). is_closed h k ≡ true) same (legal.0.row.port_closed (subst (λ (k : ℕ). device_at h k ≡ true) (sym same) device))
+    go false here e before = before e
+retired_closed (e ∷ h) i legal is device = retired_closed h i legal.1 is device
 
-pub ports_told : {P : Type 0} (told_by : P → Told) (h : Record) (rows : List (Row P)) →
-    ((i : ℕ) → IfSome (port_at rows i) (λ port. IsTold (told_by port) h i)) → AreTold told_by h (ports_in 0 rows)
-ports_told {P} told_by h rows told = all_told told_by h rows 0 (λ i. from_zero i (told i))
+-- PORTS IN THEIR ORDER
+pub numbered_more : {P : Type 0} (first : ℕ) (ns after : List (Numbered P)) (n : Numbered P) → after ≡ ns ++ n ∷ [] → AreNumbered first ns → n.instance ≡ first + length ns → AreNumbered first after
+numbered_more {P} first ns after n parts all is = subst (λ (ms : List (Numbered P)). AreNumbered first ms) (sym parts) (go first ns all is)
   where
-    from_zero : (i : ℕ) → IfSome (port_at rows i) (λ port. IsTold (told_by port) h i) → IfSome (port_at rows i) (λ port. IsTold (told_by port) h (0 + i))
-    from_zero i t = let same : i ≡ 0 + i = omega arith in subst (λ (n : ℕ). IfSome (port_at rows i) (λ port. IsTold (told_by port) h n)) same t
+    go : (k : ℕ) (ms : List (Numbered P)) → AreNumbered k ms → n.instance ≡ k + length ms → AreNumbered k (ms ++ n ∷ [])
+    go k [] all is = (omega (arith, is), tt)
+    go k (m ∷ ms) all is = (all.0, go (k + 1) ms all.1 (omega (arith, is)))
 
--- where nothing stands at any instance, nothing stands at any place
-pub bare_nowhere : {P : Type 0} (rows : List (Row P)) → AreBare rows → (p : Place) → copies_at p rows ≡ []
-bare_nowhere {P} rows bare p = go rows (owner p) bare
+pub ports_more : {P : Type 0} (seats : List (Seat P)) (ns after : List (Numbered P)) (n : Numbered P) (k : ℕ) → after ≡ ns ++ n ∷ [] → length ns ≡ k → ArePortsOf seats ns → IsPortOf seats k n → ArePortsOf seats after
+ports_more {P} seats ns after n k parts size all is = subst (λ (ms : List (Numbered P)). ArePortsOf seats ms) (sym parts) (go ns (IsPortOf seats) all (subst (λ (m : ℕ). IsPortOf seats m n) (sym size) is))
   where
-    go : (rs : List (Row P)) (k : ℕ) → AreBare rs → copies_if p (row_at rs k) ≡ []
-    go [] k b = refl
-    go (r ∷ rs) zero b = unused_here r b.0.outputs b.0.waiting b.0.buffer b.0.held p
-    go (r ∷ rs) (suc k) b = go rs k b.1
+    go : (ms : List (Numbered P)) (F : ℕ → Numbered P → Type 0) → ((i : ℕ) → IfSome (slice_get ms i) (F i)) → F (length ms) n → (i : ℕ) → IfSome (slice_get (ms ++ n ∷ []) i) (F i)
+    go [] F all f zero = f
+    go [] F all f (suc i) = tt
+    go (m ∷ ms) F all f zero = all zero
+    go (m ∷ ms) F all f (suc i) = go ms (λ k. F (suc k)) (λ j. all (suc j)) f i
 
--- what stands in no place was split or spent
-pub all_spent : {P : Type 0} (rows : List (Row P)) (h : Record) → IsLegalWithReturns h → IsPlaced rows [] h → AreBare rows → AllSpent h
-all_spent rows h order placed bare c l =
-    let none = nowhere h (λ p. places_all rows h placed.standing p ∙ ap all_numbers (bare_nowhere rows bare p)) c in
-    let one = conserved_place [] h (conserved h order) c l in
-    omega arith
-
-pub one_place : (h : Record) → IsLegalWithReturns h → HasOnePlace h
-one_place h order later earlier is c l = conserved_place later earlier (subst IsConserved (sym is) (conserved h order)) c l
-
--- each batch had its notice
-pub all_noticed : (h : Record) → IsLegalWithReturns h → NoneAwaited h → AllSpent h → HasNotices h
-all_noticed h order quiet spent = record {
-  once = λ b has. accounted_once h (accounted h order) b has (has_none_live h b (λ c same live. let one = spent c live.0 in let a = live.1 in let d = live.2 in omega arith)) (quiet b);
-  due = λ later earlier b status is. (accounted_so later earlier b status (all is)).0;
-  folded = λ later earlier b status is. (accounted_so later earlier b status (all is)).1;
-  good = λ later earlier b status is. subst (λ k. (status ≡ Delivered) ↔ AllGood k b) is (accounted_tells later earlier b status (all is));
-}
+-- the port of a task that left
+pub left_port : {P : Type 0} (before now after : List (Seat P)) (i : ℕ) (task : Task P) (n : Numbered P) → OneSeat (IsLeft task) i now after → slice_get now i ≡ slice_get before i → n.port ≡ task.port →
+    IsPortOf before i n
+left_port {P} before now after i task n left same port =
+    subst (λ (o : Option (Seat P)). IsSomeAnd o (λ seat. IsSomeAnd seat.task (λ t. n.port ≡ t.port))) same (go (slice_get now i) left.one)
   where
-    all : {k : Record} → k ≡ h → IsAccounted k
-    all is = subst IsAccounted (sym is) (accounted h order)
+    by : (was : Seat P) (o : Option (Seat P)) → IsSomeAnd o (λ is. IsLeft task was is) → IsSomeAnd was.task (λ t. n.port ≡ t.port)
+    by was None is = absurd is
+    by was (Some is) gone = subst (λ (t : Option (Task P)). IsSomeAnd t (λ k. n.port ≡ k.port)) (sym gone.had) port
 
--- where all instances ended, each source takes no more
-pub all_done : {P : Type 0} (h : Record) (fs : List Facts) (rows : List (Row P)) (i : ℕ) → i < length fs → All (λ f. f.retired ≡ true) fs →
-    IfSome (facts_at fs i) (IsGone rows i) → IfSome (facts_at fs i) (λ f. IsKnown f h i) → IsClosing h i
-all_done {P} h fs rows i l over gone known = there (facts_at fs i) (is_there fs i l) (retired_at fs i over) gone known
-  where
-    is_there : (gs : List Facts) (k : ℕ) → k < length gs → IsSome (facts_at gs k)
-    is_there [] k less = absurd (omega arith)
-    is_there (g ∷ gs) zero less = refl
-    is_there (g ∷ gs) (suc k) less = is_there gs k (omega arith)
+    go : (o : Option (Seat P)) → IsSomeAnd o (λ was. IsSomeAnd (slice_get after i) (λ is. IsLeft task was is)) → IsSomeAnd o (λ seat. IsSomeAnd seat.task (λ t. n.port ≡ t.port))
+    go None one = absurd one
+    go (Some was) one = by was (slice_get after i) one
 
-    retired_at : (gs : List Facts) (k : ℕ) → All (λ f. f.retired ≡ true) gs → IfSome (facts_at gs k) (λ f. f.retired ≡ true)
-    retired_at [] k all = tt
-    retired_at (g ∷ gs) zero all = All-head (λ f. f.retired ≡ true) g gs all
-    retired_at (g ∷ gs) (suc k) all = retired_at gs k (All-tail (λ f. f.retired ≡ true) g gs all)
+each_closed : {P : Type 0} (told_by : P → Told) (ns : List (Numbered P)) → ((i : ℕ) → IfSome (slice_get ns i) (λ n. (told_by n.port).started ≡ false)) → AreClosed told_by ns
+each_closed told_by [] all = tt
+each_closed told_by (n ∷ ns) all = (all zero, each_closed told_by ns (λ i. all (suc i)))
 
-    there : (o : Option Facts) → IsSome o → IfSome o (λ f. f.retired ≡ true) → IfSome o (IsGone rows i) → IfSome o (λ f. IsKnown f h i) → IsClosing h i
-    there None some retired went knows = cc
-    there (Some f) some retired went knows = knows.done (went retired).0
+each_told : {P : Type 0} (told_by : P → Told) (h : Record) (first : ℕ) (ns : List (Numbered P)) → AreNumbered first ns → ((i : ℕ) → IfSome (slice_get ns i) (λ n. IsTold (told_by n.port) h (first + i))) → AreTold told_by h ns
+each_told told_by h first [] numbered all = tt
+each_told {P} told_by h first (n ∷ ns) numbered all =
+    let none : first + 0 ≡ n.instance = let is = numbered.0 in omega (arith, is) in (
+      subst (λ (k : ℕ). IsTold (told_by n.port) h k) none (all zero),
+      each_told told_by h (first + 1) ns numbered.1 (λ i. let further : first + suc i ≡ (first + 1) + i = omega arith in
+          subst (λ (k : ℕ). IfSome (slice_get ns i) (λ m. IsTold (told_by m.port) h k)) further (all (suc i))),
+    )
+
+-- WHAT STANDS FOR A RECORD THAT IS OVER
+module _ {P : Type 0} (told_by : P → Told) (books : Books P) (stands : Stands told_by books) (served : IsServed books) (over : IsOver books.log) where
+  seats_size : length books.seats ≡ length (started books.log)
+  seats_size = stands.seats.size
+
+  retired_at : (i : ℕ) → i < length books.seats → is_retired books.log i ≡ true
+  retired_at i l = over i (let size = seats_size in omega (arith, size, l))
+
+  closed_at : (i : ℕ) → i < length books.seats → is_closed books.log i ≡ true
+  closed_at i l = retired_closed books.log i stands.legal (retired_at i l) (device_there told_by books stands served i l)
+
+  pub ends_all : HasEnds (length (started books.log)) books.log
+  ends_all i l = let within : i < length books.seats = let size = seats_size in omega (arith, size, l) in (closed_at i within, retired_at i within)
+
+  -- nothing stands anywhere
+  pub bare_all : AreBare books.places
+  bare_all i there =
+      let within : i < length books.seats = let size = stands.size in omega (arith, size, there) in
+      (bare_is_bare books.log books.places i stands.legal stands.places).1
+      (seen_kept books.places i there (stands.kept i (retired_home books.log i stands.legal (retired_at i within)))) (stays_bare books.log i stands.legal (retired_at i within))
+
+  vacant_at : (p : Place) → parcels_here books.places p ≡ Some []
+  vacant_at p = go (nat_lt (owner p) (length books.places)) refl
+    where
+      go : (b : Bool) → nat_lt (owner p) (length books.places) ≡ b → parcels_here books.places p ≡ Some []
+      go true l = bare_all (owner p) (grind (arith, nat_tests)) p refl
+      go false l = ap (here_if p) (row_past books.places (owner p) (grind (arith, nat_tests)))
+
+  none_at : (p : Place) → at books.log p ≡ []
+  none_at p = sym (subst (λ (o : Option (List Parcel)). IfSome o (λ parcels. numbers parcels ≡ at books.log p)) (vacant_at p) (stands.places.stand p))
+
+  -- so each copy was split or spent
+  pub spent_all : AllSpent books.log
+  spent_all c l =
+      let none = nowhere books.log (λ p. stands_at books.log p stands.legal ∙ none_at p) c in
+      let one = one_place [] books.log stands.legal c l in
+      omega (arith, none, one)
+
+  none_lives : (c : ℕ) → IsLive books.log c → ⊥
+  none_lives c live = let one = spent_all c live.0 in let split = live.1 in let spent = live.2 in omega (arith, one, split, spent)
+
+  -- no batch is open
+  settled : books.balance.open_rows ≡ []
+  settled = go (is_empty books.balance.open_rows) refl
+    where
+      tests : (is_empty books.balance.open_rows ≡ true) ↔ (books.balance.open_rows ≡ [])
+      tests = empty_tests books.balance.open_rows
+
+      go : (b : Bool) → is_empty books.balance.open_rows ≡ b → books.balance.open_rows ≡ []
+      go true is = tests.0 is
+      go false is =
+          let lives : HasLive books.log = (live_is books.balance books.log (is_empty books.balance.open_rows) tests stands.balance).0 (ap not is) in
+          absurd (none_lives lives.0 lives.1)
+
+  started_below : (i : ℕ) → 0 < count i (started books.log) → i < length books.seats
+  started_below i some = go (nat_lt i (length books.seats)) refl
+    where
+      go : (b : Bool) → nat_lt i (length books.seats) ≡ b → i < length books.seats
+      go true l = grind (arith, nat_tests)
+      go false l =
+          let past : 0 + length books.seats ≤ i = grind (arith, nat_tests) in
+          let none = ap (λ (ns : List ℕ). count i ns) (started_are books.log books.run.plan (length books.seats) stands.legal stands.run.installed seats_size) ∙ counting_after i 0 (length books.seats) past in
+          absurd (omega (arith, some, none))
+
+  pub closed_all : IsClosed books.log
+  closed_all = record {
+    spent = none_lives;
+    noticed = (settled_closes books.balance books.log stands.balance settled).1;
+    retired = λ i some. retired_at i (started_below i some);
+  }
+
+  pub ended_all : ArePorted books.log → HasEnded (length (started books.log)) books.log
+  ended_all ported = record {
+    legal = stands.legal;
+    ported = ported;
+    finished = closed_all;
+    places = λ later earlier is c l. one_place later earlier (subst IsLegal (sym is) stands.legal) c l;
+    spent = spent_all;
+    notices = record {
+      once = one_notice_at_last books.log stands.legal closed_all;
+      due = λ later earlier b status is. (notice_at_once later earlier b status (subst IsLegal (sym is) stands.legal)).0;
+      folded = λ later earlier b status is. (notice_at_once later earlier b status (subst IsLegal (sym is) stands.legal)).1;
+      good = λ later earlier b status is. subst (λ (k : Record). (status ≡ Delivered) ↔ AllGood k b) is (notice_tells later earlier b status (subst IsLegal (sym is) stands.legal));
+    };
+    ends = ends_all;
+  }
+
+  -- PORTS AT HOME
+  pub home_all : AreHome books.seats
+  home_all i = go (slice_get books.seats i) refl
+    where
+      go : (o : Option (Seat P)) → slice_get books.seats i ≡ o → IfSome o (λ seat. IsSome seat.task)
+      go None there = tt
+      go (Some seat) there = task_so told_by books stands i seat there (retired_home books.log i stands.legal (retired_at i (past_end books.seats i seat there)))
+
+  -- what holds of each task at home holds of each port
+  port_says : (F : ℕ → P → Type 0) → ((i : ℕ) (seat : Seat P) (task : Task P) → slice_get books.seats i ≡ Some seat → i < length books.seats → HasHome told_by seat.facts books.log i task → F i task.port) →
+      (ns : List (Numbered P)) → ArePortsOf books.seats ns → (i : ℕ) → IfSome (slice_get ns i) (λ n. F i n.port)
+  port_says F says ns ports i = go (slice_get ns i) (ports i)
+    where
+      by : (n : Numbered P) (seat : Seat P) (t : Option (Task P)) → slice_get books.seats i ≡ Some seat → IfSome t (HasHome told_by seat.facts books.log i) → IsSomeAnd t (λ task. n.port ≡ task.port) → F i n.port
+      by n seat None there home is = absurd is
+      by n seat (Some task) there home is = subst (F i) (sym is) (says i seat task there (past_end books.seats i seat there) home)
+
+      of : (n : Numbered P) (s : Option (Seat P)) → slice_get books.seats i ≡ s → IsSomeAnd s (λ seat. IsSomeAnd seat.task (λ task. n.port ≡ task.port)) → F i n.port
+      of n None there is = absurd is
+      of n (Some seat) there is = by n seat seat.task there (known told_by books stands i seat there).home is
+
+      go : (o : Option (Numbered P)) → IfSome o (IsPortOf books.seats i) → IfSome o (λ n. F i n.port)
+      go None is = tt
+      go (Some n) is = of n (slice_get books.seats i) refl is
+
+  pub ports_closed : (ns : List (Numbered P)) → ArePortsOf books.seats ns → AreClosed told_by ns
+  ports_closed ns ports = each_closed told_by ns (port_says (λ i port. (told_by port).started ≡ false)
+      (λ i seat task there l home. home.shut ((known told_by books stands i seat there).facts.closed ∙ closed_at i l)) ns ports)
+
+  pub ports_told : IsFed books → books.run.short ≡ false → (ns : List (Numbered P)) → AreNumbered 0 ns → ArePortsOf books.seats ns → AreTold told_by books.log ns
+  ports_told fed sound ns numbered ports = each_told told_by books.log 0 ns numbered
+      (λ i. subst (λ (k : ℕ). IfSome (slice_get ns i) (λ n. IsTold (told_by n.port) books.log k)) (omega arith) (port_says (λ k port. IsTold (told_by port) books.log k) told ns ports i))
+    where
+      told : (i : ℕ) (seat : Seat P) (task : Task P) → slice_get books.seats i ≡ Some seat → i < length books.seats → HasHome told_by seat.facts books.log i task → IsTold (told_by task.port) books.log i
+      told i seat task there l home =
+          let known_fed : seat.facts.starved ≡ false = (subst (λ (o : Option (Seat P)). IfSome o IsFedAt) there (fed sound i)).fed in
+          (subst (λ (b : Bool). IsAtHomeBut told_by b books.log i task) known_fed home.task_is).told

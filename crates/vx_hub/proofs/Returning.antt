@@ -1,158 +1,166 @@
--- A task that was handed out comes home with what was done.
-use Rattle.std.proofs.Common.{◌≡◌, ℕ, ◌+◌, ◌<◌, ◌≤◌, ◌++◌, false, length, List, [], Option, Some, None, IfSome, refl, sym, ap, subst, ◌∙◌, arith}
-use Rattle.std.specs.Prelude.{IsSomeAnd}
-use Rattle.vx_ends.specs.Told.{Told, Grows}
-use Rattle.vx_ledger.specs.Copies.{Copy}
-use Rattle.vx_ends.specs.declared.position.Position.{Position}
-use Rattle.vx_record.specs.Records.{Record, capped}
-use Rattle.vx_record.specs.Reads.{taken, all_ended}
-use Rattle.vx_record.specs.Encoding.{given}
-use Rattle.vx_record.specs.Confirms.{confirmed, is_confirm_due}
-use Rattle.vx_record.specs.PortCounts.{fault_count, refusal_count, idle_count}
-use Rattle.vx_hub.specs.Order.{IsDueOf, IsClosedFor}
-use Rattle.vx_hub.specs.Confirming.{HasConfirmed}
-use Rattle.vx_hub.specs.declared.hub.Hub.{Hub}
-use Rattle.vx_hub.specs.declared.work.Work.{Work}
-use Rattle.vx_hub.specs.declared.work.Landing.{Landing}
-use Rattle.vx_hub.specs.declared.work.Done.{Done}
-use Rattle.vx_hub.specs.declared.work.Done.TheVariants.{Nothing, Read, Attempted, Closed, Starved}
+-- A task that was done comes home: first what it holds and its confirm, then what was done.
+use Rattle.std.proofs.Common.{◌≡◌, ◌∙◌, ℕ, ◌<◌, Bool, true, false, List, ◌∷◌, ◌++◌, length, Option, Some, None, IfSome, IsSome, refl, sym, ap, subst, arith}
+use Rattle.std.specs.Prelude.{is_some, slice_get}
 use Rattle.std.specs.List.{list_any}
-use Rattle.vx_hub.specs.Readings.{MayRead}
-use Rattle.vx_record.specs.Turns.{since_lease, is_attempt_of, at_lease, lease_now}
-use Rattle.vx_record.specs.Lists.{held}
-use Rattle.vx_record.specs.Places.Place.{Outputs}
-use Rattle.vx_hub.specs.Places.{parcel_numbers, numbers_at}
-use Rattle.vx_hub.specs.Rows.{role_copies, role_parcels, IsOutAt}
-use Rattle.vx_hub.specs.declared.confirming.Confirmed.{Confirmed}
-use Rattle.vx_hub.specs.Works.{Did, Moves, IsMovedBy, Reports, Names, NamesBy, IsReading, IsAttempted, IsSending, event_count_of, taken_by, given_by, ended_by, confirmed_by, confirm_faults, faults_by, refusals_by, idles_by}
-use Rattle.vx_ends.specs.declared.port_spec.PortSpec.{PortSpec}
-use Rattle.vx_hub.specs.declared.work.Job.TheVariants as job
-use Rattle.vx_hub.specs.Stands.{Stands, IsTold, IsKnown, IsReadable, facts_at, IsUnlost, MayShut, IsSinkAt, spec_at}
-use Rattle.vx_hub.specs.Away.{WasNoticed}
-use Rattle.vx_hub.specs.Finishing.{WasDone}
-use Rattle.vx_hub.specs.Leases.{IsLeased, IsBack, IsOpenAt, Adds, Brings}
-use Rattle.vx_ledger.specs.declared.parcel.Parcel.{Parcel}
-use Rattle.vx_hub.specs.Events.{IsSaid, Each, written_by, IsPartOf, IsWrittenOf}
-use Rattle.vx_hub.specs.declared.facts.Facts.{Facts}
-use Rattle.vx_hub.specs.declared.task.Role.{Role}
-use Rattle.vx_hub.specs.declared.task.Role.TheVariants.{Source, Sink}
-use Rattle.vx_hub.specs.Abreast.{HasCome, HasDone, RoleHasTurned}
-use Rattle.vx_hub.specs.Turns.{IsOfOpen}
-use Rattle.vx_hub.specs.Owed.{HasBorn}
-use Rattle.vx_hub.proofs.Following.{has_turned}
-use Rattle.vx_hub.proofs.Touching.{not_true}
+use Rattle.vx_ends.specs.Told.{Told}
+use Rattle.vx_plan.specs.declared.component.Component.{Component}
+use Rattle.vx_plan.specs.Components.{is_source, is_sink}
+use Rattle.vx_record.specs.declared.entry.Entry.TheVariants as entry
+use Rattle.vx_record.specs.Records.{Record}
+use Rattle.vx_record.specs.Legal.{IsLegal}
+use Rattle.vx_record.specs.Confirms.{last_confirm, due, is_confirm_due}
+use Rattle.vx_record.specs.Installs.{component_of, source_at, sink_at, device_at, is_closed}
+use Rattle.vx_record.specs.Shifts.{at}
+use Rattle.vx_plan.specs.declared.class.Class.{Class}
+use Rattle.vx_plan.specs.declared.class.Class.TheVariants.{Source, Transform, Sink}
+use Rattle.vx_record.specs.Owing.{owes}
+use Rattle.vx_record.specs.Places.Place.{Held}
+use Rattle.vx_record.specs.Turns.{is_out, at_lease, since_lease, is_turn_of, is_attempt_of, is_confirm_of}
+use Rattle.vx_record.proofs.TasksOut.{out_to_worker}
+use Rattle.vx_places.specs.Views.{parcels_here}
+use Rattle.vx_sourcecore.specs.declared.source.Turned.{Turned}
+use Rattle.vx_sourcecore.proofs.Keeping.{turned_under}
+use Rattle.vx_tasks.specs.declared.confirming.Confirmed.{Confirmed}
+use Rattle.vx_tasks.specs.declared.landing.Done.{Done}
+use Rattle.vx_tasks.specs.declared.landing.Done.TheVariants as done
+use Rattle.vx_tasks.specs.declared.landing.Landing.{Landing}
+use Rattle.vx_tasks.specs.declared.task.Role.{Role}
+use Rattle.vx_tasks.specs.declared.task.Role.TheVariants as role
+use Rattle.vx_tasks.specs.Out.{AreDue, HasDone, HasActed, HasRoleTurned, IsConfirmedSo, TellsDone, confirm_entries}
+use Rattle.vx_seats.specs.declared.seat.Seat.{Seat}
+use Rattle.vx_seats.proofs.Owing.{owes_still}
+use Rattle.vx_moves.specs.declared.books.Books.{Books}
+use Rattle.vx_moves.specs.Leaving.{Leaves}
+use Rattle.vx_moves.specs.Stands.{Stands}
+use Rattle.vx_ready.specs.Asking.{IsServed}
+use Rattle.vx_ready.proofs.Done.{device_there, plain_there}
+use Rattle.vx_hub.specs.Landings.{IsAnswered, IsBackWith, IsConfirmable}
+use Rattle.vx_hub.specs.Standing.{IsWellAt}
+use Rattle.vx_hub.proofs.Answering.{kept_on}
+use Rattle.vx_hub.proofs.Landed.{come_under}
+use Rattle.vx_hub.proofs.OwesOut.{owes_out}
+use Rattle.vx_hub.proofs.Seating.{well_on}
+use Rattle.vx_hub.proofs.ToldOut.{told_none, told_some}
 
--- what was told, and what is told after more
-grown : {X : Type 0} (old new : Option (List X)) (before more : List X) → Grows old new more → IfSome old (λ bytes. bytes ≡ before) → IfSome new (λ bytes. bytes ≡ before ++ more)
-grown None new before more g told = subst (λ (o : Option (List _)). IfSome o (λ bytes. bytes ≡ before ++ more)) (sym g) tt
-grown (Some b) new before more g told = subst (λ (o : Option (List _)). IfSome o (λ bytes. bytes ≡ before ++ more)) (sym g) (subst (λ (bs : List _). bs ++ more ≡ before ++ more) (sym told) refl)
+-- ITS CONFIRM
+-- there is one only where it was due
+due_so : (h : Record) (i : ℕ) (d : Done) (c : Confirmed) → IsConfirmedSo h i d (Some c) → AreDue h i (Some c.positions)
+due_so h i done.Nothing c so = so
+due_so h i (done.Read took) c so = so
+due_so h i (done.Attempted all sent answer) c so = so
+due_so h i done.Closed c so = so
+due_so h i done.Short c so = so
+due_so h i done.Starved c so = so
 
--- a count that rose by so much
-counted : (all old new more : ℕ) → capped all ≤ old → capped (old + more) ≤ new → capped (all + more) ≤ new
-counted all old new more before rose = omega (arith, before, rose)
+due_if : (h : Record) (i : ℕ) (d : Done) (confirmed : Option Confirmed) → IsConfirmedSo h i d confirmed → IfSome confirmed (λ c. AreDue h i (Some c.positions))
+due_if h i d None so = tt
+due_if h i d (Some c) so = due_so h i d c so
 
-adds_of : (old new : Told) (confirm : Option Confirmed) (done : Done) (h : Record) (i : ℕ) → Did old confirm done new → IsTold old h i → Adds new h i confirm done
-adds_of old new confirm done h i did told = record {
-  taken = λ stream. grown (old.taken stream) (new.taken stream) (taken h i stream) (taken_by done stream) (did.taken stream) (told.taken stream);
-  given = grown old.given new.given (given h i) (given_by done) did.given told.given;
-  spec = subst (λ (o : Option PortSpec). IfSome o (λ spec. spec_at h i ≡ Some spec)) (sym did.spec) told.spec;
-  confirmed = grown old.confirmed new.confirmed (confirmed h i) (confirmed_by confirm) did.confirms told.confirmed;
-  ended = did.ended ∙ ap (λ (xs : List ℕ). xs ++ ended_by done) told.ended;
-  over = λ over. did.left (told.over over);
-  over_now = did.over;
-  faults = counted (fault_count h i) old.faults new.faults (confirm_faults confirm + faults_by done) told.faults did.faults;
-  refusals = counted (refusal_count h i) old.refusals new.refusals (refusals_by done) told.refusals did.refusals;
-  idles = counted (idle_count h i) old.idles new.idles (idles_by done) told.idles did.idles;
-}
-
-brings_of : (old new : Told) (confirm : Option Confirmed) (done : Done) (h : Record) (i : ℕ) → Reports old confirm done new → IsTold old h i → Brings new h i confirm done
-brings_of old new confirm Starved h i reports told = tt
-brings_of old new confirm Nothing h i reports told = adds_of old new confirm Nothing h i reports told
-brings_of old new confirm (Read turned) h i reports told = adds_of old new confirm (Read turned) h i reports told
-brings_of old new confirm (Attempted bytes reply) h i reports told = adds_of old new confirm (Attempted bytes reply) h i reports told
-brings_of old new confirm Closed h i reports told = adds_of old new confirm Closed h i reports told
-
--- what is named is what was given
-named_due : (given : Option (List Position)) (confirm : Option Confirmed) (Due : List Position → Type 0) → Names given confirm → IfSome given Due → IfSome confirm (λ c. Due c.positions)
-named_due given None due names is = tt
-named_due None (Some c) due names is = absurd names
-named_due (Some positions) (Some c) due names is = subst due (sym names) is
-
-named_by : (given : Option (List Position)) (confirm : Option Confirmed) (done : Done) (Due : List Position → Type 0) → NamesBy given confirm done → IfSome given Due → IfSome confirm (λ c. Due c.positions)
-named_by given None done due names is = tt
-named_by given (Some c) Starved due names is = named_due given (Some c) due names is
-named_by given (Some c) Nothing due names is = named_due given (Some c) due names is
-named_by given (Some c) (Read turned) due names is = named_due given (Some c) due names is
-named_by given (Some c) (Attempted bytes reply) due names is = named_due given (Some c) due names is
-named_by given (Some c) Closed due names is = named_due given (Some c) due names is
-
--- where nothing is named, nothing was given, unless no memory was found
-unnamed : (given : Option (List Position)) (confirm : Option Confirmed) (done : Done) → NamesBy given confirm done → confirm ≡ None → (done ≡ Starved → ⊥) → given ≡ None
-unnamed None confirm done names none live = refl
-unnamed (Some positions) (Some c) done names none live = cc
-unnamed (Some positions) None Starved names none live = absurd (live refl)
-unnamed (Some positions) None Nothing names none live = absurd names
-unnamed (Some positions) None (Read turned) names none live = absurd names
-unnamed (Some positions) None (Attempted bytes reply) names none live = absurd names
-unnamed (Some positions) None Closed names none live = absurd names
-
--- the end of all wasn't told to a source that may be read
-going_on : (h : Record) (i : ℕ) (o : Option Facts) → IfSome o (λ f. IsKnown f h i) → IsSomeAnd o IsReadable → all_ended h i ≡ false
-going_on h i None known is = absurd is
-going_on h i (Some f) known is = sym known.over ∙ is.1
-
--- what is done leaves a source abreast of the record
-done_of : (old new : Told) (confirm : Option Confirmed) (done : Done) (h : Record) (i : ℕ) (was now : Role) → Reports old confirm done new → IsTold old h i → (IsReading done → all_ended h i ≡ false) → HasCome h i was → Moves was done now → HasDone h i now done
-done_of old new confirm Starved h i was now reports told going come moves = tt
-done_of old new confirm Nothing h i was now reports told going come moves = subst (λ (r : Role). HasCome h i r) (sym moves) come
-done_of old new confirm (Attempted bytes reply) h i was now reports told going come moves = subst (λ (r : Role). HasCome h i r) (sym moves) come
-done_of old new confirm Closed h i was now reports told going come moves = subst (λ (r : Role). HasCome h i r) (sym moves) come
-done_of old new confirm (Read turned) h i was now reports told going come moves = go was now come moves
+-- a source is no sink
+no_sink : (h : Record) (i : ℕ) → source_at h i ≡ true → sink_at h i ≡ true → ⊥
+no_sink h i source sink = go (component_of h i) source sink
   where
-    go : (was now : Role) → HasCome h i was → IsMovedBy was turned now → RoleHasTurned h i now turned
-    go (Source core) (Source next) come moves = has_turned h i core turned next (going tt) come reports.some (subst (λ (es : List ℕ). IsOfOpen es turned) told.ended reports.open_at) moves
-    go (Source core) (Sink next) come moves = absurd moves
-    go (Sink core) now come moves = absurd moves
+    by : (c : Component) → is_source c ≡ true → is_sink c ≡ true → ⊥
+    by c is other = go c.class is other
+      where
+        go : (x : Class) → (elim x [ Source ↦ true | Transform ↦ false | Sink ↦ false ]) ≡ true → (elim x [ Source ↦ false | Transform ↦ false | Sink ↦ true ]) ≡ true → ⊥
+        go Source is other = cc
+        go Transform is other = cc
+        go Sink is other = cc
 
--- what was attempted is what is held now too
-still_written : (was : Role) (done : Done) (now : Role) → Moves was done now → IsWrittenOf was done → IsWrittenOf now done
-still_written was Nothing now moves writes = tt
-still_written was (Attempted bytes reply) now moves writes = subst (λ (r : Role). IsPartOf (written_by r) bytes reply) (sym moves) writes
-still_written was Closed now moves writes = tt
-still_written was (Read turned) now moves writes = tt
-still_written was Starved now moves writes = tt
+    go : (o : Option Component) → (elim o [ None ↦ false | Some c ↦ is_source c ]) ≡ true → (elim o [ None ↦ false | Some c ↦ is_sink c ]) ≡ true → ⊥
+    go None is other = cc
+    go (Some c) is other = by c is other
 
--- what was handed out may land
-pub back_of : {P : Type 0} (told_by : P → Told) (hub : Hub P) (work : Work P) (landing : Landing P) → IsLeased told_by hub work → landing.instance ≡ work.instance →
-    role_copies landing.task.role ≡ role_copies work.task.role → role_parcels landing.task.role ≡ role_parcels work.task.role → Reports (told_by work.task.port) landing.confirmed landing.done (told_by landing.task.port) → NamesBy work.positions landing.confirmed landing.done → event_count_of landing.done ≤ 65536 →
-    (IsReading landing.done → work.job ≡ job.Read) → (landing.done ≡ Closed → work.job ≡ job.Close) → (IsAttempted landing.done → work.job ≡ job.Attempt) → IsWrittenOf work.task.role landing.done → Moves work.task.role landing.done landing.task.role → IsBack told_by hub landing
-back_of {P} told_by hub work landing leased instance copies parcels reports names events reads closes sends writes moves = record {
-  stands = subst (λ (cs : List Copy). Stands told_by hub cs hub.log.history) (sym copies) leased.stands;
-  open_at = subst (λ (i : ℕ). IsOpenAt hub i) (sym instance) leased.open_at;
-  out = subst (λ (i : ℕ). IsOutAt hub.rows.items i) (sym instance) leased.out;
-  brings = λ sound. brings_of (told_by work.task.port) (told_by landing.task.port) landing.confirmed landing.done hub.log.history landing.instance reports
-      (subst (λ (i : ℕ). IsTold (told_by work.task.port) hub.log.history i) (sym instance) (leased.told sound));
-  unlost = λ reading. subst (λ (i : ℕ). IsUnlost hub i) (sym instance) (leased.unlost (reads reading));
-  held = λ sound. subst (λ (i : ℕ). held hub.log.history i ≡ parcel_numbers (role_parcels landing.task.role)) (sym instance) (leased.held sound ∙ ap parcel_numbers (sym parcels));
-  said = λ sound. subst (λ (ps : List Parcel). Each (IsSaid hub.log.history) ps) (sym parcels) (leased.said sound);
-  come = λ sound. subst (λ (i : ℕ). HasDone hub.log.history i landing.task.role landing.done) (sym instance)
-      (done_of (told_by work.task.port) (told_by landing.task.port) landing.confirmed landing.done hub.log.history work.instance work.task.role landing.task.role reports (leased.told sound)
-      (λ reading. going_on hub.log.history work.instance (facts_at hub.facts.items work.instance) ((leased.stands.recorded sound).facts work.instance) (leased.unlost (reads reading))) (leased.come sound) moves);
-  writes = still_written work.task.role landing.done landing.task.role moves writes;
-  sent = λ reading. subst (λ (i : ℕ). numbers_at (Outputs i) hub.rows.items ≡ []) (sym instance) (leased.sent (reads reading));
-  due = λ sound. subst (λ (i : ℕ). IfSome landing.confirmed (λ c. IsDueOf hub.log.history i c.positions)) (sym instance) (named_by work.positions landing.confirmed landing.done (IsDueOf hub.log.history work.instance) names (leased.due sound));
-  shut = λ done. subst (λ (i : ℕ). MayShut hub i) (sym instance) (leased.shut (closes done));
-  sink = λ sent. subst (λ (i : ℕ). IsSinkAt hub i) (sym instance) (leased.sink (subst IsSending (sym (sends sent)) tt));
-  untried = λ sound. subst (λ (i : ℕ). list_any (is_attempt_of i) (since_lease hub.log.history i) ≡ false) (sym instance) (leased.untried sound);
-  some = λ sent. subst (λ (ps : List Parcel). 0 < length ps) (sym parcels) (leased.some (sends sent));
-  events = events;
-  told = λ live none. subst (λ (i : ℕ). HasConfirmed hub i) (sym instance) (λ sound. (leased.nothing (unnamed work.positions landing.confirmed landing.done names none live) sound).told);
-  undue = λ done sound. subst (λ (i : ℕ). is_confirm_due (at_lease hub.log.history i) i ≡ false) (sym instance) (leased.nothing (leased.alone (closes done) sound) sound).undue;
-  done = λ closed. subst (λ (i : ℕ). WasDone hub i) (sym instance) (leased.done (closes closed));
-  closed = λ done. let r : Reports (told_by work.task.port) landing.confirmed Closed (told_by landing.task.port) = subst (λ (d : Done). Reports (told_by work.task.port) landing.confirmed d (told_by landing.task.port)) done reports in
-      not_true (told_by landing.task.port).started (r.closed refl);
-  turn = λ reading. subst (λ (i : ℕ). MayRead hub i) (sym instance) (leased.turn (reads reading));
-  bore = subst (λ (i : ℕ). HasBorn hub i) (sym instance) leased.bore;
-  noticed = λ done. subst (λ (i : ℕ). WasNoticed hub i) (sym instance) (leased.noticed (closes done));
-  closing = λ sent sound. subst (λ (i : ℕ). IsClosedFor hub.log.history i (lease_now hub.log.history i)) (sym instance) (leased.closing (sends sent) sound);
+-- what was done stays so behind it
+role_confirmed : (h : Record) (i : ℕ) (r : Role) (took : Turned) (c : Confirmed) → HasRoleTurned h i r took → HasRoleTurned (entry.Confirm i c.positions c.made ∷ h) i r took
+role_confirmed h i (role.Source core) took c turned = turned_under h (entry.Confirm i c.positions c.made) i core took tt turned
+role_confirmed h i (role.Sink codec) took c turned = turned
+role_confirmed h i role.Unfit took c turned = tt
+
+acted_some : (told : Told) (h : Record) (i : ℕ) (r : Role) (d : Done) (c : Confirmed) → AreDue h i (Some c.positions) → HasActed told h i r d → HasActed told (entry.Confirm i c.positions c.made ∷ h) i r d
+acted_some told h i r done.Nothing c was acted = come_under r h (entry.Confirm i c.positions c.made) i tt acted
+acted_some told h i r (done.Read took) c was acted = record {
+  may = record { source = acted.may.source; readable = acted.may.readable };
+  come = role_confirmed h i r took c acted.come;
+  whole = acted.whole;
+  few = acted.few;
+  fit = acted.fit;
 }
+acted_some told h i r (done.Attempted all sent answer) c was acted = absurd (no_sink h i was.0 acted.may.sink)
+acted_some told h i r done.Closed c was acted = let no : is_confirm_due (at_lease h i) i ≡ false = acted.may.confirmed in let yes : is_confirm_due (at_lease h i) i ≡ true = was.1.0 in cc
+acted_some told h i r done.Short c was acted = come_under r h (entry.Confirm i c.positions c.made) i tt acted
+acted_some told h i r done.Starved c was acted = absurd (no_sink h i was.0 acted.may.sink)
+
+acted_behind : (told : Told) (h : Record) (i : ℕ) (r : Role) (d : Done) (confirmed : Option Confirmed) → IsConfirmedSo h i d confirmed → HasActed told h i r d → HasActed told (confirm_entries i confirmed ++ h) i r d
+acted_behind told h i r d None so acted = acted
+acted_behind told h i r d (Some c) so acted = acted_some told h i r d c (due_so h i d c so) acted
+
+-- and then it names what was due
+answered_none : (h : Record) (i : ℕ) (d : Done) → (is_confirm_due (at_lease h i) i ≡ false → last_confirm h i ≡ due (at_lease h i) i) → IsConfirmedSo h i d None → IsAnswered h i d
+answered_none h i done.Nothing tells so = tells so
+answered_none h i (done.Read took) tells so = tells so
+answered_none h i (done.Attempted all sent answer) tells so = tells so
+answered_none h i done.Closed tells so = tells so
+answered_none h i done.Short tells so = tt
+answered_none h i done.Starved tells so = tells so
+
+answered_as : (h : Record) (i : ℕ) (d : Done) → last_confirm h i ≡ due (at_lease h i) i → IsAnswered h i d
+answered_as h i done.Nothing is = is
+answered_as h i (done.Read took) is = is
+answered_as h i (done.Attempted all sent answer) is = is
+answered_as h i done.Closed is = is
+answered_as h i done.Short is = tt
+answered_as h i done.Starved is = is
+
+answered_behind : (h : Record) (i : ℕ) (d : Done) (confirmed : Option Confirmed) → IsLegal (confirm_entries i confirmed ++ h) → is_out h i ≡ true → device_at h i ≡ true → list_any (is_confirm_of i) (since_lease h i) ≡ false →
+    IsConfirmedSo h i d confirmed → IsAnswered (confirm_entries i confirmed ++ h) i d
+answered_behind h i d None legal out device none so = answered_none h i d (λ undue. told_none h i legal out device undue none) so
+answered_behind h i d (Some c) legal out device none so = answered_as (entry.Confirm i c.positions c.made ∷ h) i d (told_some h i c.positions c.made legal.0)
+
+owes_behind : (h : Record) (i : ℕ) (confirmed : Option Confirmed) → owes h i ≡ false → owes (confirm_entries i confirmed ++ h) i ≡ false
+owes_behind h i None none = none
+owes_behind h i (Some c) none = owes_still h (entry.Confirm i c.positions c.made) i tt none
+
+-- whatever a confirm doesn't change
+same_behind : (X : Type 0) (f : Record → X) (h : Record) (i : ℕ) (confirmed : Option Confirmed) → ((c : Confirmed) → f (entry.Confirm i c.positions c.made ∷ h) ≡ f h) → f (confirm_entries i confirmed ++ h) ≡ f h
+same_behind X f h i None same = refl
+same_behind X f h i (Some c) same = same c
+
+module _ {P : Type 0} (told_by : P → Told) (old one two : Books P) (landing : Landing P) (stands : Stands told_by old) (served : IsServed old) (within : landing.instance < length old.seats)
+    (back : HasDone told_by old.log landing) where
+  abbrev i : ℕ
+  i = landing.instance
+
+  pub out_now : is_out old.log i ≡ true
+  out_now = out_to_worker old.log i ∙ ap is_some back.out
+
+  pub confirmable : one.log ≡ old.log → IsConfirmable one.log i landing.confirmed
+  confirmable same = subst (λ (h : Record). IsConfirmable h i landing.confirmed) (sym same)
+      (record { out = out_now; once = back.idle.no_confirm; due = due_if old.log i landing.done landing.confirmed back.confirmed })
+
+  -- once both were noted
+  pub back_with : one.log ≡ old.log → one.seats ≡ old.seats → length one.places ≡ length one.seats → IsSome (parcels_here one.places (Held i)) → Stands told_by two → two.log ≡ confirm_entries i landing.confirmed ++ one.log → Leaves one two →
+      IfSome (slice_get old.seats i) IsWellAt → IsBackWith told_by two i landing.task landing.done
+  back_with same seats rows kept after log leaves well =
+      let confirmed = landing.confirmed in
+      let now : two.log ≡ confirm_entries i confirmed ++ old.log = log ∙ ap (λ (h : Record). confirm_entries i confirmed ++ h) same in
+      let legal : IsLegal (confirm_entries i confirmed ++ old.log) = subst IsLegal now after.legal in
+      record {
+        out = ap (λ (h : Record). is_out h i) now ∙ (same_behind Bool (λ h. is_out h i) old.log i confirmed (λ c. refl) ∙ out_now);
+        no_turn = ap (λ (h : Record). list_any (is_turn_of i) (since_lease h i)) now ∙ (same_behind Bool (λ h. list_any (is_turn_of i) (since_lease h i)) old.log i confirmed (λ c. refl) ∙ back.idle.no_turn);
+        no_attempt = ap (λ (h : Record). list_any (is_attempt_of i) (since_lease h i)) now ∙ (same_behind Bool (λ h. list_any (is_attempt_of i) (since_lease h i)) old.log i confirmed (λ c. refl) ∙ back.idle.no_attempt);
+        unclosed = ap (λ (h : Record). is_closed h i) now ∙ (same_behind Bool (λ h. is_closed h i) old.log i confirmed (λ c. refl) ∙ back.idle.unclosed);
+        settled = ap (λ (h : Record). owes h i) now
+            ∙ owes_behind old.log i confirmed (owes_out old.log i stands.legal out_now (plain_there told_by old stands served i within) back.idle.no_turn back.idle.no_attempt);
+        answered = subst (λ (h : Record). IsAnswered h i landing.done) (sym now)
+            (answered_behind old.log i landing.done confirmed legal out_now (device_there told_by old stands served i within) back.idle.no_confirm back.confirmed);
+        parcels = landing.held.items;
+        held = back.held.held ∙ sym (ap (λ (h : Record). at h (Held i)) now ∙ same_behind (List (List ℕ)) (λ h. at h (Held i)) old.log i confirmed (λ c. refl));
+        told = subst (λ (h : Record). TellsDone (told_by landing.task.port) h i landing.held.items landing.done) (sym now) back.told;
+        acted = subst (λ (h : Record). HasActed (told_by landing.task.port) h i landing.task.role landing.done) (sym now)
+            (acted_behind (told_by landing.task.port) old.log i landing.task.role landing.done confirmed back.confirmed back.acted);
+        fit = back.fit;
+        kept = kept_on one.places two.places i (let few = within in omega (arith, few, rows, ap length seats)) leaves.rooms kept;
+        well = well_on i one.seats two.seats leaves.seats (subst (λ (ss : List (Seat P)). IfSome (slice_get ss i) IsWellAt) (sym seats) well);
+      }

@@ -1,175 +1,215 @@
--- What was attempted is held or spent, and spent where its instance is at home.
-use Rattle.std.proofs.Common.{◌≡◌, ℕ, ◌+◌, ◌<◌, ◌≤◌, Bool, true, false, List, [], ◌∷◌, length, refl, sym, ap, subst, ◌∙◌, arith, inl, inr}
-use Rattle.std.specs.Prelude.{if◌then◌else◌, nat_lt, ◌==◌, ◌&&◌, ◌||◌, IsTrue, IfSome, IsSomeAnd, Option, Some, None}
+-- What an instance that owed nothing owes behind what it did.
+use Rattle.std.proofs.Common.{◌≡◌, ◌∙◌, ℕ, ◌+◌, ◌<◌, Bool, true, false, not, List, [], ◌∷◌, ◌++◌, length, Some, None, refl, sym, ap, subst, arith, inl, inr}
+use Rattle.std.specs.Prelude.{◌==◌, ◌&&◌, ◌||◌, nat_lt, if◌then◌else◌}
 use Rattle.std.specs.List.{list_any}
+use Rattle.std.proofs.lemmas.Bool.{cases_lt, eq-eqb}
 use Rattle.std.proofs.lemmas.Bool.Decides.{nat_tests}
-use Rattle.std.proofs.lemmas.Bool.{cases_lt}
-use Rattle.vx_ends.specs.Told.{Told}
-use Rattle.vx_ledger.specs.Copies.{Copy}
-use Rattle.vx_record.specs.Records.{Record}
+use Rattle.std.proofs.lemmas.List.{append-nil}
+use Rattle.vx_value.specs.Texts.{Word, is_empty}
+use Rattle.vx_value.specs.declared.event.Event.{Event}
+use Rattle.vx_ends.specs.declared.trouble.Reply.{Reply}
+use Rattle.vx_status.specs.declared.outcome.Outcome.{Outcome}
 use Rattle.vx_record.specs.declared.entry.Entry.{Entry}
-use Rattle.vx_record.specs.declared.entry.Entry.TheVariants.{Lease, Home, Attempt, Abandon}
-use Rattle.vx_record.specs.Copies.{count, contains, joined, spends, all_of, times_spent}
-use Rattle.vx_record.specs.Places.Place.{Held}
-use Rattle.vx_record.specs.Lists.{held}
+use Rattle.vx_record.specs.declared.entry.Entry.TheVariants.{Read, Born, Attempt, Spent, Notice}
+use Rattle.vx_record.specs.declared.taken.Taken.{Taken}
+use Rattle.vx_record.specs.Records.{Record}
 use Rattle.vx_record.specs.Abandoning.{abandoned}
-use Rattle.vx_record.specs.Turns.{is_out, since_lease, is_attempt_of, worker_now}
-use Rattle.vx_record.specs.SinkBatches.{attempts_with, failures_with, attempts_allowed}
+use Rattle.vx_record.specs.Additions.{OnlyAdds}
+use Rattle.vx_record.specs.Confirms.{Birth, births, births_in}
+use Rattle.vx_record.specs.Copies.{count, contains, joined, all_of, spends, times_spent}
+use Rattle.vx_record.specs.Legal.{IsLegal}
+use Rattle.vx_record.specs.Owing.{fruitful, is_decided, unspent_of, decided, last_discarded, owes_birth, owes_spends_in, owes_discards, owes_answer, owes}
 use Rattle.vx_record.specs.Parcels.{first_copy}
-use Rattle.vx_record.specs.Owing.{is_decided, unspent_of, decided, owes_spends_in, owes_birth}
-use Rattle.vx_record.specs.Ready.{is_ready}
-use Rattle.vx_record.proofs.Counts.{count-append}
-use Rattle.vx_hub.specs.declared.facts.Facts.{Facts}
-use Rattle.vx_hub.specs.declared.hub.Hub.{Hub}
-use Rattle.vx_record.specs.Starting.{MayLease}
-use Rattle.vx_hub.specs.Order.{IsLegalWithReturns, AreSettled}
-use Rattle.vx_hub.specs.Away.{IsUntried, IsSettled}
-use Rattle.vx_hub.specs.Rows.{IsOutAt, row_at}
-use Rattle.vx_hub.specs.Places.{all_numbers, copies_at}
-use Rattle.vx_hub.specs.Stands.{Stands, IsKnown, IsSound, IsAtHome, facts_at}
-use Rattle.vx_hub.proofs.Silence.{same_test, other_test}
-use Rattle.vx_hub.proofs.Placing.{places_all}
-use Rattle.vx_hub.proofs.Touching.{out_port}
+use Rattle.vx_record.specs.Places.Place.{Held}
+use Rattle.vx_record.specs.Reads.{events_of}
+use Rattle.vx_record.specs.Shifts.{at}
+use Rattle.vx_record.specs.SinkBatches.{attempts_with, attempts_allowed, failures_with}
+use Rattle.vx_record.specs.Sourcing.{Yield, yield, yield_of}
+use Rattle.vx_record.proofs.Adding.{carry}
 use Rattle.vx_record.proofs.Attempted.{attempted_held}
-use Rattle.vx_hub.proofs.Allowed.{earlier}
-use Rattle.vx_hub.proofs.Ported.{owes_else}
+use Rattle.vx_record.proofs.Counts.{count-append}
+use Rattle.vx_record.proofs.Promises.{or_left, or_right}
+use Rattle.vx_record.proofs.Shifting.{stands_at}
+use Rattle.vx_record.proofs.Untried.{spends_settled, owed_spent}
+use Rattle.vx_seats.proofs.Owing.{OwesNoMore, owes_still}
+use Rattle.vx_moves.specs.Returns.{AreSettled}
+use Rattle.vx_moves.specs.Spends.{IsSpendOf}
 
--- a run that wasn't given up wasn't before
-went_on : (h : Record) (e : Entry) → abandoned (e ∷ h) ≡ false → abandoned h ≡ false
-went_on h (Abandon cause) going = cc
-went_on h e going = going
+-- THE PARTS
+-- what an instance may owe beside spends
+record OwesElse (h : Record) (i : ℕ) : Type 0 where
+  birth : owes_birth h i ≡ false
+  discards : owes_discards h i ≡ false
+  answer : owes_answer h i ≡ false
 
--- an entry that is no attempt of the instance leaves it settled
-pub settled_on : (h : Record) (e : Entry) (i : ℕ) → ((c : ℕ) → attempts_with (e ∷ h) i c ≡ attempts_with h i c) → AreSettled h i → AreSettled (e ∷ h) i
-settled_on h e i same s going c l =
-    let before = s (went_on h e going) c (let n = same c in omega (arith, l, n)) in
-    let all = count-append c (all_of spends h) (spends e) in
-    omega (arith, before, all)
+else_none : (h : Record) (i : ℕ) → owes h i ≡ false → OwesElse h i
+else_none h i none =
+    let three = or_left (owes_birth h i || owes_spends_in h h i || owes_discards h i) (owes_answer h i) none in
+    record {
+      birth = or_left (owes_birth h i) (owes_spends_in h h i) (or_left (owes_birth h i || owes_spends_in h h i) (owes_discards h i) three);
+      discards = or_right (owes_birth h i || owes_spends_in h h i) (owes_discards h i) three;
+      answer = or_right (owes_birth h i || owes_spends_in h h i || owes_discards h i) (owes_answer h i) none;
+    }
 
-not_tried : (t b : Bool) (n : ℕ) → t ≡ false → n + (if t && b then 1 else 0) ≡ n
-not_tried true b n e = cc
-not_tried false b n e = omega arith
+or_both : (a b : Bool) → a ≡ false → b ≡ false → (a || b) ≡ false
+or_both true b e f = cc
+or_both false b e f = f
 
-not_leased : (b c : Bool) → (if b then true else c) ≡ false → c ≡ false
-not_leased true c e = cc
-not_leased false c e = e
+none_of : (h : Record) (i : ℕ) → OwesElse h i → owes_spends_in h h i ≡ false → owes h i ≡ false
+none_of h i rest spent =
+    or_both (owes_birth h i || owes_spends_in h h i || owes_discards h i) (owes_answer h i)
+    (or_both (owes_birth h i || owes_spends_in h h i) (owes_discards h i) (or_both (owes_birth h i) (owes_spends_in h h i) rest.birth spent) rest.discards) rest.answer
 
-was_out : (b c : Bool) → (if b then false else c) ≡ true → c ≡ true
-was_out true c e = cc
-was_out false c e = e
+-- READS AND BIRTHS
+-- what is owed, by how many were born and how many are to be, by what was decided and discarded, and by what is spent
+abbrev owing : ℕ → ℕ → List (List ℕ) → List ℕ → List ℕ → Bool → Bool
+owing born fruits settled discarded spent answer =
+    nat_lt born fruits || list_any (λ copies. list_any (λ c. count c spent == 0) copies) settled || list_any (λ c. count c spent == 0) discarded || answer
 
-or_left : (a b : Bool) → (a || b) ≡ false → a ≡ false
-or_left true b e = cc
-or_left false b e = refl
+-- where as much is spent, and enough was born
+owing_none : (h : Record) (i born fruits : ℕ) (spent : List ℕ) → spent ≡ all_of spends h → nat_lt born fruits ≡ false → owes h i ≡ false →
+    owing born fruits (decided h i) (last_discarded h i) spent (owes_answer h i) ≡ false
+owing_none h i born fruits spent same few none =
+    ap (λ (cs : List ℕ). owing born fruits (decided h i) (last_discarded h i) cs (owes_answer h i)) same
+    ∙ ap (λ (b : Bool). b || owes_spends_in h h i || owes_discards h i || owes_answer h i) (few ∙ sym (else_none h i none).birth) ∙ none
 
-or_right : (a b : Bool) → (a || b) ≡ false → b ≡ false
-or_right true b e = cc
-or_right false b e = e
-
--- an instance at home has spent all that it attempted
-pub settled_home : (h : Record) (i : ℕ) → IsLegalWithReturns h → is_out h i ≡ false → AreSettled h i
-settled_home [] i o home = λ going c l. absurd (omega (arith, l))
-settled_home (Lease j worker now polls ∷ h) i o home = settled_on h (Lease j worker now polls) i (λ c. refl) (settled_home h i (earlier _ _ o) (not_leased (j == i) (is_out h i) home))
-settled_home (Home j ∷ h) i o home = go (j == i) refl home (settled_home h i (earlier _ _ o))
+-- behind a read that gives no event nothing is owed
+pub owes_barren : (h : Record) (i stream : ℕ) (took : Taken) → events_of h i stream took ≡ [] → owes h i ≡ false → owes (Read i stream took ∷ h) i ≡ false
+owes_barren h i stream took barren none =
+    owing_none h i (length (births h i ++ [])) (fruitful h i + (if (i == i) && not (is_empty (events_of h i stream took)) then 1 else 0)) (all_of spends h ++ []) (append-nil (all_of spends h))
+    (ap (λ (bs : List Birth). nat_lt (length bs) (fruitful h i + (if (i == i) && not (is_empty (events_of h i stream took)) then 1 else 0))) (append-nil (births h i))
+    ∙ ap (λ (es : List Event). nat_lt (length (births h i)) (fruitful h i + (if (i == i) && not (is_empty es) then 1 else 0))) barren
+    ∙ ap (λ (n : ℕ). nat_lt (length (births h i)) n) (nothing_more (fruitful h i) (i == i)) ∙ (else_none h i none).birth)
+    none
   where
-    go : (b : Bool) → (j == i) ≡ b → (if b then false else is_out h i) ≡ false → (is_out h i ≡ false → AreSettled h i) → AreSettled (Home j ∷ h) i
-    go true e at rest = let same : j ≡ i = grind (arith, nat_tests) in settled_on h (Home j) i (λ c. refl) (subst (λ (k : ℕ). AreSettled h k) same o.returned.0.settled)
-    go false e at rest = settled_on h (Home j) i (λ c. refl) (rest at)
-settled_home (Attempt j copies bytes reply ∷ h) i o home =
-    let off : (j == i) ≡ false = other_test j i (λ e. let out : is_out h i ≡ true = subst (λ (k : ℕ). is_out h k ≡ true) (sym e) o.legal.0.row.out in let no : true ≡ false = sym out ∙ home in cc) in
-    settled_on h (Attempt j copies bytes reply) i (λ c. not_tried (j == i) (contains copies c) (attempts_with h i c) off) (settled_home h i (earlier _ _ o) home)
-settled_home (e ∷ h) i o home = settled_on h e i (λ c. refl) (settled_home h i (earlier _ _ o) home)
+    nothing_more : (n : ℕ) (b : Bool) → n + (if b && false then 1 else 0) ≡ n
+    nothing_more n true = omega arith
+    nothing_more n false = omega arith
 
--- so has one that is out and made no attempt yet
-pub settled_untried : (h : Record) (i : ℕ) → IsLegalWithReturns h → is_out h i ≡ true → list_any (is_attempt_of i) (since_lease h i) ≡ false → AreSettled h i
-settled_untried [] i o out none = cc
-settled_untried (Lease j worker now polls ∷ h) i o out none = go (j == i) refl out none (settled_untried h i (earlier _ _ o))
+-- what a read yields
+pub yielded : (h : Record) (i stream : ℕ) (took : Taken) (y : Yield) → yield (Read i stream took ∷ h) i ≡ Some y → yield_of h i stream took ≡ y
+yielded h i stream took y is =
+    let some : Some (yield_of h i stream took) ≡ Some y = ap (λ (b : Bool). if b then Some (yield_of h i stream took) else None) (sym (eq-eqb i i refl)) ∙ is in cc
+
+pub owes_unyielding : (h : Record) (i stream : ℕ) (took : Taken) (y : Yield) → yield (Read i stream took ∷ h) i ≡ Some y → y.events ≡ [] → owes h i ≡ false → owes (Read i stream took ∷ h) i ≡ false
+owes_unyielding h i stream took y is barren none = owes_barren h i stream took (ap (λ (z : Yield). z.events) (yielded h i stream took y is) ∙ barren) none
+
+-- behind a read and the birth of its batch nothing is owed
+pub owes_borne : (h : Record) (i stream : ℕ) (took : Taken) (b place : ℕ) (copies : List ℕ) (events : List Event) (waits : Bool) (of end : ℕ) → owes h i ≡ false →
+    owes (Born i b place copies events waits of end ∷ Read i stream took ∷ h) i ≡ false
+owes_borne h i stream took b place copies events waits of end none =
+    owing_none h i (length ((births h i ++ []) ++ births_in i (Born i b place copies events waits of end))) (fruitful h i + (if (i == i) && not (is_empty (events_of h i stream took)) then 1 else 0))
+    ((all_of spends h ++ []) ++ []) (append-nil (all_of spends h ++ []) ∙ append-nil (all_of spends h))
+    (enough (births h i) (i == i) (eq-eqb i i refl) (not (is_empty (events_of h i stream took))) (else_none h i none).birth)
+    none
   where
-    go : (b : Bool) → (j == i) ≡ b → (if b then true else is_out h i) ≡ true → list_any (is_attempt_of i) (if b then [] else Lease j worker now polls ∷ since_lease h i) ≡ false →
-        (is_out h i ≡ true → list_any (is_attempt_of i) (since_lease h i) ≡ false → AreSettled h i) → AreSettled (Lease j worker now polls ∷ h) i
-    go true e at un rest = let same : j ≡ i = grind (arith, nat_tests) in
-        settled_on h (Lease j worker now polls) i (λ c. refl) (settled_home h i (earlier _ _ o) (subst (λ (k : ℕ). is_out h k ≡ false) same o.legal.0.row.home))
-    go false e at un rest = settled_on h (Lease j worker now polls) i (λ c. refl) (rest at un)
-settled_untried (Home j ∷ h) i o out none = settled_on h (Home j) i (λ c. refl) (settled_untried h i (earlier _ _ o) (was_out (j == i) (is_out h i) out) none)
-settled_untried (Attempt j copies bytes reply ∷ h) i o out none =
-    settled_on h (Attempt j copies bytes reply) i (λ c. not_tried (j == i) (contains copies c) (attempts_with h i c) (or_left (j == i) _ none))
-    (settled_untried h i (earlier _ _ o) out (or_right (j == i) _ none))
-settled_untried (e ∷ h) i o out none = settled_on h e i (λ c. refl) (settled_untried h i (earlier _ _ o) out none)
+    birth : Birth
+    birth = record { batch = b; waits = waits; stream = of; end = end }
 
--- so where nothing is held all that was attempted is spent
-pub settled_bare : (h : Record) (i : ℕ) → IsLegalWithReturns h → held h i ≡ [] → AreSettled h i
-settled_bare h i o none going c l = elim (cases_lt 0 (times_spent h c)) [
-  | inl spent ↦ spent
+    one_more : (bs : List Birth) → length ((bs ++ []) ++ birth ∷ []) ≡ length bs + 1
+    one_more [] = refl
+    one_more (x ∷ bs) = let rest = one_more bs in omega (arith, rest)
+
+    enough : (bs : List Birth) (own : Bool) → own ≡ true → (some : Bool) → nat_lt (length bs) (fruitful h i) ≡ false →
+        nat_lt (length ((bs ++ []) ++ (if own then birth ∷ [] else []))) (fruitful h i + (if own && some then 1 else 0)) ≡ false
+    enough bs true own true few = let size = one_more bs in grind (arith, nat_tests, size, few)
+    enough bs true own false few = let size = one_more bs in grind (arith, nat_tests, size, few)
+    enough bs false own some few = cc
+
+-- ATTEMPTS
+spent_more : (h : Record) (e : Entry) (c : ℕ) → (times_spent h c == 0) ≡ false → (times_spent (e ∷ h) c == 0) ≡ false
+spent_more h e c some = let all = count-append c (all_of spends h) (spends e) in let few : times_spent (e ∷ h) c ≡ times_spent h c + count c (spends e) = all in grind (arith, nat_tests, some, few)
+
+unspent_less : (h : Record) (e : Entry) (copies : List ℕ) → unspent_of h copies ≡ false → unspent_of (e ∷ h) copies ≡ false
+unspent_less h e [] none = refl
+unspent_less h e (c ∷ cs) none =
+    or_both (times_spent (e ∷ h) c == 0) (unspent_of (e ∷ h) cs) (spent_more h e c (or_left (times_spent h c == 0) (unspent_of h cs) none))
+    (unspent_less h e cs (or_right (times_spent h c == 0) (unspent_of h cs) none))
+
+-- entries that neither bear, read, discard nor take leave what is owed beside spends
+else_on : (h : Record) (e : Entry) (i : ℕ) → births_in i e ≡ [] → fruitful (e ∷ h) i ≡ fruitful h i → last_discarded (e ∷ h) i ≡ last_discarded h i → owes_answer (e ∷ h) i ≡ owes_answer h i → OwesElse h i → OwesElse (e ∷ h) i
+else_on h e i unborn read discarded answer was = record {
+  birth = ap (λ (bs : List Birth). nat_lt (length (births h i ++ bs)) (fruitful (e ∷ h) i)) unborn ∙ ap (λ (bs : List Birth). nat_lt (length bs) (fruitful (e ∷ h) i)) (append-nil (births h i))
+      ∙ ap (λ (n : ℕ). nat_lt (length (births h i)) n) read ∙ was.birth;
+  discards = ap (unspent_of (e ∷ h)) discarded ∙ unspent_less h e (last_discarded h i) was.discards;
+  answer = answer ∙ was.answer;
+}
+
+else_spent : (i : ℕ) (outcome : Outcome) (h : Record) (e : Entry) → IsSpendOf i outcome h e → OwesElse h i → OwesElse (e ∷ h) i
+else_spent i outcome h (Spent j c other) kind was = else_on h (Spent j c other) i refl refl refl refl was
+else_spent i outcome h (Notice b status) kind was = else_on h (Notice b status) i refl refl refl refl was
+else_spent i outcome h e kind was = absurd kind
+
+-- what was decided was attempted
+decided_tried : (h : Record) (i c : ℕ) → 0 < count c (joined (decided h i)) → 0 < attempts_with h i c
+decided_tried [] i c some = absurd (omega (arith, some))
+decided_tried (Attempt j copies bytes reply ∷ h) i c some =
+    go (j == i) (is_decided reply (failures_with h i (first_copy copies) + 1) (attempts_allowed h i)) some (decided_tried h i c)
+  where
+    named : (n m : ℕ) → 0 < n → 0 < m + (if true && nat_lt 0 n then 1 else 0)
+    named n m some = grind (arith, nat_tests, some)
+
+    go : (b d : Bool) → 0 < count c (joined (if b && d then copies ∷ decided h i else decided h i)) → (0 < count c (joined (decided h i)) → 0 < attempts_with h i c) →
+        0 < attempts_with h i c + (if b && contains copies c then 1 else 0)
+    go true true l rest = elim (cases_lt 0 (count c copies)) [
+      | inl here ↦ named (count c copies) (attempts_with h i c) here
+      | inr none ↦ let both = count-append c copies (joined (decided h i)) in let before = rest (omega (arith, l, none, both)) in omega (arith, before)
+    ]
+    go true false l rest = let before = rest l in omega (arith, before)
+    go false d l rest = let before = rest l in omega (arith, before)
+decided_tried (e ∷ h) i c some = decided_tried h i c some
+
+-- where each of some copies is spent none is unspent
+none_unspent : (whole : Record) (copies : List ℕ) → ((c : ℕ) → 0 < count c copies → 0 < times_spent whole c) → unspent_of whole copies ≡ false
+none_unspent whole [] each = refl
+none_unspent whole (x ∷ xs) each =
+    or_both (times_spent whole x == 0) (unspent_of whole xs) (spent (each x first)) (none_unspent whole xs (λ c l. each c (omega (arith, l))))
+  where
+    first : 0 < (if x == x then 1 else 0) + count x xs
+    first = subst (λ (b : Bool). 0 < (if b then 1 else 0) + count x xs) (sym (eq-eqb x x refl)) (omega arith)
+
+    spent : 0 < times_spent whole x → (times_spent whole x == 0) ≡ false
+    spent l = grind (arith, nat_tests, l)
+
+each_unspent : (whole : Record) (parcels : List (List ℕ)) → ((c : ℕ) → 0 < count c (joined parcels) → 0 < times_spent whole c) → list_any (unspent_of whole) parcels ≡ false
+each_unspent whole [] each = refl
+each_unspent whole (p ∷ ps) each =
+    or_both (unspent_of whole p) (list_any (unspent_of whole) ps)
+    (none_unspent whole p (λ c l. each c (let both = count-append c p (joined ps) in omega (arith, l, both))))
+    (each_unspent whole ps (λ c l. each c (let both = count-append c p (joined ps) in omega (arith, l, both))))
+
+-- what holds nothing has spent all that it attempted
+bare_spent : (h : Record) (i c : ℕ) → IsLegal h → at h (Held i) ≡ [] → 0 < attempts_with h i c → 0 < times_spent h c
+bare_spent h i c legal none tried = elim (cases_lt 0 (times_spent h c)) [
+  | inl some ↦ some
   | inr few ↦
-      let here = attempted_held h i c o.legal l (omega (arith, few)) in
-      let nothing = ap (λ (ps : List (List ℕ)). count c (joined ps)) none in
-      absurd (omega (arith, here, nothing))
+      let here = attempted_held h i c legal tried (omega (arith, few)) in
+      let bare = ap (λ (ps : List (List ℕ)). count c (joined ps)) (stands_at h (Held i) legal ∙ none) in
+      absurd (omega (arith, here, bare))
 ]
 
--- WHAT IS OWED
-none_of : (a b : Bool) → a ≡ false → b ≡ false → (a || b) ≡ false
-none_of true b e f = cc
-none_of false b e f = f
+-- behind an attempt and spends after which nothing is held nothing is owed
+pub owes_attempted : (h new : Record) (i : ℕ) (copies : List ℕ) (bytes : Word) (reply : Reply) (outcome : Outcome) → owes h i ≡ false →
+    OnlyAdds (IsSpendOf i outcome) (Attempt i copies bytes reply ∷ h) new → IsLegal new → at new (Held i) ≡ [] → owes new i ≡ false
+owes_attempted h new i copies bytes reply outcome none adds legal bare =
+    none_of new i
+    (carry (IsSpendOf i outcome) (λ (k : Record). OwesElse k i) (λ k e follows kind was. else_spent i outcome k e kind was) (Attempt i copies bytes reply ∷ h) new adds
+    (else_on h (Attempt i copies bytes reply) i refl refl refl refl (else_none h i none)))
+    (each_unspent new (decided new i) (λ c some. bare_spent new i c legal bare (decided_tried new i c some)))
 
-spent_some : (n : ℕ) → 0 < n → (n == 0) ≡ false
-spent_some n l = grind (arith, nat_tests)
+-- entries that make an instance owe no more
+pub owes_over : (Kind : Record → Entry → Type 0) (old new : Record) (i : ℕ) → ((h : Record) (e : Entry) → Kind h e → OwesNoMore e) → OnlyAdds Kind old new → owes old i ≡ false → owes new i ≡ false
+owes_over Kind old new i within adds none = carry Kind (λ (k : Record). owes k i ≡ false) (λ k e follows kind was. owes_still k e i (within k e kind) was) old new adds none
 
-spent_all : (whole : Record) (copies : List ℕ) → ((c : ℕ) → 0 < count c copies → 0 < times_spent whole c) → unspent_of whole copies ≡ false
-spent_all whole [] all = refl
-spent_all whole (c ∷ cs) all =
-    none_of (times_spent whole c == 0) (unspent_of whole cs)
-    (spent_some (times_spent whole c) (all c (let t = same_test c in grind (arith, nat_tests))))
-    (spent_all whole cs (λ d l. all d (omega (arith, l))))
+-- WHAT IS SPENT
+-- what owes nothing has spent what it attempted
+pub settled_by : (h : Record) (i : ℕ) → owes h i ≡ false → AreSettled h i
+settled_by h i none going c tried = owed_spent h h i c (spends_settled h i none) tried
 
-tried : (t : Bool) (n m : ℕ) → t ≡ true → 0 < m → 0 < n + (if t && nat_lt 0 m then 1 else 0)
-tried t n m e l = subst (λ (b : Bool). 0 < n + (if b && nat_lt 0 m then 1 else 0)) (sym e) go
-  where
-    go : 0 < n + (if true && nat_lt 0 m then 1 else 0)
-    go = grind (arith, nat_tests, l)
+-- so has what holds nothing
+pub settled_bare : (h : Record) (i : ℕ) → IsLegal h → at h (Held i) ≡ [] → AreSettled h i
+settled_bare h i legal none going c tried = bare_spent h i c legal none tried
 
--- an instance that has spent all that it attempted owes no spend
-pub owes_none : (h whole : Record) (i : ℕ) → ((c : ℕ) → 0 < attempts_with h i c → 0 < times_spent whole c) → owes_spends_in h whole i ≡ false
-owes_none [] whole i all = refl
-owes_none (Attempt j copies bytes reply ∷ h) whole i all =
-    go (j == i) refl (is_decided reply (failures_with h i (first_copy copies) + 1) (attempts_allowed h i)) (owes_none h whole i (λ c l. all c (omega (arith, l))))
-  where
-    go : (mine : Bool) → (j == i) ≡ mine → (settled : Bool) → list_any (unspent_of whole) (decided h i) ≡ false → list_any (unspent_of whole) (if mine && settled then copies ∷ decided h i else decided h i) ≡ false
-    go true e true rest =
-        none_of (unspent_of whole copies) (list_any (unspent_of whole) (decided h i))
-        (spent_all whole copies (λ c l. all c (tried (j == i) (attempts_with h i c) (count c copies) e l))) rest
-    go true e false rest = rest
-    go false e settled rest = rest
-owes_none (e ∷ h) whole i all = owes_none h whole i all
-
--- what isn't closed isn't retired
-pub unclosed_unretired : (h : Record) (f : Facts) (i worker now : ℕ) (gone : IsTrue f.retired → IsTrue f.closed) → f.closed ≡ false → f.leased ≡ false → IsKnown f h i → IsLegalWithReturns h → abandoned h ≡ false → owes_birth h i ≡ false → worker_now h worker ≤ now → is_ready h i now ≡ true → MayLease h i worker now 0
-unclosed_unretired h f i worker now gone unclosed unleased k orderly going born later ready = record {
-  home = sym k.leased ∙ unleased;
-  settled = owes_else h i orderly born (owes_none h h i (settled_home h i orderly (sym k.leased ∙ unleased) going));
-  unretired = sym k.retired ∙ go f.retired refl;
-  unpolled = refl;
-  later = later;
-  ready = inl ready;
-}
-  where
-    go : (b : Bool) → f.retired ≡ b → b ≡ false
-    go true e = let c : f.closed ≡ true = gone e in cc
-    go false e = refl
-
--- an instance at home, by what the hub knows, is at home in the record
-pub known_at_home : {P : Type 0} (told_by : P → Told) (d : Hub P) (hand : List Copy) (i : ℕ) → Stands told_by d hand d.log.history → IsAtHome d i → IsSound d → is_out d.log.history i ≡ false
-known_at_home told_by d hand i s home fine = go (facts_at d.facts.items i) ((s.recorded fine).facts i) home
-  where
-    go : (o : Option Facts) → IfSome o (λ f. IsKnown f d.log.history i) → IsSomeAnd o (λ f. f.leased ≡ false) → is_out d.log.history i ≡ false
-    go None known at = absurd at
-    go (Some f) known at = sym known.leased ∙ at
-
-pub untried_settled : {P : Type 0} (told_by : P → Told) (d : Hub P) (hand : List Copy) (i : ℕ) → Stands told_by d hand d.log.history → IsOutAt d.rows.items i → i < length d.rows.items → IsUntried d i → IsSettled d i
-untried_settled told_by d hand i s out within untried sound =
-    let r = s.recorded sound in
-    settled_untried d.log.history i r.order (r.outs i within (out_port (row_at d.rows.items i) out)) (untried sound)
-
-pub bare_settled : {P : Type 0} (told_by : P → Told) (d : Hub P) (i : ℕ) → Stands told_by d [] d.log.history → copies_at (Held i) d.rows.items ≡ [] → IsSettled d i
-bare_settled told_by d i s none sound =
-    let r = s.recorded sound in
-    settled_bare d.log.history i r.order (places_all d.rows.items d.log.history r.places.standing (Held i) ∙ ap all_numbers none)
+-- and nothing is asked where the run was given up
+pub settled_over : (h : Record) (i : ℕ) → abandoned h ≡ true → AreSettled h i
+settled_over h i over going c tried = let no : true ≡ false = sym over ∙ going in cc

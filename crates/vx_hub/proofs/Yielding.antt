@@ -1,98 +1,88 @@
--- What a source brings home, behind the entries that tell it.
-use Rattle.std.proofs.Common.{◌≡◌, ℕ, ◌<◌, length, Bool, List, [], ◌∷◌, ◌++◌, Some, None, subst, sym, ap, ◌∙◌}
-use Rattle.std.specs.Prelude.{Contains, if◌then◌else◌}
-use Rattle.std.proofs.lemmas.List.{append-nil}
-use Rattle.vx_ends.specs.declared.position.Position.{Position}
-use Rattle.vx_value.specs.declared.event.Event.{Event}
-use Rattle.vx_value.specs.Texts.{Word}
-use Rattle.vx_record.specs.Records.{Record}
-use Rattle.vx_record.specs.Noted.{Noted}
-use Rattle.vx_record.specs.Reads.{ended_streams, ended_by}
+-- What is left of an instance that is given up at home.
+use Rattle.std.proofs.Common.{◌≡◌, ◌∙◌, ℕ, ◌<◌, Bool, true, false, ◌∷◌, length, Option, Some, IfSome, refl, sym, ap, subst, inr, arith}
+use Rattle.std.specs.Prelude.{slice_get, if◌then◌else◌}
+use Rattle.vx_record.specs.Turns.{is_out}
+use Rattle.vx_status.specs.declared.outcome.Outcome.{Outcome}
+use Rattle.vx_status.specs.declared.outcome.Outcome.TheVariants.{Abandoned}
+use Rattle.vx_ends.specs.Told.{Told}
 use Rattle.vx_record.specs.declared.entry.Entry.{Entry}
-use Rattle.vx_record.specs.declared.entry.Entry.TheVariants.{Read, Confirm}
-use Rattle.vx_record.specs.declared.entry.Entry.TheVariants as entry
-use Rattle.vx_record.specs.declared.taken.Taken.{Taken}
-use Rattle.vx_record.specs.declared.taken.Taken.TheVariants as taken
-use Rattle.vx_hub.specs.declared.hub.Hub.{Hub}
-use Rattle.vx_hub.specs.declared.source.SourceCore.{SourceCore}
-use Rattle.vx_hub.specs.declared.source.Turned.{Turned}
-use Rattle.vx_hub.specs.declared.source.Turned.TheVariants.{Lines, StreamEnded, AllEnded, Idle, Failed}
-use Rattle.vx_hub.specs.declared.task.Role.{Role}
-use Rattle.vx_hub.specs.declared.task.Role.TheVariants.{Source, Sink}
-use Rattle.vx_hub.specs.declared.work.Done.{Done}
-use Rattle.vx_hub.specs.declared.work.Done.TheVariants as done
-use Rattle.vx_hub.specs.Abreast.{AreNamedApart, IsAbreast, HasCome, HasDone, HasTurned, RoleHasTurned, Yields, Gives}
-use Rattle.vx_hub.specs.Births.{HasComeBy, HasDoneBy}
-use Rattle.vx_hub.specs.Stands.{IsSound}
-use Rattle.vx_hub.specs.Spending.{HasYielded}
-use Rattle.vx_record.specs.Sourcing.{Yield, yield_of, yield}
-use Rattle.vx_hub.proofs.Following.{IsAside, abreast_on, role_on}
-use Rattle.vx_hub.proofs.Ordering.{sound_before}
-use Rattle.vx_hub.proofs.Silence.{same_test}
+use Rattle.vx_record.specs.declared.entry.Entry.TheVariants.{Home, Closed, Spent, Notice}
+use Rattle.vx_record.specs.Records.{Record}
+use Rattle.vx_record.specs.Abandoning.{abandoned}
+use Rattle.vx_record.specs.Additions.{OnlyAdds}
+use Rattle.vx_record.specs.Ending.{MayClose}
+use Rattle.vx_record.specs.Legal.{Follows}
+use Rattle.vx_record.specs.Makers.{IsFor}
+use Rattle.vx_record.proofs.Adding.{adds_both, adds_none, adds_one, adds_wider, carry}
+use Rattle.vx_moves.specs.declared.books.Books.{Books}
+use Rattle.vx_moves.specs.declared.run.Run.{Run}
+use Rattle.vx_moves.specs.Leaving.{Leaves}
+use Rattle.vx_moves.specs.Spends.{IsSpendOf, OnlySpends}
+use Rattle.vx_moves.specs.Stands.{Steps}
+use Rattle.vx_moves.proofs.Leaving.{rooms_both, each_both}
+use Rattle.vx_seats.specs.Knowing.{IsKnown}
+use Rattle.vx_seats.specs.declared.seat.Seat.{Seat}
+use Rattle.vx_ready.specs.Asking.{IsServed, all_ported}
+use Rattle.vx_ready.proofs.Done.{device_there}
+use Rattle.vx_hub.specs.Landings.{HasNoted}
+use Rattle.vx_hub.proofs.Answering.{spend_own, same_test}
+use Rattle.vx_hub.proofs.Noting.{noted, for_own}
 
--- an entry that is no install, no read and no take leaves an instance where it has come
-pub come_on : {P : Type 0} (d e : Hub P) (entry : Entry) (i : ℕ) (role : Role) → IsAside entry → Noted d.log entry e.log → e.starved ≡ d.starved → HasComeBy d i role → HasComeBy e i role
-come_on d e entry i role unread noted starved come sound =
-    subst (λ (h : Record). HasCome h i role) (sym (noted.whole sound.whole).1) (role_on d.log.history entry i role unread (come (sound_before d e entry noted starved sound)))
+-- a run that is given up stays so
+over_on : (i : ℕ) (outcome : Outcome) (h : Record) (e : Entry) → Follows h e → IsSpendOf i outcome h e → abandoned h ≡ true → abandoned (e ∷ h) ≡ true
+over_on i outcome h (Spent j c other) follows kind over = over
+over_on i outcome h (Notice b status) follows kind over = over
+over_on i outcome h e follows kind over = absurd kind
 
--- a confirm before a turn is told changes nothing of what the turn gave
-streams_under : (xs ys : List ℕ) (s : ℕ) → Contains ((xs ++ []) ++ ys) s → Contains (xs ++ ys) s
-streams_under xs ys s there = subst (λ (zs : List ℕ). Contains (zs ++ ys) s) (append-nil xs) there
+module _ {P : Type 0} (told_by : P → Told) where
+  pub served_on : (old new : Books P) → IsServed old → length new.seats ≡ length old.seats → new.run ≡ old.run → IsServed new
+  served_on old new served size run = record {
+    ported = ap (λ (r : Run). all_ported r.plan.components) run ∙ served.ported;
+    few = let few = served.few in omega (arith, size, few);
+  }
 
-abreast_under : (h : Record) (j : ℕ) (positions : List Position) (made : Bool) (i stream : ℕ) (took : Taken) (core : SourceCore) → IsAbreast (Read i stream took ∷ h) i core → IsAbreast (Read i stream took ∷ Confirm j positions made ∷ h) i core
-abreast_under h j positions made i stream (taken.Bytes bytes) core a = record { made_for = λ apart. a.made_for apart; last = a.last; taken = a.taken; ended = λ s there. a.ended s (streams_under (ended_streams h i) [] s there) }
-abreast_under h j positions made i stream taken.StreamEnded core a = record { made_for = λ apart. a.made_for apart; last = a.last; taken = a.taken; ended = λ s there. a.ended s (streams_under (ended_streams h i) (ended_by i (Read i stream taken.StreamEnded)) s there) }
-abreast_under h j positions made i stream taken.AllEnded core a = record { made_for = λ apart. a.made_for apart; last = a.last; taken = a.taken; ended = λ s there. a.ended s (streams_under (ended_streams h i) [] s there) }
+  pub spends_own : (i : ℕ) (outcome : Outcome) (old new : Books P) → OnlySpends told_by i outcome old new → OnlyAdds (IsFor i) old.log new.log
+  spends_own i outcome old new spent = adds_wider (IsSpendOf i outcome) (IsFor i) (spend_own i outcome) old.log new.log spent.only
 
-yields_under : (h : Record) (j : ℕ) (positions : List Position) (made : Bool) (i stream : ℕ) (took : Taken) (events : List Event) (at end : ℕ) → Yields h i stream took events at end → Yields (Confirm j positions made ∷ h) i stream took events at end
-yields_under h j positions made i stream (taken.Bytes bytes) events at end y apart some = record { all = (y apart some).all }
-yields_under h j positions made i stream taken.StreamEnded events at end y apart some = record { all = (y apart some).all }
-yields_under h j positions made i stream taken.AllEnded events at end y apart some = record { all = (y apart some).all }
+  pub may_shut : (i : ℕ) (old new : Books P) (seat : Seat P) → IsServed old → i < length old.seats → abandoned old.log ≡ true → OnlySpends told_by i Abandoned old new →
+      slice_get new.seats i ≡ Some seat → seat.facts.closed ≡ false → MayClose new.log i
+  may_shut i old new seat served within over spent there unclosed =
+      let size = spent.size in
+      let known : IsKnown told_by seat new.log i = subst (λ (o : Option (Seat P)). IfSome o (λ seat. IsKnown told_by seat new.log i)) there (spent.stands.seats.each i) in
+      record {
+        device = device_there told_by new spent.stands (served_on old new served spent.size spent.leaves.run) i (omega (arith, size, within));
+        unclosed = sym known.facts.closed ∙ unclosed;
+        over = inr (carry (IsSpendOf i Abandoned) (λ h. abandoned h ≡ true) (over_on i Abandoned) old.log new.log spent.only over);
+      }
 
-gives_under : (h : Record) (j : ℕ) (positions : List Position) (made : Bool) (i stream : ℕ) (took : Taken) (events : List Event) → Gives h i stream took events → Gives (Confirm j positions made ∷ h) i stream took events
-gives_under h j positions made i stream (taken.Bytes bytes) events gives apart = gives apart
-gives_under h j positions made i stream taken.StreamEnded events gives apart = gives apart
-gives_under h j positions made i stream taken.AllEnded events gives apart = gives apart
+  pub shut_own : (i : ℕ) (old mid new : Books P) → OnlySpends told_by i Abandoned old mid → Steps told_by (Closed i) mid new → Leaves mid new → OnlyAdds (IsFor i) old.log new.log
+  shut_own i old mid new spent steps leaves =
+      let closed : HasNoted told_by i (Closed i) mid new = noted told_by i (Closed i) mid new refl steps leaves in
+      adds_both (IsFor i) old.log mid.log new.log (spends_own i Abandoned old mid spent) closed.only
 
-turned_under : (h : Record) (j : ℕ) (positions : List Position) (made : Bool) (i : ℕ) (core : SourceCore) (turned : Turned) → HasTurned h i core turned → HasTurned (Confirm j positions made ∷ h) i core turned
-turned_under h j positions made i core (Lines stream bytes events end) t = (abreast_under h j positions made i stream (taken.Bytes bytes) core t.0, yields_under h j positions made i stream (taken.Bytes bytes) events stream end t.1, gives_under h j positions made i stream (taken.Bytes bytes) events t.2)
-turned_under h j positions made i core (StreamEnded stream events end) t = (abreast_under h j positions made i stream taken.StreamEnded core t.0, yields_under h j positions made i stream taken.StreamEnded events stream end t.1, gives_under h j positions made i stream taken.StreamEnded events t.2)
-turned_under h j positions made i core (AllEnded stream events end) t = (abreast_under h j positions made i stream taken.AllEnded core t.0, yields_under h j positions made i stream taken.AllEnded events stream end t.1, gives_under h j positions made i stream taken.AllEnded events t.2)
-turned_under h j positions made i core Idle t = abreast_on h (Confirm j positions made) i core tt t
-turned_under h j positions made i core (Failed at_start) t = abreast_on h (Confirm j positions made) i core tt t
+  pub leaves_both : (a b c : Books P) → Leaves a b → Leaves b c → Leaves a c
+  leaves_both a b c first second = record {
+    seats = each_both a.seats b.seats c.seats first.seats second.seats;
+    rooms = rooms_both a.places b.places c.places first.rooms second.rooms;
+    run = second.run ∙ first.run;
+  }
 
-done_under : (h : Record) (j : ℕ) (positions : List Position) (made : Bool) (i : ℕ) (role : Role) (what : Done) → HasDone h i role what → HasDone (Confirm j positions made ∷ h) i role what
-done_under h j positions made i (Source core) (done.Read turned) t = turned_under h j positions made i core turned t
-done_under h j positions made i (Sink core) (done.Read turned) t = absurd t
-done_under h j positions made i role done.Starved t = tt
-done_under h j positions made i role done.Nothing t = role_on h (Confirm j positions made) i role tt t
-done_under h j positions made i role (done.Attempted bytes reply) t = role_on h (Confirm j positions made) i role tt t
-done_under h j positions made i role done.Closed t = role_on h (Confirm j positions made) i role tt t
+  -- COMING HOME
+  pub home_own : (i : ℕ) (old new : Books P) → Steps told_by (Home i) old new → OnlyAdds (IsFor i) old.log new.log
+  home_own i old new steps = adds_one (IsFor i) old.log old.log new.log (Home i) (adds_none (IsFor i) old.log old.log refl) steps.follows (for_own (Home i) i old.log refl) steps.noted
 
-pub done_on : {P : Type 0} (d e : Hub P) (j : ℕ) (positions : List Position) (made : Bool) (i : ℕ) (role : Role) (what : Done) → Noted d.log (Confirm j positions made) e.log → e.starved ≡ d.starved → HasDoneBy d i role what → HasDoneBy e i role what
-done_on d e j positions made i role what noted starved come sound =
-    subst (λ (h : Record). HasDone h i role what) (sym (noted.whole sound.whole).1) (done_under d.log.history j positions made i role what (come (sound_before d e (Confirm j positions made) noted starved sound)))
+  pub home_now : (i : ℕ) (old new : Books P) → Steps told_by (Home i) old new → is_out new.log i ≡ false
+  home_now i old new steps =
+      ap (λ (h : Record). is_out h i) steps.noted ∙ subst (λ (b : Bool). (if b then false else is_out old.log i) ≡ false) (sym (same_test i)) refl
 
--- what a turn of an instance says of it
-pub lines_role : (h : Record) (i stream : ℕ) (bytes : Word) (events : List Event) (end : ℕ) (role : Role) → RoleHasTurned h i role (Lines stream bytes events end) → HasCome (Read i stream (taken.Bytes bytes) ∷ h) i role × Yields h i stream (taken.Bytes bytes) events stream end × Gives h i stream (taken.Bytes bytes) events
-lines_role h i stream bytes events end (Source core) t = t
-lines_role h i stream bytes events end (Sink core) t = absurd t
+  -- who was at home is so behind what gives it up
+  pub home_given_up : (i : ℕ) (old mid : Books P) → OnlySpends told_by i Abandoned old mid → is_out old.log i ≡ false → is_out mid.log i ≡ false
+  home_given_up i old mid spent home = carry (IsSpendOf i Abandoned) (λ h. is_out h i ≡ false) step old.log mid.log spent.only home
+    where
+      step : (h : Record) (e : Entry) → Follows h e → IsSpendOf i Abandoned h e → is_out h i ≡ false → is_out (e ∷ h) i ≡ false
+      step h (Spent j c other) follows kind home = home
+      step h (Notice b status) follows kind home = home
+      step h e follows kind home = absurd kind
 
-pub stream_role : (h : Record) (i stream : ℕ) (events : List Event) (end : ℕ) (role : Role) → RoleHasTurned h i role (StreamEnded stream events end) → HasCome (Read i stream taken.StreamEnded ∷ h) i role × Yields h i stream taken.StreamEnded events stream end × Gives h i stream taken.StreamEnded events
-stream_role h i stream events end (Source core) t = t
-stream_role h i stream events end (Sink core) t = absurd t
-
-pub all_role : (h : Record) (i stream : ℕ) (events : List Event) (end : ℕ) (role : Role) → RoleHasTurned h i role (AllEnded stream events end) → HasCome (Read i stream taken.AllEnded ∷ h) i role × Yields h i stream taken.AllEnded events stream end × Gives h i stream taken.AllEnded events
-all_role h i stream events end (Source core) t = t
-all_role h i stream events end (Sink core) t = absurd t
-
--- what a read yields is what the record has that the newest entry yields
-read_yields : (h : Record) (i stream : ℕ) (took : Taken) (y : Yield) → yield_of h i stream took ≡ y → yield (Read i stream took ∷ h) i ≡ Some y
-read_yields h i stream took y same = ap (λ (b : Bool). if b then Some (yield_of h i stream took) else None) (same_test i) ∙ ap Some same
-
--- and what it gave is what that read gives
-pub yielded : {P : Type 0} (d e : Hub P) (i stream : ℕ) (took : Taken) (events : List Event) (position : Position) → Noted d.log (Read i stream took) e.log → e.starved ≡ d.starved → (IsSound d → Yields d.log.history i stream took events position.stream position.end) → HasYielded e i events position
-yielded d e i stream took events position noted starved yields sound =
-    let given : Yield = record { events = events; stream = position.stream; end = position.end } in
-    subst (λ (h : Record). AreNamedApart h → 0 < length events → yield h i ≡ Some given) (sym (noted.whole sound.whole).1)
-    (λ apart some. read_yields d.log.history i stream took given (yields (sound_before d e (Read i stream took) noted starved sound) apart some).all)
+  pub home_shut : (i : ℕ) (old mid new : Books P) → OnlySpends told_by i Abandoned old mid → Steps told_by (Closed i) mid new → is_out old.log i ≡ false → is_out new.log i ≡ false
+  home_shut i old mid new spent steps home = ap (λ (h : Record). is_out h i) steps.noted ∙ home_given_up i old mid spent home

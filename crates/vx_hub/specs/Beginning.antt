@@ -1,73 +1,92 @@
--- A hub whose instances are still being seated.
-use Rattle.std.specs.Prelude.{◌≡◌, ℕ, ◌+◌, ◌<◌, ◌≤◌, [], length, vec_capacity, slice_get, Bool, false, None, IfSome, IsSome, IsSomeAnd}
-use Rattle.vx_ends.specs.Told.{Told}
-use Rattle.vx_ledger.specs.Ledger.{IsKept}
-use Rattle.vx_plan.specs.declared.plan.Plan.{Plan}
-use Rattle.vx_record.specs.Records.{Record}
-use Rattle.vx_record.specs.Wirings.{begun}
-use Rattle.vx_hub.specs.declared.hub.Hub.{Hub}
-use Rattle.vx_hub.specs.declared.making.Room.{Room}
-use Rattle.vx_hub.specs.Making.{AreNew, IsFittedTo, IsUntouched}
-use Rattle.vx_record.specs.Places.{Place}
-use Rattle.vx_hub.specs.Places.{copies_at}
-use Rattle.vx_hub.specs.Events.{AreSaid}
-use Rattle.vx_hub.specs.Rows.{copies_in, port_at}
-use Rattle.vx_hub.specs.Stands.{facts_at, spec_of, HasRooms}
-use Rattle.vx_hub.specs.Notices.{progress_at}
-use Rattle.vx_hub.specs.declared.progress.Progress.{Progress}
+-- What a hub is made from, before and when its ports are there.
+use Rattle.std.specs.Prelude.{◌≡◌, ℕ, ◌<◌, ◌≤◌, List, [], ◌∷◌, length, map, Some, IfSome, IsSomeAnd, slice_get, vec_capacity}
 use Rattle.vx_plan.specs.declared.component.Component.{Component}
+use Rattle.vx_plan.specs.declared.plan.Plan.{Plan}
+use Rattle.vx_plan.specs.declared.settings.Settings.{Settings}
+use Rattle.vx_plan.specs.declared.stage.Stage.{Stage}
+use Rattle.vx_plan.specs.Components.{stages, longest_line, batch_max_events}
+use Rattle.vx_plan.specs.Numbers.{reader_numbers}
+use Rattle.vx_plan.specs.Options.{decoding, encoding, type_name}
 use Rattle.vx_plan.specs.Targets.{acknowledged}
-use Rattle.vx_sourcecore.specs.Prefixes.{IsPrefixOf, Judgement}
+use Rattle.vx_record.specs.Places.{Place}
+use Rattle.vx_sourcecore.specs.declared.source.SourceCore.{SourceCore}
+use Rattle.vx_sourcecore.specs.Sources.{IsFresh}
+use Rattle.vx_counts.specs.Meets.{Meets}
+use Rattle.vx_balance.specs.Balances.{Balances}
+use Rattle.vx_places.specs.declared.row.Row.{Row}
+use Rattle.vx_places.specs.Rooms.{rooms_at, held_room}
+use Rattle.vx_places.specs.Views.{parcels_here}
+use Rattle.vx_tasks.specs.declared.task.Role.{Role}
+use Rattle.vx_tasks.specs.declared.task.Role.TheVariants.{Source, Sink, Unfit}
+use Rattle.vx_seats.specs.declared.seat.Seat.{Seat}
+use Rattle.vx_seats.specs.Beginning.{AreNew, HasBorneNone}
+use Rattle.vx_seats.specs.Knowing.{IsFittedTo}
+use Rattle.vx_hub.specs.declared.making.Room.{Room}
+use Rattle.vx_hub.specs.declared.parts.Named.{Named}
 
--- the record begins with a plan
-pub record HasFirst (plan : Plan) (h : Record) : Type 0 where
-  pub once : Bool
-  pub now : ℕ
-  pub alone : h ≡ begun plan once now
+-- a seat begins for a component of a plan, but for its task
+pub record IsBegun {P : Type 0} (plan : Plan) (seat : Seat P) (c : Component) : Type 0 where
+  pub fitted : IsFittedTo seat c
+  pub outlet : seat.outlet ≡ reader_numbers plan c.name 0 ∷ []
+  pub facts : AreNew seat.facts
+  pub progress : HasBorneNone seat.progress (acknowledged plan c.name)
+  pub counts : (i : ℕ) → Meets i [] seat.counts.tally
 
--- nothing is there yet, and there is room for so many instances
-pub record HasRoomFor {P : Type 0} (plan : Plan) (n : ℕ) (room : Room P) : Type 0 where
-  pub batches : room.batches.open_rows ≡ []
-  pub next : room.batches.next ≡ 0
-  pub kept : IsKept room.batches
-  pub facts : room.facts.items ≡ []
-  pub rows : room.rows.items ≡ []
-  pub ports : room.ports.items ≡ []
-  pub facts_room : n ≤ vec_capacity room.facts
-  pub progress_room : n ≤ vec_capacity room.progress
-  pub progress : room.progress.items ≡ []
-  pub rows_room : n ≤ vec_capacity room.rows
-  pub ports_room : n ≤ room.ports.room
-  pub first : HasFirst plan room.log.history
+-- a source begins for the lines of a component, and has the codec by which that decodes them
+pub record IsSourceFor (settings : Settings) (core : SourceCore) : Type 0 where
+  pub fresh : IsFresh (longest_line settings) core.decoding (type_name settings) core
+  pub decoding_is : decoding settings ≡ Some core.decoding
 
--- there is room for so many instances more
-pub record HasSeats {P : Type 0} (hub : Hub P) (n : ℕ) : Type 0 where
-  pub facts : length hub.facts.items + n ≤ vec_capacity hub.facts
-  pub progress : length hub.progress.items + n ≤ vec_capacity hub.progress
-  pub rows : length hub.rows.items + n ≤ vec_capacity hub.rows
+-- a sink begins with the codec by which it writes
+abbrev pub IsRoleFor : Role → Component → Type 0
+IsRoleFor (Source core) c = IsSourceFor c.settings core
+IsRoleFor (Sink codec) c = encoding c.settings ≡ Some codec
+IsRoleFor Unfit c = ⊥
 
--- no batch of an instance was born yet, and its batches wait where its component's plan says so
-pub record IsWaitingBy (plan : Plan) (p : Progress) (component : Component) : Type 0 where
-  pub waits : p.prefix.waits ≡ acknowledged plan component.name
-  pub none : (judged : Judgement) → IsPrefixOf p.prefix judged [] []
+-- each of some is for the component in its place
+abbrev pub AreFor : {X : Type 0} → (X → Component → Type 0) → List Component → List X → Type 0
+AreFor F components xs = (i : ℕ) → IfSome (slice_get xs i) (λ x. IsSomeAnd (slice_get components i) (F x))
 
--- each instance that was seated begins with the port of its component, and sends to that component's readers
-pub record Begins {P : Type 0} (told_by : P → Told) (plan : Plan) (hub : Hub P) : Type 0 where
-  pub batches : hub.batches.open_rows ≡ []
-  pub next : hub.batches.next ≡ 0
-  pub kept : IsKept hub.batches
-  pub copies : (batch place : ℕ) → copies_in batch place hub.rows.items ≡ 0
-  pub places : (p : Place) → copies_at p hub.rows.items ≡ []
-  pub said : (once : Bool) (now : ℕ) → AreSaid (begun plan once now) hub.rows.items
-  pub home : (i : ℕ) → i < length hub.rows.items → IsSome (port_at hub.rows.items i)
-  pub ports : (i : ℕ) → IfSome (port_at hub.rows.items i) (λ port. IsUntouched (spec_of (slice_get plan.components i)) (told_by port))
-  pub facts : (i : ℕ) → IfSome (facts_at hub.facts.items i) AreNew
-  pub fitted : (i : ℕ) → IfSome (facts_at hub.facts.items i) (λ f. IsSomeAnd (slice_get plan.components i) (λ component. IsFittedTo plan component f))
-  pub bytes : hub.bytes ≡ 0
-  pub abandoned : hub.abandoned ≡ None
-  pub size : length hub.facts.items ≡ length hub.rows.items
-  pub rooms : HasRooms plan hub.rows.items
-  pub abreast : length hub.progress.items ≡ length hub.rows.items
-  pub unnoticed : (i : ℕ) → i < length hub.progress.items → IsSomeAnd (progress_at hub.progress.items i) (λ p. p.unnoticed ≡ 0)
-  pub confirms : (i : ℕ) → IfSome (progress_at hub.progress.items i) (λ p. IsSomeAnd (slice_get plan.components i) (IsWaitingBy plan p))
-  pub fed : hub.starved ≡ false
+-- the rooms of some stages
+abbrev pub rooms_in : List Stage → List ℕ
+rooms_in = map (λ (stage : Stage). stage.max_events)
+
+-- those of a component's buffer
+abbrev pub rooms_of : Component → List ℕ
+rooms_of c = rooms_in (stages c)
+
+-- an instance has the rooms of a component
+pub record HasRoomsOf (rows : List Row) (i : ℕ) (c : Component) : Type 0 where
+  pub stages : rooms_at rows i ≡ rooms_of c
+  pub hand : held_room rows i ≡ Some (batch_max_events c.settings)
+
+-- each that is there has those of the component in its place
+abbrev pub HaveRooms : List Component → List Row → Type 0
+HaveRooms components rows = (i : ℕ) → i < length rows → IsSomeAnd (slice_get components i) (HasRoomsOf rows i)
+
+-- nothing stands anywhere
+abbrev pub AreVacant : List Row → Type 0
+AreVacant rows = (p : Place) → parcels_here rows p ≡ Some []
+
+-- what a hub needs memory for is there, for each component of a plan
+pub record HasRoomFor {P : Type 0} (plan : Plan) (room : Room P) : Type 0 where
+  pub seats : AreFor (IsBegun plan) plan.components room.seats.items
+  pub seats_size : length room.seats.items ≡ length plan.components
+  pub roles : AreFor IsRoleFor plan.components room.roles.items
+  pub roles_size : length room.roles.items ≡ length plan.components
+  pub balance : Balances room.balance []
+  pub vacant : AreVacant room.places
+  pub rooms : HaveRooms plan.components room.places
+  pub places_size : length room.places ≡ length plan.components
+  pub berths : length plan.components ≤ vec_capacity room.ports
+  pub none : room.ports.items ≡ []
+
+-- a seat has the role and the port in its place, and else is as it was
+abbrev pub IsSeated : {P : Type 0} → List (Seat P) → List Role → List (Named P) → ℕ → Seat P → Type 0
+IsSeated seats roles ports i is =
+    IsSomeAnd (slice_get seats i) (λ was. IsSomeAnd (slice_get roles i) (λ role. IsSomeAnd (slice_get ports i) (λ named.
+    is ≡ record was { task = Some (record { port = named.port; role = role }) })))
+
+-- so has each from a number on
+abbrev pub AreSeatedFrom : {P : Type 0} → ℕ → List (Seat P) → List Role → List (Named P) → List (Seat P) → Type 0
+AreSeatedFrom n seats roles ports seated = (i : ℕ) → n ≤ i → IfSome (slice_get seated i) (IsSeated seats roles ports i)

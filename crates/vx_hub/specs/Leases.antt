@@ -1,106 +1,93 @@
--- What an instance that is out takes along, and what it brings home.
-use Rattle.std.specs.Prelude.{◌≡◌, ◌<◌, ◌≤◌, ◌+◌, ◌++◌, ℕ, [], true, false, length, Option, Some, None, IfSome, IsSomeAnd}
+-- What a lease rests on, and what it leaves out.
+use Rattle.std.specs.Prelude.{◌≡◌, ◌<◌, ◌∷◌, ℕ, Bool, true, false, length, None, IsSome}
 use Rattle.vx_ends.specs.Told.{Told}
-use Rattle.vx_record.specs.Records.{Record, capped}
-use Rattle.vx_record.specs.Reads.{taken, all_ended, ended_streams}
-use Rattle.vx_record.specs.Confirms.{confirmed, is_confirm_due}
-use Rattle.vx_record.specs.Turns.{at_lease}
-use Rattle.vx_record.specs.PortCounts.{fault_count, refusal_count, idle_count}
-use Rattle.vx_record.specs.Encoding.{given}
-use Rattle.vx_hub.specs.declared.hub.Hub.{Hub}
-use Rattle.vx_hub.specs.declared.work.Work.{Work}
-use Rattle.vx_hub.specs.declared.work.Landing.{Landing}
-use Rattle.vx_hub.specs.declared.work.Done.{Done}
-use Rattle.vx_hub.specs.declared.work.Done.TheVariants.{Closed, Starved}
-use Rattle.vx_record.specs.Places.Place.{Outputs}
-use Rattle.vx_hub.specs.Places.{numbers_at}
-use Rattle.vx_hub.specs.Away.{IsUntried, WasNoticed}
-use Rattle.vx_hub.specs.Readings.{MayRead}
-use Rattle.vx_hub.specs.Moments.{IsLeaseMoment}
-use Rattle.vx_hub.specs.Sinks.{MustWrite}
-use Rattle.vx_hub.specs.Births.{IsHeldBy, IsSaidBy, HasComeBy, HasDoneBy}
-use Rattle.vx_hub.specs.Events.{IsWrittenOf}
-use Rattle.vx_hub.specs.Rows.{role_copies, role_parcels, IsOutAt}
-use Rattle.vx_hub.specs.declared.confirming.Confirmed.{Confirmed}
-use Rattle.vx_hub.specs.Turns.{NothingLeft}
-use Rattle.vx_hub.specs.Finishing.{WasDone}
-use Rattle.vx_hub.specs.Works.{taken_by, given_by, ended_by, ends_all_by, confirmed_by, confirm_faults, faults_by, refusals_by, idles_by, event_count_of, IsReading, IsAttempted, IsSending}
-use Rattle.vx_hub.specs.declared.work.Job.TheVariants as job
-use Rattle.vx_hub.specs.Order.{IsDueOf}
-use Rattle.vx_hub.specs.Confirming.{HasConfirmed, HadNothing}
-use Rattle.vx_hub.specs.Stands.{Stands, IsTold, IsSound, IsUnlost, MayShut, IsSinkAt, facts_at, spec_at}
-use Rattle.vx_hub.specs.Owed.{HasBorn}
+use Rattle.vx_record.specs.declared.entry.Entry.TheVariants.{Lease}
+use Rattle.vx_record.specs.Additions.{OnlyAdds}
+use Rattle.vx_record.specs.Makers.{IsBy}
+use Rattle.vx_record.specs.Places.Place.{Held}
+use Rattle.vx_places.specs.Views.{parcels_here}
+use Rattle.vx_tasks.specs.declared.work.Job.TheVariants as job
+use Rattle.vx_tasks.specs.declared.work.Work.{Work}
+use Rattle.vx_tasks.specs.Out.{MayReadNow, MayCloseNow, IsGiven, HasLeft}
+use Rattle.vx_moves.specs.Leaving.{Leaves}
+use Rattle.vx_moves.specs.Rooms.{IsHandOf}
+use Rattle.vx_moves.specs.Stands.{Stands}
+use Rattle.vx_record.specs.Installs.{started, sink_at}
+use Rattle.vx_record.specs.Ceasing.{cause_of}
+use Rattle.vx_record.specs.Records.{Record}
+use Rattle.vx_record.specs.Ready.{is_ready}
+use Rattle.vx_record.specs.Turns.{is_out}
+use Rattle.vx_moves.specs.declared.books.Books.{Books}
+use Rattle.vx_ready.specs.Asking.{IsServed, IsSettled, IsOpen}
+use Rattle.vx_ready.specs.Jobs.{IsJob, IsLeasable}
+use Rattle.vx_tasks.specs.declared.work.Job.{Job}
+use Rattle.vx_hub.specs.Standing.{IsWell, LentWhileOut}
+use Rattle.vx_hub.specs.Collecting.{IsCollecting, IsTakeOf}
 
--- an instance that is there, and whose port isn't closed for good
-pub record IsOpenAt {P : Type 0} (hub : Hub P) (i : ℕ) : Type 0 where
-  pub within : i < length hub.rows.items
-  pub unclosed : IsSomeAnd (facts_at hub.facts.items i) (λ f. f.closed ≡ false)
+-- an instance may be leased at a moment, and has this to do
+pub record IsReadyFor {P : Type 0} (books : Books P) (now i : ℕ) (job : Job) : Type 0 where
+  pub within : i < length books.seats
+  pub works : IsJob books.log i now job
+  pub leasable : IsLeasable books i now
+  pub settled : IsSettled books i
 
--- a task that was handed out: the hub stands for its record while the task's copies are out
-pub record IsLeased {P : Type 0} (told_by : P → Told) (hub : Hub P) (work : Work P) : Type 0 where
-  pub stands : Stands told_by hub (role_copies work.task.role) hub.log.history
-  pub open_at : IsOpenAt hub work.instance
-  pub out : IsOutAt hub.rows.items work.instance
-  pub told : IsSound hub → IsTold (told_by work.task.port) hub.log.history work.instance
-  pub held : IsHeldBy hub work.instance work.task.role
-  pub said : IsSaidBy hub work.task.role
-  pub come : HasComeBy hub work.instance work.task.role
-  pub unlost : work.job ≡ job.Read → IsUnlost hub work.instance
-  pub sent : work.job ≡ job.Read → numbers_at (Outputs work.instance) hub.rows.items ≡ []
-  pub due : IsSound hub → IfSome work.positions (IsDueOf hub.log.history work.instance)
-  pub shut : work.job ≡ job.Close → MayShut hub work.instance
-  pub sink : IsSending work.job → IsSinkAt hub work.instance
-  pub untried : IsUntried hub work.instance
-  pub some : work.job ≡ job.Attempt → 0 < length (role_parcels work.task.role)
-  pub turn : work.job ≡ job.Read → MayRead hub work.instance
-  pub bore : HasBorn hub work.instance
-  pub nothing : work.positions ≡ None → HadNothing hub work.instance
-  pub alone : work.job ≡ job.Close → IsSound hub → work.positions ≡ None
-  pub noticed : work.job ≡ job.Close → WasNoticed hub work.instance
-  pub moment : IsLeaseMoment hub work.instance hub.latest
-  pub done : work.job ≡ job.Close → WasDone hub work.instance
-  pub closing : work.job ≡ job.Attempt → MustWrite hub work.instance
+-- an instance at home that owes nothing, and whose port isn't closed, has nothing to do
+abbrev pub NoneFoundAt : {P : Type 0} → Books P → ℕ → ℕ → Type 0
+NoneFoundAt books now i = IsSettled books i → IsOpen books i → is_ready books.log i now ≡ false
 
--- what the port tells now is what the record has, and behind it what was confirmed and done
-pub record Adds (told : Told) (h : Record) (i : ℕ) (confirm : Option Confirmed) (done : Done) : Type 0 where
-  pub taken : (stream : ℕ) → IfSome (told.taken stream) (λ bytes. bytes ≡ taken h i stream ++ taken_by done stream)
-  pub given : IfSome told.given (λ bytes. bytes ≡ given h i ++ given_by done)
-  pub spec : IfSome told.spec (λ spec. spec_at h i ≡ Some spec)
-  pub confirmed : IfSome told.confirmed (λ positions. positions ≡ confirmed h i ++ confirmed_by confirm)
-  pub ended : told.ended ≡ ended_streams h i ++ ended_by done
-  pub over : all_ended h i ≡ true → NothingLeft told
-  pub over_now : ends_all_by done ≡ true → NothingLeft told
-  pub faults : capped (fault_count h i + (confirm_faults confirm + faults_by done)) ≤ told.faults
-  pub refusals : capped (refusal_count h i + refusals_by done) ≤ told.refusals
-  pub idles : capped (idle_count h i + idles_by done) ≤ told.idles
+-- no sink below a number has
+abbrev pub NoSinkFound : {P : Type 0} → Books P → ℕ → ℕ → Type 0
+NoSinkFound books now n = (i : ℕ) → i < n → sink_at books.log i ≡ true → NoneFoundAt books now i
 
-abbrev pub Brings : Told → Record → ℕ → Option Confirmed → Done → Type 0
-Brings told h i confirm Starved = Unit {0}
-Brings told h i confirm done = Adds told h i confirm done
+-- no instance at home has anything to do, in a run that wasn't given up and where memory was never wanting
+abbrev pub NoneReady : {P : Type 0} → Books P → ℕ → Type 0
+NoneReady books now =
+    IsWell books → books.run.abandoned ≡ None → (i : ℕ) → i < length books.seats → is_out books.log i ≡ false → is_ready books.log i now ≡ false
 
--- a task that comes home: the hub stands for its record while the task's copies are out
-pub record IsBack {P : Type 0} (told_by : P → Told) (hub : Hub P) (landing : Landing P) : Type 0 where
-  pub stands : Stands told_by hub (role_copies landing.task.role) hub.log.history
-  pub open_at : IsOpenAt hub landing.instance
-  pub out : IsOutAt hub.rows.items landing.instance
-  pub brings : IsSound hub → Brings (told_by landing.task.port) hub.log.history landing.instance landing.confirmed landing.done
-  pub held : IsHeldBy hub landing.instance landing.task.role
-  pub said : IsSaidBy hub landing.task.role
-  pub come : HasDoneBy hub landing.instance landing.task.role landing.done
-  pub writes : IsWrittenOf landing.task.role landing.done
-  pub unlost : IsReading landing.done → IsUnlost hub landing.instance
-  pub sent : IsReading landing.done → numbers_at (Outputs landing.instance) hub.rows.items ≡ []
-  pub due : IsSound hub → IfSome landing.confirmed (λ confirmed. IsDueOf hub.log.history landing.instance confirmed.positions)
-  pub shut : landing.done ≡ Closed → MayShut hub landing.instance
-  pub sink : IsAttempted landing.done → IsSinkAt hub landing.instance
-  pub untried : IsUntried hub landing.instance
-  pub some : IsAttempted landing.done → 0 < length (role_parcels landing.task.role)
-  pub events : event_count_of landing.done ≤ 65536
-  pub closed : landing.done ≡ Closed → (told_by landing.task.port).started ≡ false
-  pub turn : IsReading landing.done → MayRead hub landing.instance
-  pub bore : HasBorn hub landing.instance
-  pub told : (landing.done ≡ Starved → ⊥) → landing.confirmed ≡ None → HasConfirmed hub landing.instance
-  pub undue : landing.done ≡ Closed → IsSound hub → is_confirm_due (at_lease hub.log.history landing.instance) landing.instance ≡ false
-  pub noticed : landing.done ≡ Closed → WasNoticed hub landing.instance
-  pub done : landing.done ≡ Closed → WasDone hub landing.instance
-  pub closing : IsAttempted landing.done → MustWrite hub landing.instance
+-- no instance at home has work at a moment, in a run that wasn't given up
+abbrev pub NoneHasWork : Record → ℕ → Type 0
+NoneHasWork h now = cause_of h ≡ None → (i : ℕ) → i < length (started h) → is_out h i ≡ false → is_ready h i now ≡ false
+
+-- whether a job is a sink's that takes before it leaves
+abbrev pub takes_first : Job → Bool
+takes_first job.Read = false
+takes_first job.Confirm = false
+takes_first job.Collect = true
+takes_first job.Attempt = true
+takes_first job.Close = false
+
+-- what a job rests on as soon as its instance was leased
+abbrev pub MayGather : {P : Type 0} → Books P → ℕ → ℕ → Job → Type 0
+MayGather books i now job.Read = MayReadNow books.log i
+MayGather books i now job.Confirm = Unit {0}
+MayGather books i now job.Collect = IsCollecting books i now 0
+MayGather books i now job.Attempt = IsCollecting books i now 0
+MayGather books i now job.Close = MayCloseNow books.log i
+
+-- what there was to take was taken, and the job is what is to be done then
+pub record HasGathered {P : Type 0} (told_by : P → Told) (i : ℕ) (old new : Books P) (job : Job) : Type 0 where
+  pub stands : Stands told_by new
+  pub served : IsServed new
+  pub given : IsGiven new.log i job
+  pub kept : IsSome (parcels_here new.places (Held i))
+  pub only : OnlyAdds (IsTakeOf i) old.log new.log
+  pub leaves : Leaves old new
+  pub size : length new.seats ≡ length old.seats
+
+-- an instance was leased to a worker at a moment, and behind that it took, and nothing else was noted
+abbrev pub HasLeased : ℕ → ℕ → ℕ → Record → Record → Type 0
+HasLeased i worker now old new = OnlyAdds (IsTakeOf i) (Lease i worker now 0 ∷ old) new
+
+-- the task of an instance that had work was handed out
+pub record HasHandedOut {P : Type 0} (told_by : P → Told) (i worker now : ℕ) (old new : Books P) (work : Work P) : Type 0 where
+  pub stands : Stands told_by new
+  pub served : IsServed new
+  pub lent : LentWhileOut new
+  pub well : IsWell new
+  pub size : length new.seats ≡ length old.seats
+  pub instance_is : work.instance ≡ i
+  pub worker_is : work.worker ≡ worker
+  pub left : HasLeft told_by new.log work
+  pub room : IsHandOf new.log i work.held.room
+  pub only : OnlyAdds (IsBy worker) old.log new.log
+  pub noted : HasLeased i worker now old.log new.log

@@ -1,9 +1,9 @@
 -- What a hub leaves behind.
-use Rattle.std.specs.Prelude.{◌≡◌, ◌↔◌, ℕ, ◌+◌, ◌<◌, List, [], ◌∷◌, ◌++◌, length, Option, Some, None, true, false}
+use Rattle.std.specs.Prelude.{◌≡◌, ◌↔◌, ℕ, ◌+◌, ◌<◌, List, [], ◌∷◌, ◌++◌, length, true, false, IfSome, IsSome, IsSomeAnd, slice_get}
 use Rattle.vx_ends.specs.Told.{Told}
-use Rattle.vx_record.specs.Records.{Record}
 use Rattle.vx_status.specs.declared.batch_status.BatchStatus.{BatchStatus}
 use Rattle.vx_status.specs.declared.batch_status.BatchStatus.TheVariants.{Delivered}
+use Rattle.vx_record.specs.Records.{Record}
 use Rattle.vx_record.specs.declared.entry.Entry.TheVariants.{Notice}
 use Rattle.vx_record.specs.Copies.{count, next_copy, times_split, times_spent}
 use Rattle.vx_record.specs.Batches.{batches, awaits_notice}
@@ -11,10 +11,11 @@ use Rattle.vx_record.specs.Statuses.{batch_status, AllGood}
 use Rattle.vx_record.specs.Laws.{times_noticed}
 use Rattle.vx_record.specs.Lists.{places}
 use Rattle.vx_record.specs.Installs.{is_closed, is_retired}
-use Rattle.vx_hub.specs.declared.row.Row.{Row}
+use Rattle.vx_record.specs.Legal.{IsLegal, IsClosed}
+use Rattle.vx_tasks.specs.Telling.{IsTold}
+use Rattle.vx_seats.specs.declared.seat.Seat.{Seat}
 use Rattle.vx_hub.specs.declared.parts.Numbered.{Numbered}
-use Rattle.vx_hub.specs.Rows.{IsBare, task_port}
-use Rattle.vx_hub.specs.Stands.{IsTold}
+use Rattle.vx_hub.specs.Making.{ArePorted}
 
 -- each copy that was made by then was split once, or was spent once, or stands in one place, once, at any time of the record
 abbrev pub HasOnePlace : Record → Type 0
@@ -38,25 +39,22 @@ pub record HasNotices (h : Record) : Type 0 where
 abbrev pub HasEnds : ℕ → Record → Type 0
 HasEnds n h = (i : ℕ) → i < n → (is_closed h i ≡ true) × (is_retired h i ≡ true)
 
--- nothing stands at any instance, and each is at home
-abbrev pub AreBare : {P : Type 0} → List (Row P) → Type 0
-AreBare [] = Unit {0}
-AreBare (row ∷ rows) = IsBare row × AreBare rows
-
--- a port with its number, if there is one
-abbrev pub numbered_port : {P : Type 0} → ℕ → Option P → List (Numbered P)
-numbered_port i None = []
-numbered_port i (Some p) = record { instance = i; port = p } ∷ []
-
--- the ports at home, with the numbers of their instances from `first` on
-abbrev pub ports_in : {P : Type 0} → ℕ → List (Row P) → List (Numbered P)
-ports_in first [] = []
-ports_in first (row ∷ rows) = numbered_port first (task_port row.task) ++ ports_in (first + 1) rows
-
 -- the ports are those of the instances from `first` on, none left out
 abbrev pub AreNumbered : {P : Type 0} → ℕ → List (Numbered P) → Type 0
 AreNumbered first [] = Unit {0}
 AreNumbered first (n ∷ ns) = (n.instance ≡ first) × AreNumbered (first + 1) ns
+
+-- each instance is at home
+abbrev pub AreHome : {P : Type 0} → List (Seat P) → Type 0
+AreHome seats = (i : ℕ) → IfSome (slice_get seats i) (λ seat. IsSome seat.task)
+
+-- a port is that of the task that was at home in a seat
+abbrev pub IsPortOf : {P : Type 0} → List (Seat P) → ℕ → Numbered P → Type 0
+IsPortOf seats i n = IsSomeAnd (slice_get seats i) (λ seat. IsSomeAnd seat.task (λ task. n.port ≡ task.port))
+
+-- each is that of the instance in its place
+abbrev pub ArePortsOf : {P : Type 0} → List (Seat P) → List (Numbered P) → Type 0
+ArePortsOf seats ports = (i : ℕ) → IfSome (slice_get ports i) (IsPortOf seats i)
 
 -- no port is started
 abbrev pub AreClosed : {P : Type 0} → (P → Told) → List (Numbered P) → Type 0
@@ -67,3 +65,14 @@ AreClosed told_by (n ∷ ns) = ((told_by n.port).started ≡ false) × AreClosed
 abbrev pub AreTold : {P : Type 0} → (P → Told) → Record → List (Numbered P) → Type 0
 AreTold told_by h [] = Unit {0}
 AreTold told_by h (n ∷ ns) = IsTold (told_by n.port) h n.instance × AreTold told_by h ns
+
+-- a run that ended: its record is legal and leaves nothing to do, each copy was in one place and is split or spent, each batch has
+-- its notice, and each of so many instances its end
+pub record HasEnded (n : ℕ) (h : Record) : Type 0 where
+  pub legal : IsLegal h
+  pub ported : ArePorted h
+  pub finished : IsClosed h
+  pub places : HasOnePlace h
+  pub spent : AllSpent h
+  pub notices : HasNotices h
+  pub ends : HasEnds n h

@@ -1,245 +1,262 @@
-ghost use Rattle.std.specs.Prelude.{◌≡◌, ◌<◌, [], length, None, IfSome, IsTrue, IfOk, IfErr, IfNone, OnOk, OnErr, true, false};
-ghost use Rattle.vx_record.specs.Noted.{Noted};
-ghost use Rattle.std.specs.Bool.{IsFalse};
-ghost use Rattle.vx_record.specs.declared.entry.Entry.{Entry};
-ghost use Rattle.vx_hub.specs.Numbers.{numbers_in, noted_of};
-ghost use Rattle.vx_hub.specs.Stands.{Stands, IsOpenTarget, IsAtHome};
-ghost use Rattle.vx_hub.specs.Failures.{HasReason};
-ghost use Rattle.vx_hub.specs.Splitting.{WantsSplit};
-ghost use Rattle.vx_hub.specs.Rows.{HasChild, HasRoom, NoneWaits};
-ghost use Rattle.vx_hub.specs.Places.{IsFirstChild};
+// Parcels go on from where an instance put them out.
+ghost use Rattle.std.specs.Prelude.{◌≡◌, ◌<◌, ◌≤◌, length, true, false, unwrap_or, Ok, IfSome, IfNone, IfOk, IfErr, OnOk, OnErr, IsTrue};
+ghost use Rattle.vx_record.specs.Abandoning.{abandoned};
+ghost use Rattle.vx_record.specs.Additions.{OnlyAdds};
+ghost use Rattle.vx_record.specs.Stages.{stages_of, last_drops};
+ghost use Rattle.vx_record.specs.Turns.{is_out};
+ghost use Rattle.vx_places.specs.Calls.{NoneWaits, IsOldestFor};
+ghost use Rattle.vx_places.specs.Looks.{HasOutput, IsFirstRoom};
+ghost use Rattle.vx_moves.specs.Stands.{Stands};
+ghost use Rattle.vx_hub.specs.Failures.{HasReason, fatal_of};
+ghost use Rattle.vx_hub.specs.Pushing.{IsMoveOf, HasMoved, HaveEntered, CanMove};
+ghost use Rattle.vx_hub.specs.Standing.{IsHub};
 
+use crate::dropping::drops_newest;
 use crate::fatal::Fatal;
 use crate::hub::Hub;
-use crate::notes::{note_push, note_split};
-use crate::numbers::numbers_of;
-use crate::rows::{pop_output, push_buffer, push_output, put_children, take_child};
-use std::alloc::Global;
 use vx_ends::Port;
-use vx_ledger::{Child, Parcel, RouteRefused, Routed};
-use vx_record::Log;
-use vx_status::Outcome;
-use vx_value::{Event, NumberList, WantOfMemory};
-
-/// The set of ports that has the first port alone, which is the only one of a source.
-const FIRST_PORT: u128 = 1;
+use vx_ledger::Short;
+use vx_moves::Books;
 
 /// How many steps one call makes at the most.
 const STEPS: u32 = 64;
 
-/// A waiting child that its target has room for: its place among the waiting ones, and the target.
+/// A waiting child, the oldest for its target, and the first stage of the target's buffer that has room for it: none where all are
+/// full, and the last drops what comes.
 #[derive(Clone, Copy)]
 struct Pushable {
-    place: usize,
-    target: usize,
+    child: usize,
+    target: u32,
+    stage: Option<usize>,
 }
 
 impl<P: Port> Hub<P> {
-    /// The least instance at home that can split an output, or push a waiting child. `None` where there is none, where
-    /// the record lacks an entry, and after a call that answered `Fatal` or an abandonment.
+    /// An instance at home that can move a parcel on, the first that is found: a child of it waits for a target that has room or
+    /// drops what comes, or none waits and there is an output. There is none after a call that answered `Fatal`, and where the run was
+    /// given up.
     pub fn pending(&self) -> Option<u32>
-        ensures { IfSome result (λ i. i < length self.now.rows.items) }
+        requires hub { IsHub P.told self.now }
+        ensures some { IfSome result (λ i. i < length self.now.books.seats) }
+        ensures work { IfSome result (λ i. CanMove self.now.books i) }
+        ensures home { IfSome result (λ i. is_out self.now.books.log i ≡ false) }
+        ensures going { IfSome result (λ i. abandoned self.now.books.log ≡ false) }
+        ensures fatal { IfSome result (λ i. self.now.fatal ≡ false) }
     {
-        if self.fatal || !self.goes_on() || !self.log.whole {
+        if self.fatal {
             return None;
         }
-        for i in 0..self.rows.len() {
-            if !self.is_leased(i) && (self.can_split(i) || self.pushable(i).is_some()) {
-                return u32::try_from(i).ok();
+        for i in 0..self.books.seats.len() as u32 {
+            if is_pending(&self.books, i) {
+                return Some(i);
             }
         }
         None
     }
 
-    /// Splits and pushes the parcels of an instance at home, as `pending` named it. Gives how many children entered a
-    /// buffer: none where the instance is out, and none after an abandonment.
+    /// Moves the parcels of an instance on, in at most 64 steps: a waiting child enters its target's buffer, or loses a copy where
+    /// that is full and drops what comes; where none waits, the oldest output is split, or loses a copy where nobody reads it.
+    /// Gives how many children entered a buffer: none where the instance is out, and none where the run was given up.
     ///
-    /// `Fatal` comes where a split found no numbers or no memory, and unless the run was given up where the record lacks
-    /// an entry.
+    /// `Fatal` comes where a split found no numbers or no memory.
     pub fn push_pending(&mut self, instance: u32) -> Result<u32, Fatal>
-        requires stands { Stands P.told self.old [] self.old.log.history }
-        requires within { instance < length self.old.rows.items }
-        ensures stands { Stands P.told self.new [] self.new.log.history }
-        ensures size { length self.new.rows.items ≡ length self.old.rows.items }
-        ensures plan { self.new.plan ≡ self.old.plan }
+        requires hub { IsHub P.told self.old }
+        requires within { instance < length self.old.books.seats }
+        ensures hub { IsHub P.told self.new }
+        ensures only { OnlyAdds (IsMoveOf instance) self.old.books.log self.new.books.log }
         ensures fatal { OnErr result (self.new.fatal ≡ true) }
-        ensures reason { IfErr result (HasReason self.new) }
-        ensures wants { IfErr result (WantsSplit self.new) }
-        ensures whole { OnOk result (self.old.abandoned ≡ None → IsTrue self.new.log.whole) }
+        ensures sound { OnOk result (self.new.fatal ≡ self.old.fatal) }
+        ensures short { self.new.books.run.short ≡ self.old.books.run.short }
+        ensures reason { IfErr result (HasReason self.new.books.log) }
+        ensures entered { IfOk result (λ n. HaveEntered n self.old.books.log self.new.books.log) }
+        ensures out { is_out self.old.books.log instance ≡ true → (result ≡ Ok 0) × (self.new ≡ self.old) }
+        ensures over { abandoned self.old.books.log ≡ true → (result ≡ Ok 0) × (self.new ≡ self.old) }
     {
-        if !self.goes_on() {
+        if !is_free(&self.books, instance) {
             return Ok(0);
         }
-        let pushed = self.push_steps(instance)?;
-        self.settled(Ok(()))?;
-        Ok(pushed)
-    }
-
-    /// Splits and pushes the parcels of an instance, unless it is out. Gives how many children entered a buffer.
-    fn push_steps(&mut self, instance: u32) -> Result<u32, Fatal>
-        requires stands { Stands P.told self.old [] self.old.log.history }
-        requires within { instance < length self.old.rows.items }
-        requires going { self.old.abandoned ≡ None }
-        ensures stands { Stands P.told self.new [] self.new.log.history }
-        ensures size { length self.new.rows.items ≡ length self.old.rows.items }
-        ensures plan { self.new.plan ≡ self.old.plan }
-        ensures fatal { OnErr result (self.new.fatal ≡ true) }
-        ensures reason { IfErr result (HasReason self.new) }
-        ensures wants { IfErr result (WantsSplit self.new) }
-    {
-        if self.is_leased(instance as usize) {
-            return Ok(0);
-        }
-        let mut pushed: u32 = 0;
-        for _ in 0..STEPS {
-            if let Some(next) = self.pushable(instance as usize) {
-                self.push(instance, next);
-                pushed = pushed.saturating_add(1);
-            } else if self.can_split(instance as usize) {
-                self.split(instance)?;
-            } else {
-                break;
-            }
-        }
-        Ok(pushed)
-    }
-
-    /// Whether an instance has an output, and no child of it waits.
-    fn can_split(&self, i: usize) -> bool
-        requires { i < length self.now.rows.items }
-        ensures { IsTrue result → NoneWaits self.now.rows.items i }
-    {
-        self.rows[i].waiting.is_empty() && !self.rows[i].outputs.is_empty()
-    }
-
-    /// The waiting child of an instance that is pushed next: that of the first target that has room.
-    fn pushable(&self, i: usize) -> Option<Pushable>
-        requires { i < length self.now.rows.items }
-        ensures child { IfSome result (λ next. HasChild self.now.rows.items i next.place) }
-        ensures target { IfSome result (λ next. IsOpenTarget self.now next.target) }
-        ensures first { IfSome result (λ next. IsFirstChild self.now.rows.items i next.target next.place) }
-    {
-        let waiting = &self.rows[i].waiting;
-        for place in 0..waiting.len() {
-            let target = waiting[place].target as usize;
-            if self.has_room(target) {
-                return Some(Pushable { place, target });
-            }
-        }
-        None
-    }
-
-    /// Whether an instance that hasn't ended has room in its buffer.
-    fn has_room(&self, target: usize) -> bool
-        ensures is_open { IsTrue result → IsOpenTarget self.now target }
-        ensures full { result ≡ false → IsOpenTarget self.now target → ⊥ }
-    {
-        if target >= self.rows.len() || target >= self.facts.len() {
-            return false;
-        }
-        !self.facts[target].retired && !self.rows[target].buffer.is_full()
-    }
-}
-
-impl<P: Port> Hub<P> {
-    /// Moves a waiting child of an instance into its target's buffer.
-    fn push(&mut self, instance: u32, next: Pushable)
-        requires stands { Stands P.told self.old [] self.old.log.history }
-        requires within { instance < length self.old.rows.items }
-        requires child { HasChild self.old.rows.items instance next.place }
-        requires first { IsFirstChild self.old.rows.items instance next.target next.place }
-        requires target { IsOpenTarget self.old next.target }
-        requires home { IsAtHome self.old instance }
-        requires going { self.old.abandoned ≡ None }
-        ensures stands { Stands P.told self.new [] self.new.log.history }
-        ensures facts { self.new.facts ≡ self.old.facts }
-        ensures abandoned { self.new.abandoned ≡ self.old.abandoned }
-        ensures size { length self.new.rows.items ≡ length self.old.rows.items }
-        ensures plan { self.new.plan ≡ self.old.plan }
-    {
-        let Child { target, parcel } = take_child(&mut self.rows, instance as usize, next.place);
-        note_push(
-            self.alloc,
-            &mut self.log,
-            instance,
-            target,
-            &parcel.finalizers,
-        );
-        push_buffer(&mut self.rows, next.target, parcel);
-    }
-
-    /// Replaces the oldest output of an instance by a child for each target. Where there is no target, its copies are
-    /// spent.
-    fn split(&mut self, instance: u32) -> Result<(), Fatal>
-        requires stands { Stands P.told self.old [] self.old.log.history }
-        requires within { instance < length self.old.rows.items }
-        requires none { NoneWaits self.old.rows.items instance }
-        requires home { IsAtHome self.old instance }
-        requires going { self.old.abandoned ≡ None }
-        ensures stands { Stands P.told self.new [] self.new.log.history }
-        ensures facts { self.new.facts ≡ self.old.facts }
-        ensures abandoned { self.new.abandoned ≡ self.old.abandoned }
-        ensures size { length self.new.rows.items ≡ length self.old.rows.items }
-        ensures plan { self.new.plan ≡ self.old.plan }
-        ensures fatal { OnErr result (self.new.fatal ≡ true) }
-        ensures reason { IfErr result (HasReason self.new) }
-        ensures wants { IfErr result (WantsSplit self.new) }
-    {
-        let i = instance as usize;
-        let Some(parcel) = pop_output(&mut self.rows, i) else {
-            return Ok(());
-        };
-        let noted = self.taken_apart(&parcel);
-        match self.facts[i]
-            .outlet
-            .route(FIRST_PORT, parcel, &mut self.batches)
-        {
-            Ok(Routed::Children(children)) => {
-                note_children(
-                    self.alloc,
-                    &mut self.log,
-                    instance,
-                    noted,
-                    children.as_slice(),
-                );
-                put_children(&mut self.rows, i, children);
-                Ok(())
-            }
-            Ok(Routed::NoConsumer(parcel)) => {
-                self.spend(instance, parcel, Outcome::NoConsumer);
-                Ok(())
-            }
-            Err(RouteRefused { cause, parcel }) => {
-                push_output(&mut self.rows, i, parcel);
+        match push_steps(&mut self.books, instance) {
+            Ok(pushed) => Ok(pushed),
+            Err(short) => {
                 self.fatal = true;
-                Err(Fatal::from(cause))
+                Err(Fatal::from(short))
             }
         }
     }
+}
 
-    /// The numbers of a parcel's copies, and its event once more.
-    fn taken_apart(&self, parcel: &Parcel) -> Result<(NumberList, Event), WantOfMemory>
-        ensures numbers { IfOk result (λ apart. apart.0 ≡ numbers_in parcel.now.finalizers) }
-        ensures event { IfOk result (λ apart. apart.1 ≡ parcel.now.event) }
-    {
-        let copies = numbers_of(self.alloc, &parcel.finalizers)?;
-        Ok((copies, parcel.event.copy(self.alloc)?))
+/// Whether an instance at home can move a parcel on, in a run that goes on.
+fn is_pending<P: Port>(books: &Books<P>, i: u32) -> bool
+    requires stands { Stands P.told books.now }
+    requires within { i < length books.now.seats }
+    ensures home { IsTrue result → is_out books.now.log i ≡ false }
+    ensures going { IsTrue result → abandoned books.now.log ≡ false }
+    ensures work { IsTrue result → CanMove books.now i }
+{
+    if !is_free(books, i) {
+        return false;
+    }
+    if can_split(books, i) {
+        return true;
+    }
+    match find_pushable(books, i) {
+        Some(_next) => true,
+        None => false,
     }
 }
 
-/// Notes a split.
-fn note_children(
-    alloc: Global,
-    log: &mut Log,
-    instance: u32,
-    parcel: Result<(NumberList, Event), WantOfMemory>,
-    children: &[Child],
-)
-    ensures noted { IfOk parcel (λ apart. Noted log.old (Entry.Split instance 1 apart.0 apart.1 (noted_of children.now)) log.new) }
-    ensures unmade { OnErr parcel (IsFalse log.new.whole × (log.new.history ≡ log.old.history)) }
+/// Whether an instance is at home, in a run that goes on.
+fn is_free<P: Port>(books: &Books<P>, i: u32) -> bool
+    requires stands { Stands P.told books.now }
+    requires within { i < length books.now.seats }
+    ensures home { IsTrue result → is_out books.now.log i ≡ false }
+    ensures going { IsTrue result → abandoned books.now.log ≡ false }
 {
-    match parcel {
-        Ok((copies, event)) => note_split(alloc, log, instance, copies, event, children),
-        Err(none) => log.note(Err(none)),
+    books.run.abandoned.is_none() && books.seats.get(i).task.is_some()
+}
+
+/// Whether an instance has an output, and no child of it waits.
+fn can_split<P: Port>(books: &Books<P>, i: u32) -> bool
+    requires stands { Stands P.told books.now }
+    requires within { i < length books.now.seats }
+    ensures none_waits { IsTrue result → NoneWaits books.now.places i }
+    ensures some { IsTrue result → HasOutput books.now.places i }
+{
+    books.places.none_waits(i) && books.places.has_output(i)
+}
+
+/// The first stage of an instance's buffer that has room, or none where all are full and the last drops what comes. `None` where
+/// nothing can come.
+fn room_of<P: Port>(books: &Books<P>, target: u32) -> Option<Option<usize>>
+    requires stands { Stands P.told books.now }
+    ensures there { IfSome result (λ stage. target < length books.now.seats) }
+    ensures first { IfSome result (λ stage. IsFirstRoom books.now.places target stage) }
+    ensures drops { IfSome result (λ stage. IfNone stage (last_drops (stages_of books.now.log target) ≡ true)) }
+{
+    if target as usize >= books.places.len() {
+        return None;
     }
+    if let Some(stage) = books.places.first_room(target) {
+        return Some(Some(stage));
+    }
+    if drops_newest(books, target) {
+        return Some(None);
+    }
+    None
+}
+
+/// The first waiting child of an instance, among those that are the oldest for their targets, whose target has room or drops what
+/// comes.
+fn find_pushable<P: Port>(books: &Books<P>, i: u32) -> Option<Pushable>
+    requires stands { Stands P.told books.now }
+    requires within { i < length books.now.seats }
+    ensures oldest { IfSome result (λ next. IsOldestFor books.now.places i next.target next.child) }
+    ensures there { IfSome result (λ next. next.target < length books.now.seats) }
+    ensures room { IfSome result (λ next. IsFirstRoom books.now.places next.target next.stage) }
+    ensures drops { IfSome result (λ next. IfNone next.stage (last_drops (stages_of books.now.log next.target) ≡ true)) }
+{
+    let mut from: usize = 0;
+    for _ in 0..u32::MAX {
+        let (child, target) = books.places.find_child(i, from)?;
+        if let Some(stage) = room_of(books, target) {
+            return Some(Pushable {
+                child,
+                target,
+                stage,
+            });
+        }
+        from = child.checked_add(1)?;
+    }
+    None
+}
+
+/// Splits the oldest output of an instance, or spends a copy of it where nobody reads it.
+fn part<P: Port>(books: &mut Books<P>, i: u32) -> Result<(), Short>
+    requires stands { Stands P.told books.old }
+    requires within { i < length books.old.seats }
+    requires going { abandoned books.old.log ≡ false }
+    requires home { is_out books.old.log i ≡ false }
+    requires none_waits { NoneWaits books.old.places i }
+    requires some { HasOutput books.old.places i }
+    ensures moved { HasMoved P.told i books.old books.new }
+    ensures entered { HaveEntered 0 books.old.log books.new.log }
+    ensures reason { IfErr result (λ short. HasReason books.new.log (fatal_of short)) }
+{
+    match books.split(i) {
+        Ok(true) => Ok(()),
+        Ok(false) => {
+            books.spend_unread(i);
+            Ok(())
+        }
+        Err(short) => Err(short),
+    }
+}
+
+/// Lets a waiting child of an instance enter its target's buffer, or lose a copy where that drops what comes.
+/// Gives how many children entered a buffer.
+fn pass<P: Port>(books: &mut Books<P>, i: u32, next: Pushable) -> u32
+    requires stands { Stands P.told books.old }
+    requires within { i < length books.old.seats }
+    requires going { abandoned books.old.log ≡ false }
+    requires home { is_out books.old.log i ≡ false }
+    requires there { next.target < length books.old.seats }
+    requires oldest { IsOldestFor books.old.places i next.target next.child }
+    requires room { IsFirstRoom books.old.places next.target next.stage }
+    requires drops { IfNone next.stage (last_drops (stages_of books.old.log next.target) ≡ true) }
+    ensures moved { HasMoved P.told i books.old books.new }
+    ensures entered { HaveEntered result books.old.log books.new.log }
+    ensures one { result ≤ 1 }
+{
+    match next.stage {
+        Some(stage) => {
+            books.push(i, next.child, next.target, stage);
+            1
+        }
+        None => {
+            books.spend_newest(i, next.child, next.target);
+            0
+        }
+    }
+}
+
+/// Moves one parcel of an instance on. Gives how many children entered a buffer, and `None` where there was nothing to do.
+fn move_one<P: Port>(books: &mut Books<P>, i: u32) -> Result<Option<u32>, Short>
+    requires stands { Stands P.told books.old }
+    requires within { i < length books.old.seats }
+    requires going { abandoned books.old.log ≡ false }
+    requires home { is_out books.old.log i ≡ false }
+    ensures moved { HasMoved P.told i books.old books.new }
+    ensures entered { IfOk result (λ n. HaveEntered (unwrap_or n 0) books.old.log books.new.log) }
+    ensures one { IfOk result (λ n. unwrap_or n 0 ≤ 1) }
+    ensures reason { IfErr result (λ short. HasReason books.new.log (fatal_of short)) }
+{
+    if let Some(next) = find_pushable(books, i) {
+        return Ok(Some(pass(books, i, next)));
+    }
+    if !can_split(books, i) {
+        return Ok(None);
+    }
+    match part(books, i) {
+        Ok(()) => Ok(Some(0)),
+        Err(short) => Err(short),
+    }
+}
+
+/// Moves parcels of an instance on. Gives how many children entered a buffer.
+fn push_steps<P: Port>(books: &mut Books<P>, i: u32) -> Result<u32, Short>
+    requires stands { Stands P.told books.old }
+    requires within { i < length books.old.seats }
+    requires going { abandoned books.old.log ≡ false }
+    requires home { is_out books.old.log i ≡ false }
+    ensures moved { HasMoved P.told i books.old books.new }
+    ensures entered { IfOk result (λ n. HaveEntered n books.old.log books.new.log) }
+    ensures reason { IfErr result (λ short. HasReason books.new.log (fatal_of short)) }
+{
+    let mut pushed: u32 = 0;
+    for _ in 0..STEPS {
+        match move_one(books, i)? {
+            Some(entered) => pushed += entered,
+            None => return Ok(pushed),
+        }
+    }
+    Ok(pushed)
 }

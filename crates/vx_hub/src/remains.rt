@@ -1,108 +1,80 @@
-ghost use Rattle.std.specs.Prelude.{◌≡◌, ◌<◌, ℕ, [], length, All, Some, true};
-ghost use Rattle.vx_hub.specs.Rows.{IsBare, task_port};
-ghost use Rattle.vx_hub.specs.Stands.{Stands, IsSound, HasBerths};
-ghost use Rattle.vx_hub.specs.Remains.{AreBare, ports_in, AreNumbered, AreClosed, AreTold, HasOnePlace, AllSpent, HasNotices, HasEnds};
-ghost use Rattle.vx_hub.specs.Order.{IsLegalWithReturns, IsClosing};
-ghost use Rattle.vx_record.specs.Installs.{in_force};
-ghost use Rattle.vx_record.specs.Legal.{IsLegal, IsClosed};
+ghost use Rattle.std.specs.Prelude.{◌≡◌, ◌<◌, ◌≤◌, ◌^◌, [], length, false, vec_capacity};
+ghost use Rattle.vx_record.specs.Installs.{started};
+ghost use Rattle.vx_moves.specs.Returns.{HaveReturned};
+ghost use Rattle.vx_hub.specs.Ending.{IsOver};
+ghost use Rattle.vx_hub.specs.Remains.{HasEnded, AreNumbered, AreClosed, AreTold, AreHome, ArePortsOf};
+ghost use Rattle.vx_hub.specs.Standing.{IsHub};
 
 use crate::hub::Hub;
 use crate::parts::{Numbered, NumberedList};
-use crate::row::Row;
-use crate::seat::end_role;
-use crate::stack::Stack;
-use crate::task::Task;
 use vx_ends::Port;
-use vx_record::Record;
+use vx_history::History;
+use vx_moves::Books;
+use vx_record::Entry;
+use vx_seats::Seats;
+use vx_tasks::Task;
+use vx_value::ItemList;
 
 /// What a hub leaves behind.
 #[derive(Drop)]
 pub struct Remains<P> {
     /// The port of each instance, in the order of their numbers.
     pub ports: NumberedList<P>,
-    /// What happened, entry by entry.
-    pub history: Record,
+    /// What happened, entry by entry. It exists in proofs alone.
+    pub history: History<Entry>,
 }
 
 impl<P: Port> Hub<P> {
     /// Ends a hub whose instances all ended. It takes no memory.
     pub fn end(self) -> Remains<P>
-        requires stands { Stands P.told self [] self.log.history }
-        requires over { All (λ f. f.retired ≡ true) self.facts.items }
-        ensures history { result.history ≡ self.log.history }
-        ensures ports { result.ports ≡ ports_in 0 self.rows.items }
+        requires hub { IsHub P.told self }
+        requires over { IsOver self.books.log }
+        ensures history { result.history ≡ self.books.log }
+        ensures ended { HasEnded (length (started self.books.log)) self.books.log }
         ensures numbers { AreNumbered 0 result.ports }
-        ensures count { length result.ports ≡ length self.rows.items }
+        ensures count { length result.ports ≡ length (started self.books.log) }
         ensures closed { AreClosed P.told result.ports }
-        ensures told { IsSound self → AreTold P.told result.history result.ports }
-        ensures installed { IsSound self → in_force result.history ≡ Some self.plan }
-        ensures order { IsLegalWithReturns result.history }
-        ensures done { IsSound self → (i : ℕ) → i < length self.rows.items → IsClosing result.history i }
-        ensures one_place { IsSound self → HasOnePlace result.history }
-        ensures spent { IsSound self → AllSpent result.history }
-        ensures notices { IsSound self → HasNotices result.history }
-        ensures ends { IsSound self → HasEnds (length self.rows.items) result.history }
-        ensures legal { IsLegal result.history }
-        ensures finished { IsSound self → IsClosed result.history }
+        ensures told { self.books.run.short ≡ false → AreTold P.told self.books.log result.ports }
+        ensures returned { self.books.run.short ≡ false → HaveReturned self.books.log }
     {
         let Hub {
             alloc: _,
-            plan: _,
-            batches: _,
-            facts: _,
-            progress: _,
-            rows,
-            ports,
-            log,
-            bytes: _,
-            starved: _,
+            books,
             fatal: _,
-            abandoned: _,
-            latest: _,
+            ports,
         } = self;
+        let Books {
+            places,
+            seats,
+            balance: _,
+            run: _,
+            log,
+        } = books;
+        places.end();
         Remains {
-            ports: ports_of(rows, ports),
-            history: log.history,
+            ports: ports_of(seats, ports),
+            history: log,
         }
     }
 }
 
-/// The ports of instances at which nothing stands, with their numbers.
-fn ports_of<P: Port>(rows: Vec<Row<P>>, berths: Stack<Numbered<P>>) -> NumberedList<P>
-    requires bare { AreBare rows.items }
-    requires berths { HasBerths berths rows.items }
-    ensures { result ≡ ports_in 0 rows.items }
+/// The ports of instances that are all at home, with their numbers. It takes no memory.
+fn ports_of<P: Port>(seats: Seats<P>, berths: Vec<Numbered<P>>) -> NumberedList<P>
+    requires few { length seats < 2 ^ 32 }
+    requires home { AreHome seats }
+    requires room { length seats ≤ vec_capacity berths }
+    requires none { berths.items ≡ [] }
+    ensures count { length result ≡ length seats }
+    ensures numbers { AreNumbered 0 result }
+    ensures ports { ArePortsOf seats result }
 {
-    let (mut rows, mut berths) = (rows, berths);
-    let mut instance: u32 = 0;
-    while !rows.is_empty() {
-        let port = free(rows.remove(0));
-        berths.push(Numbered { instance, port });
-        instance += 1;
+    let (mut seats, mut berths) = (seats, berths);
+    for i in 0..seats.len() as u32 {
+        let Some((task, _)) = seats.leave(i) else {
+            unreachable!();
+        };
+        let Task { port, role: _ } = task;
+        berths.push_reserved(Numbered { instance: i, port });
     }
-    rows.destroy_empty();
-    berths.into_list()
-}
-
-/// The port of an instance at which nothing stands.
-fn free<P: Port>(row: Row<P>) -> P
-    requires { IsBare row }
-    ensures { task_port row.task ≡ Some result }
-{
-    let Row {
-        outputs,
-        waiting,
-        buffer,
-        task,
-    } = row;
-    outputs.end();
-    waiting.destroy_empty();
-    buffer.end();
-    match task {
-        Some(Task { port, role }) => {
-            end_role(role);
-            port
-        }
-        None => unreachable!(),
-    }
+    ItemList::from_vec(berths)
 }

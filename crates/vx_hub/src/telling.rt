@@ -1,95 +1,94 @@
-ghost use Rattle.std.specs.Prelude.{◌≡◌, ◌<◌, ◌^◌, ◌-◌, min, length, [], None, IsTrue, IsSome, IsSomeAnd, false};
-ghost use Rattle.std.specs.Option.{option_copied};
-ghost use Rattle.vx_hub.specs.Stands.{facts_at, lost_of, unconfirmed_of};
+// What is told of the run.
+ghost use Rattle.std.specs.Prelude.{◌≡◌, ◌<◌, ◌↔◌, ℕ, length, IsTrue, false};
+ghost use Rattle.vx_record.specs.Abandoning.{abandoned};
+ghost use Rattle.vx_record.specs.Ceasing.{cause_of, lost_at};
+ghost use Rattle.vx_record.specs.Confirms.{is_unconfirmed};
+ghost use Rattle.vx_record.specs.Copies.{IsLive};
+ghost use Rattle.vx_record.specs.Installs.{started};
+ghost use Rattle.vx_record.specs.Tallies.{tally};
+ghost use Rattle.vx_hub.specs.Standing.{IsHub};
+ghost use Rattle.vx_hub.specs.Telling.{IsNameOf, IsClassOf, HasLive};
 
 use crate::hub::Hub;
 use vx_ends::Port;
 use vx_plan::Class;
-use vx_record::AbandonCause;
+use vx_record::{AbandonCause, Tally};
 use vx_value::Text;
 
 impl<P: Port> Hub<P> {
-    /// How many instances there are, at most 2^32 - 1.
+    /// How many instances there are. Their numbers begin with 0.
     pub fn instances(&self) -> u32
-        ensures { result ≡ min (length self.now.rows.items) (2 ^ 32 - 1) }
+        requires hub { IsHub P.told self.now }
+        ensures { result ≡ length (started self.now.books.log) }
     {
-        self.rows.len().min(0xffff_ffff) as u32
+        self.books.seats.len() as u32
     }
 
     /// The name of an instance's component.
     pub fn name_of(&self, instance: u32) -> &Text
-        requires { instance < length self.now.facts.items }
-        ensures { IsSomeAnd (facts_at self.now.facts.items instance) (λ f. f.name ≡ result.now) }
+        requires hub { IsHub P.told self.now }
+        requires within { instance < length (started self.now.books.log) }
+        ensures { IsNameOf self.now.books.log instance result.now }
     {
-        &self.facts[instance as usize].name
+        &self.books.seats.get(instance).name
     }
 
     /// The class of an instance's component.
     pub fn class_of(&self, instance: u32) -> Class
-        requires { instance < length self.now.facts.items }
-        ensures { IsSomeAnd (facts_at self.now.facts.items instance) (λ f. f.class ≡ result) }
+        requires hub { IsHub P.told self.now }
+        requires within { instance < length (started self.now.books.log) }
+        ensures { IsClassOf self.now.books.log instance result }
     {
-        self.facts[instance as usize].class
+        self.books.seats.get(instance).class
     }
 
     /// After how many bytes a source was lost; `None` where it wasn't.
     pub fn lost(&self, instance: u32) -> Option<u64>
-        requires { instance < length self.now.facts.items }
-        ensures { result ≡ lost_of (facts_at self.now.facts.items instance) }
+        requires hub { IsHub P.told self.now }
+        requires within { instance < length (started self.now.books.log) }
+        ensures { result ≡ lost_at self.now.books.log instance }
     {
-        self.facts[instance as usize].lost
+        self.books.seats.get(instance).facts.lost
     }
 
-    /// Whether the last confirm that was due at a source failed.
+    /// Whether the last confirm of a source failed.
     pub fn unconfirmed(&self, instance: u32) -> bool
-        requires { instance < length self.now.facts.items }
-        ensures { result ≡ unconfirmed_of (facts_at self.now.facts.items instance) }
+        requires hub { IsHub P.told self.now }
+        requires within { instance < length (started self.now.books.log) }
+        ensures { result ≡ is_unconfirmed self.now.books.log instance }
     {
-        self.facts[instance as usize].confirm_failed
+        self.books.seats.get(instance).facts.confirm_failed
     }
 
-    /// Whether a copy is live and the run wasn't abandoned.
+    /// Whether a copy is live, in a run that wasn't given up: it was made, and neither split nor spent.
     pub fn unspent(&self) -> bool
-        ensures live { IsTrue result → self.now.batches.open_rows ≡ [] → ⊥ }
-        ensures goes_on { IsTrue result → self.now.abandoned ≡ None }
-        ensures settled { self.now.abandoned ≡ None → result ≡ false → self.now.batches.open_rows ≡ [] }
+        requires hub { IsHub P.told self.now }
+        ensures { IsTrue result ↔ (HasLive self.now.books.log × (abandoned self.now.books.log ≡ false)) }
     {
-        self.abandoned.is_none() && !self.batches.is_settled()
+        self.books.run.abandoned.is_none() && !self.books.balance.is_settled()
     }
 
-    /// Whether the run wasn't given up.
-    pub(crate) fn goes_on(&self) -> bool
-        ensures going { IsTrue result → self.now.abandoned ≡ None }
-        ensures given_up { result ≡ false → IsSome self.now.abandoned }
-    {
-        self.abandoned.is_none()
-    }
-
-    /// Whether memory was wanting where the record can't tell what was done.
+    /// Whether a landing that was brought home carried want of memory.
     pub fn starved(&self) -> bool
-        ensures { result ≡ self.now.starved }
+        ensures { result ≡ self.now.books.run.short }
     {
-        self.starved
+        self.books.run.short
     }
 
-    /// Whether the record has every entry.
-    pub fn whole(&self) -> bool
-        ensures { result ≡ self.now.log.whole }
+    /// What an instance counted, by the record. Where memory was wanting nothing is said of it.
+    pub fn tally(&self, instance: u32) -> Tally
+        requires hub { IsHub P.told self.now }
+        requires within { instance < length (started self.now.books.log) }
+        ensures { self.now.books.run.short ≡ false → result ≡ tally self.now.books.log instance }
     {
-        self.log.whole
+        self.books.seats.get(instance).counts.tally
     }
 
-    /// How many bytes all sources took, at most 2^64 - 1.
-    pub fn bytes(&self) -> u64
-        ensures { result ≡ self.now.bytes }
-    {
-        self.bytes
-    }
-
-    /// Why the run was abandoned; `None` where it wasn't.
+    /// Why the run was given up; `None` where it wasn't.
     pub fn abandoned(&self) -> Option<AbandonCause>
-        ensures { result ≡ self.now.abandoned }
+        requires hub { IsHub P.told self.now }
+        ensures { result ≡ cause_of self.now.books.log }
     {
-        self.abandoned
+        self.books.run.abandoned
     }
 }

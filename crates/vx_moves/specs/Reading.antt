@@ -1,19 +1,12 @@
 -- What a turn of a source needs that made a reading.
-use Rattle.std.specs.Prelude.{◌≤◌, ℕ, Option, IfSome, length}
+use Rattle.std.specs.Prelude.{ℕ, Option, IfSome}
 use Rattle.vx_record.specs.declared.entry.Entry.TheVariants.{Read}
 use Rattle.vx_record.specs.Records.{Record}
 use Rattle.vx_record.specs.Abandoning.{MayStillCome}
 use Rattle.vx_record.specs.Sourcing.{MayRead}
 use Rattle.vx_sourcecore.specs.declared.source.Cut.{Cut}
-use Rattle.vx_sourcecore.specs.declared.source.Turned.{Turned}
-use Rattle.vx_sourcecore.specs.declared.source.Turned.TheVariants.{Lines}
 use Rattle.vx_sourcecore.specs.Turns.{Reading}
 use Rattle.vx_sourcecore.specs.NewLines.{AreNew}
-
--- the bytes of a turn are in its room
-abbrev pub IsInRoom : Turned → Type 0
-IsInRoom (Lines stream n room cut) = n ≤ length room.value.items
-IsInRoom other = Unit {0}
 
 -- a reading may be noted now, and where its lines were cut, they are those that the record has it complete
 pub record MayNoteRead (h : Record) (i : ℕ) (cut : Option Cut) (reading : Reading) : Type 0 where

@@ -6,10 +6,10 @@ ghost use Rattle.vx_record.specs.Reads.{bytes_taken, bytes_of, is_end};
 ghost use Rattle.vx_record.specs.Abandoning.{MayStillCome};
 ghost use Rattle.vx_record.specs.Sourcing.{MayIdle, MayBeLost};
 ghost use Rattle.vx_sourcecore.specs.declared.source.Cut.{Cut};
-ghost use Rattle.vx_sourcecore.specs.Turns.{reading_of, cut_of};
+ghost use Rattle.vx_sourcecore.specs.Turns.{reading_of, cut_of, IsInRoom};
 ghost use Rattle.vx_seats.specs.Calls.{CountsAt};
 ghost use Rattle.vx_moves.specs.Leaving.{Leaves, LeavesUntold};
-ghost use Rattle.vx_moves.specs.Reading.{IsInRoom, MayNoteRead};
+ghost use Rattle.vx_moves.specs.Reading.{MayNoteRead};
 ghost use Rattle.vx_moves.specs.Stands.{Stands, Steps};
 
 use crate::books::Books;

@@ -1,8 +1,9 @@
 -- Children that wait, and the oldest for a target.
-use Rattle.std.proofs.Common.{◌≡◌, ℕ, zero, suc, ◌+◌, ◌<◌, ◌≤◌, false, List, [], ◌∷◌, ◌++◌, length, get_or, refl, sym, ap, ◌∙◌, arith, subst}
+use Rattle.std.proofs.Common.{◌≡◌, ℕ, zero, suc, ◌+◌, ◌<◌, ◌≤◌, Bool, true, false, List, [], ◌∷◌, ◌++◌, length, get_or, refl, sym, ap, ◌∙◌, arith, subst}
 use Rattle.std.specs.Prelude.{◌≢◌, ◌==◌, if◌then◌else◌, slice_set, remove}
 use Rattle.std.specs.declared.collections.VecDeque.{VecDeque}
 use Rattle.std.specs.VecDeque.{deque_with_item}
+use Rattle.std.proofs.lemmas.Bool.{eq-eqb, eqb-true}
 use Rattle.std.proofs.lemmas.List.{set-get_or}
 use Rattle.vx_ledger.specs.Copies.{Copy}
 use Rattle.vx_ledger.specs.declared.child.Child.{Child}
@@ -45,6 +46,27 @@ not_oldest t u k j cs c d at is below early same first =
 pub no_first : (cs : List Child) → ((t : ℕ) → NoneBefore t 0 cs → ⊥) → cs ≡ []
 no_first [] none = refl
 no_first (c ∷ cs) none = absurd (none c.target refl)
+
+-- a child is for a target where one at some place is, and none is where none of all is
+pub one_for : (t k : ℕ) (cs : List Child) (c : Child) → k < length cs → c ≡ get_or cs k c → c.target ≡ t → 0 < length (for_target t cs)
+one_for t k [] c l at is = absurd (omega arith)
+one_for t zero (d ∷ cs) c l at is =
+    let on : (d.target == t) ≡ true = eq-eqb d.target t (ap (λ (x : Child). x.target) (sym at) ∙ is) in
+    subst (λ b. 0 < length (if b then d.parcel ∷ for_target t cs else for_target t cs)) (sym on) (omega arith)
+one_for t (suc k) (d ∷ cs) c l at is = go (d.target == t) (one_for t k cs c (omega arith) at is)
+  where
+    go : (b : Bool) → 0 < length (for_target t cs) → 0 < length (if b then d.parcel ∷ for_target t cs else for_target t cs)
+    go true later = omega arith
+    go false later = later
+
+pub none_for_it : (t k : ℕ) (cs : List Child) → length cs ≤ k → NoneOf t k cs → for_target t cs ≡ []
+none_for_it t k [] l none = refl
+none_for_it t zero (c ∷ cs) l none = absurd (omega (arith, l))
+none_for_it t (suc k) (c ∷ cs) l none = go (c.target == t) refl (none_for_it t k cs (omega (arith, l)) none.1)
+  where
+    go : (b : Bool) → (c.target == t) ≡ b → for_target t cs ≡ [] → (if b then c.parcel ∷ for_target t cs else for_target t cs) ≡ []
+    go true is later = absurd (none.0 (eqb-true c.target t is))
+    go false is later = later
 
 -- A COPY LESS
 -- a child with other copies

@@ -10,7 +10,7 @@ use Rattle.vx_places.specs.declared.row.Row.{Row}
 use Rattle.vx_places.specs.Numbers.{for_target}
 use Rattle.vx_places.specs.Views.{row_at, stage_at, stage_items, held_items, here_if, parcels_here}
 use Rattle.vx_places.specs.Calls.{IsRow, NoneWaits}
-use Rattle.vx_places.specs.Looks.{HasOutput, HasSent, HasEmptyBuffer, HoldsMany, IsBare}
+use Rattle.vx_places.specs.Looks.{HasOutput, HasWaiting, HasSent, HasEmptyBuffer, HoldsMany, IsBare}
 use Rattle.vx_places.proofs.Written.{one_some, same_test, stage_read, stage_past, stage_there, stage_is, stage_has, no_stage, read_at, row_is, row_has}
 
 -- CHILDREN
@@ -61,6 +61,12 @@ module _ (rows : List Row) (i : ℕ) (read : Row) (l : i < length rows) (is_ther
 
   pub output_was : HasOutput rows i → 0 < length row.outputs.items
   output_was some = subst (λ (o : Option (List Parcel)). IsSomeAnd o (λ ps. 0 < length ps)) (read_at rows i row l at (Outputs i) refl) some
+
+  pub awaits_is : (t : ℕ) → 0 < length (for_target t row.waiting.items) → HasWaiting rows i t
+  awaits_is t some = subst (λ (o : Option (List Parcel)). IsSomeAnd o (λ ps. 0 < length ps)) (sym (read_at rows i row l at (Waiting i t) refl)) some
+
+  pub awaits_was : (t : ℕ) → HasWaiting rows i t → 0 < length (for_target t row.waiting.items)
+  awaits_was t some = subst (λ (o : Option (List Parcel)). IsSomeAnd o (λ ps. 0 < length ps)) (read_at rows i row l at (Waiting i t) refl) some
 
   pub buffer_is : ((s : ℕ) → stage_items (stage_at row.stages.items s) ≡ []) → HasEmptyBuffer rows i
   buffer_is none s = read_at rows i row l at (Contents i s) refl ∙ ap Some (none s)

@@ -23,7 +23,7 @@ use Rattle.vx_places.specs.Views.{row_at, stage_at, stage_items, held_items, her
 use Rattle.vx_places.specs.Holding.{Holds}
 use Rattle.vx_places.specs.Calls.{IsKept}
 use Rattle.vx_places.specs.Looks.{HasSent, HasEmptyBuffer, IsBare}
-use Rattle.vx_places.specs.Laws.{OutputIs, NoneWaitsIs, SentIs, SomeIs, BufferIs, HoldsIs, BareIs, FilledThere, LentFilled, StandsThere}
+use Rattle.vx_places.specs.Laws.{OutputIs, NoneWaitsIs, AwaitsIs, SentIs, SomeIs, BufferIs, HoldsIs, BareIs, FilledThere, LentFilled, StandsThere}
 use Rattle.vx_places.proofs.Written.{one_some, same_test}
 use Rattle.vx_places.proofs.Looking.{none_waits_for_all, bare_is, bare_sent as bare_sent_here}
 
@@ -159,6 +159,9 @@ none_waits_is h rows i l legal holds = (
   λ gone. none_waits_for_all rows i l (λ t. none_there h rows legal holds (Waiting i t) (waiting_seen i t (row_at rows i))
       (where_none (is_child_of i) (stands h) (is_empty_of (all_waiting h i) gone) (Waiting i t) (same_test i))),
 )
+
+pub awaits_is : AwaitsIs
+awaits_is h rows i t legal holds = (some h rows legal holds (Waiting i t), some_there h rows legal holds (Waiting i t) (waiting_seen i t (row_at rows i)))
 
 pub sent_is : SentIs
 sent_is h rows i legal holds = (λ has. is_sent_of h i (sent h rows legal holds i has), λ is. sent_there h rows legal holds i (sent_of h i is))

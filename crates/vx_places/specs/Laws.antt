@@ -10,7 +10,7 @@ use Rattle.vx_record.specs.Records.{Record}
 use Rattle.vx_record.specs.Copies.{count, joined, IsLive}
 use Rattle.vx_record.specs.Places.{Place, owner}
 use Rattle.vx_record.specs.Places.Place.{Held}
-use Rattle.vx_record.specs.Lists.{stands, parcels_at, outputs, contents, held, all_waiting, buffered, is_bare, places}
+use Rattle.vx_record.specs.Lists.{stands, parcels_at, outputs, waiting, contents, held, all_waiting, buffered, is_bare, places}
 use Rattle.vx_record.specs.Moving.{IsStill}
 use Rattle.vx_record.specs.Routing.{is_sent}
 use Rattle.vx_record.specs.Sending.{IsOldest}
@@ -23,7 +23,7 @@ use Rattle.vx_places.specs.Views.{Same, parcels_here}
 use Rattle.vx_places.specs.Rooms.{rooms_at}
 use Rattle.vx_places.specs.Holding.{Holds, Shifts, AreKnown}
 use Rattle.vx_places.specs.Calls.{Lends, Loses, IsThere, IsKept, IsLent, NoneWaits, HasSome}
-use Rattle.vx_places.specs.Looks.{HasOutput, HasSent, HasEmptyBuffer, HoldsMany, IsBare, IsFirstRoom, IsFirstFilled}
+use Rattle.vx_places.specs.Looks.{HasOutput, HasWaiting, HasSent, HasEmptyBuffer, HoldsMany, IsBare, IsFirstRoom, IsFirstFilled}
 
 -- places that are a record's are those of the record with one entry more, where they shift as that entry says, and it knows what is
 -- put
@@ -82,7 +82,11 @@ OutputIs = (h : Record) (rows : List Row) (i : ℕ) → IsLegal h → Holds rows
 abbrev pub NoneWaitsIs : Type 0
 NoneWaitsIs = (h : Record) (rows : List Row) (i : ℕ) → IsThere rows i → IsLegal h → Holds rows h → NoneWaits rows i ↔ (all_waiting h i ≡ [])
 
--- neither of them,
+-- one that waits for a target,
+abbrev pub AwaitsIs : Type 0
+AwaitsIs = (h : Record) (rows : List Row) (i t : ℕ) → IsLegal h → Holds rows h → HasWaiting rows i t ↔ (0 < length (waiting h i t))
+
+-- neither of the two,
 abbrev pub SentIs : Type 0
 SentIs = (h : Record) (rows : List Row) (i : ℕ) → IsLegal h → Holds rows h → HasSent rows i ↔ (is_sent h i ≡ true)
 

@@ -11,6 +11,10 @@ use Rattle.vx_places.specs.Calls.{IsThere, HasRoom, HasSome}
 abbrev pub HasOutput : List Row → ℕ → Type 0
 HasOutput rows i = IsSomeAnd (parcels_here rows (Outputs i)) (λ parcels. 0 < length parcels)
 
+-- a child of it waits for a target
+abbrev pub HasWaiting : List Row → ℕ → ℕ → Type 0
+HasWaiting rows i t = IsSomeAnd (parcels_here rows (Waiting i t)) (λ parcels. 0 < length parcels)
+
 -- it has neither an output nor a child that waits for a target
 abbrev pub HasSent : List Row → ℕ → Type 0
 HasSent rows i = (parcels_here rows (Outputs i) ≡ Some []) × ((t : ℕ) → parcels_here rows (Waiting i t) ≡ Some [])

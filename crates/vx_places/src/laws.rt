@@ -1,6 +1,6 @@
 //! What holds of the places beside their calls. The functions do nothing: what they ensure is proved.
 
-ghost use Rattle.vx_places.specs.Laws.{HoldsStep, StillShifts, SpentShifts, SameHolds, OldestThere, LentIs, LentComesBack, NoneHolds, HeldSays, OutputIs, NoneWaitsIs, SentIs, SomeIs, BufferIs, HoldsIs, BareIs, FirstRoomIs, FirstFilledIs, FilledThere, LentFilled, StandsThere};
+ghost use Rattle.vx_places.specs.Laws.{HoldsStep, StillShifts, SpentShifts, SameHolds, OldestThere, LentIs, LentComesBack, NoneHolds, HeldSays, OutputIs, NoneWaitsIs, AwaitsIs, SentIs, SomeIs, BufferIs, HoldsIs, BareIs, FirstRoomIs, FirstFilledIs, FilledThere, LentFilled, StandsThere};
 
 /// Places that are a record's stay so with each entry as which they shift, of whatever kind; an entry that moves nothing shifts
 /// nothing, and where a copy is gone they shift as its spend. What stands first at a place is the record's oldest there. What is
@@ -27,6 +27,7 @@ pub fn places_laws()
 pub fn looks_laws()
     ensures output { OutputIs }
     ensures waiting { NoneWaitsIs }
+    ensures awaits { AwaitsIs }
     ensures sent { SentIs }
     ensures some { SomeIs }
     ensures buffer { BufferIs }

@@ -3,7 +3,8 @@ ghost use Rattle.std.specs.Prelude.{◌≡◌, ◌<◌, ◌≤◌, ◌↔◌, �
 ghost use Rattle.vx_record.specs.Places.Place.{Held};
 ghost use Rattle.vx_places.specs.Views.{stage_at, stage_items, held_items, parcels_here};
 ghost use Rattle.vx_places.specs.Calls.{NoneWaits, NoneBefore, IsOldestFor, HasRoom, HasSome, IsKept, HasHeldRoom};
-ghost use Rattle.vx_places.specs.Looks.{HasOutput, HasSent, HasEmptyBuffer, HoldsMany, IsHeldFull, IsBare, IsFirstRoom, IsFirstFilled};
+ghost use Rattle.vx_places.specs.Numbers.{for_target};
+ghost use Rattle.vx_places.specs.Looks.{HasOutput, HasWaiting, HasSent, HasEmptyBuffer, HoldsMany, IsHeldFull, IsBare, IsFirstRoom, IsFirstFilled};
 
 use crate::line::Line;
 use crate::row::Row;
@@ -80,6 +81,26 @@ pub(crate) fn is_sent(rows: &[Row], i: usize) -> bool
     ensures { IsTrue result ↔ HasSent rows.now i }
 {
     rows[i].outputs.is_empty() && none_waits(rows, i)
+}
+
+// Whether one of some children is for a target.
+fn any_for(waiting: &VecDeque<Child>, target: u32) -> bool
+    ensures { IsTrue result ↔ (0 < length (for_target target waiting.now.items)) }
+{
+    for k in 0..waiting.len() {
+        if waiting[k].target == target {
+            return true;
+        }
+    }
+    false
+}
+
+// Whether a child of an instance waits for a target.
+pub(crate) fn awaits(rows: &[Row], i: usize, target: u32) -> bool
+    requires { i < length rows.now }
+    ensures { IsTrue result ↔ HasWaiting rows.now i target }
+{
+    any_for(&rows[i].waiting, target)
 }
 
 // Whether no stage has a parcel.

@@ -4,7 +4,7 @@ ghost use Rattle.vx_record.specs.Places.Place.{Outputs, Waiting, Contents, Held}
 ghost use Rattle.vx_places.specs.Views.{Same, parcels_here};
 ghost use Rattle.vx_places.specs.Rooms.{SameRooms, LendsRoom, AddsRooms};
 ghost use Rattle.vx_places.specs.Calls.{Takes, Lends, Loses, IsRow, IsNew, Moves, PutsOut, Divides, IsThere, HasOutputRoom, HasOutputRoomFor, NoneWaits, IsOldestFor, HasRoom, HasSome, IsKept, IsLent, HasHeldRoom, NothingToSpend};
-ghost use Rattle.vx_places.specs.Looks.{HasOutput, HasSent, HasEmptyBuffer, HoldsMany, IsHeldFull, IsBare, IsFirstRoom, IsFirstFilled, AreBare};
+ghost use Rattle.vx_places.specs.Looks.{HasOutput, HasWaiting, HasSent, HasEmptyBuffer, HoldsMany, IsHeldFull, IsBare, IsFirstRoom, IsFirstFilled, AreBare};
 
 use crate::line::Line;
 use crate::row::{Row, make_row};
@@ -121,6 +121,14 @@ impl Places {
         ensures sent { IsTrue result ↔ HasSent self.now instance }
     {
         looks::is_sent(&self.rows, instance as usize)
+    }
+
+    /// Whether a child of an instance waits for a target.
+    pub fn awaits(&self, instance: u32, target: u32) -> bool
+        requires { IsThere self.now instance }
+        ensures awaits { IsTrue result ↔ HasWaiting self.now instance target }
+    {
+        looks::awaits(&self.rows, instance as usize, target)
     }
 
     /// Whether no stage of an instance's buffer has a parcel.

@@ -1,13 +1,13 @@
 -- What takes no more takes no more later, and no instance drains by an Install.
-use Rattle.std.proofs.Common.{◌≡◌, inl, inr, ℕ, ◌+◌, ◌≤◌, Bool, true, false, ◌&&◌, ◌||◌, List, [], ◌∷◌, Option, Some, None, IsSome, refl, ap, ◌∙◌, arith}
-use Rattle.std.specs.Prelude.{◌^◌, if◌then◌else◌, ◌==◌}
+use Rattle.std.proofs.Common.{◌≡◌, inl, inr, ℕ, ◌+◌, Bool, true, false, ◌&&◌, ◌||◌, List, [], ◌∷◌, Option, Some, None, IsSome, refl, ap, ◌∙◌}
+use Rattle.std.specs.Prelude.{if◌then◌else◌, ◌==◌}
 use Rattle.std.specs.List.{list_any}
 use Rattle.vx_plan.specs.declared.component.Component.{Component}
 use Rattle.vx_record.specs.Records.{Record}
 use Rattle.vx_record.specs.Abandoning.{abandoned}
 use Rattle.vx_record.specs.Starting.{first_instances}
 use Rattle.vx_record.specs.Installs.{is_marked, is_draining}
-use Rattle.vx_record.specs.Reads.{bytes_of_all, is_end, all_ended}
+use Rattle.vx_record.specs.Reads.{is_end, all_ended}
 use Rattle.vx_record.specs.declared.instance.Instance.{Instance}
 use Rattle.vx_record.specs.declared.entry.Entry.{Entry}
 use Rattle.vx_record.specs.declared.entry.Entry.TheVariants.{Install, Read, SourceLost, Abandon}
@@ -48,10 +48,6 @@ lost_on : (h : Record) (i : ℕ) (e : Entry) → IsSome (lost_at h i) → IsSome
 lost_on h i (SourceLost j at failed) is = either_some (j == i) at (lost_at h i) is
 lost_on h i e is = is
 
-bytes_on : (h : Record) (e : Entry) → 2 ^ 48 ≤ bytes_of_all h → 2 ^ 48 ≤ bytes_of_all (e ∷ h)
-bytes_on h (Read j stream took) many = omega (arith, many)
-bytes_on h e many = many
-
 cause_on : (h : Record) (e : Entry) → IsSome (cause_of h) → IsSome (cause_of (e ∷ h))
 cause_on h (Abandon cause) is = refl
 cause_on h e is = is
@@ -59,8 +55,7 @@ cause_on h e is = is
 pub more_on : (h : Record) (i : ℕ) (e : Entry) → TakesNoMore h i → TakesNoMore (e ∷ h) i
 more_on h i e (inl ended) = inl (ended_on h i e ended)
 more_on h i e (inr (inl lost)) = inr (inl (lost_on h i e lost))
-more_on h i e (inr (inr (inl many))) = inr (inr (inl (bytes_on h e many)))
-more_on h i e (inr (inr (inr given))) = inr (inr (inr (cause_on h e given)))
+more_on h i e (inr (inr given)) = inr (inr (cause_on h e given))
 
 none_of : (a b : Bool) → a ≡ false → b ≡ false → (a || b) ≡ false
 none_of true b e f = cc

@@ -1,14 +1,13 @@
 -- A dry source stays dry.
-use Rattle.std.proofs.Common.{◌≡◌, ℕ, ◌+◌, Bool, true, false, ◌∷◌, [], ◌++◌, refl, sym, subst, arith, length}
-use Rattle.std.specs.Prelude.{◌^◌, ◌==◌, ◌&&◌, ◌||◌, not, nat_le, if◌then◌else◌}
-use Rattle.std.proofs.lemmas.Bool.Decides.{nat_tests}
+use Rattle.std.proofs.Common.{◌≡◌, ℕ, Bool, true, false, ◌∷◌, [], ◌++◌, refl, subst}
+use Rattle.std.specs.Prelude.{◌==◌, ◌&&◌, ◌||◌, not, if◌then◌else◌}
 use Rattle.vx_record.specs.Records.{Record}
 use Rattle.vx_record.specs.declared.entry.Entry.{Entry}
 use Rattle.vx_record.specs.declared.entry.Entry.TheVariants.{Install, Lease, Home, Read, SourceLost}
 use Rattle.vx_record.specs.Turns.{is_out, at_lease}
-use Rattle.vx_record.specs.Installs.{source_at, is_marked}
-use Rattle.vx_record.specs.Reads.{bytes_of, is_end, all_ended, bytes_of_all, is_lost}
-use Rattle.vx_record.specs.Routing.{drains, is_dry, is_too_long, is_out_from_before}
+use Rattle.vx_record.specs.Installs.{source_at}
+use Rattle.vx_record.specs.Reads.{is_end, all_ended, is_lost}
+use Rattle.vx_record.specs.Routing.{drains, is_dry, is_out_from_before}
 use Rattle.vx_record.specs.Legal.{IsLegal}
 use Rattle.vx_record.specs.Finality.{DryStays}
 
@@ -29,14 +28,10 @@ home_dry true false false true o dry = refl
 home_dry true false false false o dry = cc
 
 -- and where more was taken
-read_dry : (s x e l m t t' o : Bool) → (t ≡ true → t' ≡ true) → (s && (e || l || ((m || (s && (false || t))) && o))) ≡ true → (s && ((x || e) || l || ((m || (s && (false || t'))) && o))) ≡ true
-read_dry false x e l m t t' o more dry = cc
-read_dry true true e l m t t' o more dry = refl
-read_dry true false true l m t t' o more dry = refl
-read_dry true false false true m t t' o more dry = refl
-read_dry true false false false true t t' o more dry = dry
-read_dry true false false false false true t' o more dry = subst (λ (b : Bool). (b && o) ≡ true) (sym (more refl)) dry
-read_dry true false false false false false t' o more dry = cc
+read_dry : (s x e l d : Bool) → (s && (e || l || d)) ≡ true → (s && ((x || e) || l || d)) ≡ true
+read_dry false x e l d dry = cc
+read_dry true true e l d dry = refl
+read_dry true false e l d dry = dry
 
 -- and where it was lost
 lost_dry : (s x e l d : Bool) → (s && (e || l || d)) ≡ true → (s && (e || (x || l) || d)) ≡ true
@@ -44,10 +39,6 @@ lost_dry false x e l d dry = cc
 lost_dry true x true l d dry = refl
 lost_dry true true false l d dry = refl
 lost_dry true false false l d dry = dry
-
--- what is too long stays so
-longer : (n m : ℕ) → nat_le (2 ^ 48) n ≡ true → nat_le (2 ^ 48) (n + m) ≡ true
-longer n m long = grind (arith, nat_tests, long)
 
 -- behind one more entry
 pub dry_on : (h : Record) (e : Entry) (i : ℕ) → IsLegal (e ∷ h) → is_dry h i ≡ true → is_dry (e ∷ h) i ≡ true
@@ -64,8 +55,7 @@ dry_on h (Home j) i legal dry = go (j == i)
     go true = home_dry (source_at h i) (all_ended h i) (is_lost h i) (drains h i) (not (is_out_from_before h i)) dry
     go false = dry
 dry_on h (Read j stream took) i legal dry =
-    read_dry (source_at h i) ((j == i) && is_end took) (all_ended h i) (is_lost h i) (is_marked h i) (is_too_long h) (is_too_long (Read j stream took ∷ h)) (not (is_out_from_before h i))
-    (longer (bytes_of_all h) (length (bytes_of took))) dry
+    read_dry (source_at h i) ((j == i) && is_end took) (all_ended h i) (is_lost h i) (drains h i && not (is_out_from_before h i)) dry
 dry_on h (SourceLost j after failed) i legal dry =
     lost_dry (source_at h i) (j == i) (all_ended h i) (is_lost h i) (drains h i && not (is_out_from_before h i)) dry
 dry_on h e i legal dry = dry

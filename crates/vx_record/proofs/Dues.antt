@@ -81,13 +81,6 @@ undue (Spent i c outcome ∷ h) none b due =
     let no : true ≡ false = sym (ap not (has_none_live (Spent i c outcome ∷ h) (batch_of h c) last)) ∙ none in cc
 undue h none b due = absurd due
 
-pub undue_each : (h : Record) → is_notice_due h ≡ false → (b : ℕ) → awaits_notice h b ≡ false
-undue_each h none b = go (awaits_notice h b) refl
-  where
-    go : (t : Bool) → awaits_notice h b ≡ t → t ≡ false
-    go true is = absurd (undue h none b (awaits h b is))
-    go false is = refl
-
 -- and where no batch waits for one, none is due
 pub undue_so : (h : Record) → ((b : ℕ) → Awaits h b → ⊥) → is_notice_due h ≡ false
 undue_so (Spent i c outcome ∷ h) none = go (has_live (Spent i c outcome ∷ h) (batch_of h c)) refl

@@ -188,8 +188,3 @@ plain_routed h i ports copies event children legal plain may =
 pub source_routed : (h : Record) (i ports : ℕ) (copies : List ℕ) (event : Event) (children : List NotedChild) → IsLegal h → source_at h i ≡ true → MaySplit h i ports copies event children →
     children ≡ children_of (next_copy h) (length copies) (readers_at h i)
 source_routed h i ports copies event children legal source may = plain_routed h i ports copies event children legal (inl source) may
-
--- and each while no transform answered
-pub split_routed : (h : Record) (i ports : ℕ) (copies : List ℕ) (event : Event) (children : List NotedChild) → IsLegal h → no_answer h ≡ true → MaySplit h i ports copies event children →
-    children ≡ children_of (next_copy h) (length copies) (readers_at h i)
-split_routed h i ports copies event children legal none may = plain_routed h i ports copies event children legal (inr none) may

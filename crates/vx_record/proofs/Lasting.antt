@@ -220,7 +220,7 @@ ready_by (Some c) s t k source worker = go c.class source worker
     go Sink source worker = (worker refl).1
 
 -- what is done and closed has no work
-unready : (h : Record) (i now : ℕ) → IsLegal h → is_done h i ≡ true → is_closed h i ≡ true → is_ready h i now ≡ false
+pub unready : (h : Record) (i now : ℕ) → IsLegal h → is_done h i ≡ true → is_closed h i ≡ true → is_ready h i now ≡ false
 unready h i now legal done is = ready_by (component_of h i) (is_source_ready h i now) (is_transform_ready h i) (is_sink_ready h i now) source (λ off. (transform off, sink off))
   where
     closing : is_close_due h i ≡ false
@@ -289,7 +289,7 @@ leased_unclosed h i worker now polls legal = go (is_closed h i) refl
 
 -- RETIRED
 -- what is retired is final, unless the run was given up
-retired_final : (h : Record) (i : ℕ) → IsLegal h → abandoned h ≡ false → is_retired h i ≡ true → Final h i
+pub retired_final : (h : Record) (i : ℕ) → IsLegal h → abandoned h ≡ false → is_retired h i ≡ true → Final h i
 retired_final [] i legal kept is = cc
 retired_final (Abandon cause ∷ h) i legal kept is = cc
 retired_final (Retired j ∷ h) i legal kept is = go (j == i) refl is (retired_final h i legal.1 kept)

@@ -17,15 +17,8 @@ pub mod After
 pub mod Grows
 pub mod FirstWiring
 pub mod SpentParcels
-mod ChunkLaws
-pub mod LineBytes
 pub mod PastLines
-pub mod CutSteps
-pub mod Pasts
 pub mod ConfirmedPositions
-pub mod LineSteps
-pub mod PutSteps
-pub mod Tallied
 pub mod ConfirmedStreams
 pub mod Ceasing
 pub mod Answerers
@@ -43,10 +36,8 @@ pub mod SourceEnds
 pub mod WorkerEnds
 pub mod Lasting
 pub mod Wired
-pub mod Unanswered
 pub mod Ticks
 pub mod Rules
-pub mod Drops
 pub mod Answers
 pub mod Waits
 pub mod Mine

@@ -1,6 +1,6 @@
 -- The rows of a legal record say more.
 use Rattle.std.proofs.Common.{◌≡◌, ℕ, ◌+◌, ◌<◌, ◌≤◌, Bool, true, false, List, [], ◌∷◌, Option, Some, None, refl, sym, ap, subst, ◌∙◌, arith, inl, inr}
-use Rattle.std.specs.Prelude.{◌^◌, ◌⊎◌, ◌==◌, ◌&&◌, ◌||◌, not, nat_le, is_some, IsSome, if◌then◌else◌}
+use Rattle.std.specs.Prelude.{◌⊎◌, ◌==◌, ◌&&◌, ◌||◌, not, nat_le, is_some, IsSome, if◌then◌else◌}
 use Rattle.std.specs.List.{list_any}
 use Rattle.std.proofs.lemmas.Bool.Decides.{nat_tests}
 use Rattle.vx_status.specs.declared.outcome.Outcome.TheVariants.{Delivered, Attempts, Refusal, Abandoned, NoConsumer, Filtered, NewestDropped}
@@ -13,10 +13,10 @@ use Rattle.vx_record.specs.Copies.{count, contains, joined, spends, all_of, time
 use Rattle.vx_record.specs.Lists.{held, outputs}
 use Rattle.vx_record.specs.Turns.{is_out, at_lease, since_lease, lease_now, is_turn_of}
 use Rattle.vx_record.specs.Installs.{Wiring, wiring, component_of, source_at, transform_at, is_marked}
-use Rattle.vx_record.specs.Reads.{all_ended, bytes_of_all, is_lost}
+use Rattle.vx_record.specs.Reads.{all_ended, is_lost}
 use Rattle.vx_record.specs.Abandoning.{abandoned}
 use Rattle.vx_record.specs.Parcels.{parcel_ports, port_list}
-use Rattle.vx_record.specs.Routing.{drains, is_dry, is_sent, is_out_from_before, is_too_long}
+use Rattle.vx_record.specs.Routing.{drains, is_dry, is_sent, is_out_from_before}
 use Rattle.vx_record.specs.Owing.{last_discarded, owes, is_done, is_worker_done, is_source_done, all_noticed}
 use Rattle.vx_record.specs.Confirms.{is_confirm_due}
 use Rattle.vx_record.specs.Ready.{is_heir, reading_moment, is_source_ready, is_transform_ready, is_sink_ready, IsReady}
@@ -160,16 +160,13 @@ more_since (Lease j worker now polls ∷ h) i more = go (j == i) more (more_sinc
     go false more rest = more_on h i (Lease j worker now polls) (rest more)
 more_since (e ∷ h) i more = more_on h i e (more_since h i more)
 
-too_long : (n : ℕ) → nat_le (2 ^ 48) n ≡ true → 2 ^ 48 ≤ n
-too_long n on = grind (arith, nat_tests, on)
-
 -- a dry source takes no more
 dry_more : (h : Record) (i : ℕ) → IsLegal h → is_dry h i ≡ true → TakesNoMore h i
 dry_more h i legal dry = by_cause (either (all_ended h i || is_lost h i) (drains h i && not (is_out_from_before h i)) (and_right (source_at h i) _ dry))
   where
-    drained : (is_marked h i ≡ true) ⊎ ((source_at h i && (false || is_too_long h)) ≡ true) → TakesNoMore h i
+    drained : (is_marked h i ≡ true) ⊎ ((source_at h i && false) ≡ true) → TakesNoMore h i
     drained (inl marked) = let no : true ≡ false = sym marked ∙ unmarked h i legal in cc
-    drained (inr long) = inr (inr (inl (too_long (bytes_of_all h) (and_right (source_at h i) (is_too_long h) long))))
+    drained (inr stop) = let no : false ≡ true = and_right (source_at h i) false stop in cc
 
     by_cause : ((all_ended h i || is_lost h i) ≡ true) ⊎ ((drains h i && not (is_out_from_before h i)) ≡ true) → TakesNoMore h i
     by_cause (inl over) = by_end (either (all_ended h i) (is_lost h i) over)
@@ -177,7 +174,7 @@ dry_more h i legal dry = by_cause (either (all_ended h i || is_lost h i) (drains
         by_end : (all_ended h i ≡ true) ⊎ (is_lost h i ≡ true) → TakesNoMore h i
         by_end (inl ended) = inl ended
         by_end (inr lost) = inr (inl (some_lost h i lost))
-    by_cause (inr drains_now) = drained (either (is_marked h i) (source_at h i && (false || is_too_long h)) (and_left (drains h i) (not (is_out_from_before h i)) drains_now))
+    by_cause (inr drains_now) = drained (either (is_marked h i) (source_at h i && false) (and_left (drains h i) (not (is_out_from_before h i)) drains_now))
 
 source_dry : (h : Record) (i : ℕ) → source_at h i ≡ true → is_done h i ≡ true → is_dry h i ≡ true
 source_dry h i source done = and_left (is_dry h i) (not (owes h i)) (and_left (is_dry h i && not (owes h i)) (is_sent h i)
@@ -191,7 +188,7 @@ closed_takes_no_more h i legal row source = go row.over
   where
     go : ((is_out h i ≡ true) × (is_done (at_lease h i) i ≡ true)) ⊎ (abandoned h ≡ true) → TakesNoMore h i
     go (inl was) = more_since h i (dry_more (at_lease h i) i (legal_lease h i legal) (source_dry (at_lease h i) i (source_lease h i legal was.0 source) was.1))
-    go (inr gone) = inr (inr (inr (has_cause h gone)))
+    go (inr gone) = inr (inr (has_cause h gone))
 
 -- LEASES AND ENDS
 pub leased_runs : LeasedRuns

@@ -1,17 +1,17 @@
 -- A source that takes its turn isn't dry, and not too many bytes were taken when it was leased.
-use Rattle.std.proofs.Common.{◌≡◌, ℕ, ◌<◌, Bool, true, false, ◌&&◌, ◌||◌, [], ◌∷◌, refl, ap, subst, ◌∙◌, arith}
-use Rattle.std.specs.Prelude.{◌^◌, ◌==◌, not, nat_le, if◌then◌else◌}
+use Rattle.std.proofs.Common.{◌≡◌, ℕ, Bool, true, false, ◌&&◌, ◌||◌, [], ◌∷◌, refl, ap, subst, ◌∙◌, arith}
+use Rattle.std.specs.Prelude.{◌==◌, not, if◌then◌else◌}
 use Rattle.std.specs.List.{list_any}
 use Rattle.std.proofs.lemmas.Bool.Decides.{nat_tests}
 use Rattle.vx_record.specs.Records.{Record}
 use Rattle.vx_record.specs.declared.entry.Entry.TheVariants.{Lease, Home, Read, Idle, SourceLost}
 use Rattle.vx_record.specs.Turns.{is_out, at_lease, since_lease, is_turn_of}
-use Rattle.vx_record.specs.Installs.{source_at, is_marked}
-use Rattle.vx_record.specs.Reads.{all_ended, is_end, is_lost, bytes_of_all}
-use Rattle.vx_record.specs.Routing.{drains, is_too_long}
+use Rattle.vx_record.specs.Installs.{source_at}
+use Rattle.vx_record.specs.Reads.{all_ended, is_end, is_lost}
+use Rattle.vx_record.specs.Routing.{drains}
 use Rattle.vx_record.specs.Sourcing.{MayTurn}
 use Rattle.vx_record.specs.Legal.{IsLegal}
-use Rattle.vx_record.specs.Promises.{TurnUndry, TurnShort}
+use Rattle.vx_record.specs.Promises.{TurnUndry}
 use Rattle.vx_record.proofs.Promises.{or_left, or_right, source_lease, undry_lease, undry_unlost}
 
 unset : (a b r : Bool) → a ≡ false → ((a && b) || r) ≡ r
@@ -99,16 +99,3 @@ turn_undry h i legal row =
     (loss_since h i row.once ∙ undry_unlost (source_at k i) (all_ended k i) (is_lost k i) rest source (undry_lease h i row))
     row.out
     (undrained_lease h i legal row)
-
--- and not too many bytes were taken when it was leased
-second_of : (s t : Bool) → s ≡ true → (s && t) ≡ false → t ≡ false
-second_of true t is off = off
-second_of false t is off = cc
-
-not_long : (n : ℕ) → nat_le (2 ^ 48) n ≡ false → n < 2 ^ 48
-not_long n off = grind (arith, nat_tests, off)
-
-pub turn_short : TurnShort
-turn_short h i legal row =
-    let k = at_lease h i in
-    not_long (bytes_of_all k) (second_of (source_at k i) (is_too_long k) (source_lease h i legal row.out row.source) (or_right (is_marked k i) (source_at k i && (false || is_too_long k)) (undrained_lease h i legal row)))

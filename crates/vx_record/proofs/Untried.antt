@@ -61,7 +61,7 @@ has : (c : ℕ) (copies : List ℕ) → contains copies c ≡ true → 0 < count
 has c copies is = grind (arith, nat_tests, is)
 
 -- an instance that owes no spend has spent all that it attempted
-owed_spent : (h whole : Record) (i c : ℕ) → owes_spends_in h whole i ≡ false → 0 < attempts_with h i c → 0 < times_spent whole c
+pub owed_spent : (h whole : Record) (i c : ℕ) → owes_spends_in h whole i ≡ false → 0 < attempts_with h i c → 0 < times_spent whole c
 owed_spent [] whole i c none some = absurd (omega (arith, some))
 owed_spent (Attempt j copies bytes answer ∷ h) whole i c none some =
     go (j == i) (contains copies c) refl (is_decided answer (failures_with h i (first_copy copies) + 1) (attempts_allowed h i))

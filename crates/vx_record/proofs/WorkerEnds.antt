@@ -19,7 +19,7 @@ use Rattle.vx_record.specs.Lists.{and_rest, waiting, buffered, held}
 use Rattle.vx_record.specs.Moving.{IsConserved, children_for}
 use Rattle.vx_record.specs.Reads.{all_ended, is_lost}
 use Rattle.vx_record.specs.Parcels.{port_list}
-use Rattle.vx_record.specs.Routing.{is_out_from_before, drains, is_dry, all_dry, is_sent, is_too_long, wired_targets, outlets, routes, all_ports, names, is_named, is_ending}
+use Rattle.vx_record.specs.Routing.{is_out_from_before, drains, is_dry, all_dry, is_sent, wired_targets, outlets, routes, all_ports, names, is_named, is_ending}
 use Rattle.vx_record.specs.Owing.{is_source_done, is_worker_done, is_done}
 use Rattle.vx_record.specs.Ceasing.{readers_on}
 use Rattle.vx_record.specs.Legal.{IsLegal}
@@ -50,7 +50,7 @@ worker_source h i e = unsource (component_of h i) e
 
 -- and it never drains
 undrained : (h : Record) (i : ℕ) → IsLegal h → source_at h i ≡ false → drains h i ≡ false
-undrained h i legal off = ap (λ (m : Bool). m || (source_at h i && (false || is_too_long h))) (unmarked h i legal) ∙ ap (λ (s : Bool). s && (false || is_too_long h)) off
+undrained h i legal off = ap (λ (m : Bool). m || (source_at h i && false)) (unmarked h i legal) ∙ ap (λ (s : Bool). s && false) off
 
 dry_by : (d a : Bool) → d ≡ false → (d || a) ≡ true → a ≡ true
 dry_by true a off e = cc

@@ -1,12 +1,12 @@
 -- When a source takes no more, who reads what an instance puts out, and whether a transform answered.
-use Rattle.std.specs.Prelude.{ℕ, ◌≤◌, ◌≡◌, ◌^◌, ◌⊎◌, Bool, true, false, Option, Some, None, IsSome, List, [], ◌∷◌, map, if◌then◌else◌, ◌==◌}
+use Rattle.std.specs.Prelude.{ℕ, ◌≡◌, ◌⊎◌, Bool, true, false, Option, Some, None, IsSome, List, [], ◌∷◌, map, if◌then◌else◌, ◌==◌}
 use Rattle.vx_record.specs.declared.entry.Entry.TheVariants.{SourceLost, Answer, Abandon}
 use Rattle.vx_record.specs.declared.abandon_cause.AbandonCause.{AbandonCause}
 use Rattle.vx_record.specs.Records.{Record}
 use Rattle.vx_record.specs.Copies.{joined}
 use Rattle.vx_record.specs.Installs.{wired}
 use Rattle.vx_record.specs.Routing.{wired_targets}
-use Rattle.vx_record.specs.Reads.{bytes_of_all, all_ended}
+use Rattle.vx_record.specs.Reads.{all_ended}
 
 -- after how many bytes a source was lost
 abbrev pub lost_at : Record → ℕ → Option ℕ
@@ -20,9 +20,9 @@ cause_of [] = None
 cause_of (Abandon cause ∷ h) = Some cause
 cause_of (e ∷ h) = cause_of h
 
--- a source takes no more: it was told the end of all, or was lost, or all sources took 2^48 bytes, or the run was given up
+-- a source takes no more: it was told the end of all, or was lost, or the run was given up
 abbrev pub TakesNoMore : Record → ℕ → Type 0
-TakesNoMore h i = (all_ended h i ≡ true) ⊎ (IsSome (lost_at h i) ⊎ ((2 ^ 48 ≤ bytes_of_all h) ⊎ IsSome (cause_of h)))
+TakesNoMore h i = (all_ended h i ≡ true) ⊎ (IsSome (lost_at h i) ⊎ IsSome (cause_of h))
 
 -- the instances that read the first port of an instance, by the Install that gave it work, in byte order of their names
 abbrev pub readers_at : Record → ℕ → List ℕ

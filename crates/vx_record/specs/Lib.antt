@@ -1,5 +1,3 @@
-pub mod Chunks
-pub mod Noted
 pub mod Records
 pub mod Copies
 pub mod Turns
@@ -40,17 +38,8 @@ pub mod Tallies
 pub mod Laws
 pub mod Growth
 pub mod Wirings
-pub mod Counting
 pub mod LineBytes
-pub mod Unfinished
-pub mod Cuts
-pub mod LineCounting
-pub mod PutCounting
-pub mod Counts
 pub mod TallyLists
-pub mod ConfirmedFrom
-pub mod Pasts
-pub mod Ways
 pub mod Tasks
 pub mod Shifts
 pub mod ShiftLaws

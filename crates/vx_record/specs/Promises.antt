@@ -1,5 +1,5 @@
 -- What every legal record says of its entries beside their rows. None of it is a rule: all follows from the rows.
-use Rattle.std.specs.Prelude.{◌≡◌, ℕ, ◌<◌, ◌^◌, ◌||◌, true, false, List, Some, None, [], ◌∷◌, is_some, length, slice_get}
+use Rattle.std.specs.Prelude.{◌≡◌, ℕ, ◌<◌, ◌||◌, true, false, List, Some, None, [], ◌∷◌, is_some, length, slice_get}
 use Rattle.vx_ends.specs.declared.trouble.Reply.{Reply}
 use Rattle.vx_ends.specs.declared.trouble.Reply.TheVariants as reply
 use Rattle.vx_status.specs.declared.outcome.Outcome.{Outcome}
@@ -15,8 +15,7 @@ use Rattle.vx_record.specs.declared.entry.Entry.TheVariants.{Spent}
 use Rattle.vx_record.specs.declared.abandon_cause.AbandonCause.TheVariants.{Grace}
 use Rattle.vx_record.specs.Copies.{count, joined, children_of, next_copy, times_spent}
 use Rattle.vx_record.specs.Lists.{held, outputs, is_bare}
-use Rattle.vx_record.specs.Turns.{at_lease, lease_now}
-use Rattle.vx_record.specs.Reads.{bytes_of_all}
+use Rattle.vx_record.specs.Turns.{lease_now}
 use Rattle.vx_record.specs.Routing.{is_dry}
 use Rattle.vx_record.specs.Installs.{in_force, component_of, told, source_at, transform_at, device_at}
 use Rattle.vx_record.specs.Abandoning.{abandoned}
@@ -35,16 +34,11 @@ use Rattle.vx_record.specs.Ceasing.{lost_at, readers_at, readers_on, TakesNoMore
 abbrev pub TurnUnlost : Type 0
 TurnUnlost = (h : Record) (i : ℕ) → IsLegal h → MayTurn h i → lost_at h i ≡ None
 
--- nor is it dry: it wasn't told the end of all, and it drains at most since others took bytes behind its lease
+-- nor is it dry: it wasn't told the end of all, and doesn't drain
 abbrev pub TurnUndry : Type 0
 TurnUndry = (h : Record) (i : ℕ) → IsLegal h → MayTurn h i → is_dry h i ≡ false
 
--- when it was leased, all sources had taken fewer than 2^48 bytes
-abbrev pub TurnShort : Type 0
-TurnShort = (h : Record) (i : ℕ) → IsLegal h → MayTurn h i → bytes_of_all (at_lease h i) < 2 ^ 48
-
--- a source whose port is closed for good was told the end of all, or was lost, or all sources took 2^48 bytes, or the run
--- was given up
+-- a source whose port is closed for good was told the end of all, or was lost, or the run was given up
 abbrev pub ClosedTakesNoMore : Type 0
 ClosedTakesNoMore = (h : Record) (i : ℕ) → IsLegal h → MayClose h i → source_at h i ≡ true → TakesNoMore h i
 

@@ -48,12 +48,6 @@ bytes_taken [] i = 0
 bytes_taken (Read j stream took ∷ h) i = bytes_taken h i + (if j == i then length (bytes_of took) else 0)
 bytes_taken (e ∷ h) i = bytes_taken h i
 
--- how many bytes all sources took
-abbrev pub bytes_of_all : Record → ℕ
-bytes_of_all [] = 0
-bytes_of_all (Read j stream took ∷ h) = bytes_of_all h + length (bytes_of took)
-bytes_of_all (e ∷ h) = bytes_of_all h
-
 -- whether a Read of the instance told the end of all
 abbrev pub all_ended : Record → ℕ → Bool
 all_ended [] i = false

@@ -1,5 +1,5 @@
 -- The routing in force: who drains, who is dry, which targets an instance has, and who is ending.
-use Rattle.std.specs.Prelude.{ℕ, ◌^◌, Bool, false, not, ◌&&◌, ◌||◌, Option, None, is_some, List, [], map, length, if◌then◌else◌, nat_le}
+use Rattle.std.specs.Prelude.{ℕ, Bool, false, not, ◌&&◌, ◌||◌, Option, None, is_some, List, [], map, length, if◌then◌else◌}
 use Rattle.std.specs.List.{list_any, list_all}
 use Rattle.vx_value.specs.Texts.{is_empty}
 use Rattle.vx_plan.specs.declared.component.Component.{Component}
@@ -10,19 +10,15 @@ use Rattle.vx_record.specs.Copies.{contains, counting, joined}
 use Rattle.vx_record.specs.Turns.{is_out, at_lease}
 use Rattle.vx_record.specs.Installs.{Wiring, wired, told, source_at, numbers_of, started, is_marked, is_retired}
 use Rattle.vx_record.specs.Lists.{outputs, waiting, all_waiting}
-use Rattle.vx_record.specs.Reads.{all_ended, is_lost, bytes_of_all}
+use Rattle.vx_record.specs.Reads.{all_ended, is_lost}
 
 -- the moment of the Stop: no entry tells one yet
 abbrev pub stopped : Record → Option ℕ
 stopped h = None
 
--- the bytes of one run, past which every source drains
-abbrev pub is_too_long : Record → Bool
-is_too_long h = nat_le (2 ^ 48) (bytes_of_all h)
-
 -- whether the instance takes in nothing new
 abbrev pub drains : Record → ℕ → Bool
-drains h i = is_marked h i || (source_at h i && (is_some (stopped h) || is_too_long h))
+drains h i = is_marked h i || (source_at h i && is_some (stopped h))
 
 -- an instance that is out under a Lease from before it drained
 abbrev pub is_out_from_before : Record → ℕ → Bool

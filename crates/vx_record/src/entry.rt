@@ -129,6 +129,3 @@ pub enum Entry {
         cause: AbandonCause,
     },
 }
-
-// A run keeps some nine entries a line, so an entry stays small.
-const _: () = prove!(std::mem::size_of::<Entry>() <= 112);

@@ -1,5 +1,9 @@
+pub mod Sources
+pub mod Going
 pub mod Judged
 pub mod Prepared
+pub mod Reading
 pub mod Closing
 pub mod Counting
 pub mod Ported
+pub mod Tallied

@@ -1,5 +1,5 @@
 -- A port is put behind those that there are.
-use Rattle.std.proofs.Common.{◌≡◌, ℕ, zero, suc, ◌+◌, ◌<◌, List, [], ◌∷◌, ◌++◌, length, get_or, Some, refl, sym, ap, subst, arith}
+use Rattle.std.proofs.Common.{◌≡◌, ◌∙◌, ℕ, zero, suc, ◌+◌, ◌<◌, List, [], ◌∷◌, ◌++◌, length, get_or, Some, refl, sym, ap, subst, arith}
 use Rattle.std.specs.Prelude.{slice_get}
 use Rattle.vx_plan.specs.declared.component.Component.{Component}
 use Rattle.vx_plan.specs.Ports.{port_of}
@@ -7,12 +7,18 @@ use Rattle.vx_ends.specs.Told.{Told}
 use Rattle.vx_hub.specs.declared.parts.Named.{Named}
 use Rattle.vx_hub.specs.Making.{IsUntouched, AreUntouched}
 
-pub untouched_more : {P : Type 0} (told_by : P → Told) (components : List Component) (ports : List (Named P)) (component : Component) (named : Named P) → slice_get components (length ports) ≡ Some component →
+untouched_more : {P : Type 0} (told_by : P → Told) (components : List Component) (ports : List (Named P)) (component : Component) (named : Named P) → slice_get components (length ports) ≡ Some component →
     AreUntouched told_by components ports → IsUntouched (port_of component) (told_by named.port) → AreUntouched told_by components (ports ++ named ∷ [])
 untouched_more told_by [] [] component named is all one = cc
 untouched_more told_by (c ∷ cs) [] component named is all one = let same : c ≡ component = cc in (subst (λ (d : Component). IsUntouched (port_of d) (told_by named.port)) (sym same) one, tt)
 untouched_more told_by [] (p ∷ ports) component named is all one = absurd all
 untouched_more told_by (c ∷ cs) (p ∷ ports) component named is all one = (all.0, untouched_more told_by cs ports component named is all.1 one)
+
+-- a list of which that is so may be told otherwise
+pub untouched_added : {P : Type 0} (told_by : P → Told) (components : List Component) (ports more : List (Named P)) (component : Component) (named : Named P) → more ≡ ports ++ named ∷ [] →
+    slice_get components (length ports) ≡ Some component → AreUntouched told_by components ports → IsUntouched (port_of component) (told_by named.port) → AreUntouched told_by components more
+untouched_added {P} told_by components ports more component named is at all one =
+    subst (λ (ps : List (Named P)). AreUntouched told_by components ps) (sym is) (untouched_more told_by components ports component named at all one)
 
 -- what stands at a place
 slice_got : {X : Type 0} (xs : List X) (i : ℕ) (x : X) → i < length xs → x ≡ get_or xs i x → slice_get xs i ≡ Some x
@@ -24,6 +30,9 @@ pub component_got : (components items : List Component) (i n : ℕ) (component :
 component_got components items i n component same count l is =
     subst (λ (k : ℕ). slice_get components k ≡ Some component) (sym count) (subst (λ (cs : List Component). slice_get cs i ≡ Some component) same (slice_got items i component l is))
 
-pub one_more : {X : Type 0} (xs : List X) (x : X) → length (xs ++ x ∷ []) ≡ length xs + 1
-one_more [] x = refl
-one_more (y ∷ ys) x = omega (arith, one_more ys x)
+longer : {X : Type 0} (xs : List X) (x : X) → length (xs ++ x ∷ []) ≡ length xs + 1
+longer [] x = refl
+longer (y ∷ ys) x = omega (arith, longer ys x)
+
+pub one_more : {X : Type 0} (xs more : List X) (x : X) → more ≡ xs ++ x ∷ [] → length more ≡ length xs + 1
+one_more xs more x is = ap length is ∙ longer xs x

@@ -1,25 +1,27 @@
 -- What each answer of a run says.
-use Rattle.std.specs.Prelude.{◌≡◌, ◌≢◌, ℕ, ◌<◌, ◌≤◌, ◌^◌, ◌⊎◌, true, false, List, Option, Some, None, IsSomeAnd, Ok, Err}
+use Rattle.std.specs.Prelude.{◌≡◌, ◌≢◌, ℕ, ◌<◌, ◌⊎◌, true, false, List, Option, Some, None, Ok, Err}
 use Rattle.vx_value.specs.Texts.{Word}
 use Rattle.vx_value.specs.declared.variable.Variable.{Variable}
 use Rattle.vx_ends.specs.Told.{Rose}
 use Rattle.vx_ends.specs.Texts.{IsTextAt}
 use Rattle.vx_ends.specs.declared.world.Config.{Config}
-use Rattle.vx_plan.specs.declared.component.Component.{Component}
 use Rattle.vx_plan.specs.declared.plan.Plan.{Plan}
 use Rattle.vx_reading.specs.declared.plan_fault.PlanFault.{PlanFault}
 use Rattle.vx_reading.specs.declared.plan_fault.PlanFault.TheVariants as plan_fault
 use Rattle.vx_reading.specs.Reading.{IsReading}
 use Rattle.vx_record.specs.Records.{Record}
-use Rattle.vx_record.specs.Installs.{in_force}
-use Rattle.vx_record.specs.Reads.{bytes_of_all}
 use Rattle.vx_record.specs.Confirms.{is_unconfirmed}
 use Rattle.vx_record.specs.declared.abandon_cause.AbandonCause.TheVariants as cause
-use Rattle.vx_hub.specs.Stands.{component_in, lost_at, cause_of}
+use Rattle.vx_record.specs.Ceasing.{lost_at, cause_of}
+use Rattle.vx_hub.specs.Telling.{IsNameOf}
 use Rattle.vx_cli.specs.declared.fault.Fault.{Fault}
-use Rattle.vx_cli.specs.declared.fault.Fault.TheVariants.{Usage, ConfigRead, ConfigRefused, Numbers, TooLong, SourceFailed, ConfirmFailed, PrintFailed, WantOfMemory}
+use Rattle.vx_cli.specs.declared.fault.Fault.TheVariants.{Usage, ConfigRead, ConfigRefused, Numbers, SourceFailed, ConfirmFailed, PrintFailed, WantOfMemory}
 use Rattle.vx_cli.specs.Commands.{IsCommand, IsNoCommand}
 use Rattle.vx_cli.specs.declared.command.Command.TheVariants.{Run, Validate}
+
+-- a fact that is told but for want of memory
+abbrev pub ButForMemory : Type 0 → Option Fault → Type 0
+ButForMemory fact fault = fault ≢ Some WantOfMemory → fact
 
 -- the words ask for a run of a file, or for a judgement of it
 abbrev pub NamesFile : List Word → Word → Type 0
@@ -75,15 +77,11 @@ IsUnready environment texts file before now (ConfigRefused fault) = IsFaultAt en
 IsUnready environment texts file before now WantOfMemory = Unit {0}
 IsUnready environment texts file before now other = ⊥
 
--- the component in the place of an instance in the plan in force
-abbrev pub component_at : Record → ℕ → Option Component
-component_at h i = component_in (in_force h) i
-
 -- the least instance that was lost, with its component's name and after how many bytes
 pub record IsLost (h : Record) (name : Word) (at i : ℕ) : Type 0 where
   pub lost : lost_at h i ≡ Some at
   pub least : (j : ℕ) → j < i → lost_at h j ≡ None
-  pub named : IsSomeAnd (component_at h i) (λ component. name ≡ component.name)
+  pub named : IsNameOf h i name
 
 -- no instance was lost
 abbrev pub NoneLost : Record → Type 0
@@ -93,7 +91,7 @@ NoneLost h = (i : ℕ) → lost_at h i ≡ None
 pub record IsUnconfirmed (h : Record) (name : Word) (i : ℕ) : Type 0 where
   pub failed : is_unconfirmed h i ≡ true
   pub least : (j : ℕ) → j < i → is_unconfirmed h j ≡ false
-  pub named : IsSomeAnd (component_at h i) (λ component. name ≡ component.name)
+  pub named : IsNameOf h i name
 
 -- no instance has a last confirm that failed
 abbrev pub AllConfirmed : Record → Type 0
@@ -105,10 +103,9 @@ WentOn h = cause_of h ≡ None
 
 -- what it says of a run that began
 abbrev pub IsJudged : Record → Option Fault → Type 0
-IsJudged h None = WentOn h × ((bytes_of_all h < 2 ^ 48) × (NoneLost h × AllConfirmed h))
-IsJudged h (Some TooLong) = WentOn h × (2 ^ 48 ≤ bytes_of_all h)
-IsJudged h (Some (SourceFailed name at)) = WentOn h × ((bytes_of_all h < 2 ^ 48) × ((i : ℕ) × IsLost h name at i))
-IsJudged h (Some (ConfirmFailed name)) = WentOn h × ((bytes_of_all h < 2 ^ 48) × (NoneLost h × ((i : ℕ) × IsUnconfirmed h name i)))
+IsJudged h None = WentOn h × (NoneLost h × AllConfirmed h)
+IsJudged h (Some (SourceFailed name at)) = WentOn h × ((i : ℕ) × IsLost h name at i)
+IsJudged h (Some (ConfirmFailed name)) = WentOn h × (NoneLost h × ((i : ℕ) × IsUnconfirmed h name i))
 IsJudged h (Some (Numbers next wanted)) = cause_of h ≡ Some (cause.Numbers next wanted)
 IsJudged h (Some WantOfMemory) = Unit {0}
 IsJudged h (Some other) = ⊥

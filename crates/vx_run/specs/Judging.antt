@@ -1,29 +1,29 @@
 -- How an ended run is judged.
-use Rattle.std.specs.Prelude.{◌≡◌, ℕ, slice_get, Option, Some, IsSomeAnd}
-use Rattle.vx_plan.specs.declared.plan.Plan.{Plan}
-use Rattle.vx_hub.specs.declared.hub.Hub.{Hub}
-use Rattle.vx_hub.specs.Stands.{IsSound}
-use Rattle.vx_cli.specs.declared.fault.Fault.{Fault}
+use Rattle.std.specs.Prelude.{◌≡◌, ℕ, Option, false}
+use Rattle.vx_record.specs.Records.{Record}
 use Rattle.vx_record.specs.declared.abandon_cause.AbandonCause.{AbandonCause}
 use Rattle.vx_record.specs.declared.abandon_cause.AbandonCause.TheVariants as cause
+use Rattle.vx_hub.specs.declared.hub.Hub.{Hub}
+use Rattle.vx_hub.specs.Telling.{IsNameOf}
+use Rattle.vx_run.specs.Answers.{ButForMemory}
+use Rattle.vx_cli.specs.declared.fault.Fault.{Fault}
 use Rattle.vx_cli.specs.declared.fault.Fault.TheVariants.{Numbers, SourceFailed, ConfirmFailed, WantOfMemory}
 
--- but for want of memory the record has all that happened
+-- but for want of memory, it was never wanting for what came home
 abbrev pub IsSure : {P : Type 0} → Hub P → Option Fault → Type 0
-IsSure hub (Some WantOfMemory) = Unit {0}
-IsSure hub other = IsSound hub
+IsSure hub fault = ButForMemory (hub.books.run.short ≡ false) fault
 
 -- the fault of a source whose last confirm failed, with the name of its component, but for want of memory
-abbrev pub IsUnconfirmedAt : Plan → ℕ → Fault → Type 0
-IsUnconfirmedAt plan i (ConfirmFailed name) = IsSomeAnd (slice_get plan.components i) (λ component. name ≡ component.name)
-IsUnconfirmedAt plan i WantOfMemory = Unit {0}
-IsUnconfirmedAt plan i other = ⊥
+abbrev pub IsUnconfirmedAt : Record → ℕ → Fault → Type 0
+IsUnconfirmedAt h i (ConfirmFailed name) = IsNameOf h i name
+IsUnconfirmedAt h i WantOfMemory = Unit {0}
+IsUnconfirmedAt h i other = ⊥
 
 -- the fault of a lost source, with the name of its component, but for want of memory
-abbrev pub IsNamed : Plan → ℕ → ℕ → Fault → Type 0
-IsNamed plan i at (SourceFailed name n) = (n ≡ at) × IsSomeAnd (slice_get plan.components i) (λ component. name ≡ component.name)
-IsNamed plan i at WantOfMemory = Unit {0}
-IsNamed plan i at other = ⊥
+abbrev pub IsNamed : Record → ℕ → ℕ → Fault → Type 0
+IsNamed h i at (SourceFailed name n) = (n ≡ at) × IsNameOf h i name
+IsNamed h i at WantOfMemory = Unit {0}
+IsNamed h i at other = ⊥
 
 -- a cause for which nobody asked
 abbrev pub IsUnasked : AbandonCause → Type 0

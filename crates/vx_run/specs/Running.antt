@@ -1,39 +1,30 @@
 -- What a run leaves behind.
-use Rattle.std.specs.Prelude.{◌≡◌, ◌⊎◌, ℕ, true, List, [], length, Option, Some, None, IfSome, IsSome, IsSomeAnd}
+use Rattle.std.specs.Prelude.{◌≡◌, ◌⊎◌, ℕ, true, List, [], length, Option, Some, None, IsSome, IsSomeAnd}
 use Rattle.vx_value.specs.Texts.{Word}
 use Rattle.vx_value.specs.declared.variable.Variable.{Variable}
 use Rattle.vx_ends.specs.Told.{Told}
 use Rattle.vx_ends.specs.declared.world.Config.{Config}
-use Rattle.vx_plan.specs.declared.class.Class.TheVariants.{Source}
 use Rattle.vx_plan.specs.declared.plan.Plan.{Plan}
 use Rattle.vx_record.specs.Records.{Record}
-use Rattle.vx_record.specs.Installs.{in_force}
+use Rattle.vx_record.specs.Installs.{in_force, source_at}
 use Rattle.vx_record.specs.Reads.{all_ended}
 use Rattle.vx_record.specs.TallyLists.{tallies_of}
-use Rattle.vx_record.specs.Legal.{IsClosed}
+use Rattle.vx_record.specs.Ceasing.{lost_at}
 use Rattle.vx_record.specs.declared.tally.Tally.{Tally}
+use Rattle.vx_moves.specs.Returns.{HaveReturned}
 use Rattle.vx_hub.specs.declared.parts.Numbered.{Numbered}
-use Rattle.vx_hub.specs.Order.{lost_at}
-use Rattle.vx_hub.specs.Remains.{AreTold, HasOnePlace, AllSpent, HasNotices, HasEnds}
-use Rattle.vx_run.specs.Answers.{IsReady, IsValid, component_at}
+use Rattle.vx_hub.specs.Remains.{AreTold}
+use Rattle.vx_run.specs.Answers.{ButForMemory, IsReady, IsValid}
 use Rattle.vx_cli.specs.declared.fault.Fault.{Fault}
 use Rattle.vx_cli.specs.declared.fault.Fault.TheVariants.{Usage, ConfigRead, ConfigRefused, SourceFailed, ConfirmFailed, PrintFailed, WantOfMemory}
 
 -- but for want of memory, the ports tell what the record has
 abbrev pub IsTrueTo : {P : Type 0} → (P → Told) → Record → List (Numbered P) → Option Fault → Type 0
-IsTrueTo told_by h ports (Some WantOfMemory) = Unit {0}
-IsTrueTo told_by h ports fault = AreTold told_by h ports
+IsTrueTo told_by h ports fault = ButForMemory (AreTold told_by h ports) fault
 
--- but for want of memory, each copy is at any time in one place, or was split, or was spent; in the end it was one of the
--- last two
-abbrev pub AreKept : Record → Option Fault → Type 0
-AreKept h (Some WantOfMemory) = Unit {0}
-AreKept h fault = HasOnePlace h × AllSpent h
-
--- but for want of memory, each batch has its notice
-abbrev pub AreNoticed : Record → Option Fault → Type 0
-AreNoticed h (Some WantOfMemory) = Unit {0}
-AreNoticed h fault = HasNotices h
+-- but for want of memory, each instance that came home had returned
+abbrev pub AllReturned : Record → Option Fault → Type 0
+AllReturned h fault = ButForMemory (HaveReturned h) fault
 
 -- the plan in force is that of the file for which the words ask
 pub record IsInstalled (words : List Word) (environment : List Variable) (texts : Option (List Config)) (h : Record) : Type 0 where
@@ -57,21 +48,15 @@ HasInstalled words environment texts h (Some PrintFailed) = IsOnlyJudged words e
 HasInstalled words environment texts h (Some WantOfMemory) = Unit {0}
 HasInstalled words environment texts h other = IsInstalled words environment texts h
 
--- but for want of memory, the port of each instance was closed for good, and the instance was retired
-abbrev pub AreEnded : Record → ℕ → Option Fault → Type 0
-AreEnded h n (Some WantOfMemory) = Unit {0}
-AreEnded h n fault = HasEnds n h
-
 -- each source was told the end of all
 abbrev pub AllRead : Record → Type 0
-AllRead h = (i : ℕ) → IfSome (component_at h i) (λ component. component.class ≡ Source → all_ended h i ≡ true)
+AllRead h = (i : ℕ) → source_at h i ≡ true → all_ended h i ≡ true
 
 -- each source was told the end of all, or was lost
 abbrev pub AllReadOrLost : Record → Type 0
-AllReadOrLost h = (i : ℕ) → IfSome (component_at h i) (λ component. component.class ≡ Source → (all_ended h i ≡ true) ⊎ IsSome (lost_at h i))
+AllReadOrLost h = (i : ℕ) → source_at h i ≡ true → (all_ended h i ≡ true) ⊎ IsSome (lost_at h i)
 
--- the input was read to its end, but for sources that were lost; of a run that took too many bytes, or was given up,
--- nothing is said
+-- the input was read to its end, but for sources that were lost; of a run that was given up nothing is said
 abbrev pub IsReadOut : Record → Option Fault → Type 0
 IsReadOut h None = AllRead h
 IsReadOut h (Some (ConfirmFailed name)) = AllRead h
@@ -94,8 +79,7 @@ pub record HasAllAsked {P : Type 0} (words : List Word) (environment : List Vari
 
 -- but for want of memory a plan is in force
 abbrev pub IsInForce : Plan → Record → Option Fault → Type 0
-IsInForce plan h (Some WantOfMemory) = Unit {0}
-IsInForce plan h fault = in_force h ≡ Some plan
+IsInForce plan h fault = ButForMemory (in_force h ≡ Some plan) fault
 
 -- no port of a plan is missing, but where for want of memory nothing began
 abbrev pub HasEach : {P : Type 0} → Plan → Record → List (Numbered P) → Option Fault → Type 0
@@ -116,12 +100,3 @@ NoneMissing words environment texts h ports other = IsSomeAnd (in_force h) (HasA
 abbrev pub IsCounted : Record → ℕ → List Tally → Option Fault → Type 0
 IsCounted h instances tallies (Some WantOfMemory) = (tallies ≡ tallies_of h instances) ⊎ (tallies ≡ [])
 IsCounted h instances tallies fault = tallies ≡ tallies_of h instances
-
--- a fact that is told but for want of memory
-abbrev pub ButForMemory : Type 0 → Option Fault → Type 0
-ButForMemory fact (Some WantOfMemory) = Unit {0}
-ButForMemory fact fault = fact
-
--- but for want of memory, nothing is left to do at its end
-abbrev pub IsComplete : Record → Option Fault → Type 0
-IsComplete h fault = ButForMemory (IsClosed h) fault

@@ -1,24 +1,26 @@
-ghost use Rattle.std.specs.Prelude.{◌≡◌, ◌<◌, [], length, All, true};
-ghost use Rattle.vx_hub.specs.Stands.{Stands};
+ghost use Rattle.std.specs.Prelude.{◌≡◌, ◌<◌, length};
+ghost use Rattle.vx_moves.specs.Rooms.{IsHandOf};
+ghost use Rattle.vx_tasks.specs.Out.{HasLeft};
+ghost use Rattle.vx_hub.specs.Ending.{IsOver};
 ghost use Rattle.vx_hub.specs.Failures.{HasReason, abandon_cause};
-ghost use Rattle.vx_hub.specs.Leases.{IsLeased};
+ghost use Rattle.vx_hub.specs.Standing.{IsHub, GoesOn};
 
 use std::alloc::Global;
 use std::sync::Wait;
 use vx_ends::{Clock, Port};
-use vx_hub::{Fatal, Hub, Work};
+use vx_hub::{Fatal, Hub};
 use vx_record::AbandonCause;
+use vx_tasks::Work;
 
 /// The number of the only worker.
 const WORKER: u32 = 0;
 
 /// Turns a hub until each of its instances ended.
 pub(crate) fn drive<R: Wait, P: Port, C: Clock>(rt: &R, alloc: Global, hub: &mut Hub<P>, clock: &C)
-    requires { Stands P.told hub.old [] hub.old.log.history }
-    ensures stands { Stands P.told hub.new [] hub.new.log.history }
-    ensures over { All (λ f. f.retired ≡ true) hub.new.facts.items }
-    ensures size { length hub.new.rows.items ≡ length hub.old.rows.items }
-    ensures plan { hub.new.plan ≡ hub.old.plan }
+    requires { IsHub P.told hub.old }
+    ensures hub { IsHub P.told hub.new }
+    ensures over { IsOver hub.new.books.log }
+    ensures on { GoesOn hub.old.books.log hub.new.books.log }
 {
     for _ in rt.forever() {
         if hub.over() {
@@ -28,17 +30,13 @@ pub(crate) fn drive<R: Wait, P: Port, C: Clock>(rt: &R, alloc: Global, hub: &mut
     }
 }
 
-/// One turn: gives up a run whose record isn't whole, ends an instance, moves parcels, or does an instance's work.
+/// One turn: ends an instance, moves parcels, or does an instance's work.
 fn turn<P: Port, C: Clock>(alloc: Global, hub: &mut Hub<P>, clock: &C)
-    requires { Stands P.told hub.old [] hub.old.log.history }
-    ensures stands { Stands P.told hub.new [] hub.new.log.history }
-    ensures size { length hub.new.rows.items ≡ length hub.old.rows.items }
-    ensures plan { hub.new.plan ≡ hub.old.plan }
+    requires { IsHub P.told hub.old }
+    ensures hub { IsHub P.told hub.new }
+    ensures on { GoesOn hub.old.books.log hub.new.books.log }
 {
-    if !hub.whole() && hub.abandoned().is_none() {
-        hub.abandon(AbandonCause::WantOfMemory);
-    }
-    if hub.retire().is_some() {
+    if let Some(_ended) = hub.retire() {
         return;
     }
     match hub.pending() {
@@ -49,11 +47,10 @@ fn turn<P: Port, C: Clock>(alloc: Global, hub: &mut Hub<P>, clock: &C)
 
 /// Splits and pushes what an instance has made.
 fn push<P: Port>(hub: &mut Hub<P>, instance: u32)
-    requires stands { Stands P.told hub.old [] hub.old.log.history }
-    requires within { instance < length hub.old.rows.items }
-    ensures stands { Stands P.told hub.new [] hub.new.log.history }
-    ensures size { length hub.new.rows.items ≡ length hub.old.rows.items }
-    ensures plan { hub.new.plan ≡ hub.old.plan }
+    requires hub { IsHub P.told hub.old }
+    requires within { instance < length hub.old.books.seats }
+    ensures hub { IsHub P.told hub.new }
+    ensures on { GoesOn hub.old.books.log hub.new.books.log }
 {
     if let Err(fatal) = hub.push_pending(instance) {
         give_up(hub, fatal);
@@ -62,10 +59,9 @@ fn push<P: Port>(hub: &mut Hub<P>, instance: u32)
 
 /// Hands out a task, if one has work, does its work, and brings it home.
 fn lease<P: Port, C: Clock>(alloc: Global, hub: &mut Hub<P>, clock: &C)
-    requires { Stands P.told hub.old [] hub.old.log.history }
-    ensures stands { Stands P.told hub.new [] hub.new.log.history }
-    ensures size { length hub.new.rows.items ≡ length hub.old.rows.items }
-    ensures plan { hub.new.plan ≡ hub.old.plan }
+    requires { IsHub P.told hub.old }
+    ensures hub { IsHub P.told hub.new }
+    ensures on { GoesOn hub.old.books.log hub.new.books.log }
 {
     if let Some(work) = hub.lease(WORKER, clock.now()) {
         land(alloc, hub, work, clock);
@@ -74,10 +70,12 @@ fn lease<P: Port, C: Clock>(alloc: Global, hub: &mut Hub<P>, clock: &C)
 
 /// Does the work of a task that was handed out, and brings it home.
 fn land<P: Port, C: Clock>(alloc: Global, hub: &mut Hub<P>, work: Work<P>, clock: &C)
-    requires { IsLeased P.told hub.old work }
-    ensures stands { Stands P.told hub.new [] hub.new.log.history }
-    ensures size { length hub.new.rows.items ≡ length hub.old.rows.items }
-    ensures plan { hub.new.plan ≡ hub.old.plan }
+    requires hub { IsHub P.told hub.old }
+    requires left { HasLeft P.told hub.old.books.log work }
+    requires room { IsHandOf hub.old.books.log work.instance work.held.room }
+    requires within { work.instance < length hub.old.books.seats }
+    ensures hub { IsHub P.told hub.new }
+    ensures on { GoesOn hub.old.books.log hub.new.books.log }
 {
     let landing = work.work(alloc, clock);
     if let Err(fatal) = hub.land(landing) {
@@ -87,19 +85,18 @@ fn land<P: Port, C: Clock>(alloc: Global, hub: &mut Hub<P>, work: Work<P>, clock
 
 /// Gives a run up that can't go on, once.
 fn give_up<P: Port>(hub: &mut Hub<P>, fatal: Fatal)
-    requires stands { Stands P.told hub.old [] hub.old.log.history }
-    requires reason { HasReason hub.old fatal }
-    ensures stands { Stands P.told hub.new [] hub.new.log.history }
-    ensures size { length hub.new.rows.items ≡ length hub.old.rows.items }
-    ensures plan { hub.new.plan ≡ hub.old.plan }
+    requires hub { IsHub P.told hub.old }
+    requires reason { HasReason hub.old.books.log fatal }
+    ensures hub { IsHub P.told hub.new }
+    ensures on { GoesOn hub.old.books.log hub.new.books.log }
 {
     if hub.abandoned().is_none() {
-        hub.abandon(cause_of(fatal));
+        hub.abandon(abandon_cause(fatal));
     }
 }
 
 /// Why a run is given up.
-fn cause_of(fatal: Fatal) -> AbandonCause
+fn abandon_cause(fatal: Fatal) -> AbandonCause
     ensures { result ≡ abandon_cause fatal }
 {
     match fatal {

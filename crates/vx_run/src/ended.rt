@@ -1,7 +1,8 @@
 use vx_cli::Fault;
 use vx_ends::World;
+use vx_history::History;
 use vx_hub::NumberedList;
-use vx_record::{Record, TallyList};
+use vx_record::{Entry, TallyList};
 
 /// How a run ended, and what it leaves behind.
 #[derive(Drop)]
@@ -10,8 +11,8 @@ pub struct Ended<W: World> {
     pub status: u8,
     /// Why the run didn't end well.
     pub fault: Option<Fault>,
-    /// What happened, entry by entry.
-    pub history: Record,
+    /// What happened, entry by entry. It exists in proofs alone.
+    pub history: History<Entry>,
     /// What each instance counted, in the order of their numbers. It is empty where the run didn't begin, and may be
     /// where no memory was found.
     pub tallies: TallyList,

@@ -1,14 +1,15 @@
-ghost use Rattle.std.specs.Prelude.{◌≡◌, ◌<◌, ◌^◌, ℕ, [], length, Some, None, IfSome, IfNone, true, false};
-ghost use Rattle.vx_hub.specs.Stands.{Stands, IsSound, facts_at, lost_of, unconfirmed_of};
-ghost use Rattle.vx_record.specs.Reads.{bytes_of_all};
+ghost use Rattle.std.specs.Prelude.{◌≡◌, ◌<◌, ℕ, length, Some, None, IfSome, IfNone, true, false};
+ghost use Rattle.vx_record.specs.Ceasing.{lost_at};
+ghost use Rattle.vx_record.specs.Confirms.{is_unconfirmed};
+ghost use Rattle.vx_record.specs.Installs.{started};
+ghost use Rattle.vx_hub.specs.Standing.{IsHub};
 ghost use Rattle.vx_run.specs.Answers.{IsJudged, WentOn, NoneLost};
 ghost use Rattle.vx_run.specs.Judging.{IsSure, IsNamed, IsUnconfirmedAt, IsUnasked, IsFaultOf};
 
 use std::alloc::Global;
 use vx_cli::Fault;
 use vx_ends::Port;
-use vx_hub::{Hub, MOST_BYTES};
-use vx_plan::Plan;
+use vx_hub::Hub;
 use vx_record::AbandonCause;
 use vx_value::WantOfMemory;
 
@@ -20,31 +21,27 @@ struct Lost {
 }
 
 /// Why a run that ended didn't end well. Of several faults it is the first in this order: want of memory, used up
-/// numbers, too many bytes, a lost source, and a source whose last confirm failed, the least instance first.
-pub(crate) fn judge<P: Port>(alloc: Global, plan: &Plan, hub: &Hub<P>) -> Option<Fault>
-    requires plan { hub.now.plan ≡ plan.now }
-    requires stands { Stands P.told hub.now [] hub.now.log.history }
-    requires size { length hub.now.rows.items ≡ length plan.now.components }
+/// numbers, a lost source, and a source whose last confirm failed, the least instance first.
+pub(crate) fn judge<P: Port>(alloc: Global, hub: &Hub<P>) -> Option<Fault>
+    requires { IsHub P.told hub.now }
     ensures sure { IsSure hub.now result }
-    ensures judged { IsJudged hub.now.log.history result }
+    ensures judged { IsJudged hub.now.books.log result }
 {
-    if hub.starved() || !hub.whole() {
+    if hub.starved() {
         return Some(Fault::WantOfMemory);
     }
-    judge_sound(alloc, plan, hub)
+    judge_fed(alloc, hub)
 }
 
-/// The same, of a run whose record has all that happened.
-fn judge_sound<P: Port>(alloc: Global, plan: &Plan, hub: &Hub<P>) -> Option<Fault>
-    requires plan { hub.now.plan ≡ plan.now }
-    requires stands { Stands P.told hub.now [] hub.now.log.history }
-    requires size { length hub.now.rows.items ≡ length plan.now.components }
-    requires sound { IsSound hub.now }
+/// The same, of a run in which memory was never wanting for what came home.
+fn judge_fed<P: Port>(alloc: Global, hub: &Hub<P>) -> Option<Fault>
+    requires hub { IsHub P.told hub.now }
+    requires fed { hub.now.books.run.short ≡ false }
     ensures sure { IsSure hub.now result }
-    ensures judged { IsJudged hub.now.log.history result }
+    ensures judged { IsJudged hub.now.books.log result }
 {
     match hub.abandoned() {
-        None => judge_whole(alloc, plan, hub),
+        None => judge_whole(alloc, hub),
         Some(cause) => Some(fault_of(cause)),
     }
 }
@@ -65,48 +62,38 @@ fn fault_of(cause: AbandonCause) -> Fault
     }
 }
 
-/// The same, of a run that memory and numbers were enough for.
-fn judge_whole<P: Port>(alloc: Global, plan: &Plan, hub: &Hub<P>) -> Option<Fault>
-    requires plan { hub.now.plan ≡ plan.now }
-    requires stands { Stands P.told hub.now [] hub.now.log.history }
-    requires size { length hub.now.rows.items ≡ length plan.now.components }
-    requires sound { IsSound hub.now }
-    requires goes_on { WentOn hub.now.log.history }
-    ensures judged { IsJudged hub.now.log.history result }
+/// The same, of a run that wasn't given up.
+fn judge_whole<P: Port>(alloc: Global, hub: &Hub<P>) -> Option<Fault>
+    requires hub { IsHub P.told hub.now }
+    requires goes_on { WentOn hub.now.books.log }
+    ensures judged { IsJudged hub.now.books.log result }
 {
-    if hub.bytes() >= MOST_BYTES {
-        return Some(Fault::TooLong);
-    }
     match first_lost(hub) {
-        None => judge_confirms(alloc, plan, hub),
-        Some(lost) => Some(source_failed(alloc, plan, lost)),
+        None => judge_confirms(alloc, hub),
+        Some(lost) => Some(source_failed(alloc, hub, lost)),
     }
 }
 
-/// The same, of a run that took few bytes and lost no source.
-fn judge_confirms<P: Port>(alloc: Global, plan: &Plan, hub: &Hub<P>) -> Option<Fault>
-    requires plan { hub.now.plan ≡ plan.now }
-    requires stands { Stands P.told hub.now [] hub.now.log.history }
-    requires size { length hub.now.rows.items ≡ length plan.now.components }
-    requires sound { IsSound hub.now }
-    requires goes_on { WentOn hub.now.log.history }
-    requires few { bytes_of_all hub.now.log.history < 2 ^ 48 }
-    requires kept { NoneLost hub.now.log.history }
-    ensures judged { IsJudged hub.now.log.history result }
+/// The same, of a run that lost no source.
+fn judge_confirms<P: Port>(alloc: Global, hub: &Hub<P>) -> Option<Fault>
+    requires hub { IsHub P.told hub.now }
+    requires goes_on { WentOn hub.now.books.log }
+    requires kept { NoneLost hub.now.books.log }
+    ensures judged { IsJudged hub.now.books.log result }
 {
     match first_unconfirmed(hub) {
         None => None,
-        Some(instance) => Some(confirm_failed(alloc, plan, instance)),
+        Some(instance) => Some(confirm_failed(alloc, hub, instance)),
     }
 }
 
 /// The least instance whose last confirm failed.
 fn first_unconfirmed<P: Port>(hub: &Hub<P>) -> Option<u32>
-    requires { Stands P.told hub.now [] hub.now.log.history }
-    ensures within { IfSome result (λ i. i < length hub.now.facts.items) }
-    ensures failed { IfSome result (λ i. unconfirmed_of (facts_at hub.now.facts.items i) ≡ true) }
-    ensures least { IfSome result (λ i. (j : ℕ) → j < i → unconfirmed_of (facts_at hub.now.facts.items j) ≡ false) }
-    ensures none { IfNone result ((j : ℕ) → j < length hub.now.facts.items → unconfirmed_of (facts_at hub.now.facts.items j) ≡ false) }
+    requires { IsHub P.told hub.now }
+    ensures within { IfSome result (λ i. i < length (started hub.now.books.log)) }
+    ensures failed { IfSome result (λ i. is_unconfirmed hub.now.books.log i ≡ true) }
+    ensures least { IfSome result (λ i. (j : ℕ) → j < i → is_unconfirmed hub.now.books.log j ≡ false) }
+    ensures none { IfNone result ((j : ℕ) → j < length (started hub.now.books.log) → is_unconfirmed hub.now.books.log j ≡ false) }
 {
     for instance in 0..hub.instances() {
         if hub.unconfirmed(instance) {
@@ -118,26 +105,24 @@ fn first_unconfirmed<P: Port>(hub: &Hub<P>) -> Option<u32>
 
 /// The fault of a source whose last confirm failed, with its component's name, or want of memory where none is found
 /// for the name.
-fn confirm_failed(alloc: Global, plan: &Plan, instance: u32) -> Fault
-    requires { instance < length plan.now.components }
-    ensures { IsUnconfirmedAt plan.now instance result }
+fn confirm_failed<P: Port>(alloc: Global, hub: &Hub<P>, instance: u32) -> Fault
+    requires hub { IsHub P.told hub.now }
+    requires within { instance < length (started hub.now.books.log) }
+    ensures { IsUnconfirmedAt hub.now.books.log instance result }
 {
-    match plan.components.get(instance as usize) {
-        Some(component) => match component.name.copy(alloc) {
-            Ok(name) => Fault::ConfirmFailed { name },
-            Err(WantOfMemory) => Fault::WantOfMemory,
-        },
-        None => unreachable!(),
+    match hub.name_of(instance).copy(alloc) {
+        Ok(name) => Fault::ConfirmFailed { name },
+        Err(WantOfMemory) => Fault::WantOfMemory,
     }
 }
 
 /// The least instance that was lost.
 fn first_lost<P: Port>(hub: &Hub<P>) -> Option<Lost>
-    requires { Stands P.told hub.now [] hub.now.log.history }
-    ensures within { IfSome result (λ lost. lost.instance < length hub.now.facts.items) }
-    ensures lost { IfSome result (λ lost. lost_of (facts_at hub.now.facts.items lost.instance) ≡ Some lost.at) }
-    ensures least { IfSome result (λ lost. (i : ℕ) → i < lost.instance → lost_of (facts_at hub.now.facts.items i) ≡ None) }
-    ensures none { IfNone result ((i : ℕ) → i < length hub.now.facts.items → lost_of (facts_at hub.now.facts.items i) ≡ None) }
+    requires { IsHub P.told hub.now }
+    ensures within { IfSome result (λ lost. lost.instance < length (started hub.now.books.log)) }
+    ensures lost { IfSome result (λ lost. lost_at hub.now.books.log lost.instance ≡ Some lost.at) }
+    ensures least { IfSome result (λ lost. (i : ℕ) → i < lost.instance → lost_at hub.now.books.log i ≡ None) }
+    ensures none { IfNone result ((i : ℕ) → i < length (started hub.now.books.log) → lost_at hub.now.books.log i ≡ None) }
 {
     for instance in 0..hub.instances() {
         if let Some(at) = hub.lost(instance) {
@@ -148,15 +133,13 @@ fn first_lost<P: Port>(hub: &Hub<P>) -> Option<Lost>
 }
 
 /// The fault of a source that was lost, with its component's name, or want of memory where none is found for the name.
-fn source_failed(alloc: Global, plan: &Plan, lost: Lost) -> Fault
-    requires { lost.instance < length plan.now.components }
-    ensures { IsNamed plan.now lost.instance lost.at result }
+fn source_failed<P: Port>(alloc: Global, hub: &Hub<P>, lost: Lost) -> Fault
+    requires hub { IsHub P.told hub.now }
+    requires within { lost.instance < length (started hub.now.books.log) }
+    ensures { IsNamed hub.now.books.log lost.instance lost.at result }
 {
-    match plan.components.get(lost.instance as usize) {
-        Some(component) => match component.name.copy(alloc) {
-            Ok(name) => Fault::SourceFailed { name, at: lost.at },
-            Err(WantOfMemory) => Fault::WantOfMemory,
-        },
-        None => unreachable!(),
+    match hub.name_of(lost.instance).copy(alloc) {
+        Ok(name) => Fault::SourceFailed { name, at: lost.at },
+        Err(WantOfMemory) => Fault::WantOfMemory,
     }
 }

@@ -4,8 +4,7 @@ ghost use Rattle.vx_ends.specs.Told.{Rose};
 ghost use Rattle.vx_plan.specs.Accepted.{IsPlan};
 ghost use Rattle.vx_plan.specs.Options.{has_device};
 ghost use Rattle.vx_plan.specs.Ports.{port_of};
-ghost use Rattle.vx_hub.specs.Making.{IsUntouched, AreUntouched};
-ghost use Rattle.vx_hub.specs.Order.{all_ported};
+ghost use Rattle.vx_hub.specs.Making.{IsUntouched, AreUntouched, all_ported};
 ghost use Rattle.vx_reading.specs.Reading.{IsReading};
 ghost use Rattle.vx_run.specs.Answers.{IsPlanAt, IsUnready, IsUnread, IsMisread};
 

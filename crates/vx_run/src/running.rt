@@ -1,16 +1,16 @@
-ghost use Rattle.std.specs.Prelude.{◌≡◌, ◌≢◌, ◌⊎◌, List, ◌<◌, ◌^◌, [], length, true, Some};
+ghost use Rattle.std.specs.Prelude.{◌≡◌, ◌≢◌, ◌⊎◌, List, ◌<◌, ◌^◌, [], length, true, false, Some, IfOk};
 ghost use Rattle.vx_plan.specs.Accepted.{IsPlan};
-ghost use Rattle.vx_record.specs.Legal.{IsLegal};
-ghost use Rattle.vx_hub.specs.Making.{AreUntouched};
-ghost use Rattle.vx_hub.specs.Order.{IsLegalWithReturns, all_ported};
-ghost use Rattle.vx_hub.specs.Stands.{Stands};
-ghost use Rattle.vx_hub.specs.Remains.{AreNumbered, AreClosed};
+ghost use Rattle.vx_record.specs.Installs.{started};
+ghost use Rattle.vx_record.specs.TallyLists.{tallies_of};
+ghost use Rattle.vx_hub.specs.Making.{AreUntouched, all_ported};
+ghost use Rattle.vx_hub.specs.Remains.{HasEnded, AreNumbered, AreClosed};
+ghost use Rattle.vx_hub.specs.Standing.{IsHub, IsSameRun};
 ghost use Rattle.vx_value.specs.Texts.{Word};
 ghost use Rattle.vx_cli.specs.Commands.{IsCommand};
 ghost use Rattle.vx_cli.specs.declared.command.Command.TheVariants.{Run};
 ghost use Rattle.vx_run.specs.Answers.{IsAnswer, IsJudged};
 ghost use Rattle.vx_run.specs.Showing.{IsShown};
-ghost use Rattle.vx_run.specs.Running.{IsTrueTo, HasInstalled, IsInForce, AreKept, AreNoticed, IsReadOut, AreEnded, IsCounted, HasEach, NoneMissing, IsComplete};
+ghost use Rattle.vx_run.specs.Running.{IsTrueTo, AllReturned, HasInstalled, IsInForce, IsReadOut, IsCounted, HasEach, NoneMissing};
 
 use crate::driver::drive;
 use crate::judging::judge;
@@ -20,16 +20,16 @@ use std::alloc::Global;
 use std::sync::Wait;
 use vx_cli::{CliFault, Command, Fault, read_words};
 use vx_ends::{Clock, Port, Printer, World};
-use vx_hub::{Hub, NumberedList, Parts, Remains};
-use vx_plan::Plan;
-use vx_record::{Record, TallyList, tallies};
+use vx_history::History;
+use vx_hub::{Hub, NumberedList, Parts, Remains, engine_laws};
+use vx_record::{Entry, TallyList};
 use vx_value::{Text, TextList, VariableList, WantOfMemory};
 
 /// A run that ended, before its fault is told.
 #[derive(Drop)]
 pub(crate) struct Outcome<P> {
     pub fault: Option<Fault>,
-    pub history: Record,
+    pub history: History<Entry>,
     pub tallies: TallyList,
     pub ports: NumberedList<P>,
 }
@@ -47,14 +47,10 @@ pub(crate) fn perform<R: Wait, W: World, C: Clock, P: Printer>(
     ensures answer { IsAnswer words.now environment.now (W.texts world.old) (W.faults world.old) (W.faults world.new) result.history result.fault }
     ensures shown { IsShown words.now environment.now (W.texts world.old) (out.new ≡ out.old) (P.printed out.old) (P.printed out.new) (P.faults out.old) (P.faults out.new) result.fault }
     ensures told { IsTrueTo W.Port.told result.history result.ports result.fault }
-    ensures returned { IsLegalWithReturns result.history }
+    ensures returned { AllReturned result.history result.fault }
     ensures installed { HasInstalled words.now environment.now (W.texts world.old) result.history result.fault }
-    ensures copies { AreKept result.history result.fault }
-    ensures notices { AreNoticed result.history result.fault }
+    ensures ended { HasEnded (length result.ports) result.history }
     ensures read { IsReadOut result.history result.fault }
-    ensures ended { AreEnded result.history (length result.ports) result.fault }
-    ensures legal { IsLegal result.history }
-    ensures complete { IsComplete result.history result.fault }
     ensures counted { IsCounted result.history (length result.ports) result.tallies result.fault }
     ensures closed { AreClosed W.Port.told result.ports }
     ensures numbers { AreNumbered 0 result.ports }
@@ -82,14 +78,10 @@ fn run<R: Wait, W: World, C: Clock>(
 ) -> Outcome<W::Port>
     ensures answer { (words : List Word) → IsCommand words (Run file.now) → IsAnswer words environment.now (W.texts world.old) (W.faults world.old) (W.faults world.new) result.history result.fault }
     ensures told { IsTrueTo W.Port.told result.history result.ports result.fault }
-    ensures returned { IsLegalWithReturns result.history }
+    ensures returned { AllReturned result.history result.fault }
     ensures installed { (words : List Word) → IsCommand words (Run file.now) → HasInstalled words environment.now (W.texts world.old) result.history result.fault }
-    ensures copies { AreKept result.history result.fault }
-    ensures notices { AreNoticed result.history result.fault }
+    ensures ended { HasEnded (length result.ports) result.history }
     ensures read { IsReadOut result.history result.fault }
-    ensures ended { AreEnded result.history (length result.ports) result.fault }
-    ensures legal { IsLegal result.history }
-    ensures complete { IsComplete result.history result.fault }
     ensures counted { IsCounted result.history (length result.ports) result.tallies result.fault }
     ensures closed { AreClosed W.Port.told result.ports }
     ensures numbers { AreNumbered 0 result.ports }
@@ -109,18 +101,14 @@ fn unbegun<P>(alloc: Global, fault: Option<Fault>) -> Outcome<P>
     ensures history { result.history ≡ [] }
     ensures tallies { result.tallies ≡ [] }
     ensures ports { result.ports ≡ [] }
-    ensures returned { IsLegalWithReturns result.history }
-    ensures copies { AreKept result.history result.fault }
-    ensures notices { AreNoticed result.history result.fault }
+    ensures returned { AllReturned result.history result.fault }
+    ensures ended { HasEnded (length result.ports) result.history }
     ensures read { IsReadOut result.history result.fault }
-    ensures ended { AreEnded result.history (length result.ports) result.fault }
-    ensures legal { IsLegal result.history }
-    ensures complete { IsComplete result.history result.fault }
     ensures counted { IsCounted result.history (length result.ports) result.tallies result.fault }
 {
     Outcome {
         fault,
-        history: Record::new(alloc),
+        history: History::new(),
         tallies: TallyList::new(alloc),
         ports: NumberedList::new(alloc),
     }
@@ -140,60 +128,41 @@ fn begin<R: Wait, P: Port, C: Clock>(
     requires ported { all_ported parts.plan.components ≡ true }
     ensures judged { IsJudged result.history result.fault }
     ensures told { IsTrueTo P.told result.history result.ports result.fault }
-    ensures returned { IsLegalWithReturns result.history }
+    ensures returned { AllReturned result.history result.fault }
     ensures installed { IsInForce parts.plan result.history result.fault }
-    ensures copies { AreKept result.history result.fault }
-    ensures notices { AreNoticed result.history result.fault }
+    ensures ended { HasEnded (length result.ports) result.history }
     ensures read { IsReadOut result.history result.fault }
-    ensures ended { AreEnded result.history (length result.ports) result.fault }
-    ensures legal { IsLegal result.history }
-    ensures complete { IsComplete result.history result.fault }
     ensures counted { IsCounted result.history (length result.ports) result.tallies result.fault }
     ensures closed { AreClosed P.told result.ports }
     ensures numbers { AreNumbered 0 result.ports }
     ensures none_missing { HasEach parts.plan result.history result.ports result.fault }
 {
-    let Ok(plan) = parts.plan.copy(alloc) else {
-        return unbegun(alloc, Some(Fault::WantOfMemory));
-    };
     match Hub::new(alloc, parts, clock.now()) {
-        Ok(hub) => finish(rt, alloc, &plan, hub, clock),
+        Ok(hub) => finish(rt, alloc, hub, clock),
         Err(_) => unbegun(alloc, Some(Fault::WantOfMemory)),
     }
 }
 
 /// Runs a hub to its end.
-fn finish<R: Wait, P: Port, C: Clock>(
-    rt: &R,
-    alloc: Global,
-    plan: &Plan,
-    hub: Hub<P>,
-    clock: &C,
-) -> Outcome<P>
-    requires stands { Stands P.told hub [] hub.log.history }
-    requires size { length hub.rows.items ≡ length plan.now.components }
-    requires plan { hub.plan ≡ plan.now }
+fn finish<R: Wait, P: Port, C: Clock>(rt: &R, alloc: Global, hub: Hub<P>, clock: &C) -> Outcome<P>
+    requires { IsHub P.told hub }
     ensures judged { IsJudged result.history result.fault }
     ensures told { IsTrueTo P.told result.history result.ports result.fault }
-    ensures returned { IsLegalWithReturns result.history }
-    ensures installed { IsInForce plan.now result.history result.fault }
-    ensures copies { AreKept result.history result.fault }
-    ensures notices { AreNoticed result.history result.fault }
+    ensures returned { AllReturned result.history result.fault }
+    ensures same { IsSameRun hub.books.log result.history }
+    ensures ended { HasEnded (length result.ports) result.history }
     ensures read { IsReadOut result.history result.fault }
-    ensures ended { AreEnded result.history (length result.ports) result.fault }
-    ensures legal { IsLegal result.history }
-    ensures complete { IsComplete result.history result.fault }
     ensures counted { IsCounted result.history (length result.ports) result.tallies result.fault }
     ensures closed { AreClosed P.told result.ports }
     ensures numbers { AreNumbered 0 result.ports }
-    ensures count { length result.ports ≡ length plan.now.components }
+    ensures count { length result.ports ≡ length (started result.history) }
 {
     let mut hub = hub;
     drive(rt, alloc, &mut hub, clock);
-    let fault = judge(alloc, plan, &hub);
-    let instances = hub.instances();
+    engine_laws();
+    let fault = judge(alloc, &hub);
+    let Counted { tallies, fault } = count(alloc, &hub, fault);
     let Remains { ports, history } = hub.end();
-    let Counted { tallies, fault } = count(alloc, &history, instances, fault);
     Outcome {
         fault,
         history,
@@ -208,16 +177,45 @@ struct Counted {
     fault: Option<Fault>,
 }
 
-/// Counts what the instances did. Where no memory is found for that, nothing is counted, and that is the run's fault.
-fn count(alloc: Global, history: &Record, instances: u32, fault: Option<Fault>) -> Counted
-    ensures counted { IsCounted history.now instances result.tallies result.fault }
+/// What the instances counted. Where memory was wanting, or none is found for that, nothing is counted, and that is the
+/// run's fault.
+fn count<P: Port>(alloc: Global, hub: &Hub<P>, fault: Option<Fault>) -> Counted
+    requires { IsHub P.told hub.now }
+    ensures counted { IsCounted hub.now.books.log (length (started hub.now.books.log)) result.tallies result.fault }
     ensures kept { (result.fault ≡ fault) ⊎ (result.fault ≡ Some Fault.WantOfMemory) }
 {
-    match tallies(alloc, history, instances) {
-        Ok(tallies) => Counted { tallies, fault },
-        Err(WantOfMemory) => Counted {
-            tallies: TallyList::new(alloc),
-            fault: Some(Fault::WantOfMemory),
-        },
+    if hub.starved() {
+        return uncounted(alloc);
     }
+    match tallies(alloc, hub) {
+        Ok(tallies) => Counted { tallies, fault },
+        Err(WantOfMemory) => uncounted(alloc),
+    }
+}
+
+/// Nothing is counted, for want of memory.
+fn uncounted(alloc: Global) -> Counted
+    ensures none { result.tallies ≡ [] }
+    ensures short { result.fault ≡ Some Fault.WantOfMemory }
+{
+    Counted {
+        tallies: TallyList::new(alloc),
+        fault: Some(Fault::WantOfMemory),
+    }
+}
+
+/// What each instance counted, in order.
+fn tallies<P: Port>(alloc: Global, hub: &Hub<P>) -> Result<TallyList, WantOfMemory>
+    requires hub { IsHub P.told hub.now }
+    requires fed { hub.now.books.run.short ≡ false }
+    ensures { IfOk result (λ list. list ≡ tallies_of hub.now.books.log (length (started hub.now.books.log))) }
+{
+    let mut list = TallyList::new(alloc);
+    for instance in 0..hub.instances() {
+        match list.push(hub.tally(instance)) {
+            Ok(()) => {}
+            Err(_) => return Err(WantOfMemory),
+        }
+    }
+    Ok(list)
 }

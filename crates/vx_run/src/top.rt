@@ -1,10 +1,10 @@
 ghost use Rattle.std.specs.Prelude.{◌≡◌, length};
-ghost use Rattle.vx_hub.specs.Order.{IsLegalWithReturns};
-ghost use Rattle.vx_hub.specs.Remains.{AreNumbered, AreClosed};
-ghost use Rattle.vx_record.specs.Legal.{IsLegal};
+ghost use Rattle.vx_record.specs.Legal.{IsLegal, IsClosed};
+ghost use Rattle.vx_hub.specs.Making.{ArePorted};
+ghost use Rattle.vx_hub.specs.Remains.{AreNumbered, AreClosed, HasOnePlace, AllSpent, HasNotices, HasEnds};
 ghost use Rattle.vx_run.specs.Answers.{IsAnswer};
 ghost use Rattle.vx_cli.specs.Statuses.{ended_status};
-ghost use Rattle.vx_run.specs.Running.{IsTrueTo, HasInstalled, AreKept, AreNoticed, IsReadOut, AreEnded, IsCounted, NoneMissing, IsComplete};
+ghost use Rattle.vx_run.specs.Running.{IsTrueTo, AllReturned, HasInstalled, IsReadOut, IsCounted, NoneMissing};
 ghost use Rattle.vx_run.specs.Showing.{IsShown};
 ghost use Rattle.vx_run.specs.Telling.{IsSaid};
 
@@ -19,7 +19,7 @@ use vx_value::{TextList, VariableList};
 /// Runs the pipeline of a configuration, or judges one, as the words ask for, and prints why that didn't end well.
 ///
 /// `words` are the program's words without its own name. A run that ends has read its input to its end, but for sources
-/// that failed, and for runs that took too many bytes or were given up; it may wait for as long as a port has nothing.
+/// that failed, and for runs that were given up; it may wait for as long as a port has nothing.
 pub fn vector<R: Wait, W: World, C: Clock, P: Printer, L: Printer>(
     rt: &R,
     alloc: Global,
@@ -31,14 +31,16 @@ pub fn vector<R: Wait, W: World, C: Clock, P: Printer, L: Printer>(
     err: &mut L,
 ) -> Ended<W>
     ensures told { IsTrueTo W.Port.told result.history result.ports result.fault }
-    ensures returned { IsLegalWithReturns result.history }
+    ensures returned { AllReturned result.history result.fault }
     ensures installed { HasInstalled words.now environment.now (W.texts world) result.history result.fault }
-    ensures copies { AreKept result.history result.fault }
-    ensures notices { AreNoticed result.history result.fault }
+    ensures copies { HasOnePlace result.history }
+    ensures spent { AllSpent result.history }
+    ensures notices { HasNotices result.history }
     ensures read { IsReadOut result.history result.fault }
-    ensures ended { AreEnded result.history (length result.ports) result.fault }
+    ensures ended { HasEnds (length result.ports) result.history }
     ensures legal { IsLegal result.history }
-    ensures complete { IsComplete result.history result.fault }
+    ensures ported { ArePorted result.history }
+    ensures complete { IsClosed result.history }
     ensures counted { IsCounted result.history (length result.ports) result.tallies result.fault }
     ensures closed { AreClosed W.Port.told result.ports }
     ensures numbers { AreNumbered 0 result.ports }

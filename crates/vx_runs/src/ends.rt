@@ -1,14 +1,12 @@
 //! Runs whose ends fail, refuse or take less than they are given.
 
 use crate::fixtures::Play;
-use crate::runs::{EMPTY, Run, ran, runs};
+use crate::runs::{EMPTY, Run, notices, ran, runs};
 use std::alloc::Global;
 use std::process::Abort;
 use std::sync::Wait;
 use std::test::Fail;
 use vx_ends::Act;
-use vx_record::{Entry, Record};
-use vx_status::BatchStatus;
 
 /// The line `ab`, between ends that pass.
 const LINE: Run = Run {
@@ -17,28 +15,23 @@ const LINE: Run = Run {
     ..EMPTY
 };
 
-/// The status of the last notice in a record.
-fn last_notice(history: &Record) -> Option<BatchStatus> {
-    let mut last = None;
-    for i in 0..history.len() {
-        if let Some(Entry::Notice { batch: _, status }) = history.get(i) {
-            last = Some(*status);
-        }
-    }
-    last
-}
-
-/// Does a run, and checks what must come of it, the status of its last notice too.
+/// Does a run, and checks what must come of it, the notices of its only batch too.
 fn notes<R: Wait + Abort>(
     rt: &R,
     alloc: Global,
     run: &Run,
-    status: BatchStatus,
+    wanted: (u64, u64, u64),
 ) -> Result<(), Fail> {
     let ended = ran(rt, alloc, run)?;
-    assert!(rt; last_notice(&ended.history) == Some(status));
+    assert!(rt; notices(&ended) == wanted);
     Ok(())
 }
+
+/// The notices of a batch that was delivered.
+const DELIVERED: (u64, u64, u64) = (1, 0, 0);
+
+/// The notices of a batch that had an error.
+const ERRORED: (u64, u64, u64) = (0, 1, 0);
 
 /// A source that doesn't start.
 const NEVER_STARTED: Run = Run {
@@ -98,7 +91,7 @@ const NOT_GIVEN: Run = Run {
 
 #[test]
 fn a_failed_give_is_an_error_of_its_batch(rt: HostRuntime) -> Result<(), Fail> {
-    notes(&rt, rt.alloc(), &NOT_GIVEN, BatchStatus::Errored)
+    notes(&rt, rt.alloc(), &NOT_GIVEN, ERRORED)
 }
 
 /// A sink that fails when it is to finish.
@@ -109,7 +102,7 @@ const NOT_FINISHED: Run = Run {
 
 #[test]
 fn a_failed_finish_is_an_error_of_its_batch(rt: HostRuntime) -> Result<(), Fail> {
-    notes(&rt, rt.alloc(), &NOT_FINISHED, BatchStatus::Errored)
+    notes(&rt, rt.alloc(), &NOT_FINISHED, ERRORED)
 }
 
 /// A sink that takes a byte, and another, and then the rest.
@@ -120,5 +113,5 @@ const IN_PARTS: Run = Run {
 
 #[test]
 fn a_partial_give_goes_on(rt: HostRuntime) -> Result<(), Fail> {
-    notes(&rt, rt.alloc(), &IN_PARTS, BatchStatus::Delivered)
+    notes(&rt, rt.alloc(), &IN_PARTS, DELIVERED)
 }

@@ -36,13 +36,6 @@ fn numbers_that_are_used_up(rt: HostRuntime) -> Result<(), Fail> {
 }
 
 #[test]
-fn a_run_that_is_too_long(rt: HostRuntime) -> Result<(), Fail> {
-    let text = "> vector: too many bytes in one run\n";
-    prints(&rt, rt.alloc(), &Fault::TooLong, text, 74)?;
-    Ok(())
-}
-
-#[test]
 fn components_that_make_a_cycle(rt: HostRuntime) -> Result<(), Fail> {
     let names = texts(rt.alloc(), &["x", "y"])?;
     let fault = Fault::ConfigRefused(PlanFault::Graph(GraphFault::Cycle(names)));

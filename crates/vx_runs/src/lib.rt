@@ -4,6 +4,8 @@
 #[cfg(test)]
 mod acknowledging;
 #[cfg(test)]
+mod by_hand;
+#[cfg(test)]
 mod callers;
 #[cfg(test)]
 mod configurations;

@@ -1,15 +1,13 @@
 //! Runs of other configurations than the first one.
 
 use crate::fixtures::Play;
-use crate::runs::{EMPTY, Run, ran, runs};
+use crate::runs::{EMPTY, Run, notices, ran, runs};
 use std::alloc::Global;
 use std::process::Abort;
 use std::sync::Wait;
 use std::test::Fail;
 use vx_ends::{Act, MemoryWorld};
-use vx_record::{Entry, Record};
 use vx_run::Ended;
-use vx_status::BatchStatus;
 
 /// A source, and two consoles that read it: one by its name, and one on standard error by a pattern.
 pub(crate) const TWO_SINKS: &str = "[sources.in]
@@ -27,21 +25,9 @@ inputs = [\"i*\"]
 encoding.codec = \"text\"
 ";
 
-/// How many notices of a status stand in a record.
-fn notices(history: &Record, wanted: BatchStatus) -> u64 {
-    let mut found = 0;
-    for i in 0..history.len() {
-        if let Some(Entry::Notice { batch: _, status }) = history.get(i) {
-            found = u64::saturating_add(found, u64::from(*status == wanted));
-        }
-    }
-    found
-}
-
-/// Checks how many notices tell that a batch was delivered, and that one was rejected.
+/// Checks how many batches were delivered, and how many were rejected. None had an error.
 fn noted(rt: &impl Abort, ended: &Ended<MemoryWorld>, delivered: u64, rejected: u64) {
-    assert_eq!(rt; notices(&ended.history, BatchStatus::Delivered), delivered);
-    assert_eq!(rt; notices(&ended.history, BatchStatus::Rejected), rejected);
+    assert!(rt; notices(ended) == (delivered, 0, rejected));
 }
 
 /// Two lines for two consoles.

@@ -138,13 +138,21 @@ pub(crate) fn given(ended: &Ended<MemoryWorld>, instance: usize) -> &[u8] {
     }
 }
 
-/// Checks how many ports there are, and what each was given. Where there is none, nothing is in the record.
+/// How many batches of `in` were delivered, had an error, and were rejected.
+pub(crate) fn notices(ended: &Ended<MemoryWorld>) -> (u64, u64, u64) {
+    match ended.tallies.get(0) {
+        Some(source) => (source.delivered, source.errored, source.rejected),
+        None => (0, 0, 0),
+    }
+}
+
+/// Checks how many ports there are, and what each was given. As many instances are counted.
 fn were_given(rt: &impl Abort, ended: &Ended<MemoryWorld>, wanted: &[&str]) {
     assert_eq!(rt; ended.ports.len(), wanted.len());
     for i in 0..wanted.len() {
         assert!(rt; given(ended, i) == wanted[i].as_bytes());
     }
-    assert!(rt; !wanted.is_empty() || ended.history.is_empty());
+    assert_eq!(rt; ended.tallies.len(), wanted.len());
 }
 
 /// Does a run whose `in` plays these steps, and checks all that must come of it.

@@ -8,7 +8,7 @@ use std::test::Fail;
 use vx_record::Tally;
 
 /// The counts of an instance that did nothing.
-const NOTHING: Tally = Tally {
+pub(crate) const NOTHING: Tally = Tally {
     read: 0,
     lines: 0,
     overlong: 0,

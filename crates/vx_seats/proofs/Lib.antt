@@ -3,6 +3,7 @@ pub mod Owing
 pub mod Births
 pub mod Progressing
 pub mod Asking
+pub mod Shutting
 pub mod Staying
 pub mod Knowing
 pub mod Steps

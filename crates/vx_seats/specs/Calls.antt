@@ -1,6 +1,6 @@
 -- What the calls of the seats need and tell.
-use Rattle.std.specs.Prelude.{◌≡◌, ◌≢◌, ℕ, true, false, List, Option, Some, None, IfSome, IsSomeAnd, slice_get, take_while}
-use Rattle.vx_ends.specs.Told.{Told}
+use Rattle.std.specs.Prelude.{◌≡◌, ◌≢◌, ◌≤◌, ℕ, true, false, List, Option, Some, None, IfSome, IsSomeAnd, slice_get, take_while}
+use Rattle.vx_ends.specs.Told.{Told, SameBytes}
 use Rattle.vx_ends.specs.declared.position.Position.{Position}
 use Rattle.vx_record.specs.Records.{Record}
 use Rattle.vx_record.specs.Ceasing.{cause_of}
@@ -65,3 +65,22 @@ pub record Leaves {P : Type 0} (was is : Seat P) (task : Task P) (positions : Op
   pub had : was.task ≡ Some task
   pub rest : is ≡ record was { progress = is.progress; task = None }
   pub asked : IsAskedOf positions was.progress is.progress
+
+-- a port that is closed tells what it told, with counts that never fall
+pub record IsClosedBy (was is : Told) : Type 0 where
+  pub shut : is.started ≡ false
+  pub bytes : SameBytes was is
+  pub faults : was.faults ≤ is.faults
+  pub idles : was.idles ≤ is.idles
+  pub refusals : was.refusals ≤ is.refusals
+
+-- the port of a task is closed
+abbrev pub TaskShuts : {P : Type 0} → (P → Told) → Option (Task P) → Option (Task P) → Type 0
+TaskShuts told_by None is = is ≡ None
+TaskShuts told_by (Some was) None = ⊥
+TaskShuts told_by (Some was) (Some is) = (is.role ≡ was.role) × IsClosedBy (told_by was.port) (told_by is.port)
+
+-- that of a seat is, if its task is at home
+pub record Shuts {P : Type 0} (told_by : P → Told) (was is : Seat P) : Type 0 where
+  pub rest : is ≡ record was { task = is.task }
+  pub task : TaskShuts told_by was.task is.task

@@ -1,5 +1,5 @@
 -- What the calls leave of the seats as it was.
-use Rattle.std.specs.Prelude.{◌≡◌, ◌≢◌, ◌||◌, ℕ, Bool, List, Some, None, IfSome, IsSomeAnd, slice_get}
+use Rattle.std.specs.Prelude.{◌≡◌, ◌≢◌, ◌||◌, ℕ, Bool, List, Some, None, is_some, IfSome, IsSomeAnd, slice_get}
 use Rattle.vx_tasks.specs.declared.task.Task.{Task}
 use Rattle.vx_seats.specs.declared.seat.Seat.{Seat}
 
@@ -45,3 +45,8 @@ pub record HasRead {P : Type 0} (untold : Bool) (was is : Seat P) : Type 0 where
   pub behind : is.facts.behind ≡ (untold || was.facts.behind)
   pub starved : is.facts.starved ≡ was.facts.starved
   pub task : is.task ≡ was.task
+
+-- so are all but its port, which is closed if it is at home
+pub record IsShut {P : Type 0} (was is : Seat P) : Type 0 where
+  pub rest : is ≡ record was { task = is.task }
+  pub home : is_some is.task ≡ is_some was.task

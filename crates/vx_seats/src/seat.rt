@@ -1,10 +1,10 @@
 ghost use Rattle.std.specs.Prelude.{◌≡◌, IfSome, IfNone, None};
-ghost use Rattle.vx_seats.specs.Calls.{Leaves};
+ghost use Rattle.vx_seats.specs.Calls.{Leaves, Shuts};
 
 use crate::facts::{Batching, Facts};
 use crate::progress::Progress;
 use vx_counts::Counts;
-use vx_ends::PositionList;
+use vx_ends::{Port, PositionList};
 use vx_ledger::Outlet;
 use vx_plan::Class;
 use vx_tasks::Task;
@@ -39,5 +39,14 @@ pub(crate) fn leave_seat<P>(seat: &mut Seat<P>) -> Option<(Task<P>, Option<Posit
             Some((task, positions))
         }
         None => None,
+    }
+}
+
+/// Closes the port of a seat, if its task is at home.
+pub(crate) fn shut_seat<P: Port>(seat: &mut Seat<P>)
+    ensures { Shuts P.told seat.old seat.new }
+{
+    if let Some(task) = &mut seat.task {
+        task.port.close();
     }
 }

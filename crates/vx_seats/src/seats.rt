@@ -26,10 +26,10 @@ ghost use Rattle.vx_plan.specs.Accepted.{IsPlan};
 ghost use Rattle.vx_record.specs.Wirings.{begun};
 ghost use Rattle.vx_seats.specs.Beginning.{AreFresh};
 ghost use Rattle.vx_seats.specs.Knowing.{Knows};
-ghost use Rattle.vx_seats.specs.Staying.{EachSeat, OneSeat, Stays, IsLeft, HasRead};
+ghost use Rattle.vx_seats.specs.Staying.{EachSeat, OneSeat, Stays, IsLeft, IsShut, HasRead};
 ghost use Rattle.vx_seats.specs.Calls.{CountsAt, IsSettledAt, IsShutAt, HadHome, HadNobody, HasTaskBack, HasPlaceFor};
 
-use crate::seat::{Seat, leave_seat};
+use crate::seat::{Seat, leave_seat, shut_seat};
 use std::alloc::Global;
 use std::marker::Model;
 use vx_counts::Counts;
@@ -184,6 +184,17 @@ impl<P: Port> Seats<P> {
         ensures knows { (h : Record) → IsShutAt P.told self.old i → Knows P.told self.old h → IsLegal (Closed i ∷ h) → Knows P.told self.new (Closed i ∷ h) }
     {
         self.seats[i as usize].facts.closed = true;
+    }
+
+    /// Closes the port of an instance, if it is at home.
+    pub fn shut(&mut self, i: u32)
+        requires { i < length self.old }
+        ensures size { length self.new ≡ length self.old }
+        ensures shut { IsShutAt P.told self.new i }
+        ensures stays { OneSeat IsShut i self.old self.new }
+        ensures knows { (h : Record) → Knows P.told self.old h → Knows P.told self.new h }
+    {
+        shut_seat(&mut self.seats[i as usize]);
     }
 
     /// An instance ended.

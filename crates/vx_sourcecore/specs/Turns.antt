@@ -1,5 +1,5 @@
 -- What one turn of a source brought, as the record and the port have it.
-use Rattle.std.specs.Prelude.{◌≡◌, ℕ, ◌≤◌, ◌==◌, not, if◌then◌else◌, List, [], ◌∷◌, ◌++◌, take, Option, Some, None, IfSome}
+use Rattle.std.specs.Prelude.{◌≡◌, ℕ, ◌≤◌, ◌==◌, not, if◌then◌else◌, List, [], ◌∷◌, ◌++◌, take, length, Option, Some, None, IfSome}
 use Rattle.vx_value.specs.Texts.{Word}
 use Rattle.vx_ends.specs.Told.{Told, Rose, Grows}
 use Rattle.vx_record.specs.declared.taken.Taken.{Taken}
@@ -29,6 +29,11 @@ cut_of (StreamEnded stream cut) = cut
 cut_of (AllEnded stream cut) = cut
 cut_of Idle = None
 cut_of (Failed at_start) = None
+
+-- the bytes of a turn are in its room
+abbrev pub IsInRoom : Turned → Type 0
+IsInRoom (Lines stream n room cut) = n ≤ length room.value.items
+IsInRoom other = Unit {0}
 
 -- the bytes of a stream that a read took
 abbrev pub read_bytes : Option Reading → ℕ → Word

@@ -11,7 +11,7 @@ pub struct NewLines {
     pub lines: u64,
     /// Lines that were too long.
     pub overlong: u64,
-    /// Lines that were not too long, and of which no event could be made.
+    /// Non-empty lines of an allowed length that gave no event.
     pub undecodable: u64,
 }
 

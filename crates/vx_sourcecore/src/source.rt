@@ -38,7 +38,7 @@ pub enum Turned {
         stream: u64,
         cut: Option<Cut>,
     },
-    /// All has ended, and with it the stream that bytes were last taken of.
+    /// All has ended, and with it the stream that bytes were last taken of, which is 0 where none were.
     AllEnded {
         stream: u64,
         cut: Option<Cut>,
@@ -67,7 +67,7 @@ pub struct SourceCore {
 impl SourceCore {
     ghost use Rattle.std.specs.Prelude.{◌≡◌, ℕ, ◌≤◌, length, take, IfOk, OnErr, IfSome, IsTrue};
     ghost use Rattle.vx_record.specs.Records.{Record, capped};
-    ghost use Rattle.vx_sourcecore.specs.Turns.{DidTake, IsUnmoved, cut_of};
+    ghost use Rattle.vx_sourcecore.specs.Turns.{DidTake, IsUnmoved, IsInRoom, cut_of};
     ghost use Rattle.vx_sourcecore.specs.Sources.{IsOf, HasFed, HasFinished, HasBrought, BringsSome, IsOfOpen, IsSame, IsFresh};
     ghost use Rattle.vx_sourcecore.specs.Abreast.{IsAbreast, HasTurned, MayTurnOn};
 
@@ -100,6 +100,7 @@ impl SourceCore {
     pub fn turn<P: Port>(&mut self, port: &mut P) -> Result<Turned, WantOfMemory>
         ensures did { IfOk result (λ turned. DidTake (P.told port.old) turned (P.told port.new)) }
         ensures unmoved { OnErr result (IsUnmoved (P.told port.old) (P.told port.new)) }
+        ensures whole { IfOk result IsInRoom }
         ensures few { IfOk result (λ turned. IfSome (cut_of turned) (λ cut. length cut.events ≤ 65536)) }
         ensures turned { IfOk result (λ turned. (h : Record) → (i : ℕ) → MayTurnOn h i (P.told port.old).ended → IsAbreast h i self.old → HasTurned h i self.new turned) }
         ensures stays { OnErr result ((h : Record) → (i : ℕ) → IsAbreast h i self.old → IsAbreast h i self.new) }
@@ -116,6 +117,7 @@ impl SourceCore {
         requires { IsTrue (P.told port.old).started }
         ensures did { IfOk result (λ turned. DidTake (P.told port.old) turned (P.told port.new)) }
         ensures unmoved { OnErr result (IsUnmoved (P.told port.old) (P.told port.new)) }
+        ensures whole { IfOk result IsInRoom }
         ensures some { IfOk result BringsSome }
         ensures open { IfOk result (IsOfOpen (P.told port.old).ended) }
         ensures brings { IfOk result (λ turned. HasBrought self.old turned self.new) }

@@ -16,7 +16,7 @@ use Rattle.vx_record.specs.Turns.{lease_now}
 use Rattle.vx_record.specs.Installs.{component_of, told, source_at}
 use Rattle.vx_record.specs.Lists.{stands, parcels_at, contents, held, buffered, is_stage_of}
 use Rattle.vx_record.specs.Shifts.{shift, at}
-use Rattle.vx_record.specs.Routing.{drains, all_dry, is_named, is_ending, is_too_long}
+use Rattle.vx_record.specs.Routing.{drains, all_dry, is_named, is_ending}
 use Rattle.vx_record.specs.SinkBatches.{taken_at, attempts_with, failures_with, failed_at, wait_after, oldest_held, is_full_batch, is_timed_out, is_last_batch, was_attempted, retry_from}
 use Rattle.vx_record.specs.Sourcing.{Yield, yield}
 use Rattle.vx_record.specs.Legal.{IsLegal}
@@ -55,7 +55,7 @@ dry_by true a off e = cc
 dry_by false a off e = e
 
 undrained : (h : Record) (i : ℕ) → IsLegal h → source_at h i ≡ false → drains h i ≡ false
-undrained h i legal off = ap (λ (m : Bool). m || (source_at h i && (false || is_too_long h))) (unmarked h i legal) ∙ ap (λ (s : Bool). s && (false || is_too_long h)) off
+undrained h i legal off = ap (λ (m : Bool). m || (source_at h i && false)) (unmarked h i legal) ∙ ap (λ (s : Bool). s && false) off
 
 last_of : (h : Record) (i : ℕ) → IsLegal h → is_last_batch h i ≡ true → IsUnread h → IsLast h i
 last_of h i legal last unread = record {

@@ -17,15 +17,18 @@ use Rattle.vx_record.proofs.Turning.{turn_undry}
 use Rattle.vx_tasks.specs.declared.confirming.Confirmed.{Confirmed}
 use Rattle.vx_tasks.specs.declared.landing.Done.{Done}
 use Rattle.vx_tasks.specs.declared.landing.Done.TheVariants.{Short, Starved}
+use Rattle.vx_tasks.specs.declared.landing.Done.TheVariants as done
 use Rattle.vx_tasks.specs.declared.landing.Landing.{Landing}
 use Rattle.vx_tasks.specs.declared.task.Role.{Role}
+use Rattle.vx_tasks.specs.declared.task.Role.TheVariants as role
+use Rattle.vx_tasks.specs.Jobs.{KeepsRole}
 use Rattle.vx_tasks.specs.declared.work.Job.{Job}
 use Rattle.vx_tasks.specs.declared.work.Job.TheVariants as job
 use Rattle.vx_tasks.specs.declared.work.Work.{Work}
 use Rattle.vx_tasks.specs.Telling.{IsTold, GoesBeyond, IsToldBeyond}
 use Rattle.vx_tasks.specs.Laws.{StarvedBeyond}
 use Rattle.vx_tasks.specs.Doing.{MayAct}
-use Rattle.vx_tasks.specs.Out.{IsIdle, MayReadNow, IsGiven, AreDue, HasLeft, confirm_entries, IsConfirmedSo, TellsDone, HasActed, HasDone}
+use Rattle.vx_tasks.specs.Out.{IsIdle, MayReadNow, IsGiven, AreDue, HasLeft, confirm_entries, IsConfirmedSo, TellsDone, HasActed, is_unfit, leaves_unfit, HasDone}
 
 -- a source that isn't dry wasn't told the end of all
 unended : (s a l d : Bool) → s ≡ true → (s && (a || l || d)) ≡ false → a ≡ false
@@ -60,6 +63,17 @@ abbrev pub landed : {P : Type 0} → Work P → P → Role → Option Confirmed 
 landed work port role confirmed done =
     record { instance = work.instance; worker = work.worker; task = record { port = port; role = role }; held = work.held; confirmed = confirmed; done = done }
 
+-- what an instance does stays of use, but where what it read wasn't cut
+fit_of : (told : Told) (h : Record) (i : ℕ) (was now : Role) (d : Done) → is_unfit was ≡ false → KeepsRole was now d → HasActed told h i now d → is_unfit now ≡ leaves_unfit d
+fit_of told h i was now (done.Read turned) fit keeps acted = acted.fit
+fit_of told h i (role.Source core) (role.Source next) d fit keeps acted = refl
+fit_of told h i (role.Sink codec) (role.Sink next) d fit keeps acted = refl
+fit_of told h i role.Unfit now d fit keeps acted = cc
+fit_of told h i (role.Source core) role.Unfit d fit keeps acted = absurd keeps
+fit_of told h i (role.Source core) (role.Sink next) d fit keeps acted = absurd keeps
+fit_of told h i (role.Sink codec) (role.Source next) d fit keeps acted = absurd keeps
+fit_of told h i (role.Sink codec) role.Unfit d fit keeps acted = absurd keeps
+
 module _ {P : Type 0} (told_by : P → Told) (h : Record) (work : Work P) (legal : IsLegal h) (left : HasLeft told_by h work) where
   -- what was confirmed, and then done
   pub done_of : (mid port : P) (role : Role) (confirmed : Option Confirmed) (done : Done) →
@@ -67,23 +81,26 @@ module _ {P : Type 0} (told_by : P → Told) (h : Record) (work : Work P) (legal
       ((k : Record) (i : ℕ) (d : Done) → AreDue k i work.positions → IsConfirmedSo k i d confirmed) →
       ((k : Record) (i : ℕ) → IsTold (told_by mid) k i → TellsDone (told_by port) k i work.held.items done) →
       ((k : Record) (i : ℕ) → MayAct (told_by mid) k i work.task.role work.held.items work.job → HasActed (told_by port) k i role done) →
+      KeepsRole work.task.role role done →
       HasDone told_by h (landed work port role confirmed done)
-  done_of mid port role confirmed done confirms due tells acts =
+  done_of mid port role confirmed done confirms due tells acts keeps =
       let told = confirms h work.instance left.home.told in
+      let acted : HasActed (told_by port) h work.instance role done = acts h work.instance (record {
+        given = left.job;
+        come = left.home.come;
+        held = left.held;
+        ended = told.ended ∙ ended_behind h work.instance confirmed;
+        wrote = subst (λ (w : List ℕ). IfSome (told_by mid).given (λ bytes. bytes ≡ w)) (given_behind h work.instance confirmed) told.given;
+        unended = reads_unended h work.instance work.worker work.job legal left.out left.idle left.job;
+      }) in
       record {
         out = left.out;
         idle = left.idle;
         held = left.held;
         confirmed = due h work.instance done left.asked;
         told = tells (confirm_entries work.instance confirmed ++ h) work.instance told;
-        acted = acts h work.instance (record {
-          given = left.job;
-          come = left.home.come;
-          held = left.held;
-          ended = told.ended ∙ ended_behind h work.instance confirmed;
-          wrote = subst (λ (w : List ℕ). IfSome (told_by mid).given (λ bytes. bytes ≡ w)) (given_behind h work.instance confirmed) told.given;
-          unended = reads_unended h work.instance work.worker work.job legal left.out left.idle left.job;
-        });
+        acted = acted;
+        fit = fit_of (told_by port) h work.instance work.task.role role done left.fit keeps acted;
       }
 
   -- no memory was found to confirm
@@ -96,6 +113,7 @@ module _ {P : Type 0} (told_by : P → Told) (h : Record) (work : Work P) (legal
     confirmed = tt;
     told = same h work.instance left.home.told;
     acted = left.home.come;
+    fit = left.fit;
   }
 
 -- where the attempt starved the port goes beyond the record

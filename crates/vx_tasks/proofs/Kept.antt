@@ -16,7 +16,7 @@ use Rattle.vx_record.specs.Legal.{IsLegal}
 use Rattle.vx_record.specs.Places.Place.{Held}
 use Rattle.vx_record.specs.Shifts.{at}
 use Rattle.vx_record.specs.Turns.{at_lease, lease_now, since_lease, is_turn_of, is_attempt_of, is_confirm_of}
-use Rattle.vx_record.specs.Installs.{component_of, source_at}
+use Rattle.vx_record.specs.Installs.{component_of, source_at, is_closed}
 use Rattle.vx_record.specs.Parcels.{parcel_event}
 use Rattle.vx_record.specs.Encoding.{given, bytes_for, encoded}
 use Rattle.vx_record.specs.Reads.{bytes_taken}
@@ -27,7 +27,7 @@ use Rattle.vx_record.specs.Ready.{can_read}
 use Rattle.vx_record.specs.Tasks.{is_of, mine, out_to}
 use Rattle.vx_record.specs.Makers.{Spares}
 use Rattle.vx_record.specs.Additions.{OnlyAdds}
-use Rattle.vx_record.proofs.OwnTurns.{worker_own, moment_own}
+use Rattle.vx_record.proofs.OwnTurns.{worker_own, moment_own, closed_own}
 use Rattle.vx_record.proofs.OwnLeases.{turned_own, tried_own, confirmed_own, lease_stays}
 use Rattle.vx_record.proofs.OwnConfirms.{given_own}
 use Rattle.vx_record.proofs.OwnReads.{bytes_own, starts_own}
@@ -149,6 +149,7 @@ module _ (old new : Record) (i worker : ℕ) (legal : IsLegal old) (adds : OnlyA
     no_turn = stays (λ h k. list_any (is_turn_of k) (since_lease h k)) turned_own old new i same ∙ idle.no_turn;
     no_attempt = stays (λ h k. list_any (is_attempt_of k) (since_lease h k)) tried_own old new i same ∙ idle.no_attempt;
     no_confirm = stays (λ h k. list_any (is_confirm_of k) (since_lease h k)) confirmed_own old new i same ∙ idle.no_confirm;
+    unclosed = stays is_closed closed_own old new i same ∙ idle.unclosed;
   }
 
   come_kept : (r : Role) → HasCome old i r → HasCome new i r
@@ -215,7 +216,7 @@ module _ (old new : Record) (i worker : ℕ) (legal : IsLegal old) (adds : OnlyA
 
   acted_kept : (told : Told) (r : Role) (parcels : List Parcel) (d : Done) → IsHeld old i parcels → IsHeld new i parcels → HasActed told old i r d → HasActed told new i r d
   acted_kept told r parcels done.Nothing was now is = come_kept r is
-  acted_kept told r parcels (done.Read turned) was now is = record { may = read_kept is.may; come = turned_role_kept r turned is.come; few = is.few; fit = is.fit }
+  acted_kept told r parcels (done.Read turned) was now is = record { may = read_kept is.may; come = turned_role_kept r turned is.come; whole = is.whole; few = is.few; fit = is.fit }
   acted_kept told r parcels (done.Attempted all sent answer) was now is = record {
     may = attempt_kept is.may;
     come = come_kept r is.come;
@@ -247,6 +248,7 @@ left_kept told old new work legal adds left =
       held = held_stays work.held.items old new i adds legal left.held;
       asked = due_kept old new i w legal adds left.out work.positions left.asked;
       job = given_kept old new i w legal adds left.out work.job left.job;
+      fit = left.fit;
     }
 
 pub done_kept : {P : Type 0} (told : P → Told) → DoneKept told
@@ -261,4 +263,5 @@ done_kept told old new landing legal adds back =
       confirmed = so_kept old new i w legal adds back.out landing.done landing.confirmed back.confirmed;
       told = tells_behind (told landing.task.port) old new i (same old new i w legal adds back.out) (run old new i w legal adds back.out) landing.confirmed landing.held.items landing.done back.told;
       acted = acted_kept old new i w legal adds back.out (told landing.task.port) landing.task.role landing.held.items landing.done back.held now back.acted;
+      fit = back.fit;
     }

@@ -13,7 +13,7 @@ use Rattle.vx_record.specs.Records.{Record, capped}
 use Rattle.vx_record.specs.Copies.{joined}
 use Rattle.vx_record.specs.Tasks.{out_to}
 use Rattle.vx_record.specs.Turns.{at_lease, lease_now, since_lease, is_turn_of, is_attempt_of, is_confirm_of}
-use Rattle.vx_record.specs.Installs.{source_at, sink_at}
+use Rattle.vx_record.specs.Installs.{source_at, sink_at, is_closed}
 use Rattle.vx_record.specs.Confirms.{due, is_confirm_due}
 use Rattle.vx_record.specs.Reads.{bytes_taken}
 use Rattle.vx_record.specs.Sourcing.{failed_starts}
@@ -25,7 +25,7 @@ use Rattle.vx_record.specs.Places.Place.{Held}
 use Rattle.vx_record.specs.Shifts.{at}
 use Rattle.vx_sourcecore.specs.declared.source.Turned.{Turned}
 use Rattle.vx_sourcecore.specs.declared.source.Turned.TheVariants as turned
-use Rattle.vx_sourcecore.specs.Turns.{Reading, reading_of, cut_of}
+use Rattle.vx_sourcecore.specs.Turns.{Reading, reading_of, cut_of, IsInRoom}
 use Rattle.vx_sourcecore.specs.Abreast.{HasTurned}
 use Rattle.vx_places.specs.Numbers.{numbers, EachFilled}
 use Rattle.vx_places.specs.Holding.{AreKnown}
@@ -41,11 +41,12 @@ use Rattle.vx_tasks.specs.declared.work.Work.{Work}
 use Rattle.vx_tasks.specs.Telling.{IsTold, IsToldButGiven, GoesBeyond}
 use Rattle.vx_tasks.specs.Home.{HasCome, IsAtHome}
 
--- since it was leased an instance took no turn, made no attempt and confirmed nothing
+-- since it was leased an instance took no turn, made no attempt and confirmed nothing, and its port isn't closed for good
 pub record IsIdle (h : Record) (i : ℕ) : Type 0 where
   pub no_turn : list_any (is_turn_of i) (since_lease h i) ≡ false
   pub no_attempt : list_any (is_attempt_of i) (since_lease h i) ≡ false
   pub no_confirm : list_any (is_confirm_of i) (since_lease h i) ≡ false
+  pub unclosed : is_closed h i ≡ false
 
 -- what the parcels that were lent are: what the record has the instance hold, with the events that it has for them, and a copy each
 pub record IsHeld (h : Record) (i : ℕ) (parcels : List Parcel) : Type 0 where
@@ -96,6 +97,12 @@ abbrev pub AreDue : Record → ℕ → Option (List Position) → Type 0
 AreDue h i None = is_confirm_due (at_lease h i) i ≡ false
 AreDue h i (Some positions) = (source_at h i ≡ true) × ((is_confirm_due (at_lease h i) i ≡ true) × (positions ≡ due (at_lease h i) i))
 
+-- whether what an instance does is nothing any more
+abbrev pub is_unfit : Role → Bool
+is_unfit (role.Source core) = false
+is_unfit (role.Sink codec) = false
+is_unfit role.Unfit = true
+
 -- a task as it left
 pub record HasLeft {P : Type 0} (told_by : P → Told) (h : Record) (work : Work P) : Type 0 where
   pub out : out_to h work.instance ≡ Some work.worker
@@ -104,6 +111,7 @@ pub record HasLeft {P : Type 0} (told_by : P → Told) (h : Record) (work : Work
   pub held : IsHeld h work.instance work.held.items
   pub asked : AreDue h work.instance work.positions
   pub job : IsGiven h work.instance work.job
+  pub fit : is_unfit work.task.role ≡ false
 
 -- the entry of a read, and where there is none, of an idle take
 abbrev pub read_entry : ℕ → Option Reading → Entry
@@ -148,10 +156,10 @@ TellsDone told h i parcels done = IsTold told (deeds h i parcels done ++ h) i
 abbrev pub lacks_cut : Turned → Bool
 lacks_cut turned = is_some (reading_of turned) && is_none (cut_of turned)
 
-abbrev pub is_unfit : Role → Bool
-is_unfit (role.Source core) = false
-is_unfit (role.Sink codec) = false
-is_unfit role.Unfit = true
+-- so its source is of no use any more
+abbrev pub leaves_unfit : Done → Bool
+leaves_unfit (done.Read turned) = lacks_cut turned
+leaves_unfit other = false
 
 -- what a source does comes back as far as its turn says
 abbrev pub HasRoleTurned : Record → ℕ → Role → Turned → Type 0
@@ -163,6 +171,7 @@ HasRoleTurned h i role.Unfit turned = Unit {0}
 pub record HasRead (h : Record) (i : ℕ) (worker_role : Role) (turned : Turned) : Type 0 where
   pub may : MayReadNow h i
   pub come : HasRoleTurned h i worker_role turned
+  pub whole : IsInRoom turned
   pub few : IfSome (cut_of turned) (λ cut. length cut.events ≤ 65536)
   pub fit : is_unfit worker_role ≡ lacks_cut turned
 
@@ -206,3 +215,4 @@ pub record HasDone {P : Type 0} (told_by : P → Told) (h : Record) (landing : L
   pub confirmed : IsConfirmedSo h landing.instance landing.done landing.confirmed
   pub told : TellsDone (told_by landing.task.port) (confirm_entries landing.instance landing.confirmed ++ h) landing.instance landing.held.items landing.done
   pub acted : HasActed (told_by landing.task.port) h landing.instance landing.task.role landing.done
+  pub fit : is_unfit landing.task.role ≡ leaves_unfit landing.done

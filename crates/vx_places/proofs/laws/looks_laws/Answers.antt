@@ -1,4 +1,4 @@
-use Rattle.vx_places.proofs.Recorded.{output_is, none_waits_is, sent_is, some_is, buffer_is, holds_is, bare_is_bare}
+use Rattle.vx_places.proofs.Recorded.{output_is, none_waits_is, awaits_is, sent_is, some_is, buffer_is, holds_is, bare_is_bare}
 use Rattle.vx_places.proofs.Firsts.{first_room_is, first_filled_is}
 use Rattle.vx_places.proofs.laws.looks_laws.Goals as goal
 
@@ -7,6 +7,9 @@ returns-clause-output c = output_is
 
 pub returns-clause-waiting : goal.returns-clause-waiting
 returns-clause-waiting c = none_waits_is
+
+pub returns-clause-awaits : goal.returns-clause-awaits
+returns-clause-awaits c = awaits_is
 
 pub returns-clause-sent : goal.returns-clause-sent
 returns-clause-sent c = sent_is

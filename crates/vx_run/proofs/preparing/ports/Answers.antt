@@ -1,9 +1,7 @@
-use Rattle.std.proofs.Common.{ap, sym, subst, ◌∙◌, List, length, ◌+◌}
-use Rattle.vx_hub.specs.declared.parts.Named.{Named}
-use Rattle.vx_hub.specs.Making.{AreUntouched}
-use Rattle.vx_hub.specs.Order.{all_ported}
-use Rattle.vx_hub.proofs.Ported.{item_device}
-use Rattle.vx_run.proofs.Prepared.{untouched_more, component_got, one_more}
+use Rattle.std.proofs.Common.{ap, ◌∙◌, length, ◌+◌}
+use Rattle.vx_hub.specs.Making.{all_ported}
+use Rattle.vx_run.proofs.Ported.{item_device}
+use Rattle.vx_run.proofs.Prepared.{untouched_added, component_got, one_more}
 use Rattle.vx_run.proofs.preparing.ports.Goals as goal
 
 pub port-requires : goal.port-requires
@@ -14,11 +12,10 @@ pub loop-component-preserved : goal.loop-component-preserved
 loop-component-preserved g c =
     let inv = c.loop-component.invariant in
     record {
-      count = ap length c.in-Ok.ensures.ok ∙ one_more c.loop-component.ports c.in_ok-port.port ∙ ap (λ n. n + 1) inv.count;
-      untouched = subst (λ (ps : List (Named _)). AreUntouched g.W.Port.Port.told c.args.plan.now.components ps) (sym c.in-Ok.ensures.ok)
-          (untouched_more g.W.Port.Port.told c.args.plan.now.components c.loop-component.ports c.component-item.result c.in_ok-port.port
+      count = one_more c.loop-component.ports c.push.new.self c.in_ok-port.port c.in-Ok.ensures.ok ∙ ap (λ n. n + 1) inv.count;
+      untouched = untouched_added g.W.Port.Port.told c.args.plan.now.components c.loop-component.ports c.push.new.self c.component-item.result c.in_ok-port.port c.in-Ok.ensures.ok
           (component_got c.args.plan.now.components c.as_slice-component-items.result.now c.loop-component.component-index (length c.loop-component.ports) c.component-item.result c.as_slice-component-items.ensures inv.count
-          c.loop-component-test.true c.component-item.is) inv.untouched c.in_ok-port.ensures.untouched);
+          c.loop-component-test.true c.component-item.is) inv.untouched c.in_ok-port.ensures.untouched;
       texts = c.in_ok-port.ensures.texts ∙ inv.texts;
       faults = c.in_ok-port.ensures.faults ∙ inv.faults;
     }

@@ -1,5 +1,6 @@
 use Rattle.std.proofs.Common.{arith}
-use Rattle.vx_hub.proofs.Growing.{grows_on, take_on, same_on}
+use Rattle.vx_runs.proofs.Growing.{same_on}
+use Rattle.vx_tasks.proofs.Telling.{grows_on, take_on}
 use Rattle.vx_runs.proofs.callers.give_all.Goals as goal
 
 pub loop-at-preserved : goal.loop-at-preserved

@@ -1,0 +1,44 @@
+-- What a full buffer does is what the plan says.
+use Rattle.std.proofs.Common.{◌≡◌, ◌∙◌, ℕ, zero, suc, ◌+◌, ◌<◌, false, List, [], ◌∷◌, Option, Some, None, length, refl, sym, ap, arith}
+use Rattle.std.specs.Prelude.{slice_get}
+use Rattle.vx_ends.specs.Told.{Told}
+use Rattle.vx_plan.specs.declared.component.Component.{Component}
+use Rattle.vx_plan.specs.declared.settings.Settings.{Settings}
+use Rattle.vx_plan.specs.declared.sink_settings.SinkSettings.{SinkSettings}
+use Rattle.vx_plan.specs.declared.stage.Stage.{Stage}
+use Rattle.vx_plan.specs.Components.{stages, sink_stages}
+use Rattle.vx_plan.specs.Options.{sink_options}
+use Rattle.vx_record.specs.Stages.{stages_of, drops_newest, last_drops}
+use Rattle.vx_record.proofs.Wired.{component_in_place}
+use Rattle.vx_places.proofs.Written.{one_some}
+use Rattle.vx_moves.specs.declared.books.Books.{Books}
+use Rattle.vx_moves.specs.Stands.{Stands}
+
+last_at : (list : List Stage) (k : ℕ) (stage : Stage) → k + 1 ≡ length list → slice_get list k ≡ Some stage → drops_newest stage.when_full ≡ last_drops list
+last_at [] k stage size is = absurd (omega (arith, size))
+last_at (x ∷ []) zero stage size is = sym (ap (λ (s : Stage). drops_newest s.when_full) (one_some x stage is))
+last_at (x ∷ []) (suc k) stage size is = absurd (omega (arith, size))
+last_at (x ∷ y ∷ rest) zero stage size is = absurd (omega (arith, size))
+last_at (x ∷ y ∷ rest) (suc k) stage size is = last_at (y ∷ rest) k stage (omega (arith, size)) is
+
+no_stage : (list : List Stage) → length list ≡ 0 → false ≡ last_drops list
+no_stage [] none = refl
+no_stage (x ∷ rest) none = absurd (omega (arith, none))
+
+pub none_last : (list : List Stage) (n : ℕ) → n ≡ length list → n ≡ 0 → false ≡ last_drops list
+none_last list n size none = no_stage list (sym size ∙ none)
+
+pub last_drops_is : (list : List Stage) (n k : ℕ) (stage : Stage) → n ≡ length list → (n ≡ 0 → ⊥) → k + 1 ≡ n → slice_get list k ≡ Some stage → drops_newest stage.when_full ≡ last_drops list
+last_drops_is list n k stage size some next is = last_at list k stage (next ∙ size) is
+
+pub sink_drops : (settings : Settings) (o : Option SinkSettings) → sink_options settings ≡ o → last_drops (sink_stages settings) ≡ last_drops (elim o [ None ↦ [] | Some sink ↦ sink.buffer ])
+sink_drops settings o is = ap (λ (x : Option SinkSettings). last_drops (elim x [ None ↦ [] | Some sink ↦ sink.buffer ])) is
+
+pub planned_drops : {P : Type 0} (told_by : P → Told) (books : Books P) (i : ℕ) (o : Option Component) → Stands told_by books → slice_get books.run.plan.components i ≡ o → last_drops (stages_of books.log i) ≡ last_drops (elim o [ None ↦ [] | Some c ↦ stages c ])
+planned_drops told_by books i o stands is =
+    ap (λ (x : Option Component). last_drops (elim x [ None ↦ [] | Some c ↦ stages c ])) (component_in_place books.log books.run.plan i stands.legal stands.run.installed ∙ is)
+
+pub nothing_there : (list : List Stage) (k : ℕ) → slice_get list k ≡ None → k < length list → ⊥
+nothing_there [] k none below = omega (arith, below)
+nothing_there (x ∷ rest) zero none below = cc
+nothing_there (x ∷ rest) (suc k) none below = nothing_there rest k none (omega (arith, below))

@@ -1,0 +1,20 @@
+use Rattle.std.proofs.Common.{◌∙◌, ap, arith}
+use Rattle.vx_hub.specs.Beginning.{IsRoleFor}
+use Rattle.vx_hub.specs.Making.{all_ported}
+use Rattle.vx_hub.proofs.Begun.{for_next, device_in}
+use Rattle.vx_hub.proofs.beginning.make_roles.Goals as goal
+
+pub make_role-requires : goal.make_role-requires
+make_role-requires c =
+    let same = c.as_slice-component-items.ensures in
+    device_in c.as_slice-component-items.result.now c.loop-component.component-index c.component-item.result (ap all_ported same ∙ c.requires) c.loop-component-test.true c.component-item.is
+
+pub loop-component-preserved : goal.loop-component-preserved
+loop-component-preserved c =
+    let v = c.loop-component.invariant in
+    record {
+      begun = for_next IsRoleFor c.args.plan.now.components c.as_slice-component-items.result.now c.as_slice-component-items.ensures c.loop-component.roles.items c.push_reserved.new.self.items c.in_ok-role.role c.component-item.result
+          c.loop-component.component-index c.push_reserved.ensures.items v.begun v.size c.loop-component-test.true c.component-item.is c.in_ok-role.ensures;
+      size = omega (arith, v.size, c.push_reserved.ensures.len);
+      room = omega (arith, v.room, c.push_reserved.ensures.capacity);
+    }

@@ -1,0 +1,23 @@
+use Rattle.std.proofs.Common.{◌∙◌, arith}
+use Rattle.vx_hub.proofs.Moving.{moved_both, going_same, out_same, entered_both, entered_here, few_here}
+use Rattle.vx_hub.proofs.pushing.push_steps.Goals as goal
+
+pub returns-in_err-entered-clause-moved : goal.returns-in_err-entered-clause-moved
+returns-in_err-entered-clause-moved g c = moved_both g.P.Port.told c.args.i c.args.books.now c.loop.books c.move_one.new.books c.loop.invariant.moved c.move_one.ensures.moved
+
+pub returns-in-None-clause-moved : goal.returns-in-None-clause-moved
+returns-in-None-clause-moved g c = moved_both g.P.Port.told c.args.i c.args.books.now c.loop.books c.move_one.new.books c.loop.invariant.moved c.move_one.ensures.moved
+
+pub loop-preserved : goal.loop-preserved
+loop-preserved g c =
+    let was = c.loop.invariant in
+    let moved = c.move_one.ensures.moved in
+    let few = was.few in
+    let one = few_here c.in_ok-entered.field-0 c.in-Some.entered c.in-Some.is c.in_ok-entered.ensures.one in record {
+      moved = moved_both g.P.Port.told c.args.i c.args.books.now c.loop.books c.move_one.new.books was.moved moved;
+      going = going_same c.args.i c.loop.books.log c.move_one.new.books.log moved.only ∙ was.going;
+      home = out_same c.args.i c.args.i c.loop.books.log c.move_one.new.books.log moved.only ∙ was.home;
+      entered = entered_both c.args.books.now.log c.loop.books.log c.move_one.new.books.log c.loop.pushed c.in-Some.entered was.entered
+          (entered_here c.in_ok-entered.field-0 c.in-Some.entered c.loop.books.log c.move_one.new.books.log c.in-Some.is c.in_ok-entered.ensures.entered);
+      few = omega (arith, few, one);
+    }

@@ -1,0 +1,14 @@
+use Rattle.std.proofs.Common.{◌≡◌, ◌≤◌, false}
+use Rattle.vx_record.specs.Abandoning.{abandoned}
+use Rattle.vx_record.specs.Turns.{is_out}
+use Rattle.vx_hub.specs.Pushing.{HasMoved, HaveEntered}
+use Rattle.vx_hub.proofs.pushing.push_steps.Given as goal
+
+abbrev pub invariant-loop : goal.invariant-loop
+invariant-loop g l = record {
+  moved : HasMoved g.P.Port.told l.i l.fn.books l.books;
+  going : abandoned l.books.log ≡ false;
+  home : is_out l.books.log l.i ≡ false;
+  entered : HaveEntered l.pushed l.fn.books.log l.books.log;
+  few : l.pushed ≤ l.counter;
+}

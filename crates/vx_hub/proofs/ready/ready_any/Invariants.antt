@@ -1,0 +1,5 @@
+use Rattle.vx_hub.proofs.Readying.{NoneBelow}
+use Rattle.vx_hub.proofs.ready.ready_any.Given as goal
+
+abbrev pub invariant-loop-i : goal.invariant-loop-i
+invariant-loop-i g l = NoneBelow l.books l.now l.i

@@ -1,0 +1,90 @@
+-- How a run ends.
+use Rattle.std.specs.Prelude.{◌≡◌, ◌<◌, ℕ, true, false, [], length, IsSome}
+use Rattle.vx_ends.specs.Told.{Told}
+use Rattle.vx_status.specs.declared.outcome.Outcome.TheVariants.{Abandoned}
+use Rattle.vx_record.specs.declared.abandon_cause.AbandonCause.{AbandonCause}
+use Rattle.vx_record.specs.declared.entry.Entry.{Entry}
+use Rattle.vx_record.specs.declared.entry.Entry.TheVariants.{Spent, Notice, Closed, Abandon}
+use Rattle.vx_record.specs.Records.{Record}
+use Rattle.vx_record.specs.Additions.{OnlyAdds}
+use Rattle.vx_record.specs.Ending.{MayRetire}
+use Rattle.vx_record.specs.Installs.{started, is_closed, is_retired}
+use Rattle.vx_record.specs.Places.{Place, owner}
+use Rattle.vx_record.specs.Shifts.{at}
+use Rattle.vx_record.specs.Turns.{is_out}
+use Rattle.vx_places.specs.Rooms.{SameRooms}
+use Rattle.vx_seats.specs.declared.seat.Seat.{Seat}
+use Rattle.vx_seats.specs.Staying.{EachSeat, SameFlags}
+use Rattle.vx_moves.specs.declared.books.Books.{Books}
+use Rattle.vx_moves.specs.Stands.{Stands}
+
+-- each instance ended
+abbrev pub IsOver : Record → Type 0
+IsOver h = (i : ℕ) → i < length (started h) → is_retired h i ≡ true
+
+-- none may end
+abbrev pub NoneRetires : Record → Type 0
+NoneRetires h = (i : ℕ) → i < length (started h) → MayRetire h i → ⊥
+
+-- the task of a seat is at home, its port is closed for good, and its instance hasn't ended
+pub record IsClosing {P : Type 0} (seat : Seat P) : Type 0 where
+  pub home : IsSome seat.task
+  pub closed : seat.facts.closed ≡ true
+  pub unretired : seat.facts.retired ≡ false
+
+-- an entry gives up what stands at an instance: a spend of a copy as abandoned, a notice, or that its port is closed for good
+abbrev pub GivesUpOf : ℕ → Record → Entry → Type 0
+GivesUpOf i h (Spent j c outcome) = (j ≡ i) × (outcome ≡ Abandoned)
+GivesUpOf i h (Notice b status) = Unit {0}
+GivesUpOf i h (Closed j) = j ≡ i
+GivesUpOf i h other = ⊥
+
+-- of any instance, or says that the run is given up for a cause
+abbrev pub GivesUp : AbandonCause → Record → Entry → Type 0
+GivesUp cause h (Spent j c outcome) = outcome ≡ Abandoned
+GivesUp cause h (Notice b status) = Unit {0}
+GivesUp cause h (Closed j) = Unit {0}
+GivesUp cause h (Abandon other) = other ≡ cause
+GivesUp cause h other = ⊥
+
+-- nothing stands at an instance, and its port is closed for good
+pub record IsGivenUp (h : Record) (i : ℕ) : Type 0 where
+  pub bare : (p : Place) → owner p ≡ i → at h p ≡ []
+  pub closed : is_closed h i ≡ true
+
+-- each that is at home is given up
+abbrev pub AreGivenUp : Record → Type 0
+AreGivenUp h = (i : ℕ) → i < length (started h) → is_out h i ≡ false → IsGivenUp h i
+
+-- what isn't known any more of the seats, the rooms and who is lent one, the plan, whether memory was wanting, and who is out are
+-- as they were
+pub record Rests {P : Type 0} (old new : Books P) : Type 0 where
+  pub flags : EachSeat SameFlags old.seats new.seats
+  pub size : length new.seats ≡ length old.seats
+  pub rooms : SameRooms old.places new.places
+  pub plan : new.run.plan ≡ old.run.plan
+  pub short : new.run.short ≡ old.run.short
+  pub out : (i : ℕ) → is_out new.log i ≡ is_out old.log i
+
+-- the port of an instance is closed for good, and no parcel was moved
+pub record ClosesDown {P : Type 0} (told_by : P → Told) (i : ℕ) (old new : Books P) : Type 0 where
+  pub stands : Stands told_by new
+  pub rests : Rests old new
+  pub only : OnlyAdds (GivesUpOf i) old.log new.log
+  pub closed : is_closed new.log i ≡ true
+  pub still : (p : Place) → at new.log p ≡ at old.log p
+
+-- an instance is given up if it is at home; a place that had no parcel still has none
+pub record GivesUpAt {P : Type 0} (told_by : P → Told) (i : ℕ) (old new : Books P) : Type 0 where
+  pub stands : Stands told_by new
+  pub rests : Rests old new
+  pub only : OnlyAdds (GivesUpOf i) old.log new.log
+  pub up : is_out old.log i ≡ false → IsGivenUp new.log i
+  pub empty : (p : Place) → at old.log p ≡ [] → at new.log p ≡ []
+
+-- each instance below a number was given up that was at home, and of others nothing was
+pub record GivesUpBelow {P : Type 0} (told_by : P → Told) (n : ℕ) (old new : Books P) : Type 0 where
+  pub stands : Stands told_by new
+  pub rests : Rests old new
+  pub only : (cause : AbandonCause) → OnlyAdds (GivesUp cause) old.log new.log
+  pub up : (i : ℕ) → i < n → is_out old.log i ≡ false → IsGivenUp new.log i

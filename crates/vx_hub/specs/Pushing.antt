@@ -1,0 +1,53 @@
+-- What moving an instance's parcels on does.
+use Rattle.std.specs.Prelude.{◌≡◌, ◌⊎◌, ◌+◌, ℕ, true, Option, IfNone, [], ◌∷◌, length}
+use Rattle.vx_ends.specs.Told.{Told}
+use Rattle.vx_status.specs.declared.outcome.Outcome.TheVariants.{NewestDropped, NoConsumer}
+use Rattle.vx_record.specs.declared.entry.Entry.{Entry}
+use Rattle.vx_record.specs.declared.entry.Entry.TheVariants.{Split, Push, Spent, Notice}
+use Rattle.vx_record.specs.Records.{Record}
+use Rattle.vx_record.specs.Additions.{OnlyAdds}
+use Rattle.vx_record.specs.Stages.{stages_of, last_drops}
+use Rattle.vx_places.specs.Calls.{NoneWaits, IsOldestFor}
+use Rattle.vx_places.specs.Looks.{HasOutput, IsFirstRoom}
+use Rattle.vx_moves.specs.Leaving.{Leaves}
+use Rattle.vx_moves.specs.Stands.{Stands}
+use Rattle.vx_moves.specs.declared.books.Books.{Books}
+
+-- a split or a push of the instance, a spend of a copy of it that nobody reads or that its target dropped, or a notice
+abbrev pub IsMoveOf : ℕ → Record → Entry → Type 0
+IsMoveOf i h (Split j ports copies event children) = j ≡ i
+IsMoveOf i h (Push j t s copies) = j ≡ i
+IsMoveOf i h (Spent j c outcome) = (j ≡ i) × ((outcome ≡ NoConsumer) ⊎ (outcome ≡ NewestDropped))
+IsMoveOf i h (Notice b status) = Unit {0}
+IsMoveOf i h other = ⊥
+
+-- parcels of an instance were moved on, and nothing else was done
+pub record HasMoved {P : Type 0} (told_by : P → Told) (i : ℕ) (old new : Books P) : Type 0 where
+  pub stands : Stands told_by new
+  pub only : OnlyAdds (IsMoveOf i) old.log new.log
+  pub leaves : Leaves old new
+  pub size : length new.seats ≡ length old.seats
+
+-- how many children entered a buffer
+abbrev pub pushes : Record → ℕ
+pushes [] = 0
+pushes (Push i t s copies ∷ h) = pushes h + 1
+pushes (e ∷ h) = pushes h
+
+-- so many did in between
+abbrev pub HaveEntered : ℕ → Record → Record → Type 0
+HaveEntered n old new = pushes new ≡ pushes old + n
+
+-- a waiting child of an instance, the oldest for its target, may enter the target's first stage that has room, or is dropped where
+-- all are full
+pub record CanPass {P : Type 0} (books : Books P) (i : ℕ) : Type 0 where
+  pub child : ℕ
+  pub target : ℕ
+  pub stage : Option ℕ
+  pub oldest : IsOldestFor books.places i target child
+  pub room : IsFirstRoom books.places target stage
+  pub drops : IfNone stage (last_drops (stages_of books.log target) ≡ true)
+
+-- so it is, or no child of it waits and it has an output
+abbrev pub CanMove : {P : Type 0} → Books P → ℕ → Type 0
+CanMove books i = (NoneWaits books.places i × HasOutput books.places i) ⊎ CanPass books i

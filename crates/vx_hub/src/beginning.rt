@@ -1,0 +1,222 @@
+// What each instance begins with, but for its port.
+ghost use Rattle.std.specs.Prelude.{◌≡◌, ◌∷◌, ◌*◌, [], true, None, length, IfOk};
+ghost use Rattle.vx_plan.specs.Numbers.{reader_numbers};
+ghost use Rattle.vx_plan.specs.Components.{sink_stages, batch_max_events, batch_timeout};
+ghost use Rattle.vx_plan.specs.Options.{has_device, encoding};
+ghost use Rattle.vx_seats.specs.Beginning.{AreNew};
+ghost use Rattle.vx_seats.specs.Knowing.{batching_of};
+ghost use Rattle.vx_hub.specs.Making.{all_ported};
+ghost use Rattle.vx_hub.specs.Beginning.{IsBegun, IsSourceFor, IsRoleFor, AreFor, rooms_of, rooms_in};
+
+use std::alloc::Global;
+use vx_counts::Counts;
+use vx_ends::Port;
+use vx_json::Decoding;
+use vx_ledger::Outlet;
+use vx_plan::{Class, Component, Plan, Settings, StageList};
+use vx_seats::{Batching, Facts, Progress, Seat};
+use vx_sourcecore::{Prefix, SourceCore};
+use vx_tasks::Role;
+use vx_value::{Text, WantOfMemory};
+
+/// The greatest number that an instance may have.
+const MOST_INSTANCES: u64 = 0xffff_ffff;
+
+/// For how many parcels the buffer of a transform has room.
+const TRANSFORM_ROOM: usize = 100;
+
+/// The seats of the components of a plan, without tasks.
+pub(crate) fn make_seats<P: Port>(alloc: Global, plan: &Plan) -> Result<Vec<Seat<P>>, WantOfMemory>
+    ensures begun { IfOk result (λ seats. AreFor (IsBegun plan.now) plan.now.components seats.items) }
+    ensures size { IfOk result (λ seats. length seats.items ≡ length plan.now.components) }
+{
+    let mut seats = Vec::with_capacity(alloc, plan.components.len())?;
+    for component in plan.components.as_slice() {
+        let seat = make_seat(alloc, plan, component)?;
+        seats.push_reserved(seat);
+    }
+    Ok(seats)
+}
+
+/// The seat of a component, without a task.
+fn make_seat<P: Port>(
+    alloc: Global,
+    plan: &Plan,
+    component: &Component,
+) -> Result<Seat<P>, WantOfMemory>
+    ensures { IfOk result (λ seat. IsBegun plan.now seat component.now) }
+{
+    let name = component.name.copy(alloc)?;
+    let outlet = make_outlet(alloc, plan, component)?;
+    let waits = plan.acknowledged(component.name.as_str());
+    Ok(Seat {
+        name,
+        class: component.class,
+        outlet,
+        batching: batching(component),
+        facts: first_facts(),
+        progress: Progress {
+            unnoticed: 0,
+            prefix: Prefix::new(alloc, waits),
+        },
+        counts: Counts::none(),
+        task: None,
+    })
+}
+
+/// What is known of an instance to which nothing happened yet.
+fn first_facts() -> Facts
+    ensures { AreNew result }
+{
+    Facts {
+        over: false,
+        lost: None,
+        failed_starts: 0,
+        confirm_failed: false,
+        closed: false,
+        retired: false,
+        since: 0,
+        owing: false,
+        behind: false,
+        starved: false,
+    }
+}
+
+/// The outlet of a component, which has one port: the numbers of the instances that read it are the places of their components in
+/// the plan.
+fn make_outlet(alloc: Global, plan: &Plan, component: &Component) -> Result<Outlet, WantOfMemory>
+    ensures { IfOk result (λ outlet. outlet ≡ reader_numbers plan.now component.now.name 0 ∷ []) }
+{
+    let readers = plan.readers(alloc, component.name.as_str(), 0)?;
+    if readers
+        .as_slice()
+        .iter()
+        .any(|reader| *reader > MOST_INSTANCES)
+    {
+        return Err(WantOfMemory);
+    }
+    let mut outlet = Outlet::new(alloc, 1)?;
+    outlet.rewire(0, readers);
+    Ok(outlet)
+}
+
+/// How a component collects, if it is a sink.
+fn batching(component: &Component) -> Option<Batching>
+    ensures { result ≡ batching_of component.now }
+{
+    match component.class {
+        Class::Source | Class::Transform => None,
+        Class::Sink => Some(Batching {
+            max_events: most_events(&component.settings),
+            timeout: timeout(&component.settings),
+        }),
+    }
+}
+
+/// How many parcels a batch may have; 0 where no sink makes one.
+pub(crate) fn most_events(settings: &Settings) -> u32
+    ensures { result ≡ batch_max_events settings.now }
+{
+    match settings.sink() {
+        Some(sink) => sink.batch_max_events,
+        None => 0,
+    }
+}
+
+/// How long a batch waits for more parcels, in milliseconds; 0 where no sink makes one.
+fn timeout(settings: &Settings) -> u64
+    ensures { result ≡ batch_timeout settings.now }
+{
+    match settings.sink() {
+        Some(sink) => to_millis(sink.batch_timeout_secs),
+        None => 0,
+    }
+}
+
+/// The milliseconds of some seconds.
+fn to_millis(seconds: u32) -> u64
+    ensures { result ≡ seconds * 1000 }
+{
+    u64::from(seconds) * 1000
+}
+
+/// What the components of a plan do with their ports.
+pub(crate) fn make_roles(alloc: Global, plan: &Plan) -> Result<Vec<Role>, WantOfMemory>
+    requires { all_ported plan.now.components ≡ true }
+    ensures begun { IfOk result (λ roles. AreFor IsRoleFor plan.now.components roles.items) }
+    ensures size { IfOk result (λ roles. length roles.items ≡ length plan.now.components) }
+{
+    let mut roles = Vec::with_capacity(alloc, plan.components.len())?;
+    for component in plan.components.as_slice() {
+        let role = make_role(alloc, component)?;
+        roles.push_reserved(role);
+    }
+    Ok(roles)
+}
+
+/// What a component does with its port.
+fn make_role(alloc: Global, component: &Component) -> Result<Role, WantOfMemory>
+    requires { has_device component.now.settings ≡ true }
+    ensures { IfOk result (λ role. IsRoleFor role component.now) }
+{
+    match component.settings.encoding() {
+        Some(codec) => Ok(Role::Sink(codec)),
+        None => {
+            let core = make_source(alloc, &component.settings)?;
+            Ok(Role::Source(core))
+        }
+    }
+}
+
+/// What cuts the lines that a component reads.
+fn make_source(alloc: Global, settings: &Settings) -> Result<SourceCore, WantOfMemory>
+    requires device { has_device settings.now ≡ true }
+    requires reads { encoding settings.now ≡ None }
+    ensures { IfOk result (IsSourceFor settings.now) }
+{
+    let limit = settings.line_limit().unwrap_or(0);
+    let decoding = settings.decoding().unwrap_or(Decoding::Bytes);
+    let source_type = Text::copy_of(alloc, "stdin")?;
+    SourceCore::new(alloc, limit, decoding, source_type)
+}
+
+/// For how many parcels each stage of a component's buffer has room.
+pub(crate) fn stage_rooms(alloc: Global, component: &Component) -> Result<Vec<usize>, WantOfMemory>
+    ensures { IfOk result (λ rooms. rooms.items ≡ rooms_of component.now) }
+{
+    match component.class {
+        Class::Source => Ok(Vec::new(alloc)),
+        Class::Transform => one_room(alloc),
+        Class::Sink => sink_rooms(alloc, &component.settings),
+    }
+}
+
+/// For how many parcels the stage of a transform's buffer has room.
+fn one_room(alloc: Global) -> Result<Vec<usize>, WantOfMemory>
+    ensures { IfOk result (λ rooms. rooms.items ≡ 100 ∷ []) }
+{
+    let mut rooms = Vec::new(alloc);
+    rooms.push(TRANSFORM_ROOM)?;
+    Ok(rooms)
+}
+
+/// For how many parcels each stage of a sink's buffer has room.
+fn sink_rooms(alloc: Global, settings: &Settings) -> Result<Vec<usize>, WantOfMemory>
+    ensures { IfOk result (λ rooms. rooms.items ≡ rooms_in (sink_stages settings.now)) }
+{
+    match settings.sink() {
+        Some(sink) => each_room(alloc, &sink.buffer),
+        None => Ok(Vec::new(alloc)),
+    }
+}
+
+/// For how many parcels each of some stages has room.
+fn each_room(alloc: Global, stages: &StageList) -> Result<Vec<usize>, WantOfMemory>
+    ensures { IfOk result (λ rooms. rooms.items ≡ rooms_in stages.now) }
+{
+    let mut rooms = Vec::with_capacity(alloc, stages.len())?;
+    for stage in stages.as_slice() {
+        rooms.push_reserved(stage.max_events as usize);
+    }
+    Ok(rooms)
+}

@@ -1,0 +1,96 @@
+// Which instance has work.
+ghost use Rattle.std.specs.Prelude.{◌≡◌, ◌<◌, ◌≤◌, length, IfSome, IfNone, true, false};
+ghost use Rattle.vx_record.specs.Installs.{sink_at};
+ghost use Rattle.vx_moves.specs.Stands.{Stands};
+ghost use Rattle.vx_ready.specs.Asking.{IsServed};
+ghost use Rattle.vx_hub.specs.Leases.{IsReadyFor, NoneReady, NoneFoundAt, NoSinkFound};
+
+use vx_ends::Port;
+use vx_moves::Books;
+use vx_ready::{first_job, is_sink};
+use vx_tasks::Job;
+
+/// An instance at home that has work.
+#[derive(Clone, Copy)]
+pub(crate) struct Ready {
+    pub instance: u32,
+    pub job: Job,
+}
+
+/// The first instance that has work at a moment: a sink, or where none has, another. `None` where none at home has.
+pub(crate) fn first_ready<P: Port>(books: &Books<P>, now: u64) -> Option<Ready>
+    requires stands { Stands P.told books.now }
+    requires served { IsServed books.now }
+    requires latest { books.now.run.latest ≤ now }
+    ensures some { IfSome result (λ ready. IsReadyFor books.now now ready.instance ready.job) }
+    ensures first { IfSome result (λ ready. sink_at books.now.log ready.instance ≡ false → NoSinkFound books.now now (length books.now.seats)) }
+    ensures none { IfNone result (NoneReady books.now now) }
+{
+    match ready_sink(books, now) {
+        Some(ready) => Some(ready),
+        None => ready_any(books, now),
+    }
+}
+
+/// The first sink that has work.
+fn ready_sink<P: Port>(books: &Books<P>, now: u64) -> Option<Ready>
+    requires stands { Stands P.told books.now }
+    requires served { IsServed books.now }
+    ensures some { IfSome result (λ ready. IsReadyFor books.now now ready.instance ready.job) }
+    ensures sink { IfSome result (λ ready. sink_at books.now.log ready.instance ≡ true) }
+    ensures none { IfNone result (NoSinkFound books.now now (length books.now.seats)) }
+{
+    for i in 0..books.seats.len() as u32 {
+        if let Some(ready) = sink_ready(books, i, now) {
+            return Some(ready);
+        }
+    }
+    None
+}
+
+/// An instance, where it is a sink that has work.
+fn sink_ready<P: Port>(books: &Books<P>, i: u32, now: u64) -> Option<Ready>
+    requires stands { Stands P.told books.now }
+    requires within { i < length books.now.seats }
+    requires served { IsServed books.now }
+    ensures some { IfSome result (λ ready. IsReadyFor books.now now ready.instance ready.job) }
+    ensures sink { IfSome result (λ ready. sink_at books.now.log ready.instance ≡ true) }
+    ensures none { IfNone result (sink_at books.now.log i ≡ true → NoneFoundAt books.now now i) }
+{
+    if is_sink(books, i) {
+        job_of(books, i, now)
+    } else {
+        None
+    }
+}
+
+/// An instance, where it has work.
+fn job_of<P: Port>(books: &Books<P>, i: u32, now: u64) -> Option<Ready>
+    requires stands { Stands P.told books.now }
+    requires within { i < length books.now.seats }
+    requires served { IsServed books.now }
+    ensures some { IfSome result (λ ready. IsReadyFor books.now now ready.instance ready.job) }
+    ensures instance { IfSome result (λ ready. ready.instance ≡ i) }
+    ensures none { IfNone result (NoneFoundAt books.now now i) }
+{
+    match first_job(books, i, now) {
+        Some(job) => Some(Ready { instance: i, job }),
+        None => None,
+    }
+}
+
+/// The first instance that has work.
+fn ready_any<P: Port>(books: &Books<P>, now: u64) -> Option<Ready>
+    requires stands { Stands P.told books.now }
+    requires served { IsServed books.now }
+    requires latest { books.now.run.latest ≤ now }
+    ensures some { IfSome result (λ ready. IsReadyFor books.now now ready.instance ready.job) }
+    ensures none { IfNone result (NoneReady books.now now) }
+{
+    for i in 0..books.seats.len() as u32 {
+        if let Some(ready) = job_of(books, i, now) {
+            return Some(ready);
+        }
+    }
+    None
+}

@@ -1,0 +1,109 @@
+-- When an instance has nothing more to do.
+use Rattle.std.proofs.Common.{◌≡◌, ◌∙◌, ℕ, ◌<◌, Bool, true, false, ◌&&◌, List, [], ◌∷◌, length, Option, Some, None, IsSome, refl, sym, ap, arith}
+use Rattle.std.specs.Prelude.{◌==◌, ◌↔◌, not, slice_get, if◌then◌else◌}
+use Rattle.std.proofs.lemmas.Bool.Decides.{nat_tests}
+use Rattle.vx_ends.specs.Told.{Told}
+use Rattle.vx_value.specs.Texts.{is_empty}
+use Rattle.vx_ledger.specs.declared.parcel.Parcel.{Parcel}
+use Rattle.vx_record.specs.Records.{Record}
+use Rattle.vx_record.specs.Confirms.{is_confirm_due}
+use Rattle.vx_record.specs.Installs.{source_at, device_at, transform_at}
+use Rattle.vx_record.specs.Lists.{buffered, held}
+use Rattle.vx_record.specs.Owing.{owes, all_noticed, is_source_done, is_worker_done, is_done}
+use Rattle.vx_record.specs.Places.Place.{Held}
+use Rattle.vx_record.specs.Routing.{is_dry, is_sent, is_ending}
+use Rattle.vx_places.specs.Calls.{IsKept}
+use Rattle.vx_places.specs.Looks.{HasEmptyBuffer, HoldsMany}
+use Rattle.vx_places.specs.Views.{parcels_here}
+use Rattle.vx_places.proofs.Making.{held_says}
+use Rattle.vx_places.proofs.Recorded.{buffer_is, holds_is}
+use Rattle.vx_seats.specs.declared.seat.Seat.{Seat}
+use Rattle.vx_moves.specs.declared.books.Books.{Books}
+use Rattle.vx_moves.specs.Stands.{Stands}
+use Rattle.vx_ready.specs.Asking.{IsServed, IsSettled}
+use Rattle.vx_ready.proofs.Knowing.{at_home, owes_none, seat_there}
+use Rattle.vx_ready.proofs.Naming.{device_is, plain_is}
+use Rattle.vx_ready.proofs.Testing.{same_tests, empty_tests}
+
+-- what an instance at home holds isn't lent
+kept_at : {P : Type 0} (told_by : P → Told) (books : Books P) (stands : Stands told_by books) (i : ℕ) (seat : Seat P) (at : slice_get books.seats i ≡ Some seat) → i < length books.seats → IsSettled books i → IsKept books.places i
+kept_at told_by books stands i seat at within settled =
+    go (parcels_here books.places (Held i)) refl (stands.kept i (at_home told_by books stands i seat at settled).1.home)
+  where
+    go : (o : Option (List Parcel)) → parcels_here books.places (Held i) ≡ o → IsSome o → IsKept books.places i
+    go None there is = cc
+    go (Some parcels) there is = (held_says books.places i (let size = stands.size in omega (arith, size, within))).0 parcels there
+
+pub kept_there : {P : Type 0} (told_by : P → Told) (books : Books P) (stands : Stands told_by books) (i : ℕ) → i < length books.seats → IsSettled books i → IsKept books.places i
+kept_there told_by books stands i within settled = let there = seat_there books.seats i within in kept_at told_by books stands i there.0 there.1 within settled
+
+-- each works with a port
+pub device_there : {P : Type 0} (told_by : P → Told) (books : Books P) (stands : Stands told_by books) (served : IsServed books) (i : ℕ) → i < length books.seats → device_at books.log i ≡ true
+device_there told_by books stands served i within = let there = seat_there books.seats i within in device_is told_by books stands served i there.0 there.1
+
+-- and none is a transform
+pub plain_there : {P : Type 0} (told_by : P → Told) (books : Books P) (stands : Stands told_by books) (served : IsServed books) (i : ℕ) → i < length books.seats → transform_at books.log i ≡ false
+plain_there told_by books stands served i within = let there = seat_there books.seats i within in plain_is told_by books stands served i there.0 there.1
+
+pub unbuffered_is : {P : Type 0} (told_by : P → Told) (books : Books P) (i : ℕ) (empty : Bool) → Stands told_by books → (empty ≡ true) ↔ HasEmptyBuffer books.places i → empty ≡ is_empty (buffered books.log i)
+unbuffered_is told_by books i empty stands says =
+    let law = buffer_is books.log books.places i stands.legal stands.places in
+    let tests = empty_tests (buffered books.log i) in
+    same_tests empty (is_empty (buffered books.log i)) (λ e. tests.1 (law.0 (says.0 e)), λ e. says.1 (law.1 (tests.0 e)))
+
+pub held_is : {P : Type 0} (told_by : P → Told) (books : Books P) (i n : ℕ) → Stands told_by books → HoldsMany books.places i n → n ≡ length (held books.log i)
+held_is told_by books i n stands many = holds_is books.log books.places i n stands.legal stands.places many
+
+-- as many as none
+none_tests : {X : Type 0} (xs : List X) (n : ℕ) → n ≡ length xs → (n == 0) ≡ is_empty xs
+none_tests [] n same = ap (λ k. k == 0) same
+none_tests (x ∷ xs) n same = grind (arith, nat_tests, same)
+
+-- SOURCES
+source_tests : (dry owed sent noticed due : Bool) → owed ≡ false → ((dry && sent) && (noticed && not due)) ≡ (dry && not owed && sent && noticed && not due)
+source_tests dry true sent noticed due e = cc
+source_tests true false true noticed due e = refl
+source_tests true false false noticed due e = refl
+source_tests false false sent noticed due e = refl
+
+pub source_done_is : {P : Type 0} (told_by : P → Told) (books : Books P) (stands : Stands told_by books) (i : ℕ) → i < length books.seats → IsSettled books i → (dry sent noticed due over confirmed result : Bool) →
+    dry ≡ is_dry books.log i → sent ≡ is_sent books.log i → noticed ≡ all_noticed books.log i → due ≡ is_confirm_due books.log i → over ≡ (dry && sent) → confirmed ≡ (noticed && not due) → result ≡ (over && confirmed) →
+    result ≡ is_source_done books.log i
+source_done_is told_by books stands i within settled dry sent noticed due over confirmed result dry_is sent_is noticed_is due_is over_is confirmed_is result_is =
+    let there = seat_there books.seats i within in
+    let over_so : over ≡ (is_dry books.log i && is_sent books.log i) = over_is ∙ ap (λ b. b && sent) dry_is ∙ ap (λ b. is_dry books.log i && b) sent_is in
+    let confirmed_so : confirmed ≡ (all_noticed books.log i && not (is_confirm_due books.log i)) = confirmed_is ∙ ap (λ b. b && not due) noticed_is ∙ ap (λ b. all_noticed books.log i && not b) due_is in
+    result_is ∙ ap (λ b. b && confirmed) over_so ∙ ap (λ b. (is_dry books.log i && is_sent books.log i) && b) confirmed_so
+    ∙ source_tests (is_dry books.log i) (owes books.log i) (is_sent books.log i) (all_noticed books.log i) (is_confirm_due books.log i) (owes_none told_by books stands i there.0 there.1 settled)
+
+-- SINKS
+sink_tests : (ending buffer sent none : Bool) → (((buffer && sent) && none) && ending) ≡ (ending && buffer && sent && none)
+sink_tests true true true none = go none
+  where
+    go : (n : Bool) → (n && true) ≡ n
+    go true = refl
+    go false = refl
+sink_tests true true false none = refl
+sink_tests true false sent none = refl
+sink_tests false true true true = refl
+sink_tests false true true false = refl
+sink_tests false true false none = refl
+sink_tests false false sent none = refl
+
+pub vacant_is : (h : Record) (i n : ℕ) (empty sent both result : Bool) → empty ≡ is_empty (buffered h i) → sent ≡ is_sent h i → n ≡ length (held h i) → both ≡ (empty && sent) → result ≡ (both && (n == 0)) →
+    result ≡ (is_empty (buffered h i) && is_sent h i && is_empty (held h i))
+vacant_is h i n empty sent both result empty_is sent_is many both_is result_is =
+    let both_so : both ≡ (is_empty (buffered h i) && is_sent h i) = both_is ∙ ap (λ b. b && sent) empty_is ∙ ap (λ b. is_empty (buffered h i) && b) sent_is in
+    result_is ∙ ap (λ b. b && (n == 0)) both_so ∙ ap (λ b. is_empty (buffered h i) && is_sent h i && b) (none_tests (held h i) n many)
+
+pub worker_done_is : (h : Record) (i : ℕ) (vacant ending : Bool) → vacant ≡ (is_empty (buffered h i) && is_sent h i && is_empty (held h i)) → ending ≡ is_ending h i → (vacant && ending) ≡ is_worker_done h i
+worker_done_is h i vacant ending vacant_is ending_is =
+    ap (λ b. b && ending) vacant_is ∙ ap (λ b. (is_empty (buffered h i) && is_sent h i && is_empty (held h i)) && b) ending_is
+    ∙ sink_tests (is_ending h i) (is_empty (buffered h i)) (is_sent h i) (is_empty (held h i))
+
+-- an instance is a source, or not
+pub done_source : (h : Record) (i : ℕ) → source_at h i ≡ true → is_source_done h i ≡ is_done h i
+done_source h i is = sym (ap (λ b. if b then is_source_done h i else is_worker_done h i) is)
+
+pub done_sink : (h : Record) (i : ℕ) → source_at h i ≡ false → is_worker_done h i ≡ is_done h i
+done_sink h i is = sym (ap (λ b. if b then is_source_done h i else is_worker_done h i) is)

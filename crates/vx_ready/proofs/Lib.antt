@@ -1,0 +1,10 @@
+pub mod Testing
+pub mod Heirs
+pub mod Knowing
+pub mod Counting
+pub mod Surveys
+pub mod Naming
+pub mod Done
+pub mod Untried
+pub mod Closed
+pub mod Working

@@ -1,0 +1,30 @@
+use Rattle.std.proofs.lemmas.Option.{IfSome_then}
+use Rattle.vx_ready.proofs.Working.{none_map, source_works, source_leased, source_none, sink_works, sink_leased, sink_none, unserved}
+use Rattle.vx_ready.proofs.jobs.first_job.Goals as goal
+
+pub returns-in-Source-clause-some : goal.returns-in-Source-clause-some
+returns-in-Source-clause-some g c = IfSome_then c.source_job.result (c.source_job.ensures.some c.args.now) (λ job does.
+    source_works g.P.Port.told c.args.books.now c.requires.stands c.requires.served c.args.i c.get.result.now c.get.ensures (c.is_settled.ensures.settled c.if-not-is_settled.false) (c.is_open.ensures.open c.if-not-is_open.false) c.args.now job c.in-Source.is does)
+
+pub returns-in-Source-clause-leasable : goal.returns-in-Source-clause-leasable
+returns-in-Source-clause-leasable g c = IfSome_then c.source_job.result (c.source_job.ensures.some c.args.now) (λ job does.
+    source_leased g.P.Port.told c.args.books.now c.requires.stands c.requires.served c.args.i c.get.result.now c.get.ensures (c.is_settled.ensures.settled c.if-not-is_settled.false) (c.is_open.ensures.open c.if-not-is_open.false) c.args.now job c.in-Source.is does)
+
+pub returns-in-Source-clause-none : goal.returns-in-Source-clause-none
+returns-in-Source-clause-none g c settled open_at = none_map _ _ c.source_job.result
+    (source_none g.P.Port.told c.args.books.now c.requires.stands c.requires.served c.args.i c.get.result.now c.get.ensures settled open_at c.args.now c.in-Source.is) (c.source_job.ensures.none c.args.now)
+
+pub returns-in-Transform-clause-none : goal.returns-in-Transform-clause-none
+returns-in-Transform-clause-none g c settled open_at = absurd (unserved g.P.Port.told c.args.books.now c.requires.stands c.requires.served c.args.i c.get.result.now c.get.ensures settled open_at c.in-Transform.is)
+
+pub returns-in-Sink-clause-some : goal.returns-in-Sink-clause-some
+returns-in-Sink-clause-some g c = IfSome_then c.sink_job.result c.sink_job.ensures.some (λ job does.
+    sink_works g.P.Port.told c.args.books.now c.requires.stands c.requires.served c.args.i c.get.result.now c.get.ensures (c.is_settled.ensures.settled c.if-not-is_settled.false) (c.is_open.ensures.open c.if-not-is_open.false) c.args.now job c.in-Sink.is does)
+
+pub returns-in-Sink-clause-leasable : goal.returns-in-Sink-clause-leasable
+returns-in-Sink-clause-leasable g c = IfSome_then c.sink_job.result c.sink_job.ensures.some (λ job does.
+    sink_leased g.P.Port.told c.args.books.now c.requires.stands c.requires.served c.args.i c.get.result.now c.get.ensures (c.is_settled.ensures.settled c.if-not-is_settled.false) (c.is_open.ensures.open c.if-not-is_open.false) c.args.now job c.in-Sink.is does)
+
+pub returns-in-Sink-clause-none : goal.returns-in-Sink-clause-none
+returns-in-Sink-clause-none g c settled open_at = none_map _ _ c.sink_job.result
+    (sink_none g.P.Port.told c.args.books.now c.requires.stands c.requires.served c.args.i c.get.result.now c.get.ensures settled open_at c.args.now c.in-Sink.is) c.sink_job.ensures.none

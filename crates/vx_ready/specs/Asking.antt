@@ -1,0 +1,61 @@
+-- What the looks need of the books.
+use Rattle.std.specs.Prelude.{◌≡◌, ℕ, ◌<◌, ◌^◌, ◌==◌, Bool, true, false, ◌&&◌, not, List, [], ◌∷◌, length, None, IsSome, IsSomeAnd, slice_get}
+use Rattle.std.specs.List.{list_any}
+use Rattle.vx_plan.specs.declared.class.Class.{Class}
+use Rattle.vx_plan.specs.declared.class.Class.TheVariants.{Source, Transform, Sink}
+use Rattle.vx_plan.specs.declared.component.Component.{Component}
+use Rattle.vx_plan.specs.Components.{is_transform}
+use Rattle.vx_plan.specs.Options.{has_device}
+use Rattle.vx_seats.specs.declared.seat.Seat.{Seat}
+use Rattle.vx_moves.specs.declared.books.Books.{Books}
+
+-- whether a class is that of sources
+abbrev pub source_class : Class → Bool
+source_class class = elim class [ Source ↦ true | Transform ↦ false | Sink ↦ false ]
+
+-- whether it is that of sinks
+abbrev pub sink_class : Class → Bool
+sink_class class = elim class [ Source ↦ false | Transform ↦ false | Sink ↦ true ]
+
+-- the targets of the first of some ports
+abbrev pub first_of : List (List ℕ) → List ℕ
+first_of [] = []
+first_of (targets ∷ rest) = targets
+
+-- whether an instance is among the targets of the first of some ports
+abbrev pub goes_to : ℕ → List (List ℕ) → Bool
+goes_to i ports = list_any (λ target. target == i) (first_of ports)
+
+-- whether a component works with a port, and is no transform
+abbrev pub is_ported : Component → Bool
+is_ported c = has_device c.settings && not (is_transform c)
+
+-- whether each of some does
+abbrev pub all_ported : List Component → Bool
+all_ported [] = true
+all_ported (c ∷ rest) = is_ported c && all_ported rest
+
+-- each component of the plan works with a port and is no transform, and there are fewer than 2^32 instances
+pub record IsServed {P : Type 0} (books : Books P) : Type 0 where
+  pub ported : all_ported books.run.plan.components ≡ true
+  pub few : length books.seats < 2 ^ 32
+
+-- a seat whose task is at home, where memory was never wanting for what it owes
+pub record IsHome {P : Type 0} (seat : Seat P) : Type 0 where
+  pub task : IsSome seat.task
+  pub settled : seat.facts.owing ≡ false
+
+-- an instance is at home and owes nothing, in a run that wasn't given up
+pub record IsSettled {P : Type 0} (books : Books P) (i : ℕ) : Type 0 where
+  pub home : IsSomeAnd (slice_get books.seats i) IsHome
+  pub going : books.run.abandoned ≡ None
+
+-- the port of a seat isn't closed for good, nor may it have given more than the record has, and its instance hasn't ended
+pub record IsUsable {P : Type 0} (seat : Seat P) : Type 0 where
+  pub unclosed : seat.facts.closed ≡ false
+  pub unretired : seat.facts.retired ≡ false
+  pub fed : seat.facts.starved ≡ false
+
+-- so it is of an instance
+abbrev pub IsOpen : {P : Type 0} → Books P → ℕ → Type 0
+IsOpen books i = IsSomeAnd (slice_get books.seats i) IsUsable

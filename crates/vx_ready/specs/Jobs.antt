@@ -1,0 +1,46 @@
+-- What an instance has to do, as the record has it.
+use Rattle.std.specs.Prelude.{◌≡◌, ◌⊎◌, ℕ, ◌+◌, ◌≤◌, Bool, true, false, ◌||◌, Option, Some, None, nat_le}
+use Rattle.vx_record.specs.Records.{Record, capped}
+use Rattle.vx_record.specs.Abandoning.{abandoned}
+use Rattle.vx_record.specs.Confirms.{is_confirm_due}
+use Rattle.vx_record.specs.Installs.{source_at, sink_at, device_at}
+use Rattle.vx_record.specs.Ready.{can_read, is_close_due, is_attempt_due, can_take}
+use Rattle.vx_record.specs.Starting.{MayLease}
+use Rattle.vx_record.specs.Turns.{worker_now}
+use Rattle.vx_moves.specs.declared.books.Books.{Books}
+use Rattle.vx_moves.specs.Leasing.{IsFitAt}
+use Rattle.vx_seats.specs.declared.facts.Batching.{Batching}
+use Rattle.vx_tasks.specs.declared.work.Job.{Job}
+use Rattle.vx_tasks.specs.declared.work.Job.TheVariants.{Read, Confirm, Collect, Attempt, Close}
+
+-- all that a lease at a moment needs
+pub record IsLeasable {P : Type 0} (books : Books P) (i now : ℕ) : Type 0 where
+  pub may : (worker : ℕ) → worker_now books.log worker ≤ now → MayLease books.log i worker now 0
+  pub going : abandoned books.log ≡ false
+  pub fit : IsFitAt books.seats i
+  pub device : device_at books.log i ≡ true
+
+-- so many parcels are as many as a batch may have, or the oldest of them has waited long enough
+abbrev pub is_full_or_old : Option Batching → ℕ → ℕ → ℕ → Bool
+is_full_or_old None since held now = false
+is_full_or_old (Some batching) since held now = nat_le batching.max_events held || nat_le (capped (since + batching.timeout)) now
+
+-- a source has this to do
+abbrev pub IsSourceJob : Record → ℕ → ℕ → Job → Type 0
+IsSourceJob h i now Read = can_read h i now ≡ true
+IsSourceJob h i now Confirm = is_confirm_due h i ≡ true
+IsSourceJob h i now Collect = ⊥
+IsSourceJob h i now Attempt = ⊥
+IsSourceJob h i now Close = is_close_due h i ≡ true
+
+-- a sink has this to do at a moment
+abbrev pub IsSinkJob : Record → ℕ → ℕ → Job → Type 0
+IsSinkJob h i now Read = ⊥
+IsSinkJob h i now Confirm = ⊥
+IsSinkJob h i now Collect = can_take h i now ≡ true
+IsSinkJob h i now Attempt = is_attempt_due h i now ≡ true
+IsSinkJob h i now Close = is_close_due h i ≡ true
+
+-- an instance has this to do at a moment
+abbrev pub IsJob : Record → ℕ → ℕ → Job → Type 0
+IsJob h i now job = ((source_at h i ≡ true) × IsSourceJob h i now job) ⊎ ((sink_at h i ≡ true) × IsSinkJob h i now job)

@@ -1,0 +1,118 @@
+// Whether anything can still come to an instance.
+ghost use Rattle.std.specs.Prelude.{◌≡◌, ◌<◌, ◌&&◌, length, not};
+ghost use Rattle.vx_record.specs.Copies.{contains};
+ghost use Rattle.vx_record.specs.Installs.{source_at, is_retired};
+ghost use Rattle.vx_record.specs.Lists.{waiting};
+ghost use Rattle.vx_record.specs.Routing.{is_dry as is_dry_at, all_dry, all_ports, routes, names as names_at, is_named as is_named_at, is_ending as is_ending_at};
+ghost use Rattle.vx_value.specs.Texts.{is_empty};
+ghost use Rattle.vx_moves.specs.Stands.{Stands};
+ghost use Rattle.vx_ready.specs.Asking.{IsServed, goes_to};
+
+use crate::sources::{both, is_dry, is_sent, is_source};
+use vx_ends::Port;
+use vx_ledger::Outlet;
+use vx_moves::Books;
+
+/// Whether an instance is a sink that nothing more can reach: every source is dry, and no instance that hasn't ended sends to it or
+/// has a child that waits for it.
+pub fn is_ending<P: Port>(books: &Books<P>, i: u32) -> bool
+    requires stands { Stands P.told books.now }
+    requires within { i < length books.now.seats }
+    requires served { IsServed books.now }
+    ensures { result ≡ is_ending_at books.now.log i }
+{
+    if is_source(books, i) {
+        return false;
+    }
+    if !are_all_dry(books) {
+        return false;
+    }
+    !is_named(books, i)
+}
+
+/// Whether every source is dry.
+fn are_all_dry<P: Port>(books: &Books<P>) -> bool
+    requires stands { Stands P.told books.now }
+    requires served { IsServed books.now }
+    ensures { result ≡ all_dry books.now.log }
+{
+    for j in 0..books.seats.len() as u32 {
+        if gives(books, j) {
+            return false;
+        }
+    }
+    true
+}
+
+/// Whether an instance is a source that isn't dry.
+fn gives<P: Port>(books: &Books<P>, j: u32) -> bool
+    requires stands { Stands P.told books.now }
+    requires within { j < length books.now.seats }
+    ensures { result ≡ (source_at books.now.log j && not (is_dry_at books.now.log j)) }
+{
+    is_source(books, j) && !is_dry(books, j)
+}
+
+/// Whether an instance that hasn't ended can still send to another one.
+fn is_named<P: Port>(books: &Books<P>, i: u32) -> bool
+    requires stands { Stands P.told books.now }
+    requires served { IsServed books.now }
+    ensures { result ≡ is_named_at books.now.log i }
+{
+    for j in 0..books.seats.len() as u32 {
+        if may_send(books, j, i) {
+            return true;
+        }
+    }
+    false
+}
+
+/// Whether it can, of one.
+fn may_send<P: Port>(books: &Books<P>, j: u32, i: u32) -> bool
+    requires stands { Stands P.told books.now }
+    requires within { j < length books.now.seats }
+    requires served { IsServed books.now }
+    ensures { result ≡ (not (is_retired books.now.log j) && names_at books.now.log j i) }
+{
+    !is_ended(books, j) && (sends(books, j, i) || waits(books, j, i))
+}
+
+/// Whether an instance has ended.
+fn is_ended<P: Port>(books: &Books<P>, j: u32) -> bool
+    requires stands { Stands P.told books.now }
+    requires within { j < length books.now.seats }
+    ensures { result ≡ is_retired books.now.log j }
+{
+    books.seats.get(j).facts.retired
+}
+
+/// Whether a child of an instance waits for another one.
+fn waits<P: Port>(books: &Books<P>, j: u32, i: u32) -> bool
+    requires stands { Stands P.told books.now }
+    requires within { j < length books.now.seats }
+    ensures { result ≡ not (is_empty (waiting books.now.log j i)) }
+{
+    books.places.awaits(j, i)
+}
+
+/// Whether an instance sends what it puts out to another one. A dry source that sent everything sends to none.
+fn sends<P: Port>(books: &Books<P>, j: u32, i: u32) -> bool
+    requires stands { Stands P.told books.now }
+    requires within { j < length books.now.seats }
+    requires served { IsServed books.now }
+    ensures { result ≡ contains (routes books.now.log j (all_ports books.now.log j)) i }
+{
+    let over = both(is_dry(books, j), is_sent(books, j));
+    let open = both(is_source(books, j), !over);
+    both(open, is_target(&books.seats.get(j).outlet, i))
+}
+
+/// Whether an instance is among the targets of the first port.
+fn is_target(outlet: &Outlet, i: u32) -> bool
+    ensures { result ≡ goes_to i outlet.now }
+{
+    match outlet.port_targets(0) {
+        Some(targets) => targets.as_slice().iter().any(|target| *target == i as u64),
+        None => false,
+    }
+}

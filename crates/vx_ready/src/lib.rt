@@ -1,0 +1,14 @@
+//! What an instance has to do next: looks at the books that answer as the record's own tests do.
+#![tactic(auto)]
+
+mod batches;
+mod ending;
+mod finishing;
+mod jobs;
+mod sources;
+
+pub use batches::is_batch_closed;
+pub use ending::is_ending;
+pub use finishing::is_done;
+pub use jobs::{first_job, is_open, is_settled};
+pub use sources::{all_noticed, can_read, is_confirm_due, is_dry, is_sent, is_sink, is_source};

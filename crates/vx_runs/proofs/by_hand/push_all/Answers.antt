@@ -1,0 +1,12 @@
+use Rattle.std.proofs.Common.{◌∙◌}
+use Rattle.vx_runs.proofs.Spared.{each_both}
+use Rattle.vx_runs.proofs.by_hand.push_all.Goals as goal
+
+pub loop-instance-preserved : goal.loop-instance-preserved
+loop-instance-preserved g c =
+    let inv = c.loop-instance.invariant in
+    record {
+      hub = c.push.ensures.hub;
+      size = c.push.ensures.size ∙ inv.size;
+      spares = each_both c.args.hub.now.books.log c.loop-instance.hub.books.log c.push.new.hub.books.log inv.spares c.push.ensures.spares;
+    }

@@ -1,0 +1,374 @@
+//! The engine driven by hand: three tasks are out at once, and come home in each order, with parcels moved between.
+ghost use Rattle.std.specs.Prelude.{◌≡◌, ◌<◌, ◌^◌, length, true, IfOk};
+ghost use Rattle.vx_plan.specs.Accepted.{IsPlan};
+ghost use Rattle.vx_plan.specs.Options.{has_device};
+ghost use Rattle.vx_plan.specs.Ports.{port_of};
+ghost use Rattle.vx_record.specs.Additions.{OnlyAdds};
+ghost use Rattle.vx_record.specs.Makers.{IsBy, IsFor};
+ghost use Rattle.vx_record.specs.Installs.{started};
+ghost use Rattle.vx_hub.specs.Ending.{IsOver};
+ghost use Rattle.vx_hub.specs.Making.{IsUntouched, AreUntouched, all_ported};
+ghost use Rattle.vx_hub.specs.Standing.{IsHub};
+ghost use Rattle.vx_runs.specs.ByHand.{IsAway, IsBack, AreBack, SparesEach, SparesOthers};
+
+use crate::fixtures::{Play, add, script, steps};
+use crate::plans::TWO_SINKS;
+use crate::tallies::NOTHING;
+use std::alloc::Global;
+use std::process::Abort;
+use std::test::Fail;
+use vx_ends::{Clock, ConfigList, MemoryClock, MemoryPort, MemoryWorld, Port, ScriptedList, World};
+use vx_hub::{Hub, Named, NamedList, NumberedList, Parts, Remains};
+use vx_plan::{Component, Plan};
+use vx_reading::read_plan;
+use vx_record::Tally;
+use vx_tasks::{Landing, Work};
+use vx_value::{VariableList, WantOfMemory};
+
+/// In which order three tasks come home: the letters stand for those that were leased first, second and third.
+#[derive(Clone, Copy, Debug)]
+enum Order {
+    Abc,
+    Acb,
+    Bac,
+    Bca,
+    Cab,
+    Cba,
+}
+
+/// Hands out a task to a worker, that of the wanted instance.
+fn leased<R: Abort, P: Port>(rt: &R, hub: &mut Hub<P>, worker: u32, wanted: u32) -> Work<P>
+    requires { IsHub P.told hub.old }
+    ensures hub { IsHub P.told hub.new }
+    ensures away { IsAway P.told hub.new.books.log result }
+    ensures worker { result.worker ≡ worker }
+    ensures only { OnlyAdds (IsBy worker) hub.old.books.log hub.new.books.log }
+{
+    let work = hub.lease(worker, 0).expect(rt, "a task");
+    assert_eq!(rt; work.instance, wanted);
+    work
+}
+
+/// Does the work of a task that is out. The hub isn't asked: it is there for what is known of its record.
+fn done<P: Port, C: Clock>(alloc: Global, _hub: &Hub<P>, work: Work<P>, clock: &C) -> Landing<P>
+    requires hub { IsHub P.told _hub.now }
+    requires away { IsAway P.told _hub.now.books.log work }
+    ensures back { IsBack P.told _hub.now.books.log result }
+    ensures instance { result.instance ≡ work.instance }
+    ensures worker { result.worker ≡ work.worker }
+{
+    work.work(alloc, clock)
+}
+
+/// Brings a task home.
+fn land<R: Abort, P: Port>(rt: &R, hub: &mut Hub<P>, landing: Landing<P>)
+    requires hub { IsHub P.told hub.old }
+    requires back { IsBack P.told hub.old.books.log landing }
+    ensures hub { IsHub P.told hub.new }
+    ensures only { OnlyAdds (IsFor landing.instance) hub.old.books.log hub.new.books.log }
+{
+    hub.land(landing).expect(rt, "a landing");
+}
+
+/// Moves the parcels of an instance on, if it is at home.
+fn push<R: Abort, P: Port>(rt: &R, hub: &mut Hub<P>, instance: u32)
+    requires hub { IsHub P.told hub.old }
+    requires within { instance < length (started hub.old.books.log) }
+    ensures hub { IsHub P.told hub.new }
+    ensures size { length (started hub.new.books.log) ≡ length (started hub.old.books.log) }
+    ensures spares { SparesEach hub.old.books.log hub.new.books.log }
+{
+    hub.push_pending(instance).expect(rt, "a push");
+}
+
+/// Moves the parcels of every instance on that is at home.
+fn push_all<R: Abort, P: Port>(rt: &R, hub: &mut Hub<P>)
+    requires { IsHub P.told hub.old }
+    ensures hub { IsHub P.told hub.new }
+    ensures spares { SparesEach hub.old.books.log hub.new.books.log }
+{
+    for instance in 0..hub.instances() {
+        push(rt, hub, instance);
+    }
+}
+
+/// Brings a task home, and moves on what can move.
+fn land_and_push<R: Abort, P: Port>(rt: &R, hub: &mut Hub<P>, landing: Landing<P>)
+    requires hub { IsHub P.told hub.old }
+    requires back { IsBack P.told hub.old.books.log landing }
+    ensures hub { IsHub P.told hub.new }
+    ensures spares { SparesOthers landing.instance hub.old.books.log hub.new.books.log }
+{
+    land(rt, hub, landing);
+    push_all(rt, hub);
+}
+
+/// Brings three tasks home, one by one, and moves on what can move behind each.
+fn land_three<R: Abort, P: Port>(
+    rt: &R,
+    hub: &mut Hub<P>,
+    a: Landing<P>,
+    b: Landing<P>,
+    c: Landing<P>,
+)
+    requires hub { IsHub P.told hub.old }
+    requires back { AreBack P.told hub.old.books.log a b c }
+    ensures { IsHub P.told hub.new }
+{
+    land_and_push(rt, hub, a);
+    land_and_push(rt, hub, b);
+    land_and_push(rt, hub, c);
+}
+
+/// The same, in an order.
+fn land_in<R: Abort, P: Port>(
+    rt: &R,
+    hub: &mut Hub<P>,
+    order: Order,
+    a: Landing<P>,
+    b: Landing<P>,
+    c: Landing<P>,
+)
+    requires hub { IsHub P.told hub.old }
+    requires back { AreBack P.told hub.old.books.log a b c }
+    ensures { IsHub P.told hub.new }
+{
+    match order {
+        Order::Abc => land_three(rt, hub, a, b, c),
+        Order::Acb => land_three(rt, hub, a, c, b),
+        Order::Bac => land_three(rt, hub, b, a, c),
+        Order::Bca => land_three(rt, hub, b, c, a),
+        Order::Cab => land_three(rt, hub, c, a, b),
+        Order::Cba => land_three(rt, hub, c, b, a),
+    }
+}
+
+/// Leases the two sinks and the source to three workers, does the work of each, the last one first, and brings them home in an
+/// order.
+fn three_out<R: Abort, P: Port, C: Clock>(
+    rt: &R,
+    alloc: Global,
+    hub: &mut Hub<P>,
+    clock: &C,
+    order: Order,
+)
+    requires { IsHub P.told hub.old }
+    ensures { IsHub P.told hub.new }
+{
+    let a = leased(rt, hub, 0, 1);
+    let b = leased(rt, hub, 1, 2);
+    let c = leased(rt, hub, 2, 0);
+    let c = done(alloc, hub, c, clock);
+    let b = done(alloc, hub, b, clock);
+    let a = done(alloc, hub, a, clock);
+    land_in(rt, hub, order, a, b, c);
+}
+
+/// Leases the wanted instance, does its work, and brings it home, with nothing else out.
+fn one_out<R: Abort, P: Port, C: Clock>(
+    rt: &R,
+    alloc: Global,
+    hub: &mut Hub<P>,
+    clock: &C,
+    wanted: u32,
+)
+    requires { IsHub P.told hub.old }
+    ensures { IsHub P.told hub.new }
+{
+    let work = leased(rt, hub, 0, wanted);
+    let landing = done(alloc, hub, work, clock);
+    land_and_push(rt, hub, landing);
+}
+
+/// One turn with one worker: ends an instance, or moves parcels, or does an instance's work.
+fn turn<R: Abort, P: Port, C: Clock>(rt: &R, alloc: Global, hub: &mut Hub<P>, clock: &C)
+    requires { IsHub P.told hub.old }
+    ensures { IsHub P.told hub.new }
+{
+    if let Some(_ended) = hub.retire() {
+        return;
+    }
+    push_all(rt, hub);
+    if let Some(work) = hub.lease(0, 0) {
+        let landing = work.work(alloc, clock);
+        hub.land(landing).expect(rt, "a landing");
+    }
+}
+
+/// How many turns are enough for each run here.
+const TURNS: u32 = 100;
+
+/// Turns a hub until each instance ended.
+fn drive<R: Abort, P: Port, C: Clock>(rt: &R, alloc: Global, hub: &mut Hub<P>, clock: &C)
+    requires { IsHub P.told hub.old }
+    ensures hub { IsHub P.told hub.new }
+    ensures over { IsOver hub.new.books.log }
+{
+    for _ in 0..TURNS {
+        turn(rt, alloc, hub, clock);
+    }
+    assert!(rt; hub.over());
+}
+
+/// A source that read four lines of two bytes each in two pieces.
+const FOUR_READ: Tally = Tally {
+    read: 8,
+    lines: 4,
+    events: 4,
+    batches: 2,
+    delivered: 2,
+    confirmed: 8,
+    ..NOTHING
+};
+
+/// A sink that wrote them, one after the other.
+const FOUR_WRITTEN: Tally = Tally {
+    taken: 4,
+    attempts: 4,
+    delivered: 4,
+    bytes: 8,
+    ..NOTHING
+};
+
+/// Checks what an instance counted.
+fn counted<R: Abort, P: Port>(rt: &R, hub: &Hub<P>, instance: u32, wanted: &Tally)
+    requires { IsHub P.told hub.now }
+{
+    assert!(rt; instance < hub.instances());
+    assert!(rt; hub.tally(instance) == *wanted);
+}
+
+/// A run in which the source reads once, and then is out together with both sinks. Every batch is delivered. The ports at its end.
+fn by_hand<R: Abort, P: Port, C: Clock>(
+    rt: &R,
+    alloc: Global,
+    hub: Hub<P>,
+    clock: &C,
+    order: Order,
+) -> NumberedList<P>
+    requires { IsHub P.told hub }
+{
+    let mut hub = hub;
+    one_out(rt, alloc, &mut hub, clock, 0);
+    three_out(rt, alloc, &mut hub, clock, order);
+    drive(rt, alloc, &mut hub, clock);
+    counted(rt, &hub, 0, &FOUR_READ);
+    counted(rt, &hub, 1, &FOUR_WRITTEN);
+    counted(rt, &hub, 2, &FOUR_WRITTEN);
+    let Remains { ports, history: _ } = hub.end();
+    ports
+}
+
+/// The plan of a configuration.
+fn plan_of(alloc: Global, text: &str) -> Result<Plan, WantOfMemory>
+    ensures few { IfOk result (λ plan. length plan.components < 2 ^ 32) }
+    ensures accepted { IfOk result (λ plan. IsPlan plan) }
+    ensures ported { IfOk result (λ plan. all_ported plan.components ≡ true) }
+{
+    let environment = VariableList::new(alloc);
+    match read_plan(alloc, text.as_bytes(), &environment) {
+        Ok(plan) => Ok(plan),
+        Err(_) => Err(WantOfMemory),
+    }
+}
+
+/// A port for each component of a plan, in order.
+fn ports<W: World>(
+    alloc: Global,
+    plan: &Plan,
+    world: &mut W,
+) -> Result<NamedList<W::Port>, WantOfMemory>
+    requires { all_ported plan.now.components ≡ true }
+    ensures count { IfOk result (λ ports. length ports ≡ length plan.now.components) }
+    ensures untouched { IfOk result (λ ports. AreUntouched W.Port.told plan.now.components ports) }
+{
+    let mut ports = NamedList::new(alloc);
+    for component in plan.components.as_slice() {
+        let port = port(alloc, component, world)?;
+        match ports.push(port) {
+            Ok(()) => {}
+            Err(_) => return Err(WantOfMemory),
+        }
+    }
+    Ok(ports)
+}
+
+/// The port of a component, and the component's name.
+fn port<W: World>(
+    alloc: Global,
+    component: &Component,
+    world: &mut W,
+) -> Result<Named<W::Port>, WantOfMemory>
+    requires { has_device component.now.settings ≡ true }
+    ensures { IfOk result (λ named. IsUntouched (port_of component.now) (W.Port.told named.port)) }
+{
+    let name = component.name.copy(alloc)?;
+    match component.port(alloc)? {
+        Some(spec) => Ok(Named {
+            name,
+            port: world.port(&spec)?,
+        }),
+        None => unreachable!(),
+    }
+}
+
+/// The hub of a configuration, between ports of a world.
+fn hub_of<W: World>(alloc: Global, text: &str, world: &mut W) -> Result<Hub<W::Port>, WantOfMemory>
+    ensures { IfOk result (IsHub W.Port.told) }
+{
+    let plan = plan_of(alloc, text)?;
+    let ports = ports(alloc, &plan, world)?;
+    let parts = Parts {
+        plan,
+        once: false,
+        ports,
+    };
+    match Hub::new(alloc, parts, 0) {
+        Ok(hub) => Ok(hub),
+        Err(_) => Err(WantOfMemory),
+    }
+}
+
+/// A world whose `in` gives two lines, and two more.
+fn world(alloc: Global) -> Result<MemoryWorld, WantOfMemory> {
+    let pieces = steps(alloc, &[Play::Piece(0, "a\nb\n"), Play::Piece(0, "c\nd\n")])?;
+    let mut scripts = ScriptedList::new(alloc);
+    add(&mut scripts, script(alloc, "in", pieces, &[])?)?;
+    Ok(MemoryWorld::new(alloc, ConfigList::new(alloc), scripts))
+}
+
+/// Checks what a sink's port was given: every line, in order.
+fn was_given(rt: &impl Abort, ports: &NumberedList<MemoryPort>, instance: usize) {
+    match ports.get(instance) {
+        Some(end) => assert!(rt; end.port.given() == b"a\nb\nc\nd\n".as_slice()),
+        None => assert!(rt; false),
+    }
+}
+
+/// Drives a run in which three tasks come home in an order, and checks what its sinks were given.
+fn comes_home<R: Abort>(rt: &R, alloc: Global, order: Order) -> Result<(), Fail> {
+    let mut world = world(alloc)?;
+    let hub = hub_of(alloc, TWO_SINKS, &mut world)?;
+    let ports = by_hand(rt, alloc, hub, &MemoryClock::new(), order);
+    was_given(rt, &ports, 1);
+    was_given(rt, &ports, 2);
+    Ok(())
+}
+
+#[test]
+fn sinks_before_the_source(rt: HostRuntime) -> Result<(), Fail> {
+    comes_home(&rt, rt.alloc(), Order::Abc)?;
+    comes_home(&rt, rt.alloc(), Order::Bac)
+}
+
+#[test]
+fn the_source_between_the_sinks(rt: HostRuntime) -> Result<(), Fail> {
+    comes_home(&rt, rt.alloc(), Order::Acb)?;
+    comes_home(&rt, rt.alloc(), Order::Bca)
+}
+
+#[test]
+fn the_source_before_the_sinks(rt: HostRuntime) -> Result<(), Fail> {
+    comes_home(&rt, rt.alloc(), Order::Cab)?;
+    comes_home(&rt, rt.alloc(), Order::Cba)
+}
