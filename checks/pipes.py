@@ -39,6 +39,47 @@ __attribute__((constructor)) static void start(void)
 }
 """
 
+# A library whose program finds no memory the nth time it asks, n being said by a variable; then it makes a file at a path.
+WANTS = b"""
+#define _GNU_SOURCE
+#include <dlfcn.h>
+#include <errno.h>
+#include <fcntl.h>
+#include <stdlib.h>
+
+extern void *__libc_malloc(size_t size);
+extern void *__libc_calloc(size_t count, size_t size);
+extern void *__libc_realloc(void *old, size_t size);
+extern void *__libc_memalign(size_t alignment, size_t size);
+
+static long left = -1;
+
+__attribute__((constructor)) static void start(void)
+{
+    const char *wanted = getenv("FAILING_ALLOCATION");
+    left = wanted ? atol(wanted) : -1;
+}
+
+static int fails(void)
+{
+    if (left < 0 || --left != 0)
+        return 0;
+    left = -1;
+    open(getenv("FAILED_ALLOCATION"), O_CREAT | O_WRONLY, 0600);
+    errno = ENOMEM;
+    return 1;
+}
+
+void *malloc(size_t size) { return fails() ? 0 : __libc_malloc(size); }
+void *calloc(size_t count, size_t size) { return fails() ? 0 : __libc_calloc(count, size); }
+void *realloc(void *old, size_t size) { return fails() ? 0 : __libc_realloc(old, size); }
+void *aligned_alloc(size_t alignment, size_t size) { return fails() ? 0 : __libc_memalign(alignment, size); }
+int posix_memalign(void **made, size_t alignment, size_t size)
+{
+    return (*made = fails() ? 0 : __libc_memalign(alignment, size)) ? 0 : ENOMEM;
+}
+"""
+
 
 def lines_of(given):
     """The lines that have to come out: each ill-formed part replaced, and lines that are too long left out."""
@@ -227,6 +268,41 @@ def signals():
         comes_through_signals("waits that signals interrupt", lines, ["--config", TWO], (0, lines, lines), False, library)
 
 
+def first_of(out, wanted):
+    """Whether what came out is the first lines of what had to, each of them whole."""
+    return wanted.startswith(out) and (out == b"" or out.endswith(b"\n"))
+
+
+def wants_memory(name, given, words, wanted, library, folder):
+    """Checks what runs write, and how they end, in each of which one more request for memory is met before one fails."""
+    mark, wrong, asked = Path(folder) / "failed", [], 0
+    while True:
+        asked += 1
+        variables = {b"LD_PRELOAD": library, b"FAILING_ALLOCATION": b"%d" % asked, b"FAILED_ALLOCATION": os.fsencode(mark)}
+        status, out, err = read_late(begun(given, words, True, BUILT, variables), 0)
+        own = (status, out, err) == (0, *wanted)
+        short = status == 71 and first_of(out, wanted[0]) and first_of(err, wanted[1])
+        if not own and not short:
+            wrong.append((asked, status, out[-80:], err[-80:]))
+        if not mark.exists():
+            break
+        mark.unlink()
+    check(f"{name}, of {asked - 1} requests each failing once", own and asked > 20 and not wrong, (asked, wrong[:3]))
+
+
+def wanting_memory():
+    """Where no memory is found the run ends with status 71, or as it would have, and writes whole lines alone."""
+    lines = b"".join(b"%d\n" % i for i in range(100))
+    events = b"".join(b'{"message":"%d","source_type":"stdin"}\n' % i for i in range(100))
+    with tempfile.TemporaryDirectory() as folder:
+        (Path(folder) / "wants.c").write_bytes(WANTS)
+        subprocess.run(["cc", "-shared", "-fPIC", "-o", "wants.so", "wants.c"], cwd=folder, check=True)
+        library = os.fsencode(folder) + b"/wants.so"
+        wants_memory("lines", lines, ["--config", FIRST], (lines, b""), library, folder)
+        wants_memory("events as JSON", events, ["--config", JSON], (events, lines), library, folder)
+        wants_memory("acknowledged lines to two outputs", lines, ["--config", ACKNOWLEDGED], (lines, lines), library, folder)
+
+
 def full_pipe():
     """Both ends of a pipe that takes no more and doesn't block, and how many bytes it holds."""
     output, into = os.pipe()
@@ -362,4 +438,4 @@ def judgements():
 
 
 if __name__ == "__main__":
-    sys.exit(go_through([consoles, acknowledged, judgements, json_lines, inputs, bytes_of_all_kinds, lines_as_they_come, a_reader_that_leaves, late_readers, signals, late_texts, ends_that_fail, many_lines]))
+    sys.exit(go_through([consoles, acknowledged, judgements, json_lines, inputs, bytes_of_all_kinds, lines_as_they_come, a_reader_that_leaves, late_readers, signals, wanting_memory, late_texts, ends_that_fail, many_lines]))

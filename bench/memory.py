@@ -1,0 +1,91 @@
+#!/usr/bin/env python3
+"""Measures the greatest memory of the program on ever longer inputs, and on one that says nothing.
+
+It runs with 10,000, 1,000,000 and 10,000,000 lines of 100 bytes, as text and as JSON, made while they are read, so that no file
+is kept. What it writes is read and counted. Then its input is a pipe that doesn't block and into which nothing is written for
+ten seconds; after that a line is, and the pipe is closed. It prints the greatest memory of each run, and by how much they differ.
+
+A first argument is the greatest number of lines. It needs Python 3, GNU `time` and the program as `./vector` builds it.
+"""
+
+import os
+import subprocess
+import sys
+import tempfile
+import threading
+import time
+from pathlib import Path
+
+TOP = Path(__file__).resolve().parent.parent
+VECTOR = str(TOP / "crates/vector/out/vector")
+CODECS = {"text": ("bytes", "text"), "json": ("json", "json")}
+CONFIGURATION = """\
+[sources.in]
+type = "stdin"
+decoding.codec = "{}"
+
+[sinks.out]
+type = "console"
+inputs = ["in"]
+encoding.codec = "{}"
+"""
+BLOCK = 1000
+SILENCE = 10
+
+
+def line(kind):
+    """A line of 100 bytes with its line feed."""
+    if kind == "text":
+        return b"x" * 99 + b"\n"
+    head, tail = b'{"message":"', b'","source_type":"stdin"}\n'
+    return head + b"x" * (100 - len(head) - len(tail)) + tail
+
+
+def feed(pipe, kind, count):
+    block = line(kind) * BLOCK
+    for _ in range(count // BLOCK):
+        pipe.write(block)
+    pipe.close()
+
+
+def greatest(words, feeder, expected):
+    """Runs the program under `time`, and gives the greatest memory that it had, in kilobytes."""
+    told = Path(words[-1]).with_suffix(".told")
+    words = ["/usr/bin/time", "--format", "%M", "--output", str(told), *words]
+    process = subprocess.Popen(words, stdin=subprocess.PIPE, stdout=subprocess.PIPE)
+    writer = threading.Thread(target=feeder, args=(process.stdin,))
+    writer.start()
+    read = 0
+    while chunk := process.stdout.read(1 << 20):
+        read += len(chunk)
+    writer.join()
+    if process.wait() or read != expected:
+        sys.exit(f"status {process.returncode}, {read} bytes in the place of {expected}")
+    return int(told.read_text())
+
+
+def silent(pipe):
+    os.set_blocking(pipe.fileno(), False)
+    time.sleep(SILENCE)
+    pipe.write(line("text"))
+    pipe.close()
+
+
+def main():
+    most = int(sys.argv[1]) if len(sys.argv) > 1 else 10_000_000
+    found = []
+    with tempfile.TemporaryDirectory() as folder:
+        for kind, codecs in CODECS.items():
+            path = f"{folder}/{kind}.toml"
+            Path(path).write_text(CONFIGURATION.format(*codecs))
+            for count in (10_000, 1_000_000, most):
+                used = greatest([VECTOR, "--config", path], lambda pipe: feed(pipe, kind, count), 100 * count)
+                print(f"{kind:6} {count:10} lines {used:8} KB", flush=True)
+                found.append(used)
+        used = greatest([VECTOR, "--config", f"{folder}/text.toml"], silent, 100)
+        print(f"text   nothing for {SILENCE} seconds {used:6} KB")
+        found.append(used)
+    print(f"the greatest differs from the least by {max(found) - min(found)} KB")
+
+
+main()
