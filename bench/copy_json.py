@@ -9,7 +9,7 @@ wall time, the least processor time and the greatest memory count.
 
 The tasks `lines`, `read` and `copy` of crates/vx_bench do one thing more each with the same file. So by the processor's time
 `lines` is the framing, with the reading of input, `read` less `lines` the reading of JSON, `copy` less `read` the writing of
-JSON, with that of output, and the whole program less `copy` the record and the engine: a table tells these parts, to about
+JSON, with that of output, and the whole program less `copy` the engine: a table tells these parts, to about
 a hundredth of a second.
 
 A first argument is another number of lines. A second one, `text`, takes the codecs `bytes` and `text` in the place of `json`,
@@ -133,7 +133,7 @@ def parts_of(work, codec):
     cut, read, copy = (work[name] for name in TASKS)
     if codec == "text":
         return {"framing": cut, "the rest": work["vector"] - cut}
-    return {"framing": cut, "reading": read - cut, "writing": copy - read, "record and engine": work["vector"] - copy}
+    return {"framing": cut, "reading": read - cut, "writing": copy - read, "engine": work["vector"] - copy}
 
 
 def tell(seen, path, count, codec):

@@ -1,15 +1,15 @@
 -- What stands at a place of a legal record is held.
-use Rattle.std.proofs.Common.{◌≡◌, ℕ, suc, ◌+◌, ◌<◌, ◌≤◌, Bool, true, false, List, [], ◌∷◌, length, subst, arith, inl, inr}
+use Rattle.std.proofs.Common.{◌≡◌, ℕ, ◌+◌, ◌<◌, ◌≤◌, Bool, true, false, [], ◌∷◌, length, subst, arith, inl, inr}
 use Rattle.std.specs.Prelude.{◌==◌, if◌then◌else◌}
 use Rattle.std.proofs.lemmas.Bool.Decides.{nat_tests}
 use Rattle.std.proofs.lemmas.Bool.{cases_lt}
 use Rattle.vx_ledger.specs.Copies.{numbers_of}
 use Rattle.vx_record.specs.Records.{Record}
 use Rattle.vx_record.specs.Copies.{count, next_copy, IsLive}
-use Rattle.vx_record.specs.Places.{Place, same_place}
-use Rattle.vx_record.specs.Lists.{places, stands, parcels_at, times_among}
+use Rattle.vx_record.specs.Lists.{places, stands, parcels_at}
 use Rattle.vx_record.specs.Legal.{IsLegal}
 use Rattle.vx_record.proofs.Changes.{places_meant}
+use Rattle.vx_record.proofs.Hands.{times_some}
 use Rattle.vx_record.proofs.OnePlace.{conserved, one_place, live_stands, tracked}
 use Rattle.vx_record.proofs.Place.{count-oldest}
 use Rattle.vx_record.proofs.Tracked.{unmade_nowhere}
@@ -24,14 +24,6 @@ one_held h copy is live = record { of_batch = (is, tt); live = λ c l. subst (Is
     at_most : (t : Bool) → (if t then 1 else 0) + 0 ≤ 1
     at_most true = omega arith
     at_most false = omega arith
-
-times_few : (p : Place) (ps : List Place) → times_among p ps ≤ length ps
-times_few p [] = omega arith
-times_few p (q ∷ rest) = go (same_place q p) (times_few p rest)
-  where
-    go : (t : Bool) → times_among p rest ≤ length rest → (if t then 1 else 0) + times_among p rest ≤ suc (length rest)
-    go true ih = omega (arith, ih)
-    go false ih = omega (arith, ih)
 
 -- a copy stands in no more places than one
 few_places : (h : Record) (c : ℕ) → IsLegal h → length (places h c) ≤ 1
@@ -52,5 +44,5 @@ oldest_held h p copies legal oldest are = record {
     at_place c =
         let few = count-oldest c (numbers_of copies) (parcels_at p (stands h)) oldest in
         let meant = places_meant h c p in
-        let times = times_few p (places h c) in
+        let times = times_some p (places h c) in
         omega (arith, few, meant, times)

@@ -14,13 +14,6 @@ sum_same f g (suc n) same =
     let last = same n (omega arith) in
     omega (arith, rest, last)
 
-pub sum_none : (f : ℕ → ℕ) (n : ℕ) → ((c : ℕ) → c < n → f c ≡ 0) → sum_below f n ≡ 0
-sum_none f zero none = refl
-sum_none f (suc n) none =
-    let rest = sum_none f n (λ c l. none c (omega (arith, l))) in
-    let last = none n (omega arith) in
-    omega (arith, rest, last)
-
 pub sum_each : (f : ℕ → ℕ) (k n : ℕ) → ((c : ℕ) → c < n → f c ≡ k) → sum_below f n ≡ n * k
 sum_each f k zero each = omega arith
 sum_each f k (suc n) each =

@@ -17,7 +17,7 @@ use Rattle.vx_record.specs.Moving.{IsConserved}
 use Rattle.vx_record.specs.Tallies.{one_if, count_puts, is_held_by, firsts_in}
 use Rattle.vx_record.proofs.Counts.{count-append, only, put_count}
 use Rattle.vx_record.proofs.Changes.{oldest_full}
-use Rattle.vx_counts.proofs.Once.{count_puts-append}
+use Rattle.vx_record.proofs.SpentParcels.{count_puts-append}
 
 -- the parcels that an instance took and that begin with a copy
 firsts_born : (i j c : ℕ) (copies : List ℕ) → count_puts (λ (put : Put). is_held_by i put.place && (c == first_copy put.copies)) (one_each (Outputs j) copies) ≡ 0

@@ -15,7 +15,8 @@ use Rattle.vx_record.specs.Tallies.{one_if, firsts_in, is_first, is_held_by}
 use Rattle.vx_record.proofs.OnePlace.{conserved}
 use Rattle.vx_counts.specs.Spends.{WasPut}
 use Rattle.vx_counts.specs.Laws.{DroppedWhole, FirstOfTaken}
-use Rattle.vx_counts.proofs.Once.{itself, count_puts-append, put_once}
+use Rattle.vx_record.proofs.SpentParcels.{count_puts-append}
+use Rattle.vx_counts.proofs.Once.{itself, put_once}
 use Rattle.vx_counts.proofs.Beginnings.{AreFull, full, full_part, begun_with, begun, behind_in, behind-append, parts_few}
 
 count_by-cons : (f : ℕ → Bool) (x : ℕ) (xs : List ℕ) → count_by f (x ∷ xs) ≡ cond (f x) 1 0 + count_by f xs

@@ -11,10 +11,7 @@ pub mod Numbering
 pub mod SpentFrom
 pub mod Dropping
 pub mod Singles
-pub mod Alike
-pub mod LastCopy
 pub mod EachMet
-pub mod AtLast
 pub mod Putting
 pub mod EachEntry
 pub mod OwnEntries

@@ -1,5 +1,5 @@
 -- A live copy was put once into the places of each kind, so that its spend counts once.
-use Rattle.std.proofs.Common.{◌≡◌, ℕ, ◌+◌, ◌<◌, ◌≤◌, Bool, true, false, ◌||◌, List, [], ◌∷◌, ◌++◌, sym, refl, ap, ◌∙◌, arith, inl, inr}
+use Rattle.std.proofs.Common.{◌≡◌, ℕ, ◌+◌, ◌<◌, ◌≤◌, Bool, true, false, ◌||◌, List, [], ◌∷◌, sym, refl, ap, ◌∙◌, arith, inl, inr}
 use Rattle.std.specs.Prelude.{◌==◌}
 use Rattle.std.proofs.lemmas.Bool.Decides.{nat_tests}
 use Rattle.std.proofs.lemmas.Bool.{cases_eq, cases_lt}
@@ -11,7 +11,9 @@ use Rattle.vx_record.specs.Moving.{IsConserved}
 use Rattle.vx_record.specs.Tallies.{one_if, count_puts}
 use Rattle.vx_record.specs.Growth.{has_copy}
 use Rattle.vx_record.proofs.Counts.{only, put_count, put_count-append}
+use Rattle.vx_record.proofs.Changes.{only-self}
 use Rattle.vx_record.proofs.OnePlace.{tracked}
+use Rattle.vx_record.proofs.SpentParcels.{count_puts-append}
 use Rattle.vx_record.proofs.Tracked.{born}
 use Rattle.vx_counts.specs.Spends.{WasPutIn}
 
@@ -42,17 +44,7 @@ counted_has c (d ∷ ds) has = elim (cases_eq d c) [
 ]
 
 -- PUTS THAT PASS A TEST
-pub count_puts-append : (test : Put → Bool) (xs ys : List Put) → count_puts test (xs ++ ys) ≡ count_puts test xs + count_puts test ys
-count_puts-append test [] ys = omega arith
-count_puts-append test (x ∷ xs) ys = let rest = count_puts-append test xs ys in omega arith
-
-pub only-self : (k : Kind) (n : ℕ) → only k k n ≡ n
-only-self AnOutput n = refl
-only-self AChild n = refl
-only-self AStage n = refl
-only-self AHold n = refl
-
-pub only-same : (k l : Kind) (n : ℕ) → l ≡ k → only k l n ≡ n
+only-same : (k l : Kind) (n : ℕ) → l ≡ k → only k l n ≡ n
 only-same k l n same = ap (λ m. only k m n) same ∙ only-self k n
 
 -- a test that passes only parcels with a copy, at places of a kind, passes none where the copy was put into none

@@ -1,5 +1,5 @@
 -- What a Spent adds to the counts of parcels, by the parcel in which its copy was put.
-use Rattle.std.proofs.Common.{◌≡◌, ℕ, ◌+◌, ◌≤◌, Bool, true, false, not, ◌&&◌, ◌||◌, Option, Some, None, List, [], ◌∷◌, sym, refl, ap, ◌∙◌, arith, inl, inr}
+use Rattle.std.proofs.Common.{◌≡◌, ℕ, ◌+◌, ◌≤◌, Bool, true, false, not, ◌&&◌, ◌||◌, List, [], ◌∷◌, sym, refl, ap, ◌∙◌, arith, inl, inr}
 use Rattle.std.specs.Prelude.{◌==◌, if◌then◌else◌}
 use Rattle.std.specs.List.{list_any}
 use Rattle.std.proofs.lemmas.Bool.Decides.{nat_tests}
@@ -10,26 +10,23 @@ use Rattle.vx_status.specs.declared.event_status.EventStatus.{EventStatus}
 use Rattle.vx_status.specs.Tables.{status_of}
 use Rattle.vx_record.specs.declared.entry.Entry.TheVariants.{Spent}
 use Rattle.vx_record.specs.Records.{Record}
-use Rattle.vx_record.specs.Copies.{count, all_of, spends, times_spent}
+use Rattle.vx_record.specs.Copies.{count, all_of, times_spent}
 use Rattle.vx_record.specs.Places.{Place, Put, kind, all_puts}
 use Rattle.vx_record.specs.Places.Place.{Outputs, Waiting}
 use Rattle.vx_record.specs.Places.Kind.{AnOutput, AChild, AHold}
 use Rattle.vx_record.specs.Parcels.{first_copy}
 use Rattle.vx_record.specs.Moving.{IsConserved}
-use Rattle.vx_record.specs.Tallies.{one_if, count_puts, outcome_of, was_spent, any_copy, is_unread, is_newest, is_output, is_child_for, is_held_by, same_status, spent_as, firsts_in, is_first}
+use Rattle.vx_record.specs.Tallies.{one_if, count_puts, was_spent, any_copy, is_unread, is_newest, is_output, is_child_for, is_held_by, same_status, spent_as, firsts_in, is_first}
 use Rattle.vx_record.specs.Growth.{has_copy, unread_in, newest_in, spent_in}
-use Rattle.vx_record.proofs.Counts.{count-append}
+use Rattle.vx_record.proofs.SpentParcels.{and_false, none_passes, not_spent}
 use Rattle.vx_counts.specs.Spends.{WasPutIn}
+use Rattle.vx_counts.specs.Laws.{UnspentNone}
 use Rattle.vx_counts.proofs.Once.{has_counted, put_once, alone}
 use Rattle.vx_counts.proofs.Beginnings.{begun, parts_few}
 
 pub both : (a b : Bool) → (a && b) ≡ true → (a ≡ true) × (b ≡ true)
 both true b e = (refl, e)
 both false b e = absurd (cc)
-
-pub and_false : (b : Bool) → (b && false) ≡ false
-and_false true = refl
-and_false false = refl
 
 -- tests that agree count alike
 pub same_counts : (f g : Place → List ℕ → Bool) → ((p : Place) (cs : List ℕ) → f p cs ≡ g p cs) → (xs : List Put) →
@@ -97,19 +94,8 @@ any_few c (x ∷ xs) few = go (x == c) few (any_few c xs)
     go true few rest = omega arith
     go false few rest = let x = rest (omega arith) in omega arith
 
--- a copy that isn't spent has no outcome
-pub outcome_none : (h : Record) (c : ℕ) → times_spent h c ≡ 0 → outcome_of h c ≡ None
-outcome_none [] c e = refl
-outcome_none (Spent i d outcome ∷ h) c e = elim (cases_eq d c) [
-  | inl same ↦ absurd (grind (arith, nat_tests, count-append c (all_of spends h) (d ∷ [])))
-  | inr other ↦
-      let fails : (d == c) ≡ false = grind (arith, nat_tests) in
-      rw fails (outcome_none h c (omega (arith, count-append c (all_of spends h) (d ∷ []))))
-]
-outcome_none (e ∷ h) c q = outcome_none h c (omega (arith, count-append c (all_of spends h) []))
-
-pub not_spent : (test : Outcome → Bool) (h : Record) (c : ℕ) → times_spent h c ≡ 0 → was_spent test h c ≡ false
-not_spent test h c e = ap (λ (o : Option Outcome). elim o [ None ↦ false | Some outcome ↦ test outcome ]) (outcome_none h c e)
+pub unspent_none : UnspentNone
+unspent_none h test copies each = none_passes test h copies (λ c l. not_spent test h c (each c l))
 
 -- a parcel passes now where this copy comes first in it
 begins_now : (at : Bool) (was : ℕ → Bool) (c d : ℕ) → was c ≡ false → (at && ((true && (c == d)) && not (was d))) ≡ (at && (c == d))

@@ -12,7 +12,7 @@ use Rattle.vx_record.specs.Records.{Record}
 use Rattle.vx_record.specs.Moving.{IsConserved}
 use Rattle.vx_record.specs.Ceasing.{no_answer}
 use Rattle.vx_record.proofs.OnePlace.{conserved}
-use Rattle.vx_counts.specs.Folds.{IsOne, AllOnes}
+use Rattle.vx_counts.specs.Spends.{IsOne, AllOnes}
 use Rattle.vx_counts.specs.Laws.{OneCopyEach}
 
 ones-append : (xs ys : List Put) → AllOnes xs → AllOnes ys → AllOnes (xs ++ ys)

@@ -22,15 +22,16 @@ use Rattle.vx_record.specs.Reads.{bytes_of, new_lines, new_overlong, new_undecod
 use Rattle.vx_record.specs.Confirms.{Birth, confirmed_in}
 use Rattle.vx_record.specs.Installs.{component_of}
 use Rattle.vx_record.specs.Tally.{nothing_counted}
-use Rattle.vx_record.specs.Tallies.{is_batch_of, is_first, one_if, same_end, same_status, tally}
+use Rattle.vx_record.specs.Tallies.{is_batch_of, is_first, one_if, same_end, same_status, source_tally, transform_tally, sink_tally, tally}
 use Rattle.vx_record.specs.Growth.{bytes_in, lines_in, overlong_in, undecodable_in, events_in, batches_in, notices_in, takes_in, outputs_in, dropped_in, attempts_in, sent_in, unread_in, newest_in, spent_in}
 use Rattle.vx_record.proofs.OnePlace.{conserved}
 use Rattle.vx_counts.specs.Classes.{class_at, IsGiver}
 use Rattle.vx_counts.specs.Meets.{LeavesBe}
 use Rattle.vx_counts.specs.Laws.{OthersStay}
-use Rattle.vx_counts.proofs.Passing.{and_false, unread_by, unread_none, newest_by, newest_none, held_none, held_by}
+use Rattle.vx_record.proofs.SpentParcels.{and_false}
+use Rattle.vx_counts.proofs.Passing.{unread_by, unread_none, newest_by, newest_none, held_none, held_by}
 use Rattle.vx_counts.proofs.Classes.{by_class, tally_is}
-use Rattle.vx_counts.proofs.Fields.{source_same, transform_same, sink_same}
+use Rattle.vx_counts.proofs.Fields.{raised, more_by, grows_aside}
 
 -- WHAT AN ENTRY ADDS TO EACH NUMBER
 none_so : (b m : Bool) → m ≡ false → ◌≡◌ {A = ℕ} (if b && m then 1 else 0) 0
@@ -124,34 +125,36 @@ no_held e h i legal be sink status counted = refl
 
 -- BY CLASS
 class_same : (k : Class) (e : Entry) (h : Record) (i : ℕ) → IsLegal (e ∷ h) → class_at h i ≡ Some k → LeavesBe h i e → by_class (e ∷ h) i k ≡ by_class h i k
-class_same Source e h i legal class be = source_same i h e legal (record {
-  read = no_bytes e h i be;
-  lines = no_lines e h i be;
-  overlong = no_overlong e h i be;
-  undecodable = no_undecodable e h i be;
-  events = no_events e h i be;
-  unread = no_unread e h i legal be (subst IsGiver (sym class) tt);
-  batches = no_batches e h i be;
-  delivered = no_notices e h i be batch.Delivered;
-  errored = no_notices e h i be batch.Errored;
-  rejected = no_notices e h i be batch.Rejected;
-  confirmed = no_positions e h i be;
-})
-class_same Transform e h i legal class be = transform_same i h e legal (record {
-  unread = no_unread e h i legal be (subst IsGiver (sym class) tt);
-  taken = no_takes e h i be;
-  sent = no_outputs e h i be;
-  dropped = no_dropped e h i be;
-})
-class_same Sink e h i legal class be = sink_same i h e legal (record {
-  delivered = no_held e h i legal be class event.Delivered refl;
-  errored = no_held e h i legal be class event.Errored refl;
-  rejected = no_held e h i legal be class event.Rejected refl;
-  taken = no_takes e h i be;
-  newest = no_newest e h i legal be class;
-  attempts = no_attempts e h i be;
-  bytes = no_sent e h i be;
-})
+class_same k e h i legal class be = grows_aside k h i e legal (no_positions e h i be) ∙ nothing k class
+  where
+    nothing : (k : Class) → class_at h i ≡ Some k → raised (by_class h i k) (more_by h i e k) ≡ by_class h i k
+    nothing Source class = λ t. raised (source_tally h i) (record nothing_counted {
+      read = no_bytes e h i be t;
+      lines = no_lines e h i be t;
+      overlong = no_overlong e h i be t;
+      undecodable = no_undecodable e h i be t;
+      events = no_events e h i be t;
+      unread = no_unread e h i legal be (subst IsGiver (sym class) tt) t;
+      batches = no_batches e h i be t;
+      delivered = no_notices e h i be batch.Delivered t;
+      errored = no_notices e h i be batch.Errored t;
+      rejected = no_notices e h i be batch.Rejected t;
+    })
+    nothing Transform class = λ t. raised (transform_tally h i) (record nothing_counted {
+      unread = no_unread e h i legal be (subst IsGiver (sym class) tt) t;
+      taken = no_takes e h i be t;
+      sent = no_outputs e h i be t;
+      dropped = no_dropped e h i be t;
+    })
+    nothing Sink class = λ t. raised (sink_tally h i) (record nothing_counted {
+      delivered = no_held e h i legal be class event.Delivered refl t;
+      errored = no_held e h i legal be class event.Errored refl t;
+      rejected = no_held e h i legal be class event.Rejected refl t;
+      taken = no_takes e h i be t;
+      newest = no_newest e h i legal be class t;
+      attempts = no_attempts e h i be t;
+      bytes = no_sent e h i be t;
+    })
 
 -- what runs nothing counted nothing
 none_is : (h : Record) (i : ℕ) → class_at h i ≡ None → tally h i ≡ nothing_counted

@@ -1,33 +1,26 @@
 -- The laws by which kept counts stay those of the record.
-use Rattle.std.specs.Prelude.{ℕ, ◌+◌, ◌<◌, ◌≡◌, Bool, true, false, Some, List, [], ◌∷◌, ◌++◌, length, count_by, ◌⊎◌, ◌↔◌}
+use Rattle.std.specs.Prelude.{ℕ, ◌<◌, ◌≡◌, Bool, true, false, Some, List, [], ◌∷◌, ◌++◌, length, count_by, ◌⊎◌}
 use Rattle.vx_ends.specs.declared.position.Position.{Position}
 use Rattle.vx_status.specs.declared.outcome.Outcome.{Outcome}
-use Rattle.vx_status.specs.declared.outcome.Outcome.TheVariants.{NewestDropped, NoConsumer}
-use Rattle.vx_status.specs.declared.event_status.EventStatus.{EventStatus}
-use Rattle.vx_status.specs.Tables.{status_of}
-use Rattle.vx_frame.specs.Frames.{Frame}
-use Rattle.vx_json.specs.declared.decoding.Decoding.{Decoding}
 use Rattle.vx_plan.specs.declared.class.Class.TheVariants.{Source, Transform, Sink}
-use Rattle.vx_record.specs.declared.taken.Taken.{Taken}
 use Rattle.vx_record.specs.declared.tally.Tally.{Tally}
 use Rattle.vx_record.specs.declared.entry.Entry.{Entry}
 use Rattle.vx_record.specs.declared.entry.Entry.TheVariants.{Spent, Confirm}
 use Rattle.vx_record.specs.Records.{Record}
 use Rattle.vx_record.specs.Copies.{count, joined, times_spent}
 use Rattle.vx_record.specs.Places.{Place, Put, all_puts, puts}
-use Rattle.vx_record.specs.Places.Place.{Outputs, Waiting, Held}
+use Rattle.vx_record.specs.Places.Place.{Held}
 use Rattle.vx_record.specs.Legal.{IsLegal}
 use Rattle.vx_record.specs.Ceasing.{no_answer}
 use Rattle.vx_record.specs.Installs.{source_at, transform_at, sink_at}
 use Rattle.vx_record.specs.Confirms.{confirmed, last_of_each}
-use Rattle.vx_record.specs.Tallies.{tally, is_batch_of, is_first, any_copy, one_if, same_status, spent_as, unread_parcels, newest_parcels, parcels_spent}
+use Rattle.vx_record.specs.Tallies.{tally, is_batch_of, is_first, any_copy}
 use Rattle.vx_record.specs.Tasks.{is_of}
 use Rattle.vx_record.specs.TallyLists.{tallies_of}
 use Rattle.vx_counts.specs.Classes.{class_at}
 use Rattle.vx_counts.specs.Meets.{LeavesBe, CountsFor, ComesFromOthers, EachMeets}
-use Rattle.vx_counts.specs.Spends.{StandsAt, WasPut, WasPutIn, HasPlace}
+use Rattle.vx_counts.specs.Spends.{StandsAt, WasPut, WasPutIn, HasPlace, AllOnes}
 use Rattle.vx_counts.specs.Answers.{WereTaken}
-use Rattle.vx_counts.specs.Folds.{folded_as, parcels_folded, tally_whole, AgreeOn, unread_whole, newest_whole, AllSpentAlike, AllOnes, IsLastOf, IsNotLastOf}
 
 -- an entry that counts for others alone leaves an instance's tally
 abbrev pub OthersStay : Type 0
@@ -99,59 +92,6 @@ DroppedWhole =
 abbrev pub AllMet : Type 0
 AllMet = (h : Record) (kept : List Tally) → EachMeets h 0 kept → kept ≡ tallies_of h (length kept)
 
--- the counts of parcels by all copies are those by the first, or by any, and so is the tally
-pub record CountsAlike (h : Record) (i : ℕ) : Type 0 where
-  pub tally : tally_whole h i ≡ tally h i
-  pub unread : unread_whole h i ≡ unread_parcels h i
-  pub newest : newest_whole h i ≡ newest_parcels h i
-  pub spent : (status : EventStatus) → parcels_folded status h i ≡ parcels_spent status h i
-
--- so where no parcel is spent in part, and the copies of each that is spent were spent alike
-abbrev pub WholeAlike : Type 0
-WholeAlike = (h : Record) (i : ℕ) → AllSpentAlike h (all_puts h) → CountsAlike h i
-
--- of a sink's parcel the two tell the same exactly there
-abbrev pub AgreeWhere : Type 0
-AgreeWhere =
-    (h : Record) (copies : List ℕ) → 0 < length copies → ((status : EventStatus) → folded_as status h copies ≡ spent_as status h copies) ↔ AgreeOn h copies
-
--- so where each parcel has one copy
-abbrev pub OnesAlike : Type 0
-OnesAlike = (h : Record) (i : ℕ) → AllOnes (all_puts h) → CountsAlike h i
-
--- and that is where nothing joins parcels
+-- each parcel has one copy, where nothing joins parcels
 abbrev pub OneCopyEach : Type 0
 OneCopyEach = (h : Record) → IsLegal h → no_answer h ≡ true → AllOnes (all_puts h)
-
--- where the last copy of a parcel is spent, as the others were, the parcel counts by all its copies, once
-abbrev pub HeldAtLast : Type 0
-HeldAtLast =
-    (h : Record) (i j c : ℕ) (outcome : Outcome) (copies : List ℕ) (status : EventStatus) → IsLegal (Spent j c outcome ∷ h) →
-    IsLastOf h (Held i) copies c outcome →
-    parcels_folded status (Spent j c outcome ∷ h) i ≡ parcels_folded status h i + one_if (same_status (status_of outcome) status)
-
-abbrev pub UnreadAtLast : Type 0
-UnreadAtLast =
-    (h : Record) (i j c : ℕ) (copies : List ℕ) → IsLegal (Spent j c NoConsumer ∷ h) → IsLastOf h (Outputs i) copies c NoConsumer →
-    unread_whole (Spent j c NoConsumer ∷ h) i ≡ unread_whole h i + 1
-
-abbrev pub NewestAtLast : Type 0
-NewestAtLast =
-    (h : Record) (i j c : ℕ) (copies : List ℕ) → IsLegal (Spent j c NewestDropped ∷ h) → IsLastOf h (Waiting j i) copies c NewestDropped →
-    newest_whole (Spent j c NewestDropped ∷ h) i ≡ newest_whole h i + 1
-
--- and before that it doesn't
-abbrev pub HeldNotBefore : Type 0
-HeldNotBefore =
-    (h : Record) (i j c : ℕ) (outcome : Outcome) (copies : List ℕ) (status : EventStatus) → IsLegal (Spent j c outcome ∷ h) →
-    IsNotLastOf h (Held i) copies c → parcels_folded status (Spent j c outcome ∷ h) i ≡ parcels_folded status h i
-
-abbrev pub UnreadNotBefore : Type 0
-UnreadNotBefore =
-    (h : Record) (i j c : ℕ) (outcome : Outcome) (copies : List ℕ) → IsLegal (Spent j c outcome ∷ h) → IsNotLastOf h (Outputs i) copies c →
-    unread_whole (Spent j c outcome ∷ h) i ≡ unread_whole h i
-
-abbrev pub NewestNotBefore : Type 0
-NewestNotBefore =
-    (h : Record) (i j c : ℕ) (outcome : Outcome) (copies : List ℕ) → IsLegal (Spent j c outcome ∷ h) → IsNotLastOf h (Waiting j i) copies c →
-    newest_whole (Spent j c outcome ∷ h) i ≡ newest_whole h i

@@ -2,5 +2,4 @@ pub mod Classes
 pub mod Spends
 pub mod Meets
 pub mod Answers
-pub mod Folds
 pub mod Laws

@@ -1,5 +1,5 @@
 -- When the counts that are kept of an instance are those of a record so far.
-use Rattle.std.specs.Prelude.{ℕ, ◌≡◌, ◌==◌, ◌&&◌, true, false, length, ◌+◌, List, [], ◌∷◌}
+use Rattle.std.specs.Prelude.{ℕ, ◌≡◌, ◌==◌, ◌&&◌, true, false, ◌+◌, List, [], ◌∷◌}
 use Rattle.vx_status.specs.declared.outcome.Outcome.TheVariants.{NewestDropped}
 use Rattle.vx_record.specs.declared.tally.Tally.{Tally}
 use Rattle.vx_record.specs.declared.entry.Entry.{Entry}

@@ -1,5 +1,5 @@
 -- Which parcel a copy was put in decides whose count rises where it is spent.
-use Rattle.std.specs.Prelude.{ℕ, ◌<◌, ◌≡◌, ◌==◌, ◌&&◌, not, true, false, Some, List, ◌∷◌, ◌++◌}
+use Rattle.std.specs.Prelude.{ℕ, ◌<◌, ◌≡◌, ◌==◌, ◌&&◌, not, true, false, Some, List, [], ◌∷◌, ◌++◌}
 use Rattle.vx_plan.specs.declared.class.Class.TheVariants.{Sink}
 use Rattle.vx_status.specs.declared.outcome.Outcome.{Outcome}
 use Rattle.vx_status.specs.declared.outcome.Outcome.TheVariants.{Delivered, Filtered, NewestDropped, NoConsumer, Attempts, Abandoned, Refusal}
@@ -23,6 +23,17 @@ WasPut h p copies = (before after : List Put) × (all_puts h ≡ before ++ recor
 pub record WasPutIn (h : Record) (p : Place) (copies : List ℕ) (c : ℕ) : Type 0 where
   pub put : WasPut h p copies
   pub has : 0 < count c copies
+
+-- one copy alone
+abbrev pub IsOne : List ℕ → Type 0
+IsOne [] = ⊥
+IsOne (c ∷ []) = Unit {0}
+IsOne (c ∷ d ∷ rest) = ⊥
+
+-- each parcel that was put anywhere has one copy
+abbrev pub AllOnes : List Put → Type 0
+AllOnes [] = Unit {0}
+AllOnes (put ∷ rest) = IsOne put.copies × AllOnes rest
 
 -- a copy for want of a reader counts elsewhere, or not at all: another instance put it out, or a copy of its parcel was spent so
 -- before

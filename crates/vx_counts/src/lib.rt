@@ -1,4 +1,4 @@
-//! Running counts: what each instance counted so far, kept up with each entry of the record, whether or not that is stored.
+//! Running counts: what each instance counted so far, kept up with each entry of the record.
 #![tactic(auto)]
 
 mod counts;
@@ -7,6 +7,4 @@ mod laws;
 mod tests;
 
 pub use counts::Counts;
-pub use laws::{
-    all, confirms, discards, firsts, last_copy, others, owners, parcels, places, roles,
-};
+pub use laws::{all, confirms, discards, firsts, others, owners, places, roles};

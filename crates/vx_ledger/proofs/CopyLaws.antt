@@ -1,5 +1,5 @@
 -- Laws on lists of copies.
-use Rattle.std.proofs.Common.{◌≡◌, ℕ, zero, suc, ◌+◌, ◌*◌, ◌<◌, ◌≤◌, List, [], ◌∷◌, ◌++◌, length, take, drop, get_or, set, Some, refl, sym, append_assoc, arith, add-one, ◌==◌, ◌&&◌, if◌then◌else◌}
+use Rattle.std.proofs.Common.{◌≡◌, ℕ, zero, suc, ◌+◌, ◌*◌, ◌<◌, ◌≤◌, List, [], ◌∷◌, ◌++◌, length, take, drop, get_or, set, Some, refl, arith, add-one, ◌==◌, ◌&&◌, if◌then◌else◌}
 use Rattle.std.specs.List.{slice_get}
 use Rattle.std.proofs.lemmas.Grind.{common_steps}
 use Rattle.vx_ledger.specs.Copies.{Copy, copies_of, numbered, renumbered, children_of, joined, each_alone}
@@ -60,11 +60,6 @@ children_of_more zero first parent = grind arith
 children_of_more (suc k) first parent =
     rw add-one (grind (arith, children_of_more k (first + length parent) parent, add-one))
 
--- there is a list for each target
-pub length-children_of : (k first : ℕ) (parent : List Copy) → length (children_of k first parent) ≡ k
-length-children_of zero first parent = refl
-length-children_of (suc k) first parent = grind (arith, length-children_of k (first + length parent) parent)
-
 -- the list of the t-th target begins t times the parent's length past the first number
 pub slice_get-children_of : (k t first : ℕ) (parent : List Copy) → t < k →
     slice_get (children_of k first parent) t ≡ Some (renumbered (first + t * length parent) parent)
@@ -83,23 +78,6 @@ copies_of-children_of batch place (suc k) first parent =
       copies_of-children_of batch place k (first + length parent) parent,
       copies_of-append batch place (renumbered first parent) (joined (children_of k (first + length parent) parent)),
       copies_of-renumbered batch place first parent,
-    )
-
--- several lists, and several more
-pub joined-append : (xs ys : List (List Copy)) → joined (xs ++ ys) ≡ joined xs ++ joined ys
-joined-append [] ys = refl
-joined-append (x ∷ xs) ys = rw (joined-append xs ys) (sym (append_assoc x (joined xs) (joined ys)))
-
--- the copies of several lists, one more at the end
-pub copies_of-joined_push : (batch place : ℕ) (xs : List (List Copy)) (y : List Copy) →
-    copies_of batch place (joined (xs ++ y ∷ [])) ≡ copies_of batch place (joined xs) + copies_of batch place y
-copies_of-joined_push batch place [] y = grind (arith, copies_of-append batch place y [])
-copies_of-joined_push batch place (x ∷ xs) y =
-    grind (
-      arith,
-      copies_of-joined_push batch place xs y,
-      copies_of-append batch place x (joined xs),
-      copies_of-append batch place x (joined (xs ++ y ∷ [])),
     )
 
 -- one more copy alone at the end

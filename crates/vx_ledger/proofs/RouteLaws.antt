@@ -1,5 +1,5 @@
 -- Laws on routes.
-use Rattle.std.proofs.Common.{◌≡◌, ℕ, zero, suc, ◌+◌, ◌-◌, ◌*◌, ◌^◌, ◌<◌, List, [], ◌∷◌, ◌++◌, length, take, get_or, map, Bool, true, false, subst, ◌∙◌, refl, sym, ap, append_assoc, append-nil, length-append, arith, ◌==◌, if◌then◌else◌}
+use Rattle.std.proofs.Common.{◌≡◌, ℕ, zero, suc, ◌+◌, ◌-◌, ◌*◌, ◌^◌, ◌<◌, List, [], ◌∷◌, ◌++◌, length, take, get_or, Bool, true, false, subst, ◌∙◌, sym, append_assoc, append-nil, length-append, arith, ◌==◌, if◌then◌else◌}
 use Rattle.std.specs.List.{All}
 use Rattle.std.specs.Int.{bit_at}
 use Rattle.std.proofs.lemmas.Grind.{common_steps}
@@ -7,7 +7,7 @@ use Rattle.std.proofs.lemmas.List.{take_more}
 use Rattle.std.proofs.lemmas.List.Elements.{All-append, All-nil, All-head, All-tail}
 use Rattle.vx_ledger.specs.declared.child.Child.{Child}
 use Rattle.vx_ledger.specs.declared.parcel.Parcel.{Parcel}
-use Rattle.vx_ledger.specs.Copies.{copies_of, renumbered, children_of}
+use Rattle.vx_ledger.specs.Copies.{copies_of, renumbered}
 use Rattle.vx_ledger.specs.Routing.{named, targets_from, child_of, children_for, copies_in}
 use Rattle.vx_ledger.specs.declared.open_batch.OpenBatch.{OpenBatch}
 use Rattle.vx_ledger.specs.Ledger.{live_count, grown_rows, AreLiveIn}
@@ -87,14 +87,6 @@ copies_of-copies_in batch place (t ∷ ts) first parcel =
       copies_of-append batch place (renumbered first parcel.finalizers) (copies_in rest),
       copies_of-renumbered batch place first parcel.finalizers,
     )
-
--- the children have the copies that a split for their targets gives
-pub finalizers-children_for : (targets : List ℕ) (first : ℕ) (parcel : Parcel) →
-    map (λ child. child.parcel.finalizers) (children_for targets first parcel)
-    ≡ children_of (length targets) first parcel.finalizers
-finalizers-children_for [] first parcel = refl
-finalizers-children_for (t ∷ ts) first parcel =
-    ap (λ rest. renumbered first parcel.finalizers ∷ rest) (finalizers-children_for ts (first + length parcel.finalizers) parcel)
 
 -- a batch has a live copy for each target in the place of each that was routed
 pub exchange_route : (targets : List ℕ) (first batch place : ℕ) (parcel : Parcel) (rs : List OpenBatch) →

@@ -16,10 +16,9 @@ use Rattle.vx_record.specs.Tallies.{any_copy, is_first, is_newest, is_unread}
 use Rattle.vx_record.proofs.Hands.{not_there}
 use Rattle.vx_record.proofs.OnePlace.{conserved}
 use Rattle.vx_record.proofs.Shifting.{stands_at}
-use Rattle.vx_counts.specs.Folds.{IsOne, AllOnes}
-use Rattle.vx_counts.specs.Spends.{StandsAt, WasPutIn}
-use Rattle.vx_counts.proofs.Alike.{unspent_none}
+use Rattle.vx_counts.specs.Spends.{StandsAt, WasPutIn, IsOne, AllOnes}
 use Rattle.vx_counts.proofs.Dropping.{first_of_taken}
+use Rattle.vx_counts.proofs.Passing.{unspent_none}
 use Rattle.vx_counts.proofs.Singles.{ones}
 use Rattle.vx_counts.proofs.SpentFrom.{legal_place, stands_put}
 

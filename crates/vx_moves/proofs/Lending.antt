@@ -39,10 +39,6 @@ lent_rooms i room old new h lends rooms = record { stages = λ j. lends.stages j
     go j true same = subst (λ (k : ℕ). IfSome (held_room new k) (IsHandOf h k)) (equal i j same) (subst (λ (o : Option ℕ). IfSome o (IsHandOf h i)) (sym lends.now) tt)
     go j false other = subst (λ (o : Option ℕ). IfSome o (IsHandOf h j)) (sym (lends.others j (apart i j other))) (rooms.hands j)
 
--- the room that is lent is that of a batch
-pub lent_room : (i room : ℕ) (old new : List Row) (h : Record) → LendsRoom i room old new → AreRooms old h → IsHandOf h i room
-lent_room i room old new h lends rooms = subst (λ (o : Option ℕ). IfSome o (IsHandOf h i)) lends.was (rooms.hands i)
-
 -- BACK
 back_kept : (i : ℕ) (parcels : List Parcel) (old new : List Row) (h : Record) → Lends i parcels new old → KeptAtHome old h → KeptAtHome new h
 back_kept i parcels old new h lends kept j home = go (i == j) refl

@@ -18,14 +18,13 @@ use Rattle.vx_record.specs.Shifts.{at}
 use Rattle.vx_record.specs.SinkBatches.{attempts_allowed, failures_with}
 use Rattle.vx_record.specs.Spending.{oldest, HasCause, WasAnswered}
 use Rattle.vx_record.specs.Turns.{is_out}
-use Rattle.vx_record.proofs.Adding.{adds_none, adds_both}
+use Rattle.vx_record.proofs.Adding.{adds_both}
 use Rattle.vx_record.proofs.Changes.{same_place_is}
 use Rattle.vx_record.proofs.Counts.{count-append}
 use Rattle.vx_moves.specs.declared.books.Books.{Books}
 use Rattle.vx_moves.specs.Spends.{IsSpendOf, MaySpendAll, MaySpendFrom, IsNotedAs, HasSpent, OnlySpends}
-use Rattle.vx_moves.specs.Stands.{Stands}
 use Rattle.vx_moves.proofs.Counting.{elsewhere}
-use Rattle.vx_moves.proofs.Leaving.{rooms_both, each_stays, each_both}
+use Rattle.vx_moves.proofs.Leaving.{rooms_both, each_both}
 
 -- WHAT A SPEND KEEPS
 -- what neither a spend nor a notice changes
@@ -34,10 +33,10 @@ kept_behind : {i copy : ℕ} {outcome : Outcome} {h log : Record} (F : Record �
 kept_behind F (inl is) spent noticed before = subst F (sym is) (spent before)
 kept_behind F (inr more) spent noticed before = subst F (sym more.1.1) (noticed more.0 more.1.0 (spent before))
 
-pub still_over : {i copy : ℕ} {outcome : Outcome} {h log : Record} → IsNotedAs (Spent i copy outcome) h log → abandoned h ≡ true → abandoned log ≡ true
+still_over : {i copy : ℕ} {outcome : Outcome} {h log : Record} → IsNotedAs (Spent i copy outcome) h log → abandoned h ≡ true → abandoned log ≡ true
 still_over noted = kept_behind (λ k. abandoned k ≡ true) noted (λ over. over) (λ b status over. over)
 
-pub still_home : {i copy : ℕ} {outcome : Outcome} {h log : Record} (j : ℕ) → IsNotedAs (Spent i copy outcome) h log → is_out h j ≡ false → is_out log j ≡ false
+still_home : {i copy : ℕ} {outcome : Outcome} {h log : Record} (j : ℕ) → IsNotedAs (Spent i copy outcome) h log → is_out h j ≡ false → is_out log j ≡ false
 still_home j noted = kept_behind (λ k. is_out k j ≡ false) noted (λ home. home) (λ b status home. home)
 
 still_left : {i copy : ℕ} {outcome : Outcome} {h log : Record} (j c : ℕ) (o : Outcome) → IsNotedAs (Spent i copy outcome) h log → MayStillCome h (Spent j c o) → MayStillCome log (Spent j c o)
@@ -75,16 +74,6 @@ module _ {P : Type 0} (told_by : P → Told) where
   }
 
   -- ONE AFTER THE OTHER
-  pub spends_none : (i : ℕ) (outcome : Outcome) (books : Books P) → Stands told_by books → OnlySpends told_by i outcome books books
-  spends_none i outcome books stands = record {
-    only = adds_none (IsSpendOf i outcome) books.log books.log refl;
-    stands = stands;
-    empty = λ q none. none;
-    others = λ q other. refl;
-    leaves = record { seats = each_stays books.seats; rooms = λ j. (refl, refl); run = refl };
-    size = refl;
-  }
-
   spends_one : (p : Place) (outcome : Outcome) (old new : Books P) → HasSpent told_by p outcome old new → OnlySpends told_by (owner p) outcome old new
   spends_one p outcome old new spent = record {
     only = spent.only;
@@ -133,3 +122,16 @@ module _ {P : Type 0} (told_by : P → Told) where
   all_bare i outcome a b c d first second third outputs_none waiting_none contents_none held_none (Contents j s) own =
       subst (λ (k : ℕ). at d.log (Contents k s) ≡ []) (sym own) (third.empty (Contents i s) (contents_none s))
   all_bare i outcome a b c d first second third outputs_none waiting_none contents_none held_none (Held j) own = subst (λ (k : ℕ). at d.log (Held k) ≡ []) (sym own) held_none
+
+-- while the copies of an instance of a run that was given up are spent one after the other
+pub record GivesUp {P : Type 0} (told_by : P → Told) (i : ℕ) (old now : Books P) : Type 0 where
+  pub spent : OnlySpends told_by i Abandoned old now
+  pub over : abandoned now.log ≡ true
+  pub home : is_out now.log i ≡ false
+
+pub gives_up_more : {P : Type 0} (told_by : P → Told) (p : Place) (old mid new : Books P) → GivesUp told_by (owner p) old mid → HasSpent told_by p Abandoned mid new → GivesUp told_by (owner p) old new
+gives_up_more told_by p old mid new was one = record {
+  spent = spends_more told_by p Abandoned old mid new was.spent one;
+  over = still_over one.noted was.over;
+  home = still_home (owner p) one.noted was.home;
+}

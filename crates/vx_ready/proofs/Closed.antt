@@ -10,6 +10,7 @@ use Rattle.vx_record.specs.Records.{Record, capped}
 use Rattle.vx_record.specs.Ceasing.{cause_of}
 use Rattle.vx_record.specs.Installs.{component_of, sink_at}
 use Rattle.vx_record.specs.Lists.{held, buffered}
+use Rattle.vx_record.specs.Owing.{owes}
 use Rattle.vx_record.specs.Parcels.{first_copy}
 use Rattle.vx_record.specs.Places.Place.{Held}
 use Rattle.vx_record.specs.Copies.{joined}
@@ -22,9 +23,8 @@ use Rattle.vx_seats.specs.declared.seat.Seat.{Seat}
 use Rattle.vx_seats.specs.Knowing.{IsFittedTo, IsSince}
 use Rattle.vx_moves.specs.declared.books.Books.{Books}
 use Rattle.vx_moves.specs.Stands.{Stands}
-use Rattle.vx_ready.specs.Asking.{IsSettled}
 use Rattle.vx_ready.specs.Jobs.{is_full_or_old}
-use Rattle.vx_ready.proofs.Knowing.{known, going, owes_none}
+use Rattle.vx_ready.proofs.Knowing.{known}
 use Rattle.vx_ready.proofs.Untried.{first_joined, none_empty_held, untried, waits_for_none}
 
 -- the component of a sink's seat
@@ -64,9 +64,10 @@ closed_by true false true last false e = refl
 closed_by true false false true false e = refl
 closed_by true false false false false e = refl
 
-module _ {P : Type 0} (told_by : P → Told) (books : Books P) (stands : Stands told_by books) (i : ℕ) (seat : Seat P) (there : slice_get books.seats i ≡ Some seat) (settled : IsSettled books i) where
-  pub tried_none : 0 < length (held books.log i) → attempts_with books.log i (oldest_held books.log i) ≡ 0
-  tried_none some = untried books.log i stands.legal (owes_none told_by books stands i seat there settled) some
+module _ {P : Type 0} (told_by : P → Told) (books : Books P) (stands : Stands told_by books) (i : ℕ) (seat : Seat P) (there : slice_get books.seats i ≡ Some seat)
+    (settled : owes books.log i ≡ false) (goes : cause_of books.log ≡ None) where
+  tried_none : 0 < length (held books.log i) → attempts_with books.log i (oldest_held books.log i) ≡ 0
+  tried_none some = untried books.log i stands.legal settled some
 
   -- so a batch needn't wait for another attempt
   pub waits_not : (now : ℕ) → 0 < length (held books.log i) → nat_le (retry_from books.log i) now ≡ true
@@ -74,7 +75,7 @@ module _ {P : Type 0} (told_by : P → Told) (books : Books P) (stands : Stands 
 
   since_is : sink_at books.log i ≡ true → 0 < length (held books.log i) → seat.facts.since ≡ taken_at books.log i (oldest_held books.log i)
   since_is sink some =
-      since_oldest books.log i seat.facts.since (held books.log i) refl some (going told_by books stands i seat there settled) (tried_none some)
+      since_oldest books.log i seat.facts.since (held books.log i) refl some goes (tried_none some)
       (subst (IsSince books.log i seat.facts.since) (sym (stands_at books.log (Held i) stands.legal)) ((known told_by books stands i seat there).facts.since sink))
 
   due_is : (now n : ℕ) → sink_at books.log i ≡ true → 0 < length (held books.log i) → n ≡ length (held books.log i) → is_full_or_old seat.batching seat.facts.since n now ≡ (is_full_batch books.log i || is_timed_out books.log i now)

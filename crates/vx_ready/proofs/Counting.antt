@@ -2,7 +2,7 @@
 use Rattle.std.proofs.Common.{◌≡◌, ◌∙◌, ℕ, zero, suc, ◌+◌, ◌<◌, ◌≤◌, Bool, true, false, ◌||◌, List, [], ◌∷◌, ◌++◌, length, Some, inl, inr, refl, sym, ap, arith}
 use Rattle.std.specs.Prelude.{◌==◌, if◌then◌else◌, map, filter, nat_lt}
 use Rattle.std.specs.List.{list_any, list_all}
-use Rattle.std.proofs.lemmas.Bool.{cases_eq}
+use Rattle.std.proofs.lemmas.Bool.{cases_eq, and_from as both, and_left as first_off, and_right as second_off, or_left as first_on, or_right as second_on, or_from as neither}
 use Rattle.std.proofs.lemmas.Bool.Decides.{nat_tests}
 use Rattle.std.proofs.lemmas.List.{append-nil}
 use Rattle.vx_plan.specs.declared.component.Component.{Component}
@@ -14,7 +14,6 @@ use Rattle.vx_record.specs.Copies.{count, contains, counting}
 use Rattle.vx_record.specs.Installs.{in_force, is_new, started}
 use Rattle.vx_record.specs.Legal.{IsLegal}
 use Rattle.vx_record.specs.Starting.{first_instances}
-use Rattle.vx_ready.proofs.Testing.{both, first_off, second_off, first_on, second_on, neither}
 
 -- NUMBERS FROM ONE ON
 any_from : (test : ℕ → Bool) (from n : ℕ) → ((j : ℕ) → from ≤ j → j < from + n → test j ≡ false) → list_any test (counting from n) ≡ false

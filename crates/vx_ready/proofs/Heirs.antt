@@ -3,6 +3,7 @@ use Rattle.std.proofs.Common.{◌≡◌, ℕ, zero, suc, ◌<◌, Bool, true, fa
 use Rattle.std.specs.Prelude.{◌&&◌, not, nat_lt, slice_get}
 use Rattle.std.specs.List.{list_any}
 use Rattle.std.proofs.lemmas.Bool.Decides.{nat_tests}
+use Rattle.std.proofs.lemmas.Bool.{or_from as neither, not-true as is_not}
 use Rattle.vx_value.specs.Texts.{Word, same_text}
 use Rattle.vx_value.proofs.Order.{same_text-true, same_text-refl}
 use Rattle.vx_plan.specs.declared.component.Component.{Component}
@@ -13,7 +14,7 @@ use Rattle.vx_record.specs.Installs.{Wiring, in_force, name_of, started, device_
 use Rattle.vx_record.specs.Legal.{IsLegal}
 use Rattle.vx_record.specs.Ready.{blocks, is_heir}
 use Rattle.vx_record.proofs.Wired.{wired_so, in_force_accepted}
-use Rattle.vx_ready.proofs.Testing.{and_left, and_right, neither, or_left, or_right, is_not}
+use Rattle.vx_record.proofs.Promises.{and_left, and_right, or_left, or_right}
 
 -- where a test passes nowhere, it passes for none of some
 none_passes : {X : Type 0} (test : X → Bool) (xs : List X) → ((x : X) → test x ≡ false) → list_any test xs ≡ false

@@ -2,6 +2,7 @@
 use Rattle.std.proofs.Common.{◌≡◌, ◌∙◌, ℕ, zero, suc, ◌<◌, Bool, true, false, ◌&&◌, ◌||◌, List, [], ◌∷◌, length, Option, Some, None, refl, sym, ap, arith}
 use Rattle.std.specs.Prelude.{◌↔◌, not, slice_get, if◌then◌else◌}
 use Rattle.std.proofs.lemmas.List.{append-nil}
+use Rattle.std.proofs.lemmas.Bool.{not-true as is_not}
 use Rattle.vx_ends.specs.Told.{Told}
 use Rattle.vx_value.specs.Texts.{Word, is_empty}
 use Rattle.vx_plan.specs.declared.class.Class.{Class}
@@ -18,6 +19,7 @@ use Rattle.vx_record.specs.Lists.{waiting}
 use Rattle.vx_record.specs.Routing.{drains, is_dry, all_dry, is_sent, outlets, routes, all_ports, is_named, is_ending}
 use Rattle.vx_record.proofs.Ceasing.{unmarked}
 use Rattle.vx_record.proofs.Wired.{component_in_place}
+use Rattle.vx_record.proofs.Promises.{and_left, and_right}
 use Rattle.vx_places.specs.Looks.{HasWaiting}
 use Rattle.vx_places.proofs.Recorded.{awaits_is}
 use Rattle.vx_seats.specs.declared.seat.Seat.{Seat}
@@ -26,7 +28,7 @@ use Rattle.vx_moves.specs.Stands.{Stands}
 use Rattle.vx_ready.specs.Asking.{source_class, goes_to, is_ported, all_ported, IsServed}
 use Rattle.vx_ready.proofs.Counting.{any_contains}
 use Rattle.vx_ready.proofs.Knowing.{Runs, undraining, known, runs, seat_there}
-use Rattle.vx_ready.proofs.Testing.{same_tests, and_left, and_right, is_not}
+use Rattle.vx_ready.proofs.Testing.{same_tests}
 
 ported_at : (components : List Component) (k : ℕ) (c : Component) → all_ported components ≡ true → slice_get components k ≡ Some c → is_ported c ≡ true
 ported_at [] k c all at = cc

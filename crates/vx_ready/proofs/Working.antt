@@ -1,6 +1,7 @@
 -- An instance that has something to do has work in the record, and one that hasn't has none.
 use Rattle.std.proofs.Common.{◌≡◌, ◌∙◌, ℕ, ◌<◌, Bool, true, false, ◌&&◌, ◌||◌, length, Option, Some, None, IfSome, IfNone, IsSomeAnd, inl, inr, refl, sym, ap, subst}
 use Rattle.std.specs.Prelude.{not, nat_le, slice_get}
+use Rattle.std.proofs.lemmas.Bool.{and_from as both, or_left as first_on, or_right as second_on}
 use Rattle.vx_ends.specs.Told.{Told}
 use Rattle.vx_plan.specs.declared.class.Class.{Class}
 use Rattle.vx_plan.specs.declared.class.Class.TheVariants.{Source, Transform, Sink}
@@ -23,7 +24,6 @@ use Rattle.vx_ready.specs.Jobs.{IsLeasable, IsSourceJob, IsSinkJob, IsJob}
 use Rattle.vx_ready.proofs.Closed.{waits_not, closed_filled}
 use Rattle.vx_ready.proofs.Knowing.{Runs, known, runs, source_is, sink_is, home, going, at_home, owes_none, seat_there}
 use Rattle.vx_ready.proofs.Naming.{device_is, untransformed}
-use Rattle.vx_ready.proofs.Testing.{both, first_on, second_on}
 
 -- TESTS
 after_two : (a b c : Bool) → a ≡ true → b ≡ false → c ≡ (a && not b && c)
@@ -122,4 +122,4 @@ pub attempts_there : {P : Type 0} (told_by : P → Told) (books : Books P) (stan
 attempts_there told_by books stands i within settled now closed =
     let there = seat_there books.seats i within in
     both (is_batch_closed books.log i now) (nat_le (retry_from books.log i) now) closed
-    (waits_not told_by books stands i there.0 there.1 settled now (closed_filled books.log i now closed))
+    (waits_not told_by books stands i there.0 there.1 (owes_none told_by books stands i there.0 there.1 settled) (going told_by books stands i there.0 there.1 settled) now (closed_filled books.log i now closed))

@@ -116,7 +116,7 @@ without-none gone (x ∷ xs) none =
     let f = without-none gone xs (λ c l. none c (omega arith)) in
     grind (arith, nat_tests)
 
-only-self : (k : Kind) (n : ℕ) → only k k n ≡ n
+pub only-self : (k : Kind) (n : ℕ) → only k k n ≡ n
 only-self AnOutput n = refl
 only-self AChild n = refl
 only-self AStage n = refl

@@ -107,7 +107,7 @@ others_stay h q p hand kept at other =
         let none = not_there h q p c kept other here in
         absurd (omega arith)
 
-times_some : (p : Place) (ps : List Place) → times_among p ps ≤ length ps
+pub times_some : (p : Place) (ps : List Place) → times_among p ps ≤ length ps
 times_some p [] = omega arith
 times_some p (r ∷ rest) = go (same_place r p) (times_some p rest)
   where

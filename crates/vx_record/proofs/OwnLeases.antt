@@ -55,7 +55,7 @@ no_confirm e i is = refl
 pub confirmed_own : IsOwn (λ h i. list_any (is_confirm_of i) (since_lease h i))
 confirmed_own = since_own is_confirm_of no_confirm
 
-lease_apart : (h : Record) (e : Entry) (i : ℕ) → is_of i e ≡ false → at_lease (e ∷ h) i ≡ at_lease h i
+pub lease_apart : (h : Record) (e : Entry) (i : ℕ) → is_of i e ≡ false → at_lease (e ∷ h) i ≡ at_lease h i
 lease_apart h (Lease j worker now polls) i is = rw is refl
 lease_apart h e i is = refl
 

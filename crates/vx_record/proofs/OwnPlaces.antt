@@ -22,7 +22,7 @@ waiting_apart t (Push j u s copies) i was is = rw is refl
 waiting_apart t (Spent j c outcome) i was is = rw is refl
 waiting_apart t e i was is = refl
 
-held_apart : (e : Entry) (i : ℕ) (was : List (List ℕ)) → is_of i e ≡ false → shift e (Held i) was ≡ was
+pub held_apart : (e : Entry) (i : ℕ) (was : List (List ℕ)) → is_of i e ≡ false → shift e (Held i) was ≡ was
 held_apart (Take j s copies) i was is = rw is refl
 held_apart (Answer j outputs discarded kept) i was is = rw is refl
 held_apart (Spent j c outcome) i was is = rw is refl

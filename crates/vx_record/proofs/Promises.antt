@@ -271,7 +271,7 @@ source_unread h i c legal source row =
     sym (first_readers h i) ∙ ap (λ n. readers_on h i (port_list n)) first ∙ unconsumed_unread h i c row
 
 -- what was attempted last was attempted
-last_counts : (h : Record) (i c : ℕ) → 0 < count c (last_attempted h i) → 0 < attempts_with h i c
+pub last_counts : (h : Record) (i c : ℕ) → 0 < count c (last_attempted h i) → 0 < attempts_with h i c
 last_counts [] i c some = absurd (omega (arith, some))
 last_counts (Attempt j copies bytes reply ∷ h) i c some = go (j == i) some (last_counts h i c)
   where
@@ -281,7 +281,7 @@ last_counts (Attempt j copies bytes reply ∷ h) i c some = go (j == i) some (la
 last_counts (e ∷ h) i c some = last_counts h i c some
 
 -- what failed was attempted
-failed_counts : (h : Record) (i c : ℕ) → failures_with h i c ≤ attempts_with h i c
+pub failed_counts : (h : Record) (i c : ℕ) → failures_with h i c ≤ attempts_with h i c
 failed_counts [] i c = omega arith
 failed_counts (Attempt j copies bytes reply ∷ h) i c = go ((j == i) && contains copies c) (is_failed reply) (failed_counts h i c)
   where

@@ -30,7 +30,7 @@ use Rattle.vx_record.proofs.Place.{count-oldest}
 use Rattle.vx_record.proofs.Changes.{places_meant, oldest_full}
 
 -- PUTS THAT PASS A TEST
-count_puts-append : (test : Put → Bool) (xs ys : List Put) → count_puts test (xs ++ ys) ≡ count_puts test xs + count_puts test ys
+pub count_puts-append : (test : Put → Bool) (xs ys : List Put) → count_puts test (xs ++ ys) ≡ count_puts test xs + count_puts test ys
 count_puts-append test [] ys = omega arith
 count_puts-append test (x ∷ xs) ys = let rest = count_puts-append test xs ys in omega arith
 
@@ -64,7 +64,7 @@ outcome_none (Spent i d outcome ∷ h) c e = elim (cases_eq d c) [
 ]
 outcome_none (e ∷ h) c q = outcome_none h c (omega (arith, count-append c (all_of spends h) []))
 
-not_spent : (test : Outcome → Bool) (h : Record) (c : ℕ) → times_spent h c ≡ 0 → was_spent test h c ≡ false
+pub not_spent : (test : Outcome → Bool) (h : Record) (c : ℕ) → times_spent h c ≡ 0 → was_spent test h c ≡ false
 not_spent test h c e = ap (λ (o : Option Outcome). elim o [ None ↦ false | Some outcome ↦ test outcome ]) (outcome_none h c e)
 
 -- a copy that is not made yet is not spent
@@ -124,14 +124,14 @@ any_now test i d outcome h (c ∷ rest) none =
     (λ k. first k || others k) ∙ gathered (test outcome) (d == c) (was_spent test h c) (has_copy d rest) (any_copy test h rest)
 
 -- NEW PUTS PASS NO TEST OF OUTCOMES
-none_passes : (test : Outcome → Bool) (h : Record) (copies : List ℕ) → ((c : ℕ) → 0 < count c copies → was_spent test h c ≡ false) → any_copy test h copies ≡ false
+pub none_passes : (test : Outcome → Bool) (h : Record) (copies : List ℕ) → ((c : ℕ) → 0 < count c copies → was_spent test h c ≡ false) → any_copy test h copies ≡ false
 none_passes test h [] none = refl
 none_passes test h (c ∷ rest) none =
     let here : was_spent test h c ≡ false = none c (grind (arith, nat_tests)) in
     let others = none_passes test h rest (λ d l. none d (omega arith)) in
     λ k. here k || others k
 
-and_false : (b : Bool) → (b && false) ≡ false
+pub and_false : (b : Bool) → (b && false) ≡ false
 and_false true = refl
 and_false false = refl
 

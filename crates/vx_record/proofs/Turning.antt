@@ -69,7 +69,7 @@ undrained true true l true false x dry is home = cc
 undrained true false true true false x dry is home = cc
 undrained true false false true false x dry is home = cc
 
-unended : (s a l d : Bool) → s ≡ true → (s && (a || l || d)) ≡ false → a ≡ false
+pub unended : (s a l d : Bool) → s ≡ true → (s && (a || l || d)) ≡ false → a ≡ false
 unended false a l d is dry = cc
 unended true true l d is dry = cc
 unended true false l d is dry = refl

@@ -88,7 +88,7 @@ was_out true c e = cc
 was_out false c e = e
 
 -- so has one that is out and made no attempt yet
-untried_spent : (h : Record) (i c : ℕ) → IsLegal h → is_out h i ≡ true → list_any (is_attempt_of i) (since_lease h i) ≡ false → 0 < attempts_with h i c → 0 < times_spent h c
+pub untried_spent : (h : Record) (i c : ℕ) → IsLegal h → is_out h i ≡ true → list_any (is_attempt_of i) (since_lease h i) ≡ false → 0 < attempts_with h i c → 0 < times_spent h c
 untried_spent [] i c legal out none some = cc
 untried_spent (Lease j worker now polls ∷ h) i c legal out none some = spent_on h (Lease j worker now polls) c (go (j == i) refl out none (untried_spent h i c legal.1))
   where
@@ -104,11 +104,11 @@ untried_spent (Attempt j copies bytes answer ∷ h) i c legal out none some =
     (untried_spent h i c legal.1 out (or_right (j == i) _ none) (not_tried (j == i) (contains copies c) (attempts_with h i c) (or_left (j == i) _ none) some))
 untried_spent (e ∷ h) i c legal out none some = spent_on h e c (untried_spent h i c legal.1 out none some)
 
-among_length : (p : Place) (ps : List Place) → 0 < times_among p ps → 0 < length ps
+pub among_length : (p : Place) (ps : List Place) → 0 < times_among p ps → 0 < length ps
 among_length p [] some = absurd (omega (arith, some))
 among_length p (q ∷ rest) some = omega arith
 
-zero_of : (n m : ℕ) → (0 < n → 0 < m) → m ≡ 0 → n ≡ 0
+pub zero_of : (n m : ℕ) → (0 < n → 0 < m) → m ≡ 0 → n ≡ 0
 zero_of zero m more none = refl
 zero_of (suc n) m more none = let l = more (omega arith) in absurd (omega (arith, l, none))
 
@@ -139,7 +139,7 @@ failed_tried (Attempt j copies bytes answer ∷ h) i c some = go ((j == i) && co
     go false f l rest = let before = rest (omega (arith, l)) in omega (arith, before)
 failed_tried (e ∷ h) i c some = failed_tried h i c some
 
-unspent_before : (h : Record) (e : Entry) (c : ℕ) → times_spent (e ∷ h) c ≡ 0 → times_spent h c ≡ 0
+pub unspent_before : (h : Record) (e : Entry) (c : ℕ) → times_spent (e ∷ h) c ≡ 0 → times_spent h c ≡ 0
 unspent_before h e c none = let all = count-append c (all_of spends h) (spends e) in omega (arith, none, all)
 
 -- a copy that failed and isn't spent was in the last attempt of the instance, and that failed

@@ -49,10 +49,10 @@ pub worker_source : (h : Record) (i : ℕ) → told false (λ (c : Component). n
 worker_source h i e = unsource (component_of h i) e
 
 -- and it never drains
-undrained : (h : Record) (i : ℕ) → IsLegal h → source_at h i ≡ false → drains h i ≡ false
+pub undrained : (h : Record) (i : ℕ) → IsLegal h → source_at h i ≡ false → drains h i ≡ false
 undrained h i legal off = ap (λ (m : Bool). m || (source_at h i && false)) (unmarked h i legal) ∙ ap (λ (s : Bool). s && false) off
 
-dry_by : (d a : Bool) → d ≡ false → (d || a) ≡ true → a ≡ true
+pub dry_by : (d a : Bool) → d ≡ false → (d || a) ≡ true → a ≡ true
 dry_by true a off e = cc
 dry_by false a off e = e
 

@@ -2,8 +2,8 @@
 
 ghost use Rattle.vx_record.specs.Promises.{TurnUnlost, TurnUndry, ClosedTakesNoMore, LeasedRuns, LeasedSpent, InForceAccepted, ComponentInPlace, RetiredBare, UnaskedToStop, SpentAbandoned, TransformsFilter, UnconsumedUnread, SourceUnread, DecidedHeld, HeldUntried, SpentFailed, SplitReaders, SourceSplits, AttemptNames, AttemptDue, AttemptEncodes};
 
-/// A source wasn't lost and isn't dry where it takes its turn, nor were 2^48 bytes taken when it was leased; one whose port
-/// is closed for good was told the end of all, or was lost, or too many bytes were taken, or the run was given up.
+/// A source wasn't lost and isn't dry where it takes its turn; one whose port is closed for good was told the end of all, or was
+/// lost, or the run was given up.
 pub fn source_laws()
     ensures unlost { TurnUnlost }
     ensures undry { TurnUndry }

@@ -33,9 +33,6 @@ use Rattle.vx_runs.specs.ByHand.{IsAway, IsBack, SparesEach, SparesOthers}
 out_stays : (old new : Record) (i : ℕ) → OnlyAdds (Spares i) old new → out_to new i ≡ out_to old i
 out_stays old new i adds = worker_own new i ∙ ap (λ (m : Record). out_to m i) (spared_stays old new i adds) ∙ sym (worker_own old i)
 
-pub each_none : (h : Record) → SparesEach h h
-each_none h i worker out = adds_none (Spares i) h h refl
-
 pub each_both : (old mid new : Record) → SparesEach old mid → SparesEach mid new → SparesEach old new
 each_both old mid new first later i worker out =
     let spared = first i worker out in adds_both (Spares i) old mid new spared (later i worker (out_stays old mid i spared ∙ out))
@@ -64,11 +61,6 @@ moves_spare i old new moves still j worker out = go (i == j) refl
     go false other =
         let differ : i ≢ j = (λ same. let is : (i == i) ≡ false = subst (λ (k : ℕ). (i == k) ≡ false) (sym same) other in grind (arith, nat_tests)) in
         tasks_spare old new j i differ (adds_wider (IsMoveOf i) (IsFor i) (move_for i) old new moves)
-
--- tasks that are out to two workers are of two instances
-pub apart_by : (h : Record) (i j one other : ℕ) → one ≢ other → out_to h i ≡ Some one → out_to h j ≡ Some other → i ≢ j
-apart_by h i j one other differ out there same =
-    differ (let is : Some one ≡ Some other = sym out ∙ ap (out_to h) same ∙ there in let inner : one ≡ other = cc in inner)
 
 module _ {P : Type 0} (told_by : P → Told) (old new : Hub P) (was : IsHub told_by old) (is : IsHub told_by new) where
   pub runs_on : (Kind : Record → Entry → Type 0) → OnlyAdds Kind old.books.log new.books.log → IsSameRun old.books.log new.books.log

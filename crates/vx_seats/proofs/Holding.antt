@@ -7,10 +7,10 @@ use Rattle.vx_value.specs.Texts.{is_empty}
 use Rattle.vx_status.specs.declared.outcome.Outcome.{Outcome}
 use Rattle.vx_status.specs.declared.outcome.Outcome.TheVariants.{Delivered, Filtered, NewestDropped, NoConsumer, Attempts, Abandoned, Refusal}
 use Rattle.vx_record.specs.declared.entry.Entry.{Entry}
-use Rattle.vx_record.specs.declared.entry.Entry.TheVariants.{Install, Lease, Home, Take, Answer, Attempt, Spent, Abandon}
+use Rattle.vx_record.specs.declared.entry.Entry.TheVariants.{Install, Take, Answer, Attempt, Spent, Abandon}
 use Rattle.vx_record.specs.Records.{Record}
 use Rattle.vx_record.specs.Legal.{IsLegal}
-use Rattle.vx_record.specs.Copies.{count, contains, joined, all_of, spends, times_spent}
+use Rattle.vx_record.specs.Copies.{count, contains, joined, times_spent}
 use Rattle.vx_record.specs.Turns.{is_out, since_lease, lease_now, is_take_of, is_attempt_of}
 use Rattle.vx_record.specs.Installs.{sink_at}
 use Rattle.vx_record.specs.Ceasing.{cause_of}
@@ -23,7 +23,6 @@ use Rattle.vx_record.specs.Places.Place.{Outputs, Waiting, Contents, Held}
 use Rattle.vx_record.specs.Shifts.{at}
 use Rattle.vx_record.specs.SinkBatches.{attempts_with, taken_at}
 use Rattle.vx_record.specs.Spending.{last_attempted}
-use Rattle.vx_record.specs.Starting.{MayLease}
 use Rattle.vx_record.proofs.Answerers.{sink_untransforming, unanswering}
 use Rattle.vx_record.proofs.Attempted.{joined_and_rest}
 use Rattle.vx_record.proofs.Changes.{NoneEmpty, none_empty, shrunk-none}
@@ -31,9 +30,9 @@ use Rattle.vx_record.proofs.Counts.{count-append}
 use Rattle.vx_record.proofs.Hands.{not_there}
 use Rattle.vx_record.proofs.OnePlace.{conserved}
 use Rattle.vx_record.proofs.Place.{count-oldest}
-use Rattle.vx_record.proofs.Promises.{transforms_filter}
+use Rattle.vx_record.proofs.Promises.{last_counts, transforms_filter}
 use Rattle.vx_record.proofs.Shifting.{stands_at}
-use Rattle.vx_record.proofs.Untried.{leased_spent, spent_failed}
+use Rattle.vx_record.proofs.Untried.{spent_failed, unspent_before, untried_spent}
 use Rattle.vx_counts.proofs.Beginnings.{oldest_some}
 use Rattle.vx_counts.proofs.SpentFrom.{legal_place}
 use Rattle.vx_seats.specs.Knowing.{IsSince}
@@ -93,55 +92,6 @@ since_took h i s copies first since before legal is_first is old =
     (λ c. ap (λ (ps : List (List ℕ)). count c (joined ps)) (sym (stands_at h (Held i) legal.1))) is_first is old)
 
 -- ATTEMPTS
--- what is in the last attempt was attempted
-last_tried : (h : Record) (i c : ℕ) → 0 < count c (last_attempted h i) → 0 < attempts_with h i c
-last_tried [] i c some = absurd (omega (arith, some))
-last_tried (Attempt j copies bytes reply ∷ h) i c some = go (j == i) some (last_tried h i c)
-  where
-    go : (b : Bool) → 0 < count c (if b then copies else last_attempted h i) → (0 < count c (last_attempted h i) → 0 < attempts_with h i c) → 0 < attempts_with h i c + (if b && contains copies c then 1 else 0)
-    go true l rest = let has : contains copies c ≡ true = grind (arith, nat_tests, l) in let one = ap {B = ℕ} (λ (t : Bool). if true && t then 1 else 0) has in omega (arith, one)
-    go false l rest = let before = rest l in omega (arith, before)
-last_tried (e ∷ h) i c some = last_tried h i c some
-
-spent_on : (h : Record) (e : Entry) (c : ℕ) → 0 < times_spent h c → 0 < times_spent (e ∷ h) c
-spent_on h e c some = let all = count-append c (all_of spends h) (spends e) in omega (arith, some, all)
-
-unspent_before : (h : Record) (e : Entry) (c : ℕ) → times_spent (e ∷ h) c ≡ 0 → times_spent h c ≡ 0
-unspent_before h e c none = let all = count-append c (all_of spends h) (spends e) in omega (arith, none, all)
-
-or_left : (a b : Bool) → (a || b) ≡ false → a ≡ false
-or_left true b e = cc
-or_left false b e = refl
-
-or_right : (a b : Bool) → (a || b) ≡ false → b ≡ false
-or_right true b e = cc
-or_right false b e = e
-
-not_tried : (t b : Bool) (n : ℕ) → t ≡ false → 0 < n + (if t && b then 1 else 0) → 0 < n
-not_tried true b n e l = cc
-not_tried false b n e l = omega (arith, l)
-
-was_out : (b c : Bool) → (if b then false else c) ≡ true → c ≡ true
-was_out true c e = cc
-was_out false c e = e
-
--- one that is out and made no attempt yet has spent all that it attempted
-untried_spent : (h : Record) (i c : ℕ) → IsLegal h → is_out h i ≡ true → list_any (is_attempt_of i) (since_lease h i) ≡ false → 0 < attempts_with h i c → 0 < times_spent h c
-untried_spent [] i c legal out none some = cc
-untried_spent (Lease j worker now polls ∷ h) i c legal out none some = spent_on h (Lease j worker now polls) c (go (j == i) refl out none (untried_spent h i c legal.1))
-  where
-    go : (b : Bool) → (j == i) ≡ b → (if b then true else is_out h i) ≡ true → list_any (is_attempt_of i) (if b then [] else Lease j worker now polls ∷ since_lease h i) ≡ false →
-        (is_out h i ≡ true → list_any (is_attempt_of i) (since_lease h i) ≡ false → 0 < attempts_with h i c → 0 < times_spent h c) → 0 < times_spent h c
-    go true e at un rest =
-        let same : j ≡ i = grind (arith, nat_tests) in
-        leased_spent h i worker now polls c (subst (λ (k : ℕ). MayLease h k worker now polls) same legal.0.row) some
-    go false e at un rest = rest at un some
-untried_spent (Home j ∷ h) i c legal out none some = spent_on h (Home j) c (untried_spent h i c legal.1 (was_out (j == i) (is_out h i) out) none some)
-untried_spent (Attempt j copies bytes answer ∷ h) i c legal out none some =
-    spent_on h (Attempt j copies bytes answer) c
-    (untried_spent h i c legal.1 out (or_right (j == i) _ none) (not_tried (j == i) (contains copies c) (attempts_with h i c) (or_left (j == i) _ none) some))
-untried_spent (e ∷ h) i c legal out none some = spent_on h e c (untried_spent h i c legal.1 out none some)
-
 take_no_attempt : (e : Entry) (i : ℕ) → is_take_of i e ≡ true → is_attempt_of i e ≡ false
 take_no_attempt (Attempt j copies bytes reply) i is = cc
 take_no_attempt e i is = refl
@@ -205,7 +155,7 @@ all_tried (Take j s copies ∷ h) i c d legal sink some none here = go (j == i) 
         let same : j ≡ i = grind (arith, nat_tests) in
         let out : is_out h i ≡ true = subst (λ (k : ℕ). is_out h k ≡ true) same legal.0.row.out in
         let untried = only_takes (since_lease h i) i (subst (λ (k : ℕ). list_all (is_take_of k) (since_lease h k) ≡ true) same legal.0.row.only_takes) in
-        let spent = untried_spent h i c legal.1 out untried (last_tried h i c some) in
+        let spent = untried_spent h i c legal.1 out untried (last_counts h i c some) in
         absurd (omega (arith, spent, before))
     go false e l rest = rest l
 all_tried (Answer j made discarded kept ∷ h) i c d legal sink some none here =

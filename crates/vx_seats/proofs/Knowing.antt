@@ -5,11 +5,11 @@ use Rattle.std.proofs.lemmas.Bool.Decides.{nat_tests}
 use Rattle.std.proofs.lemmas.List.{append-nil}
 use Rattle.vx_ends.specs.Told.{Told}
 use Rattle.vx_record.specs.declared.entry.Entry.{Entry}
-use Rattle.vx_record.specs.declared.entry.Entry.TheVariants.{Install, Lease, Take, Answer, Spent, Confirm, Abandon}
+use Rattle.vx_record.specs.declared.entry.Entry.TheVariants.{Install, Lease, Confirm, Abandon}
 use Rattle.vx_record.specs.Records.{Record}
 use Rattle.vx_record.specs.Legal.{IsLegal}
 use Rattle.vx_record.specs.Tasks.{is_of}
-use Rattle.vx_record.specs.Turns.{is_out, at_lease}
+use Rattle.vx_record.specs.Turns.{is_out}
 use Rattle.vx_record.specs.Reads.{all_ended}
 use Rattle.vx_record.specs.Installs.{device_at, sink_at, is_closed, is_retired, started}
 use Rattle.vx_record.specs.Ceasing.{lost_at, cause_of}
@@ -17,9 +17,11 @@ use Rattle.vx_record.specs.Sourcing.{failed_starts}
 use Rattle.vx_record.specs.Confirms.{is_unconfirmed, last_confirm, due}
 use Rattle.vx_record.specs.Parcels.{first_copy}
 use Rattle.vx_record.specs.Places.Place.{Held}
-use Rattle.vx_record.specs.Shifts.{at, shift}
+use Rattle.vx_record.specs.Shifts.{at}
 use Rattle.vx_record.specs.SinkBatches.{attempts_with, taken_at}
 use Rattle.vx_record.proofs.OwnTurns.{out_own, closed_own, retired_own}
+use Rattle.vx_record.proofs.OwnLeases.{lease_apart}
+use Rattle.vx_record.proofs.OwnPlaces.{held_apart}
 use Rattle.vx_record.proofs.OwnReads.{end_own, loss_own, starts_own}
 use Rattle.vx_record.proofs.OwnConfirms.{unconfirmed_own, last_own}
 use Rattle.vx_record.proofs.OwnAttempts.{taken_own, attempts_own}
@@ -64,12 +66,6 @@ pub since_by : (h k : Record) (i since : ℕ) (held : List (List ℕ)) → (caus
 since_by h k i since [] cause tried taken old = tt
 since_by h k i since (copies ∷ rest) cause tried taken old = λ going none. old (cause going) (tried (first_copy copies) none) ∙ sym (taken (first_copy copies))
 
-held_apart : (e : Entry) (i : ℕ) (was : List (List ℕ)) → is_of i e ≡ false → shift e (Held i) was ≡ was
-held_apart (Take j s copies) i was is = rw is refl
-held_apart (Answer j outputs discarded kept) i was is = rw is refl
-held_apart (Spent j c outcome) i was is = rw is refl
-held_apart e i was is = refl
-
 since_far : (f : Facts) (h : Record) (e : Entry) (i : ℕ) → InstallsNothing e → is_of i e ≡ false → (sink_at h i ≡ true → IsSince h i f.since (at h (Held i))) →
     sink_at (e ∷ h) i ≡ true → IsSince (e ∷ h) i f.since (at (e ∷ h) (Held i))
 since_far f h e i none is since sink =
@@ -113,13 +109,9 @@ abbrev pub IsOwnOf : ℕ → Entry → Type 0
 IsOwnOf i e = InstallsNothing e × (((j : ℕ) → is_of j e ≡ (i == j)) × (((h : Record) (j : ℕ) → NotesNone h j e) × CountsOwn e))
 
 -- CONFIRMS
-lease_far : (h : Record) (e : Entry) (i : ℕ) → is_of i e ≡ false → at_lease (e ∷ h) i ≡ at_lease h i
-lease_far h (Lease j worker now polls) i is = rw is refl
-lease_far h e i is = refl
-
 answered_far : (h : Record) (e : Entry) (i : ℕ) → is_of i e ≡ false → last_confirm h i ≡ asked h i → last_confirm (e ∷ h) i ≡ asked (e ∷ h) i
 answered_far h e i is same =
-    stays last_confirm last_own h e i is ∙ same ∙ ap (λ (k : Record). due k i) (sym (lease_far h e i is))
+    stays last_confirm last_own h e i is ∙ same ∙ ap (λ (k : Record). due k i) (sym (lease_apart h e i is))
 
 answered_still : (h : Record) (e : Entry) (i : ℕ) → IsMute e → OwesNoMore e → last_confirm h i ≡ asked h i → last_confirm (e ∷ h) i ≡ asked (e ∷ h) i
 answered_still h (Confirm j positions made) i mute less same = absurd mute

@@ -1,8 +1,9 @@
 -- What owes nothing owes nothing behind entries of other tasks, or that neither read, take, attempt nor answer.
-use Rattle.std.proofs.Common.{◌≡◌, ◌∙◌, ℕ, ◌+◌, Bool, true, false, List, [], ◌∷◌, length, refl, ap, arith}
+use Rattle.std.proofs.Common.{◌≡◌, ◌∙◌, ℕ, ◌+◌, Bool, false, List, [], ◌∷◌, length, refl, ap, arith}
 use Rattle.std.specs.Prelude.{◌==◌, ◌&&◌, ◌||◌, nat_lt}
 use Rattle.std.specs.List.{list_any}
 use Rattle.std.proofs.lemmas.Bool.Decides.{nat_tests}
+use Rattle.std.proofs.lemmas.Bool.{or_from}
 use Rattle.std.proofs.lemmas.List.{append-nil}
 use Rattle.vx_record.specs.declared.entry.Entry.{Entry}
 use Rattle.vx_record.specs.declared.entry.Entry.TheVariants.{Install, Lease, Read, Take, Answer, Attempt, Born}
@@ -15,19 +16,8 @@ use Rattle.vx_record.specs.Owing.{fruitful, owes_birth, unspent_of, decided, owe
 use Rattle.vx_record.proofs.Counts.{count-append}
 use Rattle.vx_record.proofs.OwnConfirms.{births_own}
 use Rattle.vx_record.proofs.OwnAnswers.{discarded_own, took_own}
+use Rattle.vx_record.proofs.Promises.{or_left, or_right}
 use Rattle.vx_seats.proofs.Telling.{InstallsNothing, stays}
-
-or_left : (a b : Bool) → (a || b) ≡ false → a ≡ false
-or_left true b e = cc
-or_left false b e = refl
-
-or_right : (a b : Bool) → (a || b) ≡ false → b ≡ false
-or_right true b e = cc
-or_right false b e = e
-
-or_both : (a b : Bool) → a ≡ false → b ≡ false → (a || b) ≡ false
-or_both true b e f = cc
-or_both false b e f = f
 
 -- a copy that is spent stays so
 spent_more : (h : Record) (e : Entry) (c : ℕ) → (times_spent h c == 0) ≡ false → (times_spent (e ∷ h) c == 0) ≡ false
@@ -36,13 +26,13 @@ spent_more h e c some = let all = count-append c (all_of spends h) (spends e) in
 unspent_less : (h : Record) (e : Entry) (copies : List ℕ) → unspent_of h copies ≡ false → unspent_of (e ∷ h) copies ≡ false
 unspent_less h e [] none = refl
 unspent_less h e (c ∷ cs) none =
-    or_both (times_spent (e ∷ h) c == 0) (unspent_of (e ∷ h) cs) (spent_more h e c (or_left (times_spent h c == 0) (unspent_of h cs) none))
+    or_from (times_spent (e ∷ h) c == 0) (unspent_of (e ∷ h) cs) (spent_more h e c (or_left (times_spent h c == 0) (unspent_of h cs) none))
     (unspent_less h e cs (or_right (times_spent h c == 0) (unspent_of h cs) none))
 
 any_less : (h : Record) (e : Entry) (parcels : List (List ℕ)) → list_any (unspent_of h) parcels ≡ false → list_any (unspent_of (e ∷ h)) parcels ≡ false
 any_less h e [] none = refl
 any_less h e (p ∷ ps) none =
-    or_both (unspent_of (e ∷ h) p) (list_any (unspent_of (e ∷ h)) ps) (unspent_less h e p (or_left (unspent_of h p) (list_any (unspent_of h) ps) none))
+    or_from (unspent_of (e ∷ h) p) (list_any (unspent_of (e ∷ h)) ps) (unspent_less h e p (or_left (unspent_of h p) (list_any (unspent_of h) ps) none))
     (any_less h e ps (or_right (unspent_of h p) (list_any (unspent_of h) ps) none))
 
 -- where an entry changes none of what is owed by
@@ -58,9 +48,9 @@ owes_by : (h : Record) (e : Entry) (i : ℕ) → OwesAlike h (e ∷ h) i → owe
 owes_by h e i same none =
     let three = or_left (owes_birth h i || owes_spends_in h h i || owes_discards h i) (owes_answer h i) none in
     let two = or_left (owes_birth h i || owes_spends_in h h i) (owes_discards h i) three in
-    or_both (owes_birth (e ∷ h) i || owes_spends_in (e ∷ h) (e ∷ h) i || owes_discards (e ∷ h) i) (owes_answer (e ∷ h) i)
-    (or_both (owes_birth (e ∷ h) i || owes_spends_in (e ∷ h) (e ∷ h) i) (owes_discards (e ∷ h) i)
-    (or_both (owes_birth (e ∷ h) i) (owes_spends_in (e ∷ h) (e ∷ h) i)
+    or_from (owes_birth (e ∷ h) i || owes_spends_in (e ∷ h) (e ∷ h) i || owes_discards (e ∷ h) i) (owes_answer (e ∷ h) i)
+    (or_from (owes_birth (e ∷ h) i || owes_spends_in (e ∷ h) (e ∷ h) i) (owes_discards (e ∷ h) i)
+    (or_from (owes_birth (e ∷ h) i) (owes_spends_in (e ∷ h) (e ∷ h) i)
     (ap (λ (bs : List Birth). nat_lt (length bs) (fruitful (e ∷ h) i)) same.births ∙ ap (λ (n : ℕ). nat_lt (length (births h i)) n) same.fruitful ∙ or_left (owes_birth h i) (owes_spends_in h h i) two)
     (ap (list_any (unspent_of (e ∷ h))) same.decided ∙ any_less h e (decided h i) (or_right (owes_birth h i) (owes_spends_in h h i) two)))
     (ap (unspent_of (e ∷ h)) same.discarded ∙ unspent_less h e (last_discarded h i) (or_right (owes_birth h i || owes_spends_in h h i) (owes_discards h i) three)))

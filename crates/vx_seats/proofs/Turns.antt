@@ -2,6 +2,7 @@
 use Rattle.std.proofs.Common.{◌≡◌, ◌∙◌, ◌<◌, ℕ, ◌+◌, ◌-◌, Bool, true, false, List, [], ◌∷◌, ◌++◌, Option, Some, None, IfSome, length, refl, sym, ap, subst, arith}
 use Rattle.std.specs.Prelude.{◌==◌, ◌≢◌, ◌&&◌, ◌||◌, not, if◌then◌else◌, slice_set}
 use Rattle.std.proofs.lemmas.List.{append-nil}
+use Rattle.std.proofs.lemmas.Bool.{not-false}
 use Rattle.vx_ends.specs.Told.{Told}
 use Rattle.vx_ends.specs.declared.position.Position.{Position}
 use Rattle.vx_status.specs.declared.batch_status.BatchStatus.{BatchStatus}
@@ -17,6 +18,7 @@ use Rattle.vx_record.specs.Installs.{device_at}
 use Rattle.vx_record.specs.Sourcing.{failed_starts}
 use Rattle.vx_record.specs.Confirms.{Birth, births, due, is_delivered, is_noticed}
 use Rattle.vx_record.specs.Tallies.{is_batch_of}
+use Rattle.vx_record.proofs.Promises.{or_left, or_right}
 use Rattle.vx_counts.specs.Meets.{Meets}
 use Rattle.vx_counts.proofs.Numbering.{one_owner}
 use Rattle.vx_sourcecore.specs.declared.prefix.Prefix.{Prefix}
@@ -34,18 +36,6 @@ use Rattle.vx_seats.proofs.Progressing.{count_on, progress_on, this_side}
 use Rattle.vx_seats.proofs.Asking.{asked_due, going_on}
 use Rattle.vx_seats.proofs.Knowing.{but_by, counts_on, facts_far, home_far, knows_step, nobody, away_out}
 use Rattle.vx_seats.proofs.Steps.{home_map, itself, known_next, known_same, since_calm}
-
-or_left : (a b : Bool) → (a || b) ≡ false → a ≡ false
-or_left true b e = cc
-or_left false b e = refl
-
-or_right : (a b : Bool) → (a || b) ≡ false → b ≡ false
-or_right true b e = cc
-or_right false b e = e
-
-not_false : (b : Bool) → not b ≡ false → b ≡ true
-not_false true e = refl
-not_false false e = cc
 
 -- LEASES
 progress_leased : (o : Option (List Position)) (p q : Progress) (h : Record) (i worker now polls : ℕ) → IsAskedOf o p q → HasProgress p h i → HasProgress q (Lease i worker now polls ∷ h) i
@@ -135,7 +125,7 @@ module _ {P : Type 0} (told_by : P → Told) where
         since = since_calm was.facts.since h (Read i stream took) i tt k.facts.since;
       })
       (progress_on was.progress h (Read i stream took) i tt k.progress)
-      (λ none. counts (not_false counted (or_left (not counted) was.facts.behind (sym is_behind ∙ none))) (k.counts (or_right (not counted) was.facts.behind (sym is_behind ∙ none))))
+      (λ none. counts (not-false counted (or_left (not counted) was.facts.behind (sym is_behind ∙ none))) (k.counts (or_right (not counted) was.facts.behind (sym is_behind ∙ none))))
       (nobody told_by was.task was.facts (record was.facts { over = over; failed_starts = 0; behind = behind }) h (Read i stream took ∷ h) i legal.0.row.turn.out k.home)
       (away_out told_by was.task (Read i stream took ∷ h) i legal.0.row.turn.out) k.fitted
 

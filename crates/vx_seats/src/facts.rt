@@ -15,7 +15,8 @@ pub struct Facts {
     pub retired: bool,
     /// When the oldest parcel that it holds was taken, in milliseconds.
     pub since: u64,
-    /// Whether a batch that it read wasn't born, for want of numbers or memory.
+    /// Whether a batch that it read wasn't born, for want of numbers or memory, or memory was wanting before a confirm, a read or an
+    /// attempt: what it owes isn't known any more.
     pub owing: bool,
     /// Whether memory was wanting while it cut what it read: what it counts isn't known any more.
     pub behind: bool,

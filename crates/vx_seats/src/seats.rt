@@ -45,7 +45,7 @@ use vx_value::WantOfMemory;
 ///
 /// Contracts see the seats. `Knows` says that they are as a record has them: what a call ensures is that they are so with its
 /// entry. `Stays` says what a call leaves of each seat: what its component says, its task, and whether what it owes, what it counts
-/// and what its port gave is known; `leave`, `arrive`, `read`, `owed` and `mark_starved` say what they change of that.
+/// and what its port gave is known; `leave`, `arrive`, `read`, `shut`, `owed` and `mark_starved` say what they change of that.
 #[derive(Drop)]
 pub struct Seats<P: Port> {
     seats: Vec<Seat<P>>,
@@ -286,7 +286,8 @@ impl<P: Port> Seats<P> {
         count_dropped(&mut seat.counts, sink, first);
     }
 
-    /// A batch that a source read can't be born, or memory was wanting before a confirm: what the instance owes isn't known any more.
+    /// A batch that a source read can't be born, or memory was wanting before a confirm, a read or an attempt: what the instance owes
+    /// isn't known any more.
     pub fn owed(&mut self, i: u32)
         requires { i < length self.old }
         ensures size { length self.new ≡ length self.old }

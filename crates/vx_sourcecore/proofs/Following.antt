@@ -1,7 +1,8 @@
 -- A source that was abreast of the record is so behind its turn.
 use Rattle.std.proofs.Common.{◌≡◌, ℕ, zero, suc, ◌+◌, ◌-◌, ◌<◌, Bool, true, false, List, [], ◌∷◌, ◌++◌, length, map, Option, Some, None, inl, inr, arith, refl, sym, subst, ◌∙◌, ap}
-use Rattle.std.specs.Prelude.{◌≢◌, ◌⊎◌, ◌==◌, ◌&&◌, ◌||◌, not, if◌then◌else◌, unwrap_or, IfSome, IfOk, Result, Ok, Err, IsSomeAnd, slice_index_or, Contains, flat_map, take}
+use Rattle.std.specs.Prelude.{◌≢◌, ◌⊎◌, ◌==◌, ◌&&◌, not, if◌then◌else◌, unwrap_or, IfSome, IfOk, Result, Ok, Err, IsSomeAnd, slice_index_or, Contains, flat_map, take}
 use Rattle.std.proofs.lemmas.Bool.Decides.{nat_tests}
+use Rattle.std.proofs.lemmas.Bool.{and_from as both_true, and_right as second_false, cases_eq, eq-eqb as equal_test, eqb-true as test_equal, or_parts as either_false}
 use Rattle.std.proofs.lemmas.List.{append-nil}
 use Rattle.std.proofs.lemmas.List.Elements.{Contains-append_left, Contains-append_right, Contains-append_cases, Contains-push}
 use Rattle.vx_value.specs.Texts.{Word, is_empty}
@@ -34,19 +35,6 @@ other_test i j other = go (i == j) refl
     go false e = e
     go true e = absurd (other (grind (arith, nat_tests)))
 
-both_true : (a b : Bool) → a ≡ true → b ≡ true → (a && b) ≡ true
-both_true true true p q = refl
-both_true true false p q = q
-both_true false b p q = p
-
-second_false : (a b : Bool) → b ≡ false → (a && b) ≡ false
-second_false true b p = p
-second_false false b p = refl
-
-either_false : (a b : Bool) → (a || b) ≡ false → (a ≡ false) × (b ≡ false)
-either_false true b e = cc
-either_false false b e = (refl, e)
-
 when_true : {X : Type 0} (b : Bool) (x y : X) → b ≡ true → (if b then x else y) ≡ x
 when_true true x y e = refl
 when_true false x y e = cc
@@ -54,19 +42,6 @@ when_true false x y e = cc
 when_false : {X : Type 0} (b : Bool) (x y : X) → b ≡ false → (if b then x else y) ≡ y
 when_false true x y e = cc
 when_false false x y e = refl
-
-equal_test : (a b : ℕ) → a ≡ b → (a == b) ≡ true
-equal_test a b e = grind (arith, nat_tests)
-
-test_equal : (a b : ℕ) → (a == b) ≡ true → a ≡ b
-test_equal a b e = grind (arith, nat_tests)
-
-pub decided : (a b : ℕ) → (a ≡ b) ⊎ (a ≢ b)
-decided a b = go (a == b) refl
-  where
-    go : (t : Bool) → (a == b) ≡ t → (a ≡ b) ⊎ (a ≢ b)
-    go true e = inl (test_equal a b e)
-    go false e = inr (λ same. let no : true ≡ false = sym (equal_test a b same) ∙ e in cc)
 
 -- MEMBERS
 none_in : (x : ℕ) → Contains [] x → ⊥
@@ -81,7 +56,7 @@ only_in x y c = go c.0 c.1 c.2
 
 contained : (xs : List ℕ) (x : ℕ) → Contains xs x ⊎ (Contains xs x → ⊥)
 contained [] x = inr (none_in x)
-contained (y ∷ xs) x = go (decided y x) (contained xs x)
+contained (y ∷ xs) x = go (cases_eq y x) (contained xs x)
   where
     go : (y ≡ x) ⊎ (y ≢ x) → Contains xs x ⊎ (Contains xs x → ⊥) → Contains (y ∷ xs) x ⊎ (Contains (y ∷ xs) x → ⊥)
     go (inl same) rest = inl (Contains-append_left (y ∷ []) xs x (subst (λ z. Contains (z ∷ []) x) (sym same) (Contains-push [] x)))
@@ -145,8 +120,8 @@ fed_abreast : (h : Record) (i stream : ℕ) (bytes : Word) (brought : Cut) (old 
 fed_abreast h i stream bytes brought old new some unended a fed = record {
   made_for = made_on (component_of h i) old stream new fed.rest a.made_for;
   last = fed.last ∙ sym (when_true ((i == i) && not (is_empty bytes)) (Some stream) (last_stream h i) (both_true (i == i) (not (is_empty bytes)) (same_test i) (some_bytes bytes some)));
-  taken = λ s. taken_at s (decided stream s);
-  ended = λ s there. ended_at s (decided stream s) (Contains-append_cases (ended_streams h i) [] s there);
+  taken = λ s. taken_at s (cases_eq stream s);
+  ended = λ s there. ended_at s (cases_eq stream s) (Contains-append_cases (ended_streams h i) [] s there);
 }
   where
     taken_at : (s : ℕ) → (stream ≡ s) ⊎ (stream ≢ s) → HasTaken new.framer s (open_bytes (Read i stream (taken.Bytes bytes) ∷ h) i s)
@@ -188,8 +163,8 @@ finished_abreast : (h : Record) (i stream : ℕ) (took : Taken) (at : ℕ) (brou
 finished_abreast h i stream took at brought old new ends is a finished = record {
   made_for = made_on (component_of h i) old at new finished.rest a.made_for;
   last = finished.last ∙ a.last ∙ sym (ends_last h i stream took ends);
-  taken = λ s. taken_at s (decided at s);
-  ended = λ s there. ended_at s (decided at s) (Contains-append_cases (ended_streams h i) (ended_by i (Read i stream took)) s there);
+  taken = λ s. taken_at s (cases_eq at s);
+  ended = λ s there. ended_at s (cases_eq at s) (Contains-append_cases (ended_streams h i) (ended_by i (Read i stream took)) s there);
 }
   where
     shut : (s : ℕ) → at ≡ s → open_bytes (Read i stream took ∷ h) i s ≡ []

@@ -1,5 +1,5 @@
 -- A framer's lines are those that the record counts.
-use Rattle.std.proofs.Common.{◌≡◌, ℕ, ◌+◌, Bool, true, false, Option, Some, None, List, [], ◌∷◌, ◌++◌, length, filter, drop, sym, refl, ap, ◌∙◌, arith}
+use Rattle.std.proofs.Common.{◌≡◌, ℕ, false, Option, Some, None, List, [], ◌∷◌, ◌++◌, length, drop, sym, refl, ap, ◌∙◌, arith}
 use Rattle.vx_frame.specs.Frames.{Frame, frames}
 use Rattle.vx_json.specs.declared.decoding.Decoding.{Decoding}
 use Rattle.vx_plan.specs.declared.component.Component.{Component}
@@ -10,8 +10,6 @@ use Rattle.vx_record.specs.Installs.{component_of}
 use Rattle.vx_record.specs.Reads.{stream_of, open_bytes, limit_of, new_lines, undecodable_among, undecodable_lines}
 use Rattle.vx_record.proofs.PastLines.{past-dropped, past-less}
 use Rattle.vx_sourcecore.specs.NewLines.{codec_of, undecodable_by, AreFramed, FramedCounted, ToldNew}
-use Rattle.std.specs.Prelude.{if◌then◌else◌}
-use Rattle.vx_json.specs.LineEvents.{is_undecodable}
 
 drop-front : (xs ys : List Frame) → drop (length xs) (xs ++ ys) ≡ ys
 drop-front [] ys = refl
@@ -52,20 +50,3 @@ told_new h i stream took lines over d new framed codec told =
       overlong = told.too_long ∙ ap capped (sym counted.overlong);
       undecodable = told.undecoded ∙ ap capped (sym (counted.undecodable ∙ ap (λ o. undecodable_by o lines) codec));
     }
-
--- one line more
-undecodable-last : (d : Decoding) (given : List Frame) (frame : Frame) →
-    undecodable_among d (given ++ frame ∷ []) ≡ undecodable_among d given + (if is_undecodable d frame.bytes then 1 else 0)
-undecodable-last d [] frame = go (is_undecodable d frame.bytes)
-  where
-    go : (b : Bool) → length (if b then frame ∷ [] else []) ≡ 0 + (if b then 1 else 0)
-    go true = refl
-    go false = refl
-undecodable-last d (x ∷ xs) frame = go (is_undecodable d x.bytes) (undecodable-last d xs frame)
-  where
-    go : (b : Bool) → undecodable_among d (xs ++ frame ∷ []) ≡ undecodable_among d xs + (if is_undecodable d frame.bytes then 1 else 0) →
-        length (if b then x ∷ filter (λ (line : Frame). is_undecodable d line.bytes) (xs ++ frame ∷ []) else filter (λ (line : Frame). is_undecodable d line.bytes) (xs ++ frame ∷ []))
-        ≡ length (if b then x ∷ filter (λ (line : Frame). is_undecodable d line.bytes) xs else filter (λ (line : Frame). is_undecodable d line.bytes) xs)
-        + (if is_undecodable d frame.bytes then 1 else 0)
-    go true ih = omega arith
-    go false ih = ih

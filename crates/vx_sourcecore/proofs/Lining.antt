@@ -66,11 +66,6 @@ line_step d source_type lines i line event empty gives old new l is made bare so
           (tells d (map frame_of (take i lines)) (frame_of line) 0 (record { empty_is = bare; gives_is = (source_type, some ∙ some_fields event ∙ ap (λ (o : Option (List NamedDatum)). is_some o) made) }) so.new);
     }
 
--- none yet
-pub none_of : (d : Decoding) (source_type : Word) (lines : List Line) (cut : Cut) → cut.events ≡ [] → cut.end ≡ 0 → AreTold d [] 0 cut.new → IsOf d source_type (take 0 lines) 0 cut
-none_of d source_type [] cut events end new = record { each = events; last = end; new = new }
-none_of d source_type (line ∷ lines) cut events end new = record { each = events; last = end; new = new }
-
 kept_few : (limit : ℕ) (f : Frame) (fs : List Frame) (n : ℕ) → length fs ≤ n → length (kept limit f fs) ≤ n + 1
 kept_few limit f fs n l = by_length (leb (length f.bytes) limit)
   where

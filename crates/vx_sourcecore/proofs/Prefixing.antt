@@ -74,23 +74,6 @@ taken_done judged (b ∷ done) rest all halted = take_while-cons judged.may b (d
 pub reached_is : (p : Prefix) (judged : Judgement) (births : List Birth) (asked : List Position) (is : IsPrefixOf p judged births asked) → ends_of (take_while judged.may births) ≡ ends_of is.done
 reached_is p judged births asked is = ap (λ (bs : List Birth). ends_of (take_while judged.may bs)) is.all ∙ ap ends_of (taken_done judged is.done is.rest is.cut.passed is.halted)
 
--- THE BEGINNING
-pub fresh : (p : Prefix) → p.ends ≡ [] → p.behind.items ≡ [] → p.blocked ≡ false → p.due ≡ None → p.asked ≡ [] → (judged : Judgement) → IsPrefixOf p judged [] []
-fresh p ends behind open_yet due asked judged = record {
-  done = [];
-  rest = [];
-  all = refl;
-  cut = record {
-    ends = ends;
-    behind = subst (λ (rows : List Passing). AreKeptOf p.blocked judged [] rows []) (sym behind) open_yet;
-    passed = tt;
-    last = asked;
-    none = λ none. refl;
-    some = subst (λ (o : Option Due). IfSome o (IsNewDue [] [])) (sym due) tt;
-  };
-  halted = tt;
-}
-
 -- where all that is kept stays
 pub goes_on : (old new : Prefix) → new.waits ≡ old.waits → new.ends ≡ old.ends → new.behind.items ≡ old.behind.items → new.blocked ≡ old.blocked → new.due ≡ old.due → new.asked ≡ old.asked → GoesOn old new
 goes_on old new waits ends behind blocked due asked = record {

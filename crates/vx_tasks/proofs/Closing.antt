@@ -13,7 +13,7 @@ use Rattle.vx_record.specs.Places.{Place}
 use Rattle.vx_record.specs.Places.Place.{Contents, Held}
 use Rattle.vx_record.specs.Parcels.{first_copy}
 use Rattle.vx_record.specs.Turns.{lease_now}
-use Rattle.vx_record.specs.Installs.{component_of, told, source_at}
+use Rattle.vx_record.specs.Installs.{component_of, told}
 use Rattle.vx_record.specs.Lists.{stands, parcels_at, contents, held, buffered, is_stage_of}
 use Rattle.vx_record.specs.Shifts.{shift, at}
 use Rattle.vx_record.specs.Routing.{drains, all_dry, is_named, is_ending}
@@ -24,13 +24,12 @@ use Rattle.vx_record.specs.Tasks.{is_of, mine}
 use Rattle.vx_record.specs.Makers.{Spares}
 use Rattle.vx_record.specs.Additions.{OnlyAdds}
 use Rattle.vx_record.proofs.Adding.{carry_legal, adds_legal}
-use Rattle.vx_record.proofs.Ceasing.{unmarked}
 use Rattle.vx_record.proofs.OnePlace.{conserved}
 use Rattle.vx_record.proofs.Shifting.{entry_shifts}
 use Rattle.vx_record.proofs.Senders.{uninstalled, same_told, wired_same}
 use Rattle.vx_record.proofs.Turning.{turn_undry}
 use Rattle.vx_record.proofs.Vacant.{bears, enters, where_none, none_where, unentered}
-use Rattle.vx_record.proofs.WorkerEnds.{worker_source, source_dry, all_dry_on, unnamed_on, unawaited}
+use Rattle.vx_record.proofs.WorkerEnds.{worker_source, source_dry, all_dry_on, unnamed_on, unawaited, dry_by, undrained}
 use Rattle.vx_record.proofs.OwnTurns.{moment_own}
 use Rattle.vx_record.proofs.OwnPlaces.{held_own}
 use Rattle.vx_record.proofs.OwnAttempts.{taken_own, attempts_own, failures_own, failed_own}
@@ -49,13 +48,6 @@ record IsLast (h : Record) (i : ℕ) : Type 0 where
 
 self : (i : ℕ) → (i == i) ≡ true
 self i = eq-eqb i i refl
-
-dry_by : (d a : Bool) → d ≡ false → (d || a) ≡ true → a ≡ true
-dry_by true a off e = cc
-dry_by false a off e = e
-
-undrained : (h : Record) (i : ℕ) → IsLegal h → source_at h i ≡ false → drains h i ≡ false
-undrained h i legal off = ap (λ (m : Bool). m || (source_at h i && false)) (unmarked h i legal) ∙ ap (λ (s : Bool). s && false) off
 
 last_of : (h : Record) (i : ℕ) → IsLegal h → is_last_batch h i ≡ true → IsUnread h → IsLast h i
 last_of h i legal last unread = record {

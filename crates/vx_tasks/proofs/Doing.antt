@@ -1,6 +1,6 @@
 -- A task that was done comes home as its record will have it.
-use Rattle.std.proofs.Common.{◌≡◌, ℕ, Bool, true, false, List, ◌++◌, Option, Some, None, IfSome, refl, sym, ap, subst, ◌∙◌}
-use Rattle.std.specs.Prelude.{◌&&◌, ◌||◌, not, is_some}
+use Rattle.std.proofs.Common.{◌≡◌, ℕ, false, List, ◌++◌, Option, Some, None, IfSome, refl, sym, ap, subst, ◌∙◌}
+use Rattle.std.specs.Prelude.{◌&&◌, not, is_some}
 use Rattle.std.proofs.lemmas.List.{append-nil}
 use Rattle.vx_ends.specs.Told.{Told}
 use Rattle.vx_record.specs.Records.{Record}
@@ -13,7 +13,7 @@ use Rattle.vx_record.specs.Shifts.{at}
 use Rattle.vx_record.specs.Routing.{drains, is_out_from_before}
 use Rattle.vx_record.specs.Tasks.{out_to}
 use Rattle.vx_record.proofs.TasksOut.{out_to_worker}
-use Rattle.vx_record.proofs.Turning.{turn_undry}
+use Rattle.vx_record.proofs.Turning.{turn_undry, unended}
 use Rattle.vx_tasks.specs.declared.confirming.Confirmed.{Confirmed}
 use Rattle.vx_tasks.specs.declared.landing.Done.{Done}
 use Rattle.vx_tasks.specs.declared.landing.Done.TheVariants.{Short, Starved}
@@ -31,11 +31,6 @@ use Rattle.vx_tasks.specs.Doing.{MayAct}
 use Rattle.vx_tasks.specs.Out.{IsIdle, MayReadNow, IsGiven, AreDue, HasLeft, confirm_entries, IsConfirmedSo, TellsDone, HasActed, is_unfit, leaves_unfit, HasDone}
 
 -- a source that isn't dry wasn't told the end of all
-unended : (s a l d : Bool) → s ≡ true → (s && (a || l || d)) ≡ false → a ≡ false
-unended false a l d is dry = cc
-unended true true l d is dry = cc
-unended true false l d is dry = refl
-
 read_unended : (h : Record) (i worker : ℕ) → IsLegal h → out_to h i ≡ Some worker → IsIdle h i → MayReadNow h i → all_ended h i ≡ false
 read_unended h i worker legal out idle may =
     unended (source_at h i) (all_ended h i) (is_lost h i) (drains h i && not (is_out_from_before h i)) may.source

@@ -1,6 +1,6 @@
 -- What entries that spare a task leave of it.
-use Rattle.std.proofs.Common.{◌≡◌, ℕ, ◌<◌, ◌≤◌, Bool, true, false, List, [], ◌∷◌, Option, Some, None, IfSome, refl, sym, ap, ◌∙◌, arith, inl, inr, subst}
-use Rattle.std.specs.Prelude.{◌==◌, is_some, nat_lt, if◌then◌else◌}
+use Rattle.std.proofs.Common.{◌≡◌, ℕ, ◌<◌, ◌≤◌, Bool, true, false, List, [], ◌∷◌, Option, Some, None, IfSome, refl, sym, ap, ◌∙◌, arith, subst}
+use Rattle.std.specs.Prelude.{◌==◌, is_some, if◌then◌else◌}
 use Rattle.std.proofs.lemmas.Bool.{eqb-true}
 use Rattle.std.proofs.lemmas.Bool.Decides.{nat_tests}
 use Rattle.vx_value.specs.declared.event.Event.{Event}
@@ -11,14 +11,13 @@ use Rattle.vx_ledger.specs.declared.parcel.Parcel.{Parcel}
 use Rattle.vx_plan.specs.declared.component.Component.{Component}
 use Rattle.vx_record.specs.declared.output.Output.{Output}
 use Rattle.vx_record.specs.declared.entry.Entry.{Entry}
-use Rattle.vx_record.specs.declared.entry.Entry.TheVariants.{Install, Lease, Home, Born, Split, Take, Answer, Spent}
+use Rattle.vx_record.specs.declared.entry.Entry.TheVariants.{Install, Lease, Home, Answer}
 use Rattle.vx_record.specs.Records.{Record, capped}
 use Rattle.vx_record.specs.Copies.{count, joined, next_copy}
-use Rattle.vx_record.specs.Batches.{parent, batch_of}
 use Rattle.vx_record.specs.Parcels.{event_of}
 use Rattle.vx_record.specs.Places.Place.{Held}
 use Rattle.vx_record.specs.Lists.{stands, parcels_at}
-use Rattle.vx_record.specs.Shifts.{shift, at}
+use Rattle.vx_record.specs.Shifts.{at}
 use Rattle.vx_record.specs.Installs.{component_of}
 use Rattle.vx_record.specs.Reads.{taken, all_ended, ended_streams}
 use Rattle.vx_record.specs.Encoding.{given}
@@ -29,20 +28,17 @@ use Rattle.vx_record.specs.Tasks.{is_of, mine, out_to, IsOwn}
 use Rattle.vx_record.specs.Makers.{Spares}
 use Rattle.vx_record.specs.Additions.{OnlyAdds}
 use Rattle.vx_record.proofs.Adding.{carry_legal}
-use Rattle.vx_record.proofs.Counts.{count-append}
 use Rattle.vx_record.proofs.Events.{said_before}
 use Rattle.vx_record.proofs.Hands.{not_there}
-use Rattle.vx_record.proofs.Live.{if_lt}
 use Rattle.vx_record.proofs.OnePlace.{conserved}
 use Rattle.vx_record.proofs.Shifting.{stands_at}
 use Rattle.vx_record.proofs.Promises.{leased_runs}
 use Rattle.vx_record.proofs.OwnReads.{taken_own, end_own, ended_own}
+use Rattle.vx_record.proofs.OwnPlaces.{held_apart}
 use Rattle.vx_record.proofs.OwnConfirms.{confirmed_own, given_own}
 use Rattle.vx_record.proofs.OwnCounts.{faults_own, refusals_own, idles_own}
-use Rattle.vx_places.specs.Numbers.{numbers, IsCopyIn}
-use Rattle.vx_ledger.specs.Copies.{numbers_of}
-use Rattle.vx_places.specs.Views.{IsAmong}
 use Rattle.vx_places.specs.Holding.{IsKnown}
+use Rattle.vx_places.proofs.Steps.{among_counts, event_stays as unanswered, known_later}
 use Rattle.vx_tasks.specs.Telling.{IsTold, spec_of}
 use Rattle.vx_tasks.specs.Out.{IsHeld}
 
@@ -83,46 +79,17 @@ told_same told old new i same run is = record {
 }
 
 -- WHAT IT HOLDS
-pub held_apart : (e : Entry) (i : ℕ) (was : List (List ℕ)) → is_of i e ≡ false → shift e (Held i) was ≡ was
-held_apart (Take j s copies) i was is = rw is refl
-held_apart (Answer j outputs discarded kept) i was is = rw is refl
-held_apart (Spent j c outcome) i was is = rw is refl
-held_apart e i was is = refl
-
--- a copy among parcels is among their copies
-copy_counts : (cs : List Copy) (copy : Copy) → IsCopyIn cs copy → 0 < count copy.number (numbers_of cs)
-copy_counts [] copy is = absurd is
-copy_counts (c ∷ cs) copy (inl same) = let e = ap (λ (x : Copy). x.number) same in grind (arith, nat_tests, e)
-copy_counts (c ∷ cs) copy (inr more) = let l = copy_counts cs copy more in omega (arith, l)
-
-among_counts : (ps : List Parcel) (event : Event) (copy : Copy) → IsAmong ps event copy → 0 < count copy.number (joined (numbers ps))
-among_counts [] event copy is = absurd is
-among_counts (p ∷ ps) event copy (inl here) =
-    let l = copy_counts p.finalizers copy here.1 in let e = count-append copy.number (numbers_of p.finalizers) (joined (numbers ps)) in omega (arith, l, e)
-among_counts (p ∷ ps) event copy (inr more) =
-    let l = among_counts ps event copy more in let e = count-append copy.number (numbers_of p.finalizers) (joined (numbers ps)) in omega (arith, l, e)
-
 -- an entry of others gives a copy that is held no other event
-event_lt : (m n : ℕ) (x y : Event) → m < n → (if nat_lt m n then x else y) ≡ x
-event_lt m n x y l = grind (arith, nat_tests)
-
 apart_test : (j i : ℕ) → (j == i) ≡ false → (i == j) ≡ false
 apart_test j i is = grind (arith, nat_tests, is)
 
 event_stays : (h : Record) (e : Entry) (i c : ℕ) → IsLegal (e ∷ h) → is_of i e ≡ false → c < next_copy h → 0 < count c (joined (at h (Held i))) → event_of (e ∷ h) c ≡ event_of h c
-event_stays h (Born j b place copies events waits stream end) i c legal spares l there = event_lt c (next_copy h) (event_of h c) _ l
-event_stays h (Split j ports copies event children) i c legal spares l there = event_lt c (next_copy h) (event_of h c) event l
 event_stays h (Answer j made discarded kept) i c legal spares l there =
     let stand : 0 < count c (joined (parcels_at (Held i) (stands h))) = subst (λ (ps : List (List ℕ)). 0 < count c (joined ps)) (sym (stands_at h (Held i) legal.1)) there in
     let none = not_there h (Held i) (Held j) c (conserved h legal.1) (apart_test j i spares) stand in
     let released = (conserved (Answer j made discarded kept ∷ h) legal).0 c in
     said_before (λ (output : Output). output.event) made c (event_of h c) (omega (arith, none, released))
-event_stays h e i c legal spares l there = refl
-
-batch_stays : (h : Record) (e : Entry) (c : ℕ) → c < next_copy h → batch_of (e ∷ h) c ≡ batch_of h c
-batch_stays h (Born i b place copies events waits stream end) c l = if_lt c (next_copy h) (batch_of h c) b l
-batch_stays h (Split i ports copies event children) c l = if_lt c (next_copy h) (batch_of h c) (batch_of h (parent (next_copy h) copies c)) l
-batch_stays h e c l = refl
+event_stays h e i c legal spares l there = unanswered h e c tt l
 
 held_on : (parcels : List Parcel) (i : ℕ) (h : Record) (e : Entry) → IsLegal (e ∷ h) → is_of i e ≡ false → IsHeld h i parcels → IsHeld (e ∷ h) i parcels
 held_on parcels i h e legal spares was = record {
@@ -132,13 +99,7 @@ held_on parcels i h e legal spares was = record {
 }
   where
     on : (event : Event) (copy : Copy) → IsKnown h event copy → 0 < count copy.number (joined (at h (Held i))) → IsKnown (e ∷ h) event copy
-    on event copy known there =
-        let made = known.made in record {
-          made = omega (arith, made);
-          said = event_stays h e i copy.number legal spares made there ∙ known.said;
-          batch = batch_stays h e copy.number made ∙ known.batch;
-          place = known.place;
-        }
+    on event copy known there = known_later h e event copy (event_stays h e i copy.number legal spares known.made there) known
 
 pub held_stays : (parcels : List Parcel) (old new : Record) (i : ℕ) → OnlyAdds (Spares i) old new → IsLegal old → IsHeld old i parcels → IsHeld new i parcels
 held_stays parcels old new i adds legal is = carry_legal (Spares i) (λ h. IsHeld h i parcels) (λ h e follows spares was. held_on parcels i h e follows spares was) old new adds legal is

@@ -1,13 +1,8 @@
-use Rattle.vx_status.specs.declared.outcome.Outcome.TheVariants.{Abandoned}
 use Rattle.vx_record.specs.Places.Place.{Contents}
-use Rattle.vx_moves.proofs.Looping.{spends_more, still_home, still_over}
+use Rattle.vx_moves.proofs.Looping.{gives_up_more}
 use Rattle.vx_moves.proofs.books.Books.give_up_buffer.Goals as goal
 
 pub loop-preserved : goal.loop-preserved
 loop-preserved g c =
-    let was = c.loop.invariant in
-    let one = c.give_up_buffered.ensures.spent c.loop-test.true in record {
-      spent = spends_more g.P.Port.told (Contents c.args.i one.0) Abandoned c.args.self.now c.loop.self c.give_up_buffered.new.self was.spent one.1;
-      over = still_over one.1.noted was.over;
-      home = still_home c.args.i one.1.noted was.home;
-    }
+    let one = c.give_up_buffered.ensures.spent c.loop-test.true in
+    gives_up_more g.P.Port.told (Contents c.args.i one.0) c.args.self.now c.loop.self c.give_up_buffered.new.self c.loop.invariant one.1
