@@ -1,5 +1,5 @@
 -- What is said of an instance's places, by its row.
-use Rattle.std.proofs.Common.{◌≡◌, ℕ, zero, suc, ◌<◌, Bool, true, false, List, [], ◌∷◌, length, get_or, refl, sym, ap, ◌∙◌, ◌+◌, ◌≤◌, arith, Option, Some, inl, inr, subst}
+use Rattle.std.proofs.Common.{◌≡◌, ℕ, zero, suc, ◌<◌, Bool, true, false, List, [], ◌∷◌, length, get_or, refl, sym, ap, ◌∙◌, ◌+◌, ◌≤◌, arith, Option, Some, None, inl, inr, subst}
 use Rattle.std.specs.Prelude.{◌↔◌, ◌==◌, if◌then◌else◌, IsSomeAnd}
 use Rattle.std.proofs.lemmas.Bool.{cases_eq, cases_lt}
 use Rattle.vx_value.specs.Filled.{Filled}
@@ -9,9 +9,9 @@ use Rattle.vx_record.specs.Places.Place.{Outputs, Waiting, Contents, Held}
 use Rattle.vx_places.specs.declared.row.Row.{Row}
 use Rattle.vx_places.specs.Numbers.{for_target}
 use Rattle.vx_places.specs.Views.{row_at, stage_at, stage_items, held_items, here_if, parcels_here}
-use Rattle.vx_places.specs.Calls.{IsRow, NoneWaits}
-use Rattle.vx_places.specs.Looks.{HasOutput, HasWaiting, HasSent, HasEmptyBuffer, HoldsMany, IsBare}
-use Rattle.vx_places.proofs.Written.{one_some, same_test, stage_read, stage_past, stage_there, stage_is, stage_has, no_stage, read_at, row_is, row_has}
+use Rattle.vx_places.specs.Calls.{IsRow, NoneWaits, NoneBefore, IsOldestFor}
+use Rattle.vx_places.specs.Looks.{HasOutput, HasWaiting, HasSent, HasEmptyBuffer, ManyWait, HoldsMany, IsBare}
+use Rattle.vx_places.proofs.Written.{one_some, same_test, stage_read, stage_past, stage_there, stage_is, stage_has, no_stage, child_there, read_at, row_is, row_has}
 
 -- CHILDREN
 -- where none is for any target, there is none
@@ -30,6 +30,27 @@ none_waits_for_all rows i l none = go rows i l none
     go [] k below all = absurd (omega arith)
     go (r ∷ rs) zero below all = none_for r.waiting.items (λ t. one_some _ _ (all t))
     go (r ∷ rs) (suc k) below all = go rs k (omega arith) all
+
+-- a child is the oldest for one target at most,
+one_target : (t u k : ℕ) (cs : List Child) → NoneBefore t k cs → NoneBefore u k cs → t ≡ u
+one_target t u k [] first other = absurd first
+one_target t u zero (c ∷ cs) first other = sym first ∙ other
+one_target t u (suc k) (c ∷ cs) first other = one_target t u k cs first.1 other.1
+
+pub one_oldest : (rows : List Row) (i t u k : ℕ) → IsOldestFor rows i t k → IsOldestFor rows i u k → t ≡ u
+one_oldest rows i t u k = go (row_at rows i)
+  where
+    go : (o : Option Row) → IsSomeAnd o (λ row. NoneBefore t k row.waiting.items) → IsSomeAnd o (λ row. NoneBefore u k row.waiting.items) → t ≡ u
+    go None first other = absurd first
+    go (Some row) first other = one_target t u k row.waiting.items first other
+
+-- and stands among those that wait
+pub oldest_below : (rows : List Row) (i t k n : ℕ) → ManyWait rows i n → IsOldestFor rows i t k → k < n
+oldest_below rows i t k n = go (row_at rows i)
+  where
+    go : (o : Option Row) → IsSomeAnd o (λ row. n ≡ length row.waiting.items) → IsSomeAnd o (λ row. NoneBefore t k row.waiting.items) → k < n
+    go None many first = absurd first
+    go (Some row) many first = let below = child_there t k row.waiting.items first in omega (arith, below, many)
 
 module _ (rows : List Row) (i : ℕ) (read : Row) (l : i < length rows) (is_there : read ≡ get_or rows i read) where
   abbrev row : Row
@@ -73,10 +94,6 @@ module _ (rows : List Row) (i : ℕ) (read : Row) (l : i < length rows) (is_ther
 
   pub buffer_was : HasEmptyBuffer rows i → (s : ℕ) → stage_items (stage_at row.stages.items s) ≡ []
   buffer_was none s = one_some _ _ (sym (read_at rows i row l at (Contents i s) refl) ∙ none s)
-
-  pub holds_is : (n : ℕ) (held : Filled Parcel) → row.held ≡ Some held → n ≡ length held.items → HoldsMany rows i n
-  holds_is n held there is =
-      subst (λ (o : Option (List Parcel)). IsSomeAnd o (λ ps. n ≡ length ps)) (sym (read_at rows i row l at (Held i) refl ∙ ap held_items there)) is
 
   pub held_none_is : held_items row.held ≡ Some [] → parcels_here rows (Held i) ≡ Some []
   held_none_is none = read_at rows i row l at (Held i) refl ∙ none

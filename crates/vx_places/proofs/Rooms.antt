@@ -14,9 +14,6 @@ use Rattle.vx_places.proofs.Written.{one_some, row_read, row_written, rows_other
 pub same_rooms_then : (old mid new : List Row) → SameRooms old mid → SameRooms mid new → SameRooms old new
 same_rooms_then old mid new first then i = ((then i).0 ∙ (first i).0, (then i).1 ∙ (first i).1)
 
-pub no_rooms_change : (rows : List Row) → SameRooms rows rows
-no_rooms_change rows i = (refl, refl)
-
 -- a stage with the room that it had
 pub stage_room_kept : (stages : List (Filled Parcel)) (s : ℕ) (stage new : Filled Parcel) → stage ≡ get_or stages s stage → new.room ≡ stage.room →
     stage_rooms (slice_set stages s new) ≡ stage_rooms stages

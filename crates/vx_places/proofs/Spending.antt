@@ -101,9 +101,6 @@ module _ (h : Record) (i : ℕ) (outcome : Outcome) (q : Place) (copy : Copy) (o
   c : ℕ
   c = copy.number
 
-  first : List (List ℕ)
-  first = (numbers_of loses.loses.left ++ copy.number ∷ []) ∷ numbers loses.loses.rest
-
   before_is : numbers loses.before ≡ (numbers_of loses.loses.left ++ copy.number ∷ []) ∷ numbers loses.loses.rest
   before_is = ap numbers loses.loses.was ∙ ap (λ (ns : List ℕ). ns ∷ numbers loses.loses.rest) (numbers_last loses.loses.left copy)
 

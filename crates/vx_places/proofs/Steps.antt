@@ -47,7 +47,7 @@ stand_step F was (Some b) (Some a) same is = one_some (numbers b) (F (numbers a)
 event_lt : (m n : ℕ) (x y : Event) → m < n → (if nat_lt m n then x else y) ≡ x
 event_lt m n x y l = grind (arith, nat_tests)
 
-event_stays : (h : Record) (e : Entry) (c : ℕ) → IsNoAnswer e → c < next_copy h → event_of (e ∷ h) c ≡ event_of h c
+pub event_stays : (h : Record) (e : Entry) (c : ℕ) → IsNoAnswer e → c < next_copy h → event_of (e ∷ h) c ≡ event_of h c
 event_stays h (Born i b place copies events waits stream end) c none l = event_lt c (next_copy h) (event_of h c) _ l
 event_stays h (Split i ports copies event children) c none l = event_lt c (next_copy h) (event_of h c) event l
 event_stays h (Answer i outputs discarded kept) c none l = absurd none
@@ -58,7 +58,7 @@ batch_stays h (Born i b place copies events waits stream end) c l = if_lt c (nex
 batch_stays h (Split i ports copies event children) c l = if_lt c (next_copy h) (batch_of h c) (batch_of h (parent (next_copy h) copies c)) l
 batch_stays h e c l = refl
 
-known_later : (h : Record) (e : Entry) (event : Event) (copy : Copy) → event_of (e ∷ h) copy.number ≡ event_of h copy.number → IsKnown h event copy → IsKnown (e ∷ h) event copy
+pub known_later : (h : Record) (e : Entry) (event : Event) (copy : Copy) → event_of (e ∷ h) copy.number ≡ event_of h copy.number → IsKnown h event copy → IsKnown (e ∷ h) event copy
 known_later h e event copy same is =
     let made = is.made in record {
       made = omega (arith, made);
@@ -73,7 +73,7 @@ copy_counts [] copy is = absurd is
 copy_counts (c ∷ cs) copy (inl same) = let e = ap (λ (x : Copy). x.number) same in grind (arith, nat_tests, e)
 copy_counts (c ∷ cs) copy (inr more) = let l = copy_counts cs copy more in omega (arith, l)
 
-among_counts : (ps : List Parcel) (event : Event) (copy : Copy) → IsAmong ps event copy → 0 < count copy.number (joined (numbers ps))
+pub among_counts : (ps : List Parcel) (event : Event) (copy : Copy) → IsAmong ps event copy → 0 < count copy.number (joined (numbers ps))
 among_counts [] event copy is = absurd is
 among_counts (p ∷ ps) event copy (inl here) =
     let l = copy_counts p.finalizers copy here.1 in let e = count-append copy.number (numbers_of p.finalizers) (joined (numbers ps)) in omega (arith, l, e)

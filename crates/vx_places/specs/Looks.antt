@@ -5,7 +5,7 @@ use Rattle.vx_record.specs.Places.Place.{Outputs, Waiting, Contents, Held}
 use Rattle.vx_places.specs.declared.row.Row.{Row}
 use Rattle.vx_places.specs.Views.{parcels_here}
 use Rattle.vx_places.specs.Rooms.{held_room}
-use Rattle.vx_places.specs.Calls.{IsThere, HasRoom, HasSome}
+use Rattle.vx_places.specs.Calls.{IsThere, IsRow, HasRoom, HasSome}
 
 -- an instance has an output
 abbrev pub HasOutput : List Row → ℕ → Type 0
@@ -22,6 +22,10 @@ HasSent rows i = (parcels_here rows (Outputs i) ≡ Some []) × ((t : ℕ) → p
 -- no stage of its buffer has a parcel
 abbrev pub HasEmptyBuffer : List Row → ℕ → Type 0
 HasEmptyBuffer rows i = (s : ℕ) → parcels_here rows (Contents i s) ≡ Some []
+
+-- so many of its children wait
+abbrev pub ManyWait : List Row → ℕ → ℕ → Type 0
+ManyWait rows i n = IsRow (λ row. n ≡ length row.waiting.items) rows i
 
 -- it holds so many parcels, which are not lent
 abbrev pub HoldsMany : List Row → ℕ → ℕ → Type 0

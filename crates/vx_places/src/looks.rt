@@ -1,10 +1,10 @@
 // What can be asked of the parcels of an instance.
-ghost use Rattle.std.specs.Prelude.{◌≡◌, ◌<◌, ◌≤◌, ◌↔◌, ℕ, [], length, IsTrue, Some, false, IfSome, IfNone};
+ghost use Rattle.std.specs.Prelude.{◌≡◌, ◌<◌, ◌↔◌, ℕ, [], length, IsTrue, Some, false, IfSome, IfNone};
 ghost use Rattle.vx_record.specs.Places.Place.{Held};
 ghost use Rattle.vx_places.specs.Views.{stage_at, stage_items, held_items, parcels_here};
 ghost use Rattle.vx_places.specs.Calls.{NoneWaits, NoneBefore, IsOldestFor, HasRoom, HasSome, IsKept, HasHeldRoom};
 ghost use Rattle.vx_places.specs.Numbers.{for_target};
-ghost use Rattle.vx_places.specs.Looks.{HasOutput, HasWaiting, HasSent, HasEmptyBuffer, HoldsMany, IsHeldFull, IsBare, IsFirstRoom, IsFirstFilled};
+ghost use Rattle.vx_places.specs.Looks.{HasOutput, HasWaiting, HasSent, HasEmptyBuffer, ManyWait, HoldsMany, IsHeldFull, IsBare, IsFirstRoom, IsFirstFilled};
 
 use crate::line::Line;
 use crate::row::Row;
@@ -174,8 +174,16 @@ pub(crate) fn is_bare(rows: &[Row], i: usize) -> bool
     is_sent(rows, i) && is_unfilled(rows, i)
 }
 
-// The target of the waiting child at a place, where that child is the oldest for it. `None` where it isn't, or there is none.
-fn oldest_at(waiting: &VecDeque<Child>, k: usize) -> Option<u32>
+// How many children of an instance wait.
+pub(crate) fn count_waiting(rows: &[Row], i: usize) -> usize
+    requires { i < length rows.now }
+    ensures { ManyWait rows.now i result }
+{
+    rows[i].waiting.len()
+}
+
+// The target of the child at a place among some, where that child is the oldest for it. `None` where it isn't, or there is none.
+fn oldest_in(waiting: &VecDeque<Child>, k: usize) -> Option<u32>
     ensures some { IfSome result (λ t. NoneBefore t k waiting.now.items) }
     ensures none { IfNone result ((t : ℕ) → NoneBefore t k waiting.now.items → ⊥) }
 {
@@ -188,28 +196,13 @@ fn oldest_at(waiting: &VecDeque<Child>, k: usize) -> Option<u32>
     Some(target)
 }
 
-// The first place from one on at which a waiting child is the oldest for its target, and the target.
-fn find_oldest(waiting: &VecDeque<Child>, from: usize) -> Option<(usize, u32)>
-    ensures some { IfSome result (λ found. (from ≤ found.0) × NoneBefore found.1 found.0 waiting.now.items) }
-    ensures first { IfSome result (λ found. (k t : ℕ) → from ≤ k → k < found.0 → NoneBefore t k waiting.now.items → ⊥) }
-    ensures none { IfNone result ((k t : ℕ) → from ≤ k → NoneBefore t k waiting.now.items → ⊥) }
-{
-    for k in from..waiting.len() {
-        if let Some(target) = oldest_at(waiting, k) {
-            return Some((k, target));
-        }
-    }
-    None
-}
-
 // The same at an instance.
-pub(crate) fn find_child(rows: &[Row], i: usize, from: usize) -> Option<(usize, u32)>
+pub(crate) fn oldest_at(rows: &[Row], i: usize, k: usize) -> Option<u32>
     requires { i < length rows.now }
-    ensures some { IfSome result (λ found. (from ≤ found.0) × IsOldestFor rows.now i found.1 found.0) }
-    ensures first { IfSome result (λ found. (k t : ℕ) → from ≤ k → k < found.0 → IsOldestFor rows.now i t k → ⊥) }
-    ensures none { IfNone result ((k t : ℕ) → from ≤ k → IsOldestFor rows.now i t k → ⊥) }
+    ensures some { IfSome result (λ t. IsOldestFor rows.now i t k) }
+    ensures none { IfNone result ((t : ℕ) → IsOldestFor rows.now i t k → ⊥) }
 {
-    find_oldest(&rows[i].waiting, from)
+    oldest_in(&rows[i].waiting, k)
 }
 
 // The target of the first waiting child of an instance.
@@ -218,5 +211,5 @@ pub(crate) fn first_waiting(rows: &[Row], i: usize) -> Option<u32>
     ensures some { IfSome result (λ target. IsOldestFor rows.now i target 0) }
     ensures none { IfNone result (NoneWaits rows.now i) }
 {
-    oldest_at(&rows[i].waiting, 0)
+    oldest_in(&rows[i].waiting, 0)
 }

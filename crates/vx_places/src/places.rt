@@ -1,10 +1,10 @@
-ghost use Rattle.std.specs.Prelude.{◌≡◌, ◌+◌, ◌<◌, ◌≤◌, ℕ, [], ◌↔◌, length, OnOk, OnErr, IfSome, IfNone, IsTrue, Some, false};
+ghost use Rattle.std.specs.Prelude.{◌≡◌, ◌+◌, ◌<◌, ℕ, [], ◌↔◌, length, OnOk, OnErr, IfSome, IfNone, IsTrue, Some, false};
 ghost use Rattle.vx_record.specs.declared.entry.Entry.TheVariants.{Push, Take};
 ghost use Rattle.vx_record.specs.Places.Place.{Outputs, Waiting, Contents, Held};
 ghost use Rattle.vx_places.specs.Views.{Same, parcels_here};
 ghost use Rattle.vx_places.specs.Rooms.{SameRooms, LendsRoom, AddsRooms};
 ghost use Rattle.vx_places.specs.Calls.{Takes, Lends, Loses, IsRow, IsNew, Moves, PutsOut, Divides, IsThere, HasOutputRoom, HasOutputRoomFor, NoneWaits, IsOldestFor, HasRoom, HasSome, IsKept, IsLent, HasHeldRoom, NothingToSpend};
-ghost use Rattle.vx_places.specs.Looks.{HasOutput, HasWaiting, HasSent, HasEmptyBuffer, HoldsMany, IsHeldFull, IsBare, IsFirstRoom, IsFirstFilled, AreBare};
+ghost use Rattle.vx_places.specs.Looks.{HasOutput, HasWaiting, HasSent, HasEmptyBuffer, ManyWait, HoldsMany, IsHeldFull, IsBare, IsFirstRoom, IsFirstFilled, AreBare};
 
 use crate::line::Line;
 use crate::row::{Row, make_row};
@@ -175,15 +175,22 @@ impl Places {
         looks::first_waiting(&self.rows, instance as usize)
     }
 
-    /// The first place, from one on, at which a waiting child of an instance is the oldest for its target, and the target: those
-    /// that may be pushed, one after the other. `None` exactly where there is no more.
-    pub fn find_child(&self, instance: u32, from: usize) -> Option<(usize, u32)>
+    /// How many children of an instance wait.
+    pub fn count_waiting(&self, instance: u32) -> usize
         requires { IsThere self.now instance }
-        ensures oldest { IfSome result (λ found. (from ≤ found.0) × IsOldestFor self.now instance found.1 found.0) }
-        ensures first { IfSome result (λ found. (k t : ℕ) → from ≤ k → k < found.0 → IsOldestFor self.now instance t k → ⊥) }
-        ensures none { IfNone result ((k t : ℕ) → from ≤ k → IsOldestFor self.now instance t k → ⊥) }
+        ensures many { ManyWait self.now instance result }
     {
-        looks::find_child(&self.rows, instance as usize, from)
+        looks::count_waiting(&self.rows, instance as usize)
+    }
+
+    /// The target for which the waiting child of an instance at a place is the oldest, so that it may be pushed there. `None`
+    /// exactly where it is the oldest for none, or there is no such child.
+    pub fn oldest_at(&self, instance: u32, child: usize) -> Option<u32>
+        requires { IsThere self.now instance }
+        ensures oldest { IfSome result (λ target. IsOldestFor self.now instance target child) }
+        ensures none { IfNone result ((target : ℕ) → IsOldestFor self.now instance target child → ⊥) }
+    {
+        looks::oldest_at(&self.rows, instance as usize, child)
     }
 
     /// Makes room for so many outputs more of an instance. For want of memory nothing has changed.

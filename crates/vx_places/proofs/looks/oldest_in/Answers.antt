@@ -1,7 +1,7 @@
 use Rattle.std.proofs.Common.{arith, refl, ◌≡◌, subst}
 use Rattle.vx_places.proofs.Written.{if_none, child_there}
 use Rattle.vx_places.proofs.Children.{NoneOf, none_more, oldest_of, not_oldest}
-use Rattle.vx_places.proofs.looks.oldest_at.Goals as goal
+use Rattle.vx_places.proofs.looks.oldest_in.Goals as goal
 
 pub returns-in_err-target-clause-none : goal.returns-in_err-target-clause-none
 returns-in_err-target-clause-none c = if_none c.from_residual.result (λ t first.
