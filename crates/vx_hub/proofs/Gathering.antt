@@ -1,5 +1,5 @@
 -- What a lease leads to before the task leaves.
-use Rattle.std.proofs.Common.{◌≡◌, ◌∙◌, ℕ, zero, suc, ◌≤◌, ◌<◌, Bool, true, false, ◌&&◌, List, [], ◌∷◌, length, Option, Some, None, IsSome, inl, inr, refl, sym, ap, subst, arith}
+use Rattle.std.proofs.Common.{◌≡◌, ◌∙◌, ℕ, ◌≤◌, ◌<◌, Bool, true, false, ◌&&◌, List, [], ◌∷◌, length, Option, Some, None, IsSome, inl, inr, refl, sym, ap, subst, arith}
 use Rattle.std.specs.Prelude.{◌==◌, not, is_some, if◌then◌else◌}
 use Rattle.std.specs.List.{list_all}
 use Rattle.std.proofs.lemmas.Bool.Decides.{nat_tests}
@@ -17,16 +17,16 @@ use Rattle.vx_record.specs.Turns.{is_out, at_lease, lease_now, since_lease, is_t
 use Rattle.vx_record.proofs.SourceEnds.{source_done}
 use Rattle.vx_places.specs.declared.row.Row.{Row}
 use Rattle.vx_places.specs.Calls.{IsKept}
-use Rattle.vx_places.specs.Views.{parcels_here, row_at, here_if, held_items}
-use Rattle.vx_places.specs.Rooms.{held_room, held_room_if, line_room}
+use Rattle.vx_places.specs.Views.{parcels_here}
+use Rattle.vx_places.specs.Rooms.{held_room}
 use Rattle.vx_ledger.specs.declared.parcel.Parcel.{Parcel}
-use Rattle.vx_value.specs.Filled.{Filled}
 use Rattle.vx_tasks.specs.declared.work.Job.{Job}
 use Rattle.vx_tasks.specs.declared.work.Job.TheVariants as job
 use Rattle.vx_tasks.specs.Out.{AreDue, MayReadNow, MayCloseNow}
 use Rattle.vx_moves.specs.declared.books.Books.{Books}
 use Rattle.vx_moves.specs.Stands.{Stands}
 use Rattle.vx_ready.specs.Jobs.{IsJob}
+use Rattle.vx_landing.proofs.Lending.{lent_room, room_lent}
 use Rattle.vx_hub.specs.Collecting.{IsCollecting}
 use Rattle.vx_record.specs.Starting.{MayLease}
 use Rattle.vx_tasks.specs.declared.task.Task.{Task}
@@ -109,28 +109,6 @@ module _ {P : Type 0} (told_by : P → Told) (old : Books P) (stands : Stands to
     gathers job.Close settled going (inr is) = subst (λ (h : Record). MayCloseNow h i) (sym noted) (closing positions due_here is.1)
 
 -- ROOMS
--- what is lent has its room lent
-lent_row : (j : ℕ) (o : Option Row) → here_if (Held j) o ≡ None → held_room_if o ≡ None
-lent_row j None lent = cc
-lent_row j (Some row) lent = go row.held lent
-  where
-    go : (o : Option (Filled Parcel)) → held_items o ≡ None → line_room o ≡ None
-    go None is = refl
-    go (Some line) is = cc
-
-pub lent_room : (rows : List Row) (j : ℕ) → parcels_here rows (Held j) ≡ None → held_room rows j ≡ None
-lent_room rows j lent = lent_row j (row_at rows j) lent
-
--- and where there is such an instance, the other way round
-pub room_lent : (rows : List Row) (j : ℕ) → j < length rows → held_room rows j ≡ None → parcels_here rows (Held j) ≡ None
-room_lent [] j within none = absurd (omega (arith, within))
-room_lent (row ∷ rows) zero within none = go row.held none
-  where
-    go : (o : Option (Filled Parcel)) → line_room o ≡ None → held_items o ≡ None
-    go None is = refl
-    go (Some line) is = cc
-room_lent (row ∷ rows) (suc j) within none = room_lent rows j (omega (arith, within)) none
-
 pub still_kept : (old new : List Row) (j : ℕ) → j < length old → held_room new j ≡ held_room old j → IsSome (parcels_here old (Held j)) → IsSome (parcels_here new (Held j))
 still_kept old new j within same some = go (parcels_here new (Held j)) refl
   where

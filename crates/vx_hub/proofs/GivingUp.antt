@@ -33,7 +33,7 @@ use Rattle.vx_ready.specs.Asking.{IsServed}
 use Rattle.vx_ready.proofs.Done.{device_there}
 use Rattle.vx_ready.proofs.Knowing.{known}
 use Rattle.vx_hub.specs.Ending.{GivesUpOf, GivesUp, IsGivenUp, Rests, ClosesDown, GivesUpAt, GivesUpBelow}
-use Rattle.vx_hub.proofs.Seating.{each_flags}
+use Rattle.vx_landing.proofs.Seating.{each_flags}
 use Rattle.vx_hub.proofs.Resting.{rests_both}
 
 -- KINDS

@@ -2,7 +2,7 @@
 use Rattle.std.proofs.Common.{◌≡◌, ◌≢◌, ◌∙◌, ℕ, ◌<◌, Bool, true, false, List, [], ◌∷◌, ◌++◌, length, Option, Some, None, IfSome, IsSomeAnd, inl, inr, refl, sym, ap, subst, arith}
 use Rattle.std.specs.Prelude.{◌==◌, slice_get, if◌then◌else◌}
 use Rattle.std.specs.List.{list_any}
-use Rattle.std.proofs.lemmas.Bool.{cases_eq, eqb-true}
+use Rattle.std.proofs.lemmas.Bool.{cases_eq}
 use Rattle.std.proofs.lemmas.Bool.Decides.{nat_tests}
 use Rattle.vx_ends.specs.Told.{Told}
 use Rattle.vx_ends.specs.declared.position.Position.{Position}
@@ -30,7 +30,7 @@ use Rattle.vx_tasks.specs.declared.task.Role.TheVariants as role_is
 use Rattle.vx_tasks.specs.Out.{IsIdle, IsHeld, AreDue, is_unfit, HasLeft}
 use Rattle.vx_seats.specs.declared.seat.Seat.{Seat}
 use Rattle.vx_seats.specs.Knowing.{HasHome, IsKnown}
-use Rattle.vx_seats.specs.Staying.{Stays, IsLeft}
+use Rattle.vx_seats.specs.Staying.{IsLeft}
 use Rattle.vx_seats.proofs.Telling.{told_mute, come_mute}
 use Rattle.vx_moves.specs.declared.books.Books.{Books}
 use Rattle.vx_moves.specs.Leasing.{HasLent}
@@ -40,7 +40,9 @@ use Rattle.vx_ready.specs.Asking.{all_ported}
 use Rattle.vx_hub.specs.Standing.{IsWell, IsWellAt, LentWhileOut}
 use Rattle.vx_hub.specs.Collecting.{IsTakeOf}
 use Rattle.vx_hub.specs.Leases.{HasGathered, HasHandedOut}
-use Rattle.vx_hub.proofs.Gathering.{none_since, out_is, lent_room, room_lent}
+use Rattle.vx_landing.proofs.Lending.{lent_room, room_lent}
+use Rattle.vx_landing.proofs.Seating.{not_same, well_stays}
+use Rattle.vx_hub.proofs.Gathering.{none_since, out_is}
 
 same_number : (i : ℕ) → (i == i) ≡ true
 same_number i = grind (arith, nat_tests)
@@ -113,12 +115,6 @@ module _ {P : Type 0} (told_by : P → Told) (i worker : ℕ) (task : Task P) (p
   gone_all now old mid new lent adds = carry (IsTakeOf i) Gone gone_on mid.log new adds (gone_leased now old mid lent)
 
 -- SEATS
-pub well_stays : {P : Type 0} (o n : Option (Seat P)) → IfSome n (λ is. IsSomeAnd o (λ was. Stays was is)) → IfSome o IsWellAt → IfSome n IsWellAt
-well_stays o None stays well = tt
-well_stays None (Some is) stays well = absurd stays
-well_stays (Some was) (Some is) stays well =
-    record { settled = stays.flags.owing ∙ well.settled; counted = stays.flags.behind ∙ well.counted; fed = stays.flags.starved ∙ well.fed }
-
 well_left : {P : Type 0} (task : Task P) (o n : Option (Seat P)) → IsSomeAnd o (λ was. IsSomeAnd n (λ is. IsLeft task was is)) → IfSome o IsWellAt → IfSome n IsWellAt
 well_left task None n left well = absurd left
 well_left task (Some was) None left well = absurd left
@@ -148,14 +144,6 @@ module _ {P : Type 0} (told_by : P → Told) (i worker now : ℕ) (task : Task P
 
   pub out_two : OnlyAdds (IsTakeOf i) mid.log two.log → is_out two.log i ≡ true
   out_two adds = takes_aside i i mid.log two.log adds ∙ (ap (λ (h : Record). is_out h i) lent.steps.noted ∙ out_is old.log i worker now)
-
--- another number
-pub not_same : (i j : ℕ) → j ≢ i → (i == j) ≡ false
-not_same i j other = go (i == j) refl
-  where
-    go : (b : Bool) → (i == j) ≡ b → b ≡ false
-    go false is = refl
-    go true is = absurd (other (sym (eqb-true i j is)))
 
 module _ {P : Type 0} (told_by : P → Told) (i worker now : ℕ) (task : Task P) (positions : Option (List Position)) (old mid two new : Books P) (done : Job) (line : Filled Parcel)
     (lent : HasLent told_by i worker now task positions old mid) (gathered : HasGathered told_by i mid two done) (rooms : LendsRoom i line.room two.places new.places)

@@ -22,7 +22,7 @@ use Rattle.vx_ready.proofs.Knowing.{known}
 use Rattle.std.specs.Prelude.{is_some}
 use Rattle.vx_record.specs.Abandoning.{abandoned}
 use Rattle.vx_record.proofs.Ceasing.{unabandoned}
-use Rattle.vx_hub.proofs.Answering.{none_known, over_known}
+use Rattle.vx_landing.proofs.Answering.{none_known, over_known}
 use Rattle.vx_hub.specs.Telling.{IsNameOf, IsClassOf, HasLive}
 
 -- what holds of the component for which a seat is

@@ -1,10 +1,11 @@
 -- Parcels that an instance moved on.
-use Rattle.std.proofs.Common.{◌≡◌, ◌∙◌, ℕ, zero, suc, ◌+◌, ◌*◌, ◌<◌, ◌≤◌, ◌⊎◌, IfNone, Bool, true, false, List, [], ◌∷◌, Option, Some, None, length, inl, inr, refl, sym, ap, subst, arith}
-use Rattle.std.specs.Prelude.{◌^◌, ◌-◌, min, not, is_some, unwrap_or}
+use Rattle.std.proofs.Common.{◌≡◌, ◌∙◌, ℕ, zero, suc, ◌+◌, ◌*◌, ◌<◌, ◌≤◌, ◌⊎◌, IfSome, IfNone, Bool, true, false, List, [], ◌∷◌, Option, Some, None, length, inl, inr, refl, sym, ap, subst, arith}
+use Rattle.std.specs.Prelude.{◌^◌, ◌-◌, min, map, not, is_some, unwrap_or, IsSomeAnd}
 use Rattle.vx_ends.specs.Told.{Told}
 use Rattle.vx_ledger.specs.Ledger.{IsShort}
 use Rattle.vx_ledger.specs.declared.short.Short.{Short}
 use Rattle.vx_ledger.specs.declared.short.Short.TheVariants as short
+use Rattle.vx_plan.specs.declared.stage.Stage.{Stage}
 use Rattle.vx_status.specs.declared.outcome.Outcome.{Outcome}
 use Rattle.vx_status.specs.declared.outcome.Outcome.TheVariants.{NewestDropped, NoConsumer}
 use Rattle.vx_record.specs.declared.entry.Entry.{Entry}
@@ -20,6 +21,7 @@ use Rattle.vx_record.specs.Parcels.{parcel_event, parcel_ports, port_list}
 use Rattle.vx_record.specs.Places.Place.{Outputs, Waiting}
 use Rattle.vx_record.specs.Routing.{routes}
 use Rattle.vx_record.specs.Sending.{IsOldest}
+use Rattle.vx_record.specs.Shifts.{at}
 use Rattle.vx_record.specs.Spending.{oldest}
 use Rattle.vx_record.specs.Stages.{stages_of, last_drops}
 use Rattle.vx_record.specs.Turns.{is_out}
@@ -30,9 +32,12 @@ use Rattle.vx_record.proofs.Further.{numbers_bounded}
 use Rattle.vx_record.proofs.Shifting.{stands_at}
 use Rattle.vx_record.proofs.Steps.{length-children_of}
 use Rattle.vx_places.specs.Calls.{NoneWaits}
-use Rattle.vx_places.specs.Looks.{IsFirstRoom}
+use Rattle.vx_places.specs.declared.row.Row.{Row}
+use Rattle.vx_places.specs.Looks.{HasOutput, IsFirstRoom}
+use Rattle.vx_places.specs.Rooms.{rooms_if}
+use Rattle.vx_places.specs.Views.{stage_at}
 use Rattle.vx_places.proofs.Firsts.{first_room_is}
-use Rattle.vx_places.proofs.Recorded.{none_waits_is}
+use Rattle.vx_places.proofs.Recorded.{none_waits_is, output_is}
 use Rattle.vx_moves.specs.declared.books.Books.{Books}
 use Rattle.vx_moves.specs.Leaving.{Leaves}
 use Rattle.vx_moves.specs.Spends.{IsNotedAs, IsSpendOf, MaySpendFrom, HasSpent}
@@ -42,8 +47,10 @@ use Rattle.vx_moves.proofs.Leaving.{rooms_both, each_stays, each_both}
 use Rattle.vx_moves.specs.declared.run.Run.{Run}
 use Rattle.vx_hub.specs.Failures.{HasReason, fatal_of}
 use Rattle.vx_hub.specs.Ending.{Rests}
-use Rattle.vx_hub.proofs.Seating.{each_flags}
-use Rattle.vx_hub.specs.Pushing.{IsMoveOf, HasMoved, pushes, HaveEntered}
+use Rattle.vx_landing.proofs.Seating.{each_flags}
+use Rattle.vx_hub.specs.Pushing.{IsMoveOf, HasMoved, pushes, HaveEntered, Grew, CanMove}
+use Rattle.vx_landing.proofs.Answering.{over_known}
+use Rattle.vx_hub.proofs.Begun.{row_past}
 
 -- WHAT A MOVE KEEPS
 stays_home : (i j : ℕ) (h : Record) (e : Entry) → IsMoveOf i h e → is_out (e ∷ h) j ≡ is_out h j
@@ -289,6 +296,10 @@ none_is (Some x) false is so = absurd cc
 pub goes_on : {P : Type 0} (told_by : P → Told) (books : Books P) → Stands told_by books → (none : Bool) → is_some books.run.abandoned ≡ not none → none ≡ true → abandoned books.log ≡ false
 goes_on told_by books stands none is so = unabandoned books.log (sym stands.run.cause ∙ none_is books.run.abandoned none is so)
 
+pub goes_on_not : {P : Type 0} (told_by : P → Told) (books : Books P) → Stands told_by books → (none : Bool) → is_some books.run.abandoned ≡ not none → none ≡ false → abandoned books.log ≡ false → ⊥
+goes_on_not told_by books stands true is so going = cc
+goes_on_not told_by books stands false is so going = let contrary : false ≡ true = sym going ∙ over_known told_by books stands is in cc
+
 pub moved_if_spent : {P : Type 0} (told_by : P → Told) (i : ℕ) (old new : Books P) (spent : Bool) → Stands told_by old → (spent ≡ true → HasSpent told_by (Outputs i) NoConsumer old new) → (spent ≡ false → new ≡ old) → HasMoved told_by i old new
 moved_if_spent told_by i old new true stands some none = moved_unread told_by i old new (some refl)
 moved_if_spent told_by i old new false stands some none = subst (λ (b : Books _). HasMoved told_by i old b) (sym (none refl)) (moved_nowhere told_by i old stands)
@@ -320,3 +331,78 @@ entered_here step n old new is have = subst (λ (o : Option ℕ). HaveEntered (u
 
 pub few_here : (step : Option ℕ) (n : ℕ) → step ≡ Some n → unwrap_or step 0 ≤ 1 → n ≤ 1
 few_here step n is few = subst (λ (o : Option ℕ). unwrap_or o 0 ≤ 1) is few
+
+-- HOW THE RECORD GREW
+pub grew_by : (e : Entry) (h log : Record) → log ≡ e ∷ h → Grew h log
+grew_by e h log is = let longer = ap length is in omega (arith, longer)
+
+pub noted_grew : (e : Entry) (h log : Record) → IsNotedAs e h log → Grew h log
+noted_grew e h log (inl is) = grew_by e h log is
+noted_grew e h log (inr more) = let longer = ap length more.1.1 in omega (arith, longer)
+
+no_shorter : (i : ℕ) (old new : Record) → OnlyAdds (IsMoveOf i) old new → length old ≤ length new
+no_shorter i old new only = carry (IsMoveOf i) (λ k. length old ≤ length k) (λ h e follows kind was. omega (arith, was)) old new only (omega arith)
+
+-- before moves, or after them
+pub grew_before : (i : ℕ) (old mid new : Record) → Grew old mid → OnlyAdds (IsMoveOf i) mid new → Grew old new
+grew_before i old mid new grew only = let more = no_shorter i mid new only in omega (arith, grew, more)
+
+pub grew_after : (i : ℕ) (old mid new : Record) → OnlyAdds (IsMoveOf i) old mid → Grew mid new → Grew old new
+grew_after i old mid new only grew = let more = no_shorter i old mid only in omega (arith, grew, more)
+
+-- what one step says of its answer
+pub some_here : {Q : Type 0} (step : Option ℕ) (n : ℕ) → step ≡ Some n → IfSome step (λ _. Q) → Q
+some_here None n is said = absurd cc
+some_here (Some m) n is said = said
+
+pub none_here : {Q : Type 0} (step : Option ℕ) → step ≡ None → IfNone step Q → Q
+none_here None is said = said
+none_here (Some m) is said = absurd cc
+
+-- no step was made yet, or the record grew
+abbrev pub HasBegun : {P : Type 0} → ℕ → Books P → Books P → Type 0
+HasBegun n old new = ((n ≡ 0) × (new ≡ old)) ⊎ Grew old.log new.log
+
+-- it has behind a step,
+pub has_grown : {P : Type 0} (n : ℕ) (old new : Books P) → HasBegun n old new → 0 < n → Grew old.log new.log
+has_grown n old new (inl begun) some = let none = begun.0 in absurd (omega (arith, none, some))
+has_grown n old new (inr grew) some = grew
+
+-- and where no step is left to make, if there was one
+pub grew_by_now : {P : Type 0} (i n : ℕ) (old mid new : Books P) → HasBegun n old mid → (CanMove mid i → ⊥) → OnlyAdds (IsMoveOf i) mid.log new.log → CanMove old i → Grew old.log new.log
+grew_by_now i n old mid new (inl begun) none only can = absurd (none (subst (λ (b : Books _). CanMove b i) (sym begun.1) can))
+grew_by_now i n old mid new (inr grew) none only can = grew_before i old.log mid.log new.log grew only
+
+module _ {P : Type 0} (told_by : P → Told) where
+  -- where an instance has an output, that is the record's
+  some_put : (books : Books P) (i : ℕ) → Stands told_by books → HasOutput books.places i → at books.log (Outputs i) ≡ [] → ⊥
+  some_put books i stands has none =
+      let some = (output_is books.log books.places i stands.legal stands.places).0 has in
+      let gone = ap length (stands_at books.log (Outputs i) stands.legal ∙ none) in
+      omega (arith, some, gone)
+
+  pub unread_grew : (i : ℕ) (old mid new : Books P) (spent : Bool) → Stands told_by old → HasOutput old.places i → mid.log ≡ old.log → (spent ≡ true → HasSpent told_by (Outputs i) NoConsumer mid new) →
+      (spent ≡ false → at mid.log (Outputs i) ≡ []) → Grew old.log new.log
+  unread_grew i old mid new true stands has still some none = subst (λ (h : Record). Grew h new.log) still (noted_grew _ mid.log new.log (some refl).noted)
+  unread_grew i old mid new false stands has still some none = absurd (some_put old i stands has (subst (λ (h : Record). at h (Outputs i) ≡ []) still (none refl)))
+
+  -- WHERE NOTHING CAN COME
+  -- past the last instance there is no stage
+  past_full : (books : Books P) (t : ℕ) → length books.places ≤ t → IsFirstRoom books.places t None
+  past_full books t past s room = absurd (subst (λ (o : Option Row). IsSomeAnd o (λ row. IsSomeAnd (stage_at row.stages.items s) (λ stage. length stage.items < stage.room))) (row_past books.places t past) room)
+
+  past_drops : (books : Books P) (t : ℕ) → Stands told_by books → length books.places ≤ t → last_drops (stages_of books.log t) ≡ false
+  past_drops books t stands past = go (stages_of books.log t) (ap rooms_if (sym (row_past books.places t past)) ∙ stands.rooms.stages t)
+    where
+      go : (stages : List Stage) → [] ≡ map (λ (stage : Stage). stage.max_events) stages → last_drops stages ≡ false
+      go [] none = refl
+      go (stage ∷ rest) none = absurd cc
+
+  -- all stages are full, and the last drops nothing
+  none_comes : (books : Books P) (t : ℕ) (stage : Option ℕ) → IsFirstRoom books.places t None → last_drops (stages_of books.log t) ≡ false → IsFirstRoom books.places t stage →
+      IfNone stage (last_drops (stages_of books.log t) ≡ true) → ⊥
+  none_comes books t None full drops first may = let no : false ≡ true = sym drops ∙ may in absurd cc
+  none_comes books t (Some s) full drops first may = full s first.0
+
+  pub none_past : (books : Books P) (t : ℕ) (stage : Option ℕ) → Stands told_by books → length books.places ≤ t → IsFirstRoom books.places t stage → IfNone stage (last_drops (stages_of books.log t) ≡ true) → ⊥
+  none_past books t stage stands past first may = none_comes books t stage (past_full books t past) (past_drops books t stands past) first may

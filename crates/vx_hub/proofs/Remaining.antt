@@ -28,7 +28,7 @@ use Rattle.vx_places.specs.Numbers.{numbers}
 use Rattle.vx_places.specs.Views.{here_if, parcels_here}
 use Rattle.vx_places.proofs.Recorded.{bare_is_bare}
 use Rattle.vx_tasks.specs.declared.task.Task.{Task}
-use Rattle.vx_tasks.specs.Telling.{IsTold}
+use Rattle.vx_tasks.specs.Telling.{IsTold, IsToldButGiven}
 use Rattle.vx_seats.specs.declared.seat.Seat.{Seat}
 use Rattle.vx_seats.specs.Knowing.{IsAtHomeBut, HasHome}
 use Rattle.vx_seats.specs.Staying.{OneSeat, IsLeft}
@@ -43,7 +43,7 @@ use Rattle.vx_ready.proofs.Testing.{empty_tests}
 use Rattle.vx_hub.specs.declared.parts.Numbered.{Numbered}
 use Rattle.vx_hub.specs.Ending.{IsOver}
 use Rattle.vx_hub.specs.Making.{ArePorted}
-use Rattle.vx_hub.specs.Remains.{AllSpent, HasEnds, AreNumbered, AreHome, IsPortOf, ArePortsOf, AreClosed, AreTold, HasEnded}
+use Rattle.vx_hub.specs.Remains.{AllSpent, HasEnds, AreNumbered, AreHome, IsPortOf, ArePortsOf, AreClosed, AreTold, HasEnded, AreToldButGiven}
 use Rattle.vx_hub.specs.Standing.{IsFed, IsFedAt}
 use Rattle.vx_hub.specs.Telling.{HasLive}
 use Rattle.vx_hub.proofs.Begun.{past_end, row_past}
@@ -135,6 +135,29 @@ each_told {P} told_by h first (n ∷ ns) numbered all =
       each_told told_by h (first + 1) ns numbered.1 (λ i. let further : first + suc i ≡ (first + 1) + i = omega arith in
           subst (λ (k : ℕ). IfSome (slice_get ns i) (λ m. IsTold (told_by m.port) h k)) further (all (suc i))),
     )
+
+each_but : {P : Type 0} (told_by : P → Told) (h : Record) (first : ℕ) (ns : List (Numbered P)) → AreNumbered first ns → ((i : ℕ) → IfSome (slice_get ns i) (λ n. IsToldButGiven (told_by n.port) h (first + i))) → AreToldButGiven told_by h ns
+each_but told_by h first [] numbered all = tt
+each_but {P} told_by h first (n ∷ ns) numbered all =
+    let none : first + 0 ≡ n.instance = let is = numbered.0 in omega (arith, is) in (
+      subst (λ (k : ℕ). IsToldButGiven (told_by n.port) h k) none (all zero),
+      each_but told_by h (first + 1) ns numbered.1 (λ i. let further : first + suc i ≡ (first + 1) + i = omega arith in
+          subst (λ (k : ℕ). IfSome (slice_get ns i) (λ m. IsToldButGiven (told_by m.port) h k)) further (all (suc i))),
+    )
+
+-- what is told is so but for what was given, too
+but_given : (t : Told) (h : Record) (i : ℕ) → IsTold t h i → IsToldButGiven t h i
+but_given t h i told = record {
+  taken = told.taken;
+  given = tt;
+  spec = told.spec;
+  confirmed = told.confirmed;
+  ended = told.ended;
+  over = told.over;
+  faults = told.faults;
+  refusals = told.refusals;
+  idles = told.idles;
+}
 
 -- WHAT STANDS FOR A RECORD THAT IS OVER
 module _ {P : Type 0} (told_by : P → Told) (books : Books P) (stands : Stands told_by books) (served : IsServed books) (over : IsOver books.log) where
@@ -260,3 +283,14 @@ module _ {P : Type 0} (told_by : P → Told) (books : Books P) (stands : Stands 
       told i seat task there l home =
           let known_fed : seat.facts.starved ≡ false = (subst (λ (o : Option (Seat P)). IfSome o IsFedAt) there (fed sound i)).fed in
           (subst (λ (b : Bool). IsAtHomeBut told_by b books.log i task) known_fed home.task_is).told
+
+  pub ports_told_but : (ns : List (Numbered P)) → AreNumbered 0 ns → ArePortsOf books.seats ns → AreToldButGiven told_by books.log ns
+  ports_told_but ns numbered ports = each_but told_by books.log 0 ns numbered
+      (λ i. subst (λ (k : ℕ). IfSome (slice_get ns i) (λ n. IsToldButGiven (told_by n.port) books.log k)) (omega arith) (port_says (λ k port. IsToldButGiven (told_by port) books.log k) told ns ports i))
+    where
+      by : (b : Bool) (i : ℕ) (task : Task P) → IsAtHomeBut told_by b books.log i task → IsToldButGiven (told_by task.port) books.log i
+      by true i task is = is.0
+      by false i task is = but_given (told_by task.port) books.log i is.told
+
+      told : (i : ℕ) (seat : Seat P) (task : Task P) → slice_get books.seats i ≡ Some seat → i < length books.seats → HasHome told_by seat.facts books.log i task → IsToldButGiven (told_by task.port) books.log i
+      told i seat task there l home = by seat.facts.starved i task home.task_is

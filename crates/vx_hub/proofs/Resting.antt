@@ -21,8 +21,8 @@ use Rattle.vx_record.specs.declared.entry.Entry.TheVariants.{Retired}
 use Rattle.vx_ready.specs.Asking.{all_ported}
 use Rattle.vx_hub.specs.declared.hub.Hub.{Hub}
 use Rattle.vx_hub.specs.Ending.{Rests}
-use Rattle.vx_hub.proofs.LandedHubs.{well_flags, fed_flags}
-use Rattle.vx_hub.proofs.Seating.{each_flags}
+use Rattle.vx_landing.proofs.LandedBooks.{well_flags, fed_flags}
+use Rattle.vx_landing.proofs.Seating.{each_flags}
 use Rattle.vx_hub.specs.Standing.{IsHub}
 
 -- WHAT IS LENT

@@ -9,10 +9,11 @@ use Rattle.vx_record.specs.Records.{Record}
 use Rattle.vx_record.specs.Additions.{OnlyAdds}
 use Rattle.vx_record.specs.Ending.{MayRetire}
 use Rattle.vx_record.specs.Installs.{started, is_closed, is_retired}
-use Rattle.vx_record.specs.Places.{Place, owner}
+use Rattle.vx_record.specs.Places.{Place}
 use Rattle.vx_record.specs.Shifts.{at}
 use Rattle.vx_record.specs.Turns.{is_out}
 use Rattle.vx_places.specs.Rooms.{SameRooms}
+pub use Rattle.vx_landing.specs.Landings.{IsGivenUp}
 use Rattle.vx_seats.specs.declared.seat.Seat.{Seat}
 use Rattle.vx_seats.specs.Staying.{EachSeat, SameFlags}
 use Rattle.vx_moves.specs.declared.books.Books.{Books}
@@ -46,11 +47,6 @@ GivesUp cause h (Notice b status) = Unit {0}
 GivesUp cause h (Closed j) = Unit {0}
 GivesUp cause h (Abandon other) = other ≡ cause
 GivesUp cause h other = ⊥
-
--- nothing stands at an instance, and its port is closed for good
-pub record IsGivenUp (h : Record) (i : ℕ) : Type 0 where
-  pub bare : (p : Place) → owner p ≡ i → at h p ≡ []
-  pub closed : is_closed h i ≡ true
 
 -- each that is at home is given up
 abbrev pub AreGivenUp : Record → Type 0

@@ -1,12 +1,11 @@
 -- Why the hub can't go on.
-use Rattle.std.specs.Prelude.{◌≡◌, ◌<◌, ◌+◌, ◌^◌}
 use Rattle.vx_ledger.specs.declared.short.Short.{Short}
 use Rattle.vx_ledger.specs.declared.short.Short.TheVariants as short
 use Rattle.vx_record.specs.Records.{Record}
 use Rattle.vx_record.specs.declared.abandon_cause.AbandonCause.{AbandonCause}
 use Rattle.vx_record.specs.declared.abandon_cause.AbandonCause.TheVariants as cause
-use Rattle.vx_record.specs.Copies.{next_copy}
-use Rattle.vx_record.specs.Ending.{BirthWants, HasReason as IsReason}
+use Rattle.vx_record.specs.Ending.{HasReason as IsReason}
+pub use Rattle.vx_landing.specs.Failures.{LacksBirth}
 use Rattle.vx_hub.specs.declared.fatal.Fatal.{Fatal}
 use Rattle.vx_hub.specs.declared.fatal.Fatal.TheVariants as fatal
 
@@ -23,8 +22,3 @@ abandon_cause fatal.WantOfMemory = cause.WantOfMemory
 -- the run may be given up for that
 abbrev pub HasReason : Record → Fatal → Type 0
 HasReason h why = IsReason h (abandon_cause why)
-
--- memory is wanting, or the numbers for a birth that an instance owes
-abbrev pub LacksBirth : Record → Short → Type 0
-LacksBirth h (short.Numbers next wanted) = (next ≡ next_copy h) × (2 ^ 63 < next + wanted) × BirthWants h wanted
-LacksBirth h short.WantOfMemory = Unit {0}

@@ -2,7 +2,6 @@ pub mod Beginning
 pub mod Collecting
 pub mod Ending
 pub mod Failures
-pub mod Landings
 pub mod Leases
 pub mod Making
 pub mod Pushing

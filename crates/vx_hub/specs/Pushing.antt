@@ -1,5 +1,5 @@
 -- What moving an instance's parcels on does.
-use Rattle.std.specs.Prelude.{◌≡◌, ◌⊎◌, ◌+◌, ℕ, true, Option, IfNone, [], ◌∷◌, length}
+use Rattle.std.specs.Prelude.{◌≡◌, ◌⊎◌, ◌+◌, ◌<◌, ℕ, true, false, Option, IfNone, [], ◌∷◌, length}
 use Rattle.vx_ends.specs.Told.{Told}
 use Rattle.vx_status.specs.declared.outcome.Outcome.TheVariants.{NewestDropped, NoConsumer}
 use Rattle.vx_record.specs.declared.entry.Entry.{Entry}
@@ -7,6 +7,7 @@ use Rattle.vx_record.specs.declared.entry.Entry.TheVariants.{Split, Push, Spent,
 use Rattle.vx_record.specs.Records.{Record}
 use Rattle.vx_record.specs.Additions.{OnlyAdds}
 use Rattle.vx_record.specs.Stages.{stages_of, last_drops}
+use Rattle.vx_record.specs.Turns.{is_out}
 use Rattle.vx_places.specs.Calls.{NoneWaits, IsOldestFor}
 use Rattle.vx_places.specs.Looks.{HasOutput, IsFirstRoom}
 use Rattle.vx_moves.specs.Leaving.{Leaves}
@@ -38,6 +39,10 @@ pushes (e ∷ h) = pushes h
 abbrev pub HaveEntered : ℕ → Record → Record → Type 0
 HaveEntered n old new = pushes new ≡ pushes old + n
 
+-- an entry was made in between
+abbrev pub Grew : Record → Record → Type 0
+Grew old new = length old < length new
+
 -- a waiting child of an instance, the oldest for its target, may enter the target's first stage that has room, or is dropped where
 -- all are full
 pub record CanPass {P : Type 0} (books : Books P) (i : ℕ) : Type 0 where
@@ -51,3 +56,11 @@ pub record CanPass {P : Type 0} (books : Books P) (i : ℕ) : Type 0 where
 -- so it is, or no child of it waits and it has an output
 abbrev pub CanMove : {P : Type 0} → Books P → ℕ → Type 0
 CanMove books i = (NoneWaits books.places i × HasOutput books.places i) ⊎ CanPass books i
+
+-- no instance at home before a number can
+abbrev pub NoneMovesBelow : {P : Type 0} → ℕ → Books P → Type 0
+NoneMovesBelow n books = (i : ℕ) → i < n → is_out books.log i ≡ false → CanMove books i → ⊥
+
+-- none at all can
+abbrev pub NoneMoves : {P : Type 0} → Books P → Type 0
+NoneMoves books = NoneMovesBelow (length books.seats) books

@@ -12,7 +12,7 @@ use Rattle.vx_record.specs.Laws.{times_noticed}
 use Rattle.vx_record.specs.Lists.{places}
 use Rattle.vx_record.specs.Installs.{is_closed, is_retired}
 use Rattle.vx_record.specs.Legal.{IsLegal, IsClosed}
-use Rattle.vx_tasks.specs.Telling.{IsTold}
+use Rattle.vx_tasks.specs.Telling.{IsTold, IsToldButGiven}
 use Rattle.vx_seats.specs.declared.seat.Seat.{Seat}
 use Rattle.vx_hub.specs.declared.parts.Numbered.{Numbered}
 use Rattle.vx_hub.specs.Making.{ArePorted}
@@ -65,6 +65,11 @@ AreClosed told_by (n ∷ ns) = ((told_by n.port).started ≡ false) × AreClosed
 abbrev pub AreTold : {P : Type 0} → (P → Told) → Record → List (Numbered P) → Type 0
 AreTold told_by h [] = Unit {0}
 AreTold told_by h (n ∷ ns) = IsTold (told_by n.port) h n.instance × AreTold told_by h ns
+
+-- so it does but for the bytes that it was given, of which it may tell more
+abbrev pub AreToldButGiven : {P : Type 0} → (P → Told) → Record → List (Numbered P) → Type 0
+AreToldButGiven told_by h [] = Unit {0}
+AreToldButGiven told_by h (n ∷ ns) = IsToldButGiven (told_by n.port) h n.instance × AreToldButGiven told_by h ns
 
 -- a run that ended: its record is legal and leaves nothing to do, each copy was in one place and is split or spent, each batch has
 -- its notice, and each of so many instances its end

@@ -2,14 +2,12 @@
 #![tactic(auto)]
 
 mod beginning;
-mod ceasing;
 mod collecting;
 mod dropping;
 mod ending;
 mod fatal;
 mod hub;
 mod land;
-mod landing;
 mod laws;
 mod leasing;
 mod making;

@@ -2,7 +2,7 @@ ghost use Rattle.std.specs.Prelude.{◌≡◌, ◌<◌, ◌≤◌, ◌^◌, [], 
 ghost use Rattle.vx_record.specs.Installs.{started};
 ghost use Rattle.vx_moves.specs.Returns.{HaveReturned};
 ghost use Rattle.vx_hub.specs.Ending.{IsOver};
-ghost use Rattle.vx_hub.specs.Remains.{HasEnded, AreNumbered, AreClosed, AreTold, AreHome, ArePortsOf};
+ghost use Rattle.vx_hub.specs.Remains.{HasEnded, AreNumbered, AreClosed, AreTold, AreToldButGiven, AreHome, ArePortsOf};
 ghost use Rattle.vx_hub.specs.Standing.{IsHub};
 
 use crate::hub::Hub;
@@ -35,6 +35,7 @@ impl<P: Port> Hub<P> {
         ensures count { length result.ports ≡ length (started self.books.log) }
         ensures closed { AreClosed P.told result.ports }
         ensures told { self.books.run.short ≡ false → AreTold P.told self.books.log result.ports }
+        ensures told_but { AreToldButGiven P.told self.books.log result.ports }
         ensures returned { self.books.run.short ≡ false → HaveReturned self.books.log }
     {
         let Hub {

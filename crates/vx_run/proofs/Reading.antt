@@ -38,12 +38,12 @@ module _ (h : Record) (plan : Plan) (ended : HasEnded (length (started h)) h) (f
 -- a run that ended read its input, as far as it is judged
 pub read_of : (h : Record) (plan : Plan) (fault : Option Fault) → HasEnded (length (started h)) h → in_force h ≡ Some plan → IsJudged h fault → IsReadOut h fault
 read_of h plan None ended force judged = read_whole h plan ended force judged.0 judged.1.0
-read_of h plan (Some WantOfMemory) ended force judged = tt
-read_of h plan (Some Usage) ended force judged = tt
-read_of h plan (Some (ConfigRead path)) ended force judged = tt
-read_of h plan (Some (ConfigRefused f)) ended force judged = tt
-read_of h plan (Some (Numbers next wanted)) ended force judged = tt
-read_of h plan (Some PrintFailed) ended force judged = tt
+read_of h plan (Some WantOfMemory) ended force judged = λ goes. read_or_lost h plan ended force goes
+read_of h plan (Some Usage) ended force judged = λ goes. read_or_lost h plan ended force goes
+read_of h plan (Some (ConfigRead path)) ended force judged = λ goes. read_or_lost h plan ended force goes
+read_of h plan (Some (ConfigRefused f)) ended force judged = λ goes. read_or_lost h plan ended force goes
+read_of h plan (Some (Numbers next wanted)) ended force judged = λ goes. read_or_lost h plan ended force goes
+read_of h plan (Some PrintFailed) ended force judged = λ goes. read_or_lost h plan ended force goes
 read_of h plan (Some (SourceFailed name at)) ended force judged = read_or_lost h plan ended force judged.0
 read_of h plan (Some (ConfirmFailed name)) ended force judged = read_whole h plan ended force judged.0 judged.1.0
 
@@ -56,16 +56,16 @@ read_none h fault none = subst (λ (k : Record). IsReadOut k fault) (sym none) (
 
     empty : (f : Option Fault) → IsReadOut [] f
     empty None = λ i source. absurd (unsourced i source)
-    empty (Some WantOfMemory) = tt
-    empty (Some Usage) = tt
-    empty (Some (ConfigRead path)) = tt
-    empty (Some (ConfigRefused f)) = tt
-    empty (Some (Numbers next wanted)) = tt
-    empty (Some PrintFailed) = tt
+    empty (Some WantOfMemory) = λ goes i source. absurd (unsourced i source)
+    empty (Some Usage) = λ goes i source. absurd (unsourced i source)
+    empty (Some (ConfigRead path)) = λ goes i source. absurd (unsourced i source)
+    empty (Some (ConfigRefused f)) = λ goes i source. absurd (unsourced i source)
+    empty (Some (Numbers next wanted)) = λ goes i source. absurd (unsourced i source)
+    empty (Some PrintFailed) = λ goes i source. absurd (unsourced i source)
     empty (Some (SourceFailed name at)) = λ i source. absurd (unsourced i source)
     empty (Some (ConfirmFailed name)) = λ i source. absurd (unsourced i source)
 
 -- and so where want of memory takes the place of its fault
-pub read_short : (h : Record) (fault counted : Option Fault) → (counted ≡ fault) ⊎ (counted ≡ Some WantOfMemory) → IsReadOut h fault → IsReadOut h counted
-read_short h fault counted (inl same) read = subst (λ (f : Option Fault). IsReadOut h f) (sym same) read
-read_short h fault counted (inr short) read = subst (λ (f : Option Fault). IsReadOut h f) (sym short) tt
+pub read_short : (h : Record) (plan : Plan) (fault counted : Option Fault) → (counted ≡ fault) ⊎ (counted ≡ Some WantOfMemory) → HasEnded (length (started h)) h → in_force h ≡ Some plan → IsReadOut h fault → IsReadOut h counted
+read_short h plan fault counted (inl same) ended force read = subst (λ (f : Option Fault). IsReadOut h f) (sym same) read
+read_short h plan fault counted (inr short) ended force read = subst (λ (f : Option Fault). IsReadOut h f) (sym short) (λ goes. read_or_lost h plan ended force goes)

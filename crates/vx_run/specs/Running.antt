@@ -13,14 +13,15 @@ use Rattle.vx_record.specs.Ceasing.{lost_at}
 use Rattle.vx_record.specs.declared.tally.Tally.{Tally}
 use Rattle.vx_moves.specs.Returns.{HaveReturned}
 use Rattle.vx_hub.specs.declared.parts.Numbered.{Numbered}
-use Rattle.vx_hub.specs.Remains.{AreTold}
-use Rattle.vx_run.specs.Answers.{ButForMemory, IsReady, IsValid}
+use Rattle.vx_hub.specs.Remains.{AreTold, AreToldButGiven}
+use Rattle.vx_run.specs.Answers.{ButForMemory, IsReady, IsValid, WentOn}
 use Rattle.vx_cli.specs.declared.fault.Fault.{Fault}
 use Rattle.vx_cli.specs.declared.fault.Fault.TheVariants.{Usage, ConfigRead, ConfigRefused, SourceFailed, ConfirmFailed, PrintFailed, WantOfMemory}
 
--- but for want of memory, the ports tell what the record has
-abbrev pub IsTrueTo : {P : Type 0} → (P → Told) → Record → List (Numbered P) → Option Fault → Type 0
-IsTrueTo told_by h ports fault = ButForMemory (AreTold told_by h ports) fault
+-- the ports tell what the record has, but that where memory was wanting they may have been given more
+pub record IsTrueTo {P : Type 0} (told_by : P → Told) (h : Record) (ports : List (Numbered P)) (fault : Option Fault) : Type 0 where
+  pub whole : ButForMemory (AreTold told_by h ports) fault
+  pub rest : AreToldButGiven told_by h ports
 
 -- but for want of memory, each instance that came home had returned
 abbrev pub AllReturned : Record → Option Fault → Type 0
@@ -38,14 +39,14 @@ pub record IsOnlyJudged (words : List Word) (environment : List Variable) (texts
   pub valid : IsValid words environment texts plan
   pub unbegun : h ≡ []
 
--- a run that began has that plan in force, but for want of memory; or the words ask for a judgement alone
+-- a run that began has that plan in force; or the words ask for a judgement alone. For want of memory nothing may have begun
 abbrev pub HasInstalled : List Word → List Variable → Option (List Config) → Record → Option Fault → Type 0
 HasInstalled words environment texts h None = IsInstalled words environment texts h ⊎ IsOnlyJudged words environment texts h
 HasInstalled words environment texts h (Some Usage) = Unit {0}
 HasInstalled words environment texts h (Some (ConfigRead path)) = Unit {0}
 HasInstalled words environment texts h (Some (ConfigRefused fault)) = Unit {0}
 HasInstalled words environment texts h (Some PrintFailed) = IsOnlyJudged words environment texts h
-HasInstalled words environment texts h (Some WantOfMemory) = Unit {0}
+HasInstalled words environment texts h (Some WantOfMemory) = (h ≡ []) ⊎ IsInstalled words environment texts h
 HasInstalled words environment texts h other = IsInstalled words environment texts h
 
 -- each source was told the end of all
@@ -56,12 +57,12 @@ AllRead h = (i : ℕ) → source_at h i ≡ true → all_ended h i ≡ true
 abbrev pub AllReadOrLost : Record → Type 0
 AllReadOrLost h = (i : ℕ) → source_at h i ≡ true → (all_ended h i ≡ true) ⊎ IsSome (lost_at h i)
 
--- the input was read to its end, but for sources that were lost; of a run that was given up nothing is said
+-- the input was read to its end, but for sources that were lost, unless the run was given up
 abbrev pub IsReadOut : Record → Option Fault → Type 0
 IsReadOut h None = AllRead h
 IsReadOut h (Some (ConfirmFailed name)) = AllRead h
 IsReadOut h (Some (SourceFailed name at)) = AllReadOrLost h
-IsReadOut h other = Unit {0}
+IsReadOut h other = WentOn h → AllReadOrLost h
 
 -- a run that didn't begin has no record and no port
 abbrev pub IsUnbegun : {P : Type 0} → Record → List (Numbered P) → Type 0
@@ -77,9 +78,10 @@ pub record HasAllAsked {P : Type 0} (words : List Word) (environment : List Vari
   pub ready : IsReady words environment texts plan
   pub each : HasAll ports plan
 
--- but for want of memory a plan is in force
+-- a plan is in force, or for want of memory nothing began
 abbrev pub IsInForce : Plan → Record → Option Fault → Type 0
-IsInForce plan h fault = ButForMemory (in_force h ≡ Some plan) fault
+IsInForce plan h (Some WantOfMemory) = (h ≡ []) ⊎ (in_force h ≡ Some plan)
+IsInForce plan h fault = in_force h ≡ Some plan
 
 -- no port of a plan is missing, but where for want of memory nothing began
 abbrev pub HasEach : {P : Type 0} → Plan → Record → List (Numbered P) → Option Fault → Type 0

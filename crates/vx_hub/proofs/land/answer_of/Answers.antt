@@ -2,7 +2,7 @@ use Rattle.std.proofs.Common.{◌≡◌, ◌∙◌, true, false, sym}
 use Rattle.std.specs.Prelude.{is_some}
 use Rattle.vx_record.specs.Abandoning.{abandoned}
 use Rattle.vx_record.proofs.Ceasing.{unabandoned}
-use Rattle.vx_hub.proofs.Answering.{none_known, over_known}
+use Rattle.vx_landing.proofs.Answering.{none_known, over_known}
 use Rattle.vx_hub.proofs.land.answer_of.Goals as goal
 
 pub returns-clause-over : goal.returns-clause-over

@@ -1,6 +1,6 @@
 use Rattle.std.proofs.Common.{◌∙◌, ap, refl}
 use Rattle.std.specs.Prelude.{Ok}
-use Rattle.vx_hub.proofs.Moving.{may_spend_unread, moved_none, moved_by, moved_both, split_reason, moved_if_spent, unread_enters}
+use Rattle.vx_hub.proofs.Moving.{may_spend_unread, moved_none, moved_by, moved_both, split_reason, moved_if_spent, unread_enters, unread_grew}
 use Rattle.vx_hub.proofs.pushing.part.Goals as goal
 
 pub spend_unread-requires-clause-may : goal.spend_unread-requires-clause-may
@@ -30,3 +30,8 @@ pub returns-in-Ok-false-clause-entered : goal.returns-in-Ok-false-clause-entered
 returns-in-Ok-false-clause-entered g c =
     let still = c.split.ensures.unchanged (λ so. cc) in
     unread_enters g.P.Port.told c.args.i c.args.books.now.log c.split.new.self c.spend_unread.new.self c.spend_unread.result still c.spend_unread.ensures.spent c.spend_unread.ensures.unchanged
+
+pub returns-in-Ok-false-clause-grew : goal.returns-in-Ok-false-clause-grew
+returns-in-Ok-false-clause-grew g c =
+    let still = c.split.ensures.unchanged (λ so. cc) in
+    unread_grew g.P.Port.told c.args.i c.args.books.now c.split.new.self c.spend_unread.new.self c.spend_unread.result c.requires.stands c.requires.some still c.spend_unread.ensures.spent c.spend_unread.ensures.none

@@ -2,6 +2,7 @@ use Rattle.std.proofs.Common.{◌≡◌, ◌≤◌, false}
 use Rattle.vx_record.specs.Abandoning.{abandoned}
 use Rattle.vx_record.specs.Turns.{is_out}
 use Rattle.vx_hub.specs.Pushing.{HasMoved, HaveEntered}
+use Rattle.vx_hub.proofs.Moving.{HasBegun}
 use Rattle.vx_hub.proofs.pushing.push_steps.Given as goal
 
 abbrev pub invariant-loop : goal.invariant-loop
@@ -11,4 +12,5 @@ invariant-loop g l = record {
   home : is_out l.books.log l.i ≡ false;
   entered : HaveEntered l.pushed l.fn.books.log l.books.log;
   few : l.pushed ≤ l.counter;
+  begun : HasBegun l.counter l.fn.books l.books;
 }

@@ -2,7 +2,7 @@ use Rattle.std.proofs.Common.{Option, Some, IsSome, refl, sym, subst}
 use Rattle.vx_plan.specs.declared.plan.Plan.{Plan}
 use Rattle.vx_record.specs.Records.{Record}
 use Rattle.vx_moves.specs.Returns.{HaveReturned}
-use Rattle.vx_hub.specs.Remains.{AreTold}
+use Rattle.vx_hub.specs.Remains.{AreTold, AreToldButGiven}
 use Rattle.vx_hub.specs.Standing.{IsSameRun}
 use Rattle.vx_run.specs.Answers.{IsJudged}
 use Rattle.vx_run.specs.Running.{IsReadOut}
@@ -15,8 +15,11 @@ returns-clause-judged g c = judged_short c.end-ports.result.history c.judge-faul
     (subst (λ (h : Record). IsJudged h c.judge-fault.result) (sym c.end-ports.ensures.history) c.judge-fault.ensures.judged)
 
 pub returns-clause-told : goal.returns-clause-told
-returns-clause-told g c = but_short _ _ c.judge-fault.result c.count-tallies.result.fault c.count-tallies.ensures.kept
-    (λ fed. subst (λ (h : Record). AreTold g.P.Port.told h c.end-ports.result.ports) (sym c.end-ports.ensures.history) (c.end-ports.ensures.told fed)) c.judge-fault.ensures.sure
+returns-clause-told g c = record {
+  whole = but_short _ _ c.judge-fault.result c.count-tallies.result.fault c.count-tallies.ensures.kept
+      (λ fed. subst (λ (h : Record). AreTold g.P.Port.told h c.end-ports.result.ports) (sym c.end-ports.ensures.history) (c.end-ports.ensures.told fed)) c.judge-fault.ensures.sure;
+  rest = subst (λ (h : Record). AreToldButGiven g.P.Port.told h c.end-ports.result.ports) (sym c.end-ports.ensures.history) c.end-ports.ensures.told_but;
+}
 
 pub returns-clause-returned : goal.returns-clause-returned
 returns-clause-returned g c = but_short _ _ c.judge-fault.result c.count-tallies.result.fault c.count-tallies.ensures.kept
@@ -32,5 +35,5 @@ pub returns-clause-read : goal.returns-clause-read
 returns-clause-read g c =
     let books = c.drive.new.hub.books in
     subst (λ (h : Record). IsReadOut h c.count-tallies.result.fault) (sym c.end-ports.ensures.history)
-    (read_short books.log c.judge-fault.result c.count-tallies.result.fault c.count-tallies.ensures.kept
+    (read_short books.log books.run.plan c.judge-fault.result c.count-tallies.result.fault c.count-tallies.ensures.kept c.end-ports.ensures.ended c.drive.ensures.hub.stands.run.installed
     (read_of books.log books.run.plan c.judge-fault.result c.end-ports.ensures.ended c.drive.ensures.hub.stands.run.installed c.judge-fault.ensures.judged))

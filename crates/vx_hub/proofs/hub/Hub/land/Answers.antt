@@ -1,7 +1,8 @@
 use Rattle.std.proofs.Common.{◌≡◌, true, false}
 use Rattle.vx_record.specs.Abandoning.{abandoned}
 use Rattle.vx_record.specs.Makers.{IsFor}
-use Rattle.vx_hub.proofs.LandedHubs.{goes_on_home, hub_home, on_ok, over_stays, still_going}
+use Rattle.vx_landing.proofs.LandedBooks.{goes_on_home, on_ok, over_stays, still_going}
+use Rattle.vx_hub.proofs.Landing.{hub_home}
 use Rattle.vx_hub.proofs.hub.Hub.land.Goals as goal
 
 pub returns-in-Ok-clause-hub : goal.returns-in-Ok-clause-hub
