@@ -93,12 +93,6 @@ module _ {X : Type 0} (xs rest ys : List X) (x : X) (m : ℕ) (parts : xs ≡ re
   same_last n is =
       ap (λ k. slice_get ys k) is ∙ sym (same (length rest) (omega (arith, one_less))) ∙ ap (λ (zs : List X). slice_get zs (length rest)) parts ∙ at_last rest x
 
--- an item there is one, and past the end there is none
-pub item_there : {X : Type 0} (xs : List X) (i : ℕ) → i < length xs → slice_get xs i ≡ None → ⊥
-item_there [] i l none = absurd (omega (arith, l))
-item_there (x ∷ xs) zero l none = cc
-item_there (x ∷ xs) (suc i) l none = item_there xs i (omega (arith, l)) none
-
 pub past_end : {X : Type 0} (xs : List X) (i : ℕ) (x : X) → slice_get xs i ≡ Some x → i < length xs
 past_end [] i x at = cc
 past_end (y ∷ xs) zero x at = omega arith
@@ -228,9 +222,6 @@ seated_more {P} before roles ports seats n was role named within there role_is n
         subst (λ (o : Option (Seat P)). IfSome o (IsSeated before roles ports j)) (sym (other_seat seats n j new other)) (rest j (grind (arith, nat_tests)))
 
 -- PLACES
--- behind one more instance, nothing stands anywhere
-pub vacant_more : (old new : List Row) → AreVacant old → Same old new → AreVacant new
-vacant_more old new vacant same p = same p ∙ vacant p
 
 pub row_past : (rows : List Row) (i : ℕ) → length rows ≤ i → row_at rows i ≡ None
 row_past [] i l = refl

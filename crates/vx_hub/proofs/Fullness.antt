@@ -21,18 +21,8 @@ last_at (x ∷ []) (suc k) stage size is = absurd (omega (arith, size))
 last_at (x ∷ y ∷ rest) zero stage size is = absurd (omega (arith, size))
 last_at (x ∷ y ∷ rest) (suc k) stage size is = last_at (y ∷ rest) k stage (omega (arith, size)) is
 
-no_stage : (list : List Stage) → length list ≡ 0 → false ≡ last_drops list
-no_stage [] none = refl
-no_stage (x ∷ rest) none = absurd (omega (arith, none))
-
-pub none_last : (list : List Stage) (n : ℕ) → n ≡ length list → n ≡ 0 → false ≡ last_drops list
-none_last list n size none = no_stage list (sym size ∙ none)
-
 pub last_drops_is : (list : List Stage) (n k : ℕ) (stage : Stage) → n ≡ length list → (n ≡ 0 → ⊥) → k + 1 ≡ n → slice_get list k ≡ Some stage → drops_newest stage.when_full ≡ last_drops list
 last_drops_is list n k stage size some next is = last_at list k stage (next ∙ size) is
-
-pub sink_drops : (settings : Settings) (o : Option SinkSettings) → sink_options settings ≡ o → last_drops (sink_stages settings) ≡ last_drops (elim o [ None ↦ [] | Some sink ↦ sink.buffer ])
-sink_drops settings o is = ap (λ (x : Option SinkSettings). last_drops (elim x [ None ↦ [] | Some sink ↦ sink.buffer ])) is
 
 pub planned_drops : {P : Type 0} (told_by : P → Told) (books : Books P) (i : ℕ) (o : Option Component) → Stands told_by books → slice_get books.run.plan.components i ≡ o → last_drops (stages_of books.log i) ≡ last_drops (elim o [ None ↦ [] | Some c ↦ stages c ])
 planned_drops told_by books i o stands is =

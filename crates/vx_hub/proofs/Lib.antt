@@ -4,7 +4,6 @@ mod Over
 mod Resting
 mod Retiring
 pub mod Begun
-pub mod Closed
 pub mod Deciding
 pub mod Fullness
 pub mod Gathering

@@ -81,10 +81,6 @@ few (e ∷ h) i legal = record {
   fewer = λ y is some. cc;
 }
 
--- each birth is of a read that gave events
-pub births_few : (h : Record) (i : ℕ) → IsLegal h → length (births h i) ≤ fruitful h i
-births_few h i legal = (few h i legal).most
-
 -- what reads events owes their birth
 pub owes_born : (h : Record) (i stream : ℕ) (took : Taken) (y : Yield) → IsLegal (Read i stream took ∷ h) → yield (Read i stream took ∷ h) i ≡ Some y → 0 < length y.events → owes_birth (Read i stream took ∷ h) i ≡ true
 owes_born h i stream took y legal is some = less (length (births (Read i stream took ∷ h) i)) (fruitful (Read i stream took ∷ h) i) ((few (Read i stream took ∷ h) i legal).fewer y is some)
@@ -136,6 +132,3 @@ lacks_on h (Split i ports copies event children) short none lacks = absurd none
 lacks_on h e (Numbers next wanted) none lacks =
     (let same = lacks.0 in omega (arith, same), lacks.1, (lacks.2.0, owes_on h e lacks.2.0 refl refl lacks.2.1, lacks.2.2))
 lacks_on h e WantOfMemory none lacks = tt
-
-pub lacks_over : (Kind : Record → Entry → Type 0) (old new : Record) (short : Short) → ((h : Record) (e : Entry) → Kind h e → MakesNone e) → OnlyAdds Kind old new → LacksBirth old short → LacksBirth new short
-lacks_over Kind old new short within adds lacks = carry Kind (λ (k : Record). LacksBirth k short) (λ k e follows kind was. lacks_on k e short (within k e kind) was) old new adds lacks

@@ -20,24 +20,6 @@ out_on h (Lease j worker now polls) i stays = ap (λ (b : Bool). if b then true 
 out_on h (Home j) i stays = ap (λ (b : Bool). if b then false else is_out h i) stays
 out_on h e i stays = refl
 
-pub lease_on : (h : Record) (e : Entry) (i : ℕ) → StaysOut i e → at_lease (e ∷ h) i ≡ at_lease h i
-lease_on h (Lease j worker now polls) i stays = ap (λ (b : Bool). if b then h else at_lease h i) stays
-lease_on h e i stays = refl
-
-pub since_on : (h : Record) (e : Entry) (i : ℕ) → StaysOut i e → since_lease (e ∷ h) i ≡ e ∷ since_lease h i
-since_on h (Lease j worker now polls) i stays = ap (λ (b : Bool). if b then [] else Lease j worker now polls ∷ since_lease h i) stays
-since_on h e i stays = refl
-
 -- so do several
 pub out_over : (Kind : Record → Entry → Type 0) (old new : Record) (i : ℕ) → ((h : Record) (e : Entry) → Kind h e → StaysOut i e) → OnlyAdds Kind old new → is_out new i ≡ is_out old i
 out_over Kind old new i within adds = carry Kind (λ (k : Record). is_out k i ≡ is_out old i) (λ k e follows kind was. out_on k e i (within k e kind) ∙ was) old new adds refl
-
-pub lease_over : (Kind : Record → Entry → Type 0) (old new : Record) (i : ℕ) → ((h : Record) (e : Entry) → Kind h e → StaysOut i e) → OnlyAdds Kind old new → at_lease new i ≡ at_lease old i
-lease_over Kind old new i within adds = carry Kind (λ (k : Record). at_lease k i ≡ at_lease old i) (λ k e follows kind was. lease_on k e i (within k e kind) ∙ was) old new adds refl
-
--- where none of them passes a test, as many behind the lease do
-pub since_over : (Kind : Record → Entry → Type 0) (test : Entry → Bool) (old new : Record) (i : ℕ) → ((h : Record) (e : Entry) → Kind h e → StaysOut i e) → ((h : Record) (e : Entry) → Kind h e → test e ≡ false) →
-    OnlyAdds Kind old new → list_any test (since_lease new i) ≡ list_any test (since_lease old i)
-since_over Kind test old new i within fails adds =
-    carry Kind (λ (k : Record). list_any test (since_lease k i) ≡ list_any test (since_lease old i))
-    (λ k e follows kind was. ap (list_any test) (since_on k e i (within k e kind)) ∙ (ap (λ (b : Bool). b || list_any test (since_lease k i)) (fails k e kind) ∙ was)) old new adds refl

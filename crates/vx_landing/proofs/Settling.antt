@@ -91,9 +91,6 @@ pub yielded : (h : Record) (i stream : ℕ) (took : Taken) (y : Yield) → yield
 yielded h i stream took y is =
     let some : Some (yield_of h i stream took) ≡ Some y = ap (λ (b : Bool). if b then Some (yield_of h i stream took) else None) (sym (eq-eqb i i refl)) ∙ is in cc
 
-pub owes_unyielding : (h : Record) (i stream : ℕ) (took : Taken) (y : Yield) → yield (Read i stream took ∷ h) i ≡ Some y → y.events ≡ [] → owes h i ≡ false → owes (Read i stream took ∷ h) i ≡ false
-owes_unyielding h i stream took y is barren none = owes_barren h i stream took (ap (λ (z : Yield). z.events) (yielded h i stream took y is) ∙ barren) none
-
 -- behind a read and the birth of its batch nothing is owed
 pub owes_borne : (h : Record) (i stream : ℕ) (took : Taken) (b place : ℕ) (copies : List ℕ) (events : List Event) (waits : Bool) (of end : ℕ) → owes h i ≡ false →
     owes (Born i b place copies events waits of end ∷ Read i stream took ∷ h) i ≡ false
@@ -197,19 +194,7 @@ owes_attempted h new i copies bytes reply outcome none adds legal bare =
     (else_on h (Attempt i copies bytes reply) i refl refl refl refl (else_none h i none)))
     (each_unspent new (decided new i) (λ c some. bare_spent new i c legal bare (decided_tried new i c some)))
 
--- entries that make an instance owe no more
-pub owes_over : (Kind : Record → Entry → Type 0) (old new : Record) (i : ℕ) → ((h : Record) (e : Entry) → Kind h e → OwesNoMore e) → OnlyAdds Kind old new → owes old i ≡ false → owes new i ≡ false
-owes_over Kind old new i within adds none = carry Kind (λ (k : Record). owes k i ≡ false) (λ k e follows kind was. owes_still k e i (within k e kind) was) old new adds none
-
 -- WHAT IS SPENT
 -- what owes nothing has spent what it attempted
 pub settled_by : (h : Record) (i : ℕ) → owes h i ≡ false → AreSettled h i
 settled_by h i none going c tried = owed_spent h h i c (spends_settled h i none) tried
-
--- so has what holds nothing
-pub settled_bare : (h : Record) (i : ℕ) → IsLegal h → at h (Held i) ≡ [] → AreSettled h i
-settled_bare h i legal none going c tried = bare_spent h i c legal none tried
-
--- and nothing is asked where the run was given up
-pub settled_over : (h : Record) (i : ℕ) → abandoned h ≡ true → AreSettled h i
-settled_over h i over going c tried = let no : true ≡ false = sym over ∙ going in cc

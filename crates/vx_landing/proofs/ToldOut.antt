@@ -141,18 +141,3 @@ told_none h i legal out device undue none =
 -- a confirm tells it
 pub told_some : (h : Record) (i : ℕ) (positions : List Position) (made : Bool) → Follows h (Confirm i positions made) → last_confirm (Confirm i positions made ∷ h) i ≡ due (at_lease h i) i
 told_some h i positions made follows = ap (λ (b : Bool). if b then positions else last_confirm h i) (eq-eqb i i refl) ∙ follows.row.all_due
-
--- an entry that is neither a lease nor a confirm of the instance
-abbrev pub TellsNoMore : ℕ → Entry → Type 0
-TellsNoMore i (Lease j worker now polls) = (j == i) ≡ false
-TellsNoMore i (Confirm j positions made) = (j == i) ≡ false
-TellsNoMore i other = Unit {0}
-
--- leaves it told
-pub told_on : (h : Record) (e : Entry) (i : ℕ) → TellsNoMore i e → last_confirm h i ≡ due (at_lease h i) i → last_confirm (e ∷ h) i ≡ due (at_lease (e ∷ h) i) i
-told_on h (Lease j worker now polls) i more told = told ∙ ap (λ (b : Bool). due (if b then h else at_lease h i) i) (sym more)
-told_on h (Confirm j positions made) i more told = ap (λ (b : Bool). if b then positions else last_confirm h i) more ∙ told
-told_on h e i more told = told
-
-pub told_over : (Kind : Record → Entry → Type 0) (old new : Record) (i : ℕ) → ((h : Record) (e : Entry) → Kind h e → TellsNoMore i e) → OnlyAdds Kind old new → last_confirm old i ≡ due (at_lease old i) i → last_confirm new i ≡ due (at_lease new i) i
-told_over Kind old new i within adds told = carry Kind (λ (k : Record). last_confirm k i ≡ due (at_lease k i) i) (λ k e follows kind was. told_on k e i (within k e kind) was) old new adds told
