@@ -44,6 +44,7 @@ impl<P: Port> Hub<P> {
         ensures some { IfSome result (λ i. MayRetire self.old.books.log i) }
         ensures noted { IfSome result (λ i. self.new.books.log ≡ Retired i ∷ self.old.books.log) }
         ensures none { (self.old.fatal ≡ false) ⊎ (abandoned self.old.books.log ≡ true) → IfNone result (NoneRetires self.old.books.log) }
+        ensures run { self.new.books.run ≡ self.old.books.run }
         ensures rest { self.new ≡ record self.old { books = self.new.books } }
         ensures unchanged { IfNone result (self.new ≡ self.old) }
     {

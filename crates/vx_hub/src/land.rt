@@ -1,5 +1,5 @@
 // How a task comes home.
-ghost use Rattle.std.specs.Prelude.{◌≡◌, ◌<◌, true, false, length, Ok, IfErr, OnOk, OnErr};
+ghost use Rattle.std.specs.Prelude.{◌≡◌, ◌<◌, ◌||◌, true, false, length, Ok, IfErr, OnOk, OnErr};
 ghost use Rattle.vx_record.specs.Abandoning.{abandoned};
 ghost use Rattle.vx_record.specs.Ceasing.{cause_of};
 ghost use Rattle.vx_hub.specs.Ending.{IsGivenUp};
@@ -10,7 +10,7 @@ ghost use Rattle.vx_tasks.specs.Out.{HasDone};
 ghost use Rattle.vx_moves.specs.Rooms.{IsHandOf};
 ghost use Rattle.vx_moves.specs.Stands.{Stands};
 ghost use Rattle.vx_hub.specs.Failures.{HasReason, fatal_of};
-ghost use Rattle.vx_landing.specs.Landings.{IsNotedSo};
+ghost use Rattle.vx_landing.specs.Landings.{IsNotedSo, wants_memory};
 ghost use Rattle.vx_hub.specs.Standing.{IsHub};
 
 use crate::fatal::Fatal;
@@ -42,6 +42,8 @@ impl<P: Port> Hub<P> {
         ensures over { abandoned self.old.books.log ≡ true → result ≡ Ok tt }
         ensures ceased { abandoned self.old.books.log ≡ true → IsGivenUp self.new.books.log landing.instance }
         ensures going { cause_of self.new.books.log ≡ cause_of self.old.books.log }
+        ensures marked { self.new.books.run.short ≡ (wants_memory landing.done || self.old.books.run.short) }
+        ensures stuck { self.old.fatal ≡ true → self.new.fatal ≡ true }
         ensures sound { OnOk result (abandoned self.old.books.log ≡ false → self.new.fatal ≡ self.old.fatal) }
     {
         match bring_home(&mut self.books, self.alloc, landing) {

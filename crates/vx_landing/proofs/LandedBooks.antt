@@ -136,7 +136,7 @@ module _ {P : Type 0} (told_by : P → Told) (i room : ℕ) (old one two three n
 
   pub came_home : (abandoned old.log ≡ true → IsGivenUp new.log i) → IsServed old → LentWhileOut old → AwayIsWell old → HasComeHome told_by i old new
   came_home over served lent away =
-      record { run = run; over = over; stands = stands; served = served_behind served; size = size; only = only; home = home; lent = lent_behind lent; away = away_behind away; fed = fed_behind }
+      record { run = run; short = short_raises; over = over; stands = stands; served = served_behind served; size = size; only = only; home = home; lent = lent_behind lent; away = away_behind away; fed = fed_behind }
 
 -- what is lacking is so behind the home
 pub came_short : (h new : Record) (i : ℕ) (short : Short) (Kind : Record → Entry → Type 0) → OnlyAdds Kind h new → (abandoned h ≡ false → new ≡ entry.Home i ∷ h) → LacksBirth h short → abandoned new ≡ false → LacksBirth new short

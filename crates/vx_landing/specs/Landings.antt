@@ -34,7 +34,7 @@ use Rattle.vx_tasks.specs.declared.confirming.Confirmed.{Confirmed}
 use Rattle.vx_tasks.specs.declared.landing.Done.{Done}
 use Rattle.vx_tasks.specs.declared.landing.Done.TheVariants as done
 use Rattle.vx_tasks.specs.declared.task.Task.{Task}
-use Rattle.vx_tasks.specs.Out.{AreDue, TellsDone, HasActed, is_unfit, leaves_unfit, turn_entry, confirm_entries}
+use Rattle.vx_tasks.specs.Out.{AreDue, TellsDone, HasActed, is_unfit, lacks_cut, leaves_unfit, turn_entry, confirm_entries}
 use Rattle.vx_seats.specs.Calls.{HasTaskBack}
 use Rattle.vx_seats.specs.Staying.{OneSeat, SameFlags}
 use Rattle.vx_moves.specs.Returns.{IsReturned}
@@ -169,6 +169,7 @@ pub record HasComeHome {P : Type 0} (told_by : P → Told) (i : ℕ) (old new : 
   pub size : length new.seats ≡ length old.seats
   pub only : OnlyAdds (IsFor i) old.log new.log
   pub run : new.run ≡ record old.run { short = new.run.short }
+  pub short : old.run.short ≡ true → new.run.short ≡ true
   pub home : is_out new.log i ≡ false
   pub over : abandoned old.log ≡ true → IsGivenUp new.log i
   pub lent : LentWhileOut new
@@ -204,3 +205,12 @@ ComesBehind i h other = ⊥
 -- a landing was noted as it was, and nothing else
 abbrev pub IsNotedSo : {P : Type 0} → Landing P → Record → Record → Type 0
 IsNotedSo landing old new = OnlyAdds (ComesBehind landing.instance) (told_on landing old) new
+
+-- whether a landing carries want of memory: for its confirm or its work, or for what was read
+abbrev pub wants_memory : Done → Bool
+wants_memory done.Nothing = false
+wants_memory (done.Read took) = lacks_cut took
+wants_memory (done.Attempted all sent answer) = false
+wants_memory done.Closed = false
+wants_memory done.Short = true
+wants_memory done.Starved = true

@@ -1,16 +1,16 @@
 // How a task comes home.
-ghost use Rattle.std.specs.Prelude.{◌≡◌, ◌<◌, ◌∷◌, ◌++◌, true, false, length, None, Ok, IfErr, OnOk};
+ghost use Rattle.std.specs.Prelude.{◌≡◌, ◌<◌, ◌∷◌, ◌++◌, ◌||◌, true, false, length, None, Ok, IfErr, OnOk};
 ghost use Rattle.vx_record.specs.Abandoning.{abandoned};
 ghost use Rattle.vx_record.specs.Additions.{OnlyAdds};
 ghost use Rattle.vx_record.specs.Makers.{IsFor};
 ghost use Rattle.vx_tasks.specs.declared.landing.Done.{Done};
-ghost use Rattle.vx_tasks.specs.Out.{HasDone, confirm_entries, turn_entry};
+ghost use Rattle.vx_tasks.specs.Out.{HasDone, confirm_entries, lacks_cut, turn_entry};
 ghost use Rattle.vx_moves.specs.Leaving.{Leaves};
 ghost use Rattle.vx_moves.specs.Rooms.{IsHandOf};
 ghost use Rattle.vx_moves.specs.Stands.{Stands};
 ghost use Rattle.vx_ready.specs.Asking.{IsServed};
 ghost use Rattle.vx_landing.specs.Failures.{LacksBirth};
-ghost use Rattle.vx_landing.specs.Landings.{ComesBehind, HasComeHome, IsNotedSo, done_entries, IsConfirmable, IsBackWith, HasLanded, IsWellLanded, is_reading};
+ghost use Rattle.vx_landing.specs.Landings.{ComesBehind, HasComeHome, IsNotedSo, done_entries, IsConfirmable, IsBackWith, HasLanded, IsWellLanded, is_reading, wants_memory};
 ghost use Rattle.vx_landing.specs.Standing.{IsWell, AwayIsWell, LentWhileOut};
 
 use crate::ceasing::come_home;
@@ -43,6 +43,7 @@ pub fn bring_home<P: Port>(
     requires room { IsHandOf books.old.log landing.instance landing.held.room }
     ensures home { HasComeHome P.told landing.instance books.old books.new }
     ensures noted { IsNotedSo landing books.old.log books.new.log }
+    ensures marked { books.new.run.short ≡ (wants_memory landing.done || books.old.run.short) }
     ensures well { OnOk result (IsWell books.old → IsWell books.new) }
     ensures reason { IfErr result (λ short. abandoned books.new.log ≡ false → LacksBirth books.new.log short) }
 {
@@ -92,6 +93,7 @@ fn note_done<P: Port>(
     requires back { IsBackWith P.told books.old i task.now done }
     ensures landed { HasLanded P.told i task.now books.old books.new }
     ensures noted { OnlyAdds (ComesBehind i) (done_entries books.old.log i done ++ books.old.log) books.new.log }
+    ensures marked { books.new.run.short ≡ (wants_memory done || books.old.run.short) }
     ensures well { OnOk result (IsWellLanded i books.old books.new) }
     ensures reason { IfErr result (LacksBirth books.new.log) }
 {
@@ -131,6 +133,7 @@ fn note_turn<P: Port>(
     requires back { IsBackWith P.told books.old i task.now (Done.Read turned) }
     ensures landed { HasLanded P.told i task.now books.old books.new }
     ensures noted { OnlyAdds (ComesBehind i) (turn_entry books.old.log i turned ∷ books.old.log) books.new.log }
+    ensures marked { books.new.run.short ≡ (lacks_cut turned || books.old.run.short) }
     ensures well { OnOk result (IsWellLanded i books.old books.new) }
     ensures reason { IfErr result (LacksBirth books.new.log) }
 {
@@ -163,6 +166,7 @@ fn land_read<P: Port>(
     requires reading { is_reading turned ≡ true }
     ensures landed { HasLanded P.told i task.now books.old books.new }
     ensures noted { OnlyAdds (ComesBehind i) (turn_entry books.old.log i turned ∷ books.old.log) books.new.log }
+    ensures marked { books.new.run.short ≡ (lacks_cut turned || books.old.run.short) }
     ensures well { OnOk result (IsWellLanded i books.old books.new) }
     ensures reason { IfErr result (LacksBirth books.new.log) }
 {
