@@ -22,26 +22,13 @@ import random
 import shutil
 import subprocess
 import sys
-from pathlib import Path
 
 from events import LEVELS, PROGRAM, ROUNDS, WORDS, build, load, measure, spelled
+from program import CODECS, TOP, VECTOR, configuration_file
 
-TOP = Path(__file__).resolve().parent.parent
 FOLDER = TOP / "bench/out"
-VECTOR = str(TOP / "crates/vector/out/vector")
 LINES = 200_000
 LENGTH = 300
-CODECS = {"json": ("json", "json"), "text": ("bytes", "text")}
-CONFIGURATION = """\
-[sources.in]
-type = "stdin"
-decoding.codec = "{}"
-
-[sinks.out]
-type = "console"
-inputs = ["in"]
-encoding.codec = "{}"
-"""
 TASKS = {f"vx_bench {task}": [PROGRAM, task] for task in ["lines", "read", "copy"]}
 
 
@@ -91,10 +78,9 @@ def events_file(count):
     return path
 
 
-def configuration_file(name):
+def taken_configuration(name):
     """The path of the configuration with these codecs, which the program takes."""
-    path = FOLDER / f"{name}.toml"
-    path.write_text(CONFIGURATION.format(*CODECS[name]))
+    path = configuration_file(FOLDER, name)
     # (the script builds the program, which is then measured by itself)
     judged = subprocess.run([str(TOP / "vector"), "validate", str(path)], capture_output=True, text=True)
     if judged.returncode != 0:
@@ -158,7 +144,7 @@ def main():
         sys.exit("the second argument is json or text")
     need_tools()
     path = events_file(count)
-    copying = {"vector": [VECTOR, "--config", str(configuration_file(codec))], "jq -c .": ["jq", "-c", "."]}
+    copying = {"vector": [VECTOR, "--config", str(taken_configuration(codec))], "jq -c .": ["jq", "-c", "."]}
     programs = copying | TASKS
     build()
     check_copies(copying | {"vx_bench copy": TASKS["vx_bench copy"]}, path)

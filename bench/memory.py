@@ -14,21 +14,9 @@ import sys
 import tempfile
 import threading
 import time
-from pathlib import Path
 
-TOP = Path(__file__).resolve().parent.parent
-VECTOR = str(TOP / "crates/vector/out/vector")
-CODECS = {"text": ("bytes", "text"), "json": ("json", "json")}
-CONFIGURATION = """\
-[sources.in]
-type = "stdin"
-decoding.codec = "{}"
+from program import CODECS, VECTOR, configuration_file
 
-[sinks.out]
-type = "console"
-inputs = ["in"]
-encoding.codec = "{}"
-"""
 BLOCK = 1000
 SILENCE = 10
 
@@ -48,10 +36,10 @@ def feed(pipe, kind, count):
     pipe.close()
 
 
-def greatest(words, feeder, expected):
-    """Runs the program under `time`, and gives the greatest memory that it had, in kilobytes."""
-    told = Path(words[-1]).with_suffix(".told")
-    words = ["/usr/bin/time", "--format", "%M", "--output", str(told), *words]
+def greatest(path, feeder, expected):
+    """Runs the program of a configuration under `time`, and gives the greatest memory that it had, in kilobytes."""
+    told = path.with_suffix(".told")
+    words = ["/usr/bin/time", "--format", "%M", "--output", str(told), VECTOR, "--config", str(path)]
     process = subprocess.Popen(words, stdin=subprocess.PIPE, stdout=subprocess.PIPE)
     writer = threading.Thread(target=feeder, args=(process.stdin,))
     writer.start()
@@ -75,14 +63,13 @@ def main():
     most = int(sys.argv[1]) if len(sys.argv) > 1 else 10_000_000
     found = []
     with tempfile.TemporaryDirectory() as folder:
-        for kind, codecs in CODECS.items():
-            path = f"{folder}/{kind}.toml"
-            Path(path).write_text(CONFIGURATION.format(*codecs))
+        for kind in CODECS:
+            path = configuration_file(folder, kind)
             for count in (10_000, 1_000_000, most):
-                used = greatest([VECTOR, "--config", path], lambda pipe: feed(pipe, kind, count), 100 * count)
+                used = greatest(path, lambda pipe: feed(pipe, kind, count), 100 * count)
                 print(f"{kind:6} {count:10} lines {used:8} KB", flush=True)
                 found.append(used)
-        used = greatest([VECTOR, "--config", f"{folder}/text.toml"], silent, 100)
+        used = greatest(configuration_file(folder, "text"), silent, 100)
         print(f"text   nothing for {SILENCE} seconds {used:6} KB")
         found.append(used)
     print(f"the greatest differs from the least by {max(found) - min(found)} KB")
