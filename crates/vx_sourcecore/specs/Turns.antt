@@ -1,5 +1,5 @@
 -- What one turn of a source brought, as the record and the port have it.
-use Rattle.std.specs.Prelude.{◌≡◌, ℕ, ◌≤◌, ◌==◌, not, if◌then◌else◌, List, [], ◌∷◌, ◌++◌, take, length, Option, Some, None, IfSome}
+use Rattle.std.specs.Prelude.{◌≡◌, ℕ, ◌≤◌, ◌<◌, ◌==◌, true, false, not, if◌then◌else◌, List, [], ◌∷◌, ◌++◌, take, length, Option, Some, None, IfSome}
 use Rattle.vx_value.specs.Texts.{Word}
 use Rattle.vx_ends.specs.Told.{Told, Rose, Grows}
 use Rattle.vx_record.specs.declared.taken.Taken.{Taken}
@@ -55,11 +55,16 @@ ends_told (Some reading) = end_told reading.stream reading.took
 abbrev pub NothingLeft : Told → Type 0
 NothingLeft told = (stream : ℕ) → IfSome (told.left stream) (λ rest. rest ≡ [])
 
--- a turn tells a failure only where the count of faults rose, and that there is nothing only where the count of idles did
-abbrev pub FailsBy : Told → Told → Turned → Type 0
-FailsBy old new (Failed at_start) = Rose old.faults new.faults × (new.started ≡ not at_start)
-FailsBy old new Idle = Rose old.idles new.idles
-FailsBy old new other = Unit {0}
+-- a turn tells bytes only where it took some; a failure only where the count of faults rose, and one at the start only where the
+-- port wasn't started before and isn't now; and that there is nothing only where the count of idles rose. Behind a take that didn't
+-- fail the port is started
+abbrev pub ShowsTurn : Told → Told → Turned → Type 0
+ShowsTurn old new (Lines stream n room cut) = (0 < length (take n room.value.items)) × (new.started ≡ true)
+ShowsTurn old new (StreamEnded stream cut) = new.started ≡ true
+ShowsTurn old new (AllEnded stream cut) = new.started ≡ true
+ShowsTurn old new Idle = Rose old.idles new.idles × (new.started ≡ true)
+ShowsTurn old new (Failed at_start) =
+    Rose old.faults new.faults × (new.started ≡ not at_start) × (at_start ≡ true → old.started ≡ false)
 
 -- it tells the end of all only where nothing is left
 abbrev pub LeavesNothing : Told → Turned → Type 0
@@ -81,7 +86,7 @@ pub record DidTake (old : Told) (turned : Turned) (new : Told) : Type 0 where
   pub taken : (stream : ℕ) → Grows (old.taken stream) (new.taken stream) (read_bytes (reading_of turned) stream)
   pub ended : new.ended ≡ old.ended ++ ends_told (reading_of turned)
   pub rest : OnlyTakes old new
-  pub failed : FailsBy old new turned
+  pub shown : ShowsTurn old new turned
   pub over : LeavesNothing new turned
 
 -- nothing was taken, given or confirmed, and no count fell

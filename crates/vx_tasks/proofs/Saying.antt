@@ -169,9 +169,9 @@ turn_told old new h i (turned.Lines stream n room cut) did told = reads h i stre
 turn_told old new h i (turned.StreamEnded stream cut) did told =
     reads h i stream taken.StreamEnded (turned.StreamEnded stream cut) old new did (λ s. refl) (did.ended ∙ ap (λ (xs : List ℕ). old.ended ++ xs) (sym (end_by i stream))) (inl refl) told
 turn_told old new h i (turned.AllEnded stream cut) did told = reads h i stream taken.AllEnded (turned.AllEnded stream cut) old new did (λ s. refl) did.ended (inr did.over) told
-turn_told old new h i turned.Idle did told = rests h i false turned.Idle old new did (λ s. refl) did.ended (inr (refl, did.failed)) told
+turn_told old new h i turned.Idle did told = rests h i false turned.Idle old new did (λ s. refl) did.ended (inr (refl, did.shown.0)) told
 turn_told old new h i (turned.Failed at_start) did told = go (at_start && nat_lt (failed_starts h i) 4)
   where
     go : (b : Bool) → IsTold new ((if b then entry.Idle i true else entry.SourceLost i (capped (bytes_taken h i)) at_start) ∷ h) i
-    go true = rests h i true (turned.Failed at_start) old new did (λ s. refl) did.ended (inl (refl, did.failed.0)) told
-    go false = is_lost h i (capped (bytes_taken h i)) at_start (turned.Failed at_start) old new did (λ s. refl) did.ended did.failed.0 told
+    go true = rests h i true (turned.Failed at_start) old new did (λ s. refl) did.ended (inl (refl, did.shown.0)) told
+    go false = is_lost h i (capped (bytes_taken h i)) at_start (turned.Failed at_start) old new did (λ s. refl) did.ended did.shown.0 told

@@ -2,7 +2,7 @@
 use Rattle.std.specs.Prelude.{◌≡◌, ◌≤◌, false, List, Option, IsSome, IsNone}
 use Rattle.vx_ends.specs.Told.{Told}
 use Rattle.vx_ends.specs.declared.position.Position.{Position}
-use Rattle.vx_sourcecore.specs.Turns.{FailsBy}
+use Rattle.vx_sourcecore.specs.Turns.{ShowsTurn}
 use Rattle.vx_tasks.specs.declared.confirming.Confirmed.{Confirmed}
 use Rattle.vx_tasks.specs.declared.landing.Done.{Done}
 use Rattle.vx_tasks.specs.declared.landing.Done.TheVariants as done
@@ -51,7 +51,7 @@ pub record NoneFell (old new : Told) : Type 0 where
 -- started behind an attempt, but closed where that failed or starved, and where it was closed for good
 abbrev pub ShowsDone : Told → Told → Done → Type 0
 ShowsDone old new done.Nothing = new.started ≡ old.started
-ShowsDone old new (done.Read turned) = FailsBy old new turned
+ShowsDone old new (done.Read turned) = ShowsTurn old new turned
 ShowsDone old new (done.Attempted all sent answer) = RepliesBy old new answer
 ShowsDone old new done.Closed = new.started ≡ false
 ShowsDone old new done.Short = Unit {0}
