@@ -25,7 +25,7 @@ use Rattle.vx_balance.proofs.Steps.{aside_kept}
 use Rattle.vx_places.specs.declared.row.Row.{Row}
 use Rattle.vx_places.specs.Holding.{Holds}
 use Rattle.vx_places.specs.Rooms.{rooms_at, rooms_if, held_room, held_room_if}
-use Rattle.vx_places.specs.Views.{Same, row_at}
+use Rattle.vx_places.specs.Views.{row_at}
 use Rattle.vx_places.proofs.Steps.{holds_step, still_shifts, same_holds, none_holds}
 use Rattle.vx_tasks.specs.declared.task.Role.{Role}
 use Rattle.vx_tasks.specs.declared.task.Role.TheVariants.{Source, Sink, Unfit}
@@ -280,7 +280,7 @@ module _ {P : Type 0} (told_by : P → Told) (plan : Plan) (once : Bool) (now : 
     (rows : List Row) (vacant : AreVacant rows) (rooms : HaveRooms plan.components rows) (size : length rows ≡ length plan.components) (seats : List (Seat P)) (fresh : AreFresh told_by plan seats)
     (knows : Knows told_by seats (begun plan once now)) (account : Ledger) (balances : Balances account []) where
   abbrev pub books_first : Record → Books P
-  books_first log = record { places = rows; seats = seats; balance = account; run = record { plan = plan; abandoned = None; latest = 0; short = false }; log = log }
+  books_first log = record { places = rows; seats = seats; balance = account; run = record { plan = plan; abandoned = None; latest = now; short = false }; log = log }
 
   seat_new : {F : Seat P → Type 0} → ((seat : Seat P) → AreNew seat.facts → F seat) → (i : ℕ) → IfSome (slice_get seats i) F
   seat_new {F} says i = go (slice_get seats i) (fresh.each i)

@@ -1,13 +1,10 @@
 -- What a full buffer does is what the plan says.
-use Rattle.std.proofs.Common.{◌≡◌, ◌∙◌, ℕ, zero, suc, ◌+◌, ◌<◌, false, List, [], ◌∷◌, Option, Some, None, length, refl, sym, ap, arith}
+use Rattle.std.proofs.Common.{◌≡◌, ◌∙◌, ℕ, zero, suc, ◌+◌, ◌<◌, List, [], ◌∷◌, Option, Some, None, length, sym, ap, arith}
 use Rattle.std.specs.Prelude.{slice_get}
 use Rattle.vx_ends.specs.Told.{Told}
 use Rattle.vx_plan.specs.declared.component.Component.{Component}
-use Rattle.vx_plan.specs.declared.settings.Settings.{Settings}
-use Rattle.vx_plan.specs.declared.sink_settings.SinkSettings.{SinkSettings}
 use Rattle.vx_plan.specs.declared.stage.Stage.{Stage}
-use Rattle.vx_plan.specs.Components.{stages, sink_stages}
-use Rattle.vx_plan.specs.Options.{sink_options}
+use Rattle.vx_plan.specs.Components.{stages}
 use Rattle.vx_record.specs.Stages.{stages_of, drops_newest, last_drops}
 use Rattle.vx_record.proofs.Wired.{component_in_place}
 use Rattle.vx_places.proofs.Written.{one_some}

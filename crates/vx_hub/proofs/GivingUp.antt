@@ -19,7 +19,7 @@ use Rattle.vx_record.specs.Legal.{Follows}
 use Rattle.vx_record.specs.Places.{Place, owner}
 use Rattle.vx_record.specs.Shifts.{at}
 use Rattle.vx_record.specs.Turns.{is_out}
-use Rattle.vx_record.proofs.Adding.{adds_none, adds_one, adds_both, adds_wider, carry}
+use Rattle.vx_record.proofs.Adding.{adds_none, adds_one, adds_both, adds_narrower, adds_wider, carry}
 use Rattle.vx_record.proofs.Ceasing.{unabandoned}
 use Rattle.vx_places.specs.Rooms.{SameRooms}
 use Rattle.vx_seats.specs.declared.seat.Seat.{Seat}
@@ -38,15 +38,19 @@ use Rattle.vx_hub.proofs.Resting.{rests_both}
 
 -- KINDS
 of_wider : (cause : AbandonCause) (i : ℕ) (h : Record) (e : Entry) → GivesUpOf i h e → GivesUp cause h e
-of_wider cause i h (Spent j c outcome) kind = kind.1
+of_wider cause i h (Spent j c outcome) kind = (kind.1, kind.2)
 of_wider cause i h (Notice b status) kind = tt
-of_wider cause i h (Closed j) kind = tt
+of_wider cause i h (Closed j) kind = kind.1
 of_wider cause i h e kind = absurd kind
 
-spend_wider : (i : ℕ) (h : Record) (e : Entry) → IsSpendOf i Abandoned h e → GivesUpOf i h e
-spend_wider i h (Spent j c outcome) kind = kind
-spend_wider i h (Notice b status) kind = tt
-spend_wider i h e kind = absurd kind
+spend_at_home : (i : ℕ) (h : Record) (e : Entry) → Follows h e → IsSpendOf i Abandoned h e → is_out h i ≡ false → GivesUpOf i h e × (is_out (e ∷ h) i ≡ false)
+spend_at_home i h (Spent j c outcome) follows kind home = ((kind.0, subst (λ (k : ℕ). is_out h k ≡ false) (sym kind.0) home, kind.1), home)
+spend_at_home i h (Notice b status) follows kind home = (tt, home)
+spend_at_home i h e follows kind home = absurd kind
+
+-- what is spent of an instance at home is given up
+spends_of : (i : ℕ) (old new : Record) → OnlyAdds (IsSpendOf i Abandoned) old new → is_out old i ≡ false → OnlyAdds (GivesUpOf i) old new
+spends_of i = adds_narrower (IsSpendOf i Abandoned) (GivesUpOf i) (λ h. is_out h i ≡ false) (spend_at_home i)
 
 out_kept : (cause : AbandonCause) (i : ℕ) (was : Bool) (h : Record) (e : Entry) → Follows h e → GivesUp cause h e → is_out h i ≡ was → is_out (e ∷ h) i ≡ was
 out_kept cause i was h (Spent j c outcome) follows kind is = is
@@ -114,6 +118,7 @@ module _ {P : Type 0} where
     rooms = leaves.rooms;
     plan = ap (λ (r : Run). r.plan) leaves.run;
     short = ap (λ (r : Run). r.short) leaves.run;
+    latest = ap (λ (r : Run). r.latest) leaves.run;
     out = out;
   }
 
@@ -126,37 +131,34 @@ module _ {P : Type 0} where
       over = inr over;
     }
 
-    pub closes_down : (i : ℕ) (old : Books P) (seats : List (Seat P)) (new : Books P) → OneSeat IsShut i old.seats seats → length seats ≡ length old.seats → Steps told_by (Closed i) (record old { seats = seats }) new →
+    pub closes_down : (i : ℕ) (old : Books P) (seats : List (Seat P)) (new : Books P) → is_out old.log i ≡ false → OneSeat IsShut i old.seats seats → length seats ≡ length old.seats → Steps told_by (Closed i) (record old { seats = seats }) new →
         Leaves (record old { seats = seats }) new → ClosesDown told_by i old new
-    closes_down i old seats new one size steps leaves =
+    closes_down i old seats new home one size steps leaves =
         let mid : Books P = record old { seats = seats } in record {
           stands = steps.stands;
           rests = rests_both old mid new
-              (record { flags = shut_flags i old.seats seats one; size = size; rooms = λ j. (refl, refl); plan = refl; short = refl; out = λ j. refl })
+              (record { flags = shut_flags i old.seats seats one; size = size; rooms = λ j. (refl, refl); plan = refl; short = refl; latest = refl; out = λ j. refl })
               (by_leaves mid new leaves steps.size (λ j. ap (λ (h : Record). is_out h j) steps.noted));
-          only = adds_one (GivesUpOf i) old.log old.log new.log (Closed i) (adds_none (GivesUpOf i) old.log old.log refl) steps.follows refl steps.noted;
+          only = adds_one (GivesUpOf i) old.log old.log new.log (Closed i) (adds_none (GivesUpOf i) old.log old.log refl) steps.follows (refl, home) steps.noted;
           closed = ap (λ (h : Record). is_closed h i) steps.noted ∙ closes old.log i;
           still = λ p. ap (λ (h : Record). at h p) steps.noted;
         }
 
     -- GIVING UP
-    spends_out : (i : ℕ) (old new : Books P) → OnlySpends told_by i Abandoned old new → (j : ℕ) → is_out new.log j ≡ is_out old.log j
-    spends_out i old new spent =
-        out_same WantOfMemory old.log new.log (adds_wider (IsSpendOf i Abandoned) (GivesUp WantOfMemory) (λ h e kind. of_wider WantOfMemory i h e (spend_wider i h e kind)) old.log new.log spent.only)
+    spends_given : (i : ℕ) (old new : Books P) → OnlySpends told_by i Abandoned old new → is_out old.log i ≡ false → OnlyAdds (GivesUp WantOfMemory) old.log new.log
+    spends_given i old new spent home = adds_wider (GivesUpOf i) (GivesUp WantOfMemory) (of_wider WantOfMemory i) old.log new.log (spends_of i old.log new.log spent.only home)
 
-    spends_rest : (i : ℕ) (old new : Books P) → OnlySpends told_by i Abandoned old new → Rests old new
-    spends_rest i old new spent = by_leaves old new spent.leaves spent.size (spends_out i old new spent)
+    pub spends_out : (i : ℕ) (old new : Books P) → OnlySpends told_by i Abandoned old new → is_out old.log i ≡ false → (j : ℕ) → is_out new.log j ≡ is_out old.log j
+    spends_out i old new spent home = out_same WantOfMemory old.log new.log (spends_given i old new spent home)
 
-    pub spends_over : (i : ℕ) (old new : Books P) → OnlySpends told_by i Abandoned old new → abandoned old.log ≡ true → abandoned new.log ≡ true
-    spends_over i old new spent over =
-        carry (GivesUp WantOfMemory) (λ h. abandoned h ≡ true) (over_kept WantOfMemory) old.log new.log
-        (adds_wider (IsSpendOf i Abandoned) (GivesUp WantOfMemory) (λ h e kind. of_wider WantOfMemory i h e (spend_wider i h e kind)) old.log new.log spent.only) over
+    pub spends_over : (i : ℕ) (old new : Books P) → OnlySpends told_by i Abandoned old new → is_out old.log i ≡ false → abandoned old.log ≡ true → abandoned new.log ≡ true
+    spends_over i old new spent home over = carry (GivesUp WantOfMemory) (λ h. abandoned h ≡ true) (over_kept WantOfMemory) old.log new.log (spends_given i old new spent home) over
 
-    pub gives_up : (i : ℕ) (old mid new : Books P) → OnlySpends told_by i Abandoned old mid → ((p : Place) → owner p ≡ i → at mid.log p ≡ []) → ClosesDown told_by i mid new → GivesUpAt told_by i old new
-    gives_up i old mid new spent bare down = record {
+    pub gives_up : (i : ℕ) (old mid new : Books P) → is_out old.log i ≡ false → OnlySpends told_by i Abandoned old mid → ((p : Place) → owner p ≡ i → at mid.log p ≡ []) → ClosesDown told_by i mid new → GivesUpAt told_by i old new
+    gives_up i old mid new home spent bare down = record {
       stands = down.stands;
-      rests = rests_both old mid new (spends_rest i old mid spent) down.rests;
-      only = adds_both (GivesUpOf i) old.log mid.log new.log (adds_wider (IsSpendOf i Abandoned) (GivesUpOf i) (spend_wider i) old.log mid.log spent.only) down.only;
+      rests = rests_both old mid new (by_leaves old mid spent.leaves spent.size (spends_out i old mid spent home)) down.rests;
+      only = adds_both (GivesUpOf i) old.log mid.log new.log (spends_of i old.log mid.log spent.only home) down.only;
       up = λ home. record { bare = λ p own. down.still p ∙ bare p own; closed = down.closed };
       empty = λ p none. down.still p ∙ spent.empty p none;
     }
@@ -191,6 +193,7 @@ module _ {P : Type 0} where
       rooms = rooms;
       plan = ap (λ (r : Run). r.plan) run;
       short = ap (λ (r : Run). r.short) run;
+      latest = ap (λ (r : Run). r.latest) run;
       out = λ i. ap (λ (h : Record). is_out h i) steps.noted;
     }
 

@@ -211,4 +211,5 @@ module _ {P : Type 0} (told_by : P → Told) (i worker now : ℕ) (task : Task P
     room = subst (λ (h : Record). IsHandOf h i line.room) (sym log) room;
     only = made;
     noted = subst (λ (h : Record). OnlyAdds (IsTakeOf i) (Lease i worker now 0 ∷ old.log) h) (sym log) (subst (λ (h : Record). OnlyAdds (IsTakeOf i) h two.log) lent.steps.noted gathered.only);
+    latest = ap (λ (r : Run). r.latest) (run ∙ gathered.leaves.run ∙ lent.run);
   }

@@ -284,6 +284,7 @@ moved_rests told_by i old new moved = record {
   rooms = moved.leaves.rooms;
   plan = ap (λ (r : Run). r.plan) moved.leaves.run;
   short = ap (λ (r : Run). r.short) moved.leaves.run;
+  latest = ap (λ (r : Run). r.latest) moved.leaves.run;
   out = λ j. out_same i j old.log new.log moved.only;
 }
 

@@ -57,6 +57,7 @@ module _ {P : Type 0} where
     rooms = λ i. ((second.rooms i).0 ∙ (first.rooms i).0, (second.rooms i).1 ∙ (first.rooms i).1);
     plan = second.plan ∙ first.plan;
     short = second.short ∙ first.short;
+    latest = second.latest ∙ first.latest;
     out = λ i. second.out i ∙ first.out i;
   }
 
@@ -86,5 +87,6 @@ module _ {P : Type 0} where
       rooms = leaves.rooms;
       plan = ap (λ (r : Run). r.plan) leaves.run;
       short = ap (λ (r : Run). r.short) leaves.run;
+      latest = ap (λ (r : Run). r.latest) leaves.run;
       out = λ j. ap (λ (h : Record). is_out h j) steps.noted;
     }

@@ -29,7 +29,7 @@ use Rattle.vx_hub.specs.Standing.{IsWell, IsWellAt}
 
 module _ {P : Type 0} (told_by : P → Told) (books : Books P) (stands : Stands told_by books) (i : ℕ) (seat : Seat P) (at : slice_get books.seats i ≡ Some seat) where
   -- what is at home isn't out, and what isn't out is at home
-  home_so : IsSome seat.task → is_out books.log i ≡ false
+  pub home_so : IsSome seat.task → is_out books.log i ≡ false
   home_so some = go seat.task refl some
     where
       go : (o : Option (Task P)) → seat.task ≡ o → IsSome o → is_out books.log i ≡ false

@@ -15,7 +15,7 @@ nothing_before [] (e ∷ old) none some = cc
 nothing_before (e ∷ es) old none some = cc
 
 -- so none of the entries behind it installs another
-same_run : (es : List Entry) (old : Record) → IsLegal (es ++ old) → IsSome (in_force old) → IsSameRun old (es ++ old)
+pub same_run : (es : List Entry) (old : Record) → IsLegal (es ++ old) → IsSome (in_force old) → IsSameRun old (es ++ old)
 same_run [] old legal some = record { plan = refl; instances = refl }
 same_run (Install version plan once instances now ∷ es) old legal some = absurd (nothing_before es old legal.0.row.first some)
 same_run (e ∷ es) old legal some = let before = same_run es old legal.1 some in record { plan = before.plan; instances = append-nil (started (es ++ old)) ∙ before.instances }

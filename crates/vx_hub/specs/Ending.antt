@@ -33,18 +33,19 @@ pub record IsClosing {P : Type 0} (seat : Seat P) : Type 0 where
   pub closed : seat.facts.closed ≡ true
   pub unretired : seat.facts.retired ≡ false
 
--- an entry gives up what stands at an instance: a spend of a copy as abandoned, a notice, or that its port is closed for good
+-- an entry gives up what stands at an instance that is at home: a spend of a copy as abandoned, a notice, or that its port is closed
+-- for good
 abbrev pub GivesUpOf : ℕ → Record → Entry → Type 0
-GivesUpOf i h (Spent j c outcome) = (j ≡ i) × (outcome ≡ Abandoned)
+GivesUpOf i h (Spent j c outcome) = (j ≡ i) × (is_out h j ≡ false) × (outcome ≡ Abandoned)
 GivesUpOf i h (Notice b status) = Unit {0}
-GivesUpOf i h (Closed j) = j ≡ i
+GivesUpOf i h (Closed j) = (j ≡ i) × (is_out h j ≡ false)
 GivesUpOf i h other = ⊥
 
--- of any instance, or says that the run is given up for a cause
+-- of any instance at home, or says that the run is given up for a cause
 abbrev pub GivesUp : AbandonCause → Record → Entry → Type 0
-GivesUp cause h (Spent j c outcome) = outcome ≡ Abandoned
+GivesUp cause h (Spent j c outcome) = (is_out h j ≡ false) × (outcome ≡ Abandoned)
 GivesUp cause h (Notice b status) = Unit {0}
-GivesUp cause h (Closed j) = Unit {0}
+GivesUp cause h (Closed j) = is_out h j ≡ false
 GivesUp cause h (Abandon other) = other ≡ cause
 GivesUp cause h other = ⊥
 
@@ -52,14 +53,15 @@ GivesUp cause h other = ⊥
 abbrev pub AreGivenUp : Record → Type 0
 AreGivenUp h = (i : ℕ) → i < length (started h) → is_out h i ≡ false → IsGivenUp h i
 
--- what isn't known any more of the seats, the rooms and who is lent one, the plan, whether memory was wanting, and who is out are
--- as they were
+-- what isn't known any more of the seats, the rooms and who is lent one, the plan, whether memory was wanting, the latest moment,
+-- and who is out are as they were
 pub record Rests {P : Type 0} (old new : Books P) : Type 0 where
   pub flags : EachSeat SameFlags old.seats new.seats
   pub size : length new.seats ≡ length old.seats
   pub rooms : SameRooms old.places new.places
   pub plan : new.run.plan ≡ old.run.plan
   pub short : new.run.short ≡ old.run.short
+  pub latest : new.run.latest ≡ old.run.latest
   pub out : (i : ℕ) → is_out new.log i ≡ is_out old.log i
 
 -- the port of an instance is closed for good, and no parcel was moved

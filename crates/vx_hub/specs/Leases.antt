@@ -91,3 +91,4 @@ pub record HasHandedOut {P : Type 0} (told_by : P → Told) (i worker now : ℕ)
   pub room : IsHandOf new.log i work.held.room
   pub only : OnlyAdds (IsBy worker) old.log new.log
   pub noted : HasLeased i worker now old.log new.log
+  pub latest : new.run.latest ≡ now

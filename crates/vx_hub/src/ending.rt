@@ -5,6 +5,7 @@ ghost use Rattle.vx_record.specs.Additions.{OnlyAdds};
 ghost use Rattle.vx_record.specs.Abandoning.{abandoned};
 ghost use Rattle.vx_record.specs.Ceasing.{cause_of};
 ghost use Rattle.vx_record.specs.Ending.{MayRetire, HasReason};
+ghost use Rattle.vx_record.specs.Turns.{is_out};
 ghost use Rattle.vx_moves.specs.Stands.{Stands};
 ghost use Rattle.vx_ready.specs.Asking.{IsServed};
 ghost use Rattle.vx_hub.specs.Standing.{IsHub, IsWell};
@@ -30,6 +31,7 @@ impl<P: Port> Hub<P> {
         ensures up { AreGivenUp self.new.books.log }
         ensures rest { self.new ≡ record self.old { books = self.new.books } }
         ensures short { self.new.books.run.short ≡ self.old.books.run.short }
+        ensures latest { self.new.books.run.latest ≡ self.old.books.run.latest }
     {
         self.books.abandon(cause);
         give_up_all(&mut self.books);
@@ -98,6 +100,7 @@ pub(crate) fn give_up_at<P: Port>(books: &mut Books<P>, i: u32)
 fn close_down<P: Port>(books: &mut Books<P>, i: u32)
     requires stands { Stands P.told books.old }
     requires within { i < length books.old.seats }
+    requires home { is_out books.old.log i ≡ false }
     requires served { IsServed books.old }
     requires over { abandoned books.old.log ≡ true }
     ensures { ClosesDown P.told i books.old books.new }

@@ -43,6 +43,7 @@ impl<P: Port> Hub<P> {
         ensures ceased { abandoned self.old.books.log ≡ true → IsGivenUp self.new.books.log landing.instance }
         ensures going { cause_of self.new.books.log ≡ cause_of self.old.books.log }
         ensures marked { self.new.books.run.short ≡ (wants_memory landing.done || self.old.books.run.short) }
+        ensures latest { self.new.books.run.latest ≡ self.old.books.run.latest }
         ensures stuck { self.old.fatal ≡ true → self.new.fatal ≡ true }
         ensures sound { OnOk result (abandoned self.old.books.log ≡ false → self.new.fatal ≡ self.old.fatal) }
     {

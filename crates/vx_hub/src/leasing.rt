@@ -34,6 +34,7 @@ impl<P: Port> Hub<P> {
         ensures size { length self.new.books.seats ≡ length self.old.books.seats }
         ensures only { OnlyAdds (IsBy worker) self.old.books.log self.new.books.log }
         ensures noted { IfSome result (λ work. HasLeased work.instance worker (max now self.old.books.run.latest) self.old.books.log self.new.books.log) }
+        ensures latest { IfSome result (λ work. self.new.books.run.latest ≡ max now self.old.books.run.latest) }
         ensures sound { self.old.fatal ≡ true → result ≡ None }
         ensures rest { self.new ≡ record self.old { books = self.new.books } }
         ensures first { IfSome result (λ work. sink_at self.old.books.log work.instance ≡ false → NoSinkFound self.old.books (max now self.old.books.run.latest) (length self.old.books.seats)) }

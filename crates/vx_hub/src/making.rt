@@ -45,6 +45,7 @@ impl<P: Port> Hub<P> {
         ensures first { IfOk result (λ hub. hub.books.log ≡ begun parts.plan parts.once now) }
         ensures sound { IfOk result (λ hub. hub.fatal ≡ false) }
         ensures fed { IfOk result (λ hub. hub.books.run.short ≡ false) }
+        ensures latest { IfOk result (λ hub. hub.books.run.latest ≡ now) }
         ensures refused { IfErr result (λ refused. refused.parts ≡ parts) }
     {
         match make_room(alloc, &parts.plan) {
@@ -119,6 +120,7 @@ fn begin<P: Port>(alloc: Global, parts: Parts<P>, room: Room<P>, now: u64) -> Hu
     ensures first { result.books.log ≡ begun parts.plan parts.once now }
     ensures sound { result.fatal ≡ false }
     ensures fed { result.books.run.short ≡ false }
+    ensures latest { result.books.run.latest ≡ now }
 {
     let Parts { plan, once, ports } = parts;
     let Room {
@@ -134,7 +136,7 @@ fn begin<P: Port>(alloc: Global, parts: Parts<P>, room: Room<P>, now: u64) -> Hu
     let run = Run {
         plan,
         abandoned: None,
-        latest: 0,
+        latest: now,
         short: false,
     };
     Hub {

@@ -69,6 +69,7 @@ impl<P: Port> Hub<P> {
         ensures fatal { OnErr result (self.new.fatal ≡ true) }
         ensures sound { OnOk result (self.new.fatal ≡ self.old.fatal) }
         ensures short { self.new.books.run.short ≡ self.old.books.run.short }
+        ensures latest { self.new.books.run.latest ≡ self.old.books.run.latest }
         ensures reason { IfErr result (HasReason self.new.books.log) }
         ensures entered { IfOk result (λ n. HaveEntered n self.old.books.log self.new.books.log) }
         ensures moves { OnOk result (abandoned self.old.books.log ≡ false → is_out self.old.books.log instance ≡ false → CanMove self.old.books instance → Grew self.old.books.log self.new.books.log) }

@@ -1,20 +1,22 @@
 -- A task that is out stays as it is while others go on.
-use Rattle.std.proofs.Common.{◌≡◌, ◌≢◌, ◌∙◌, ℕ, Bool, true, false, length, Option, Some, None, IsSome, ◌<◌, refl, sym, ap, subst, arith}
+use Rattle.std.proofs.Common.{◌≡◌, ◌≢◌, ◌∙◌, ℕ, ◌∷◌, Bool, true, false, length, Option, Some, None, IsSome, ◌<◌, refl, sym, ap, subst, arith}
 use Rattle.std.specs.Prelude.{is_some, ◌==◌}
 use Rattle.std.proofs.lemmas.Bool.{eqb-true}
 use Rattle.std.proofs.lemmas.Bool.Decides.{nat_tests}
 use Rattle.vx_ends.specs.Told.{Told}
 use Rattle.vx_plan.specs.declared.component.Component.{Component}
 use Rattle.vx_plan.specs.Components.{is_sink, batch_max_events}
+use Rattle.vx_record.specs.declared.abandon_cause.AbandonCause.{AbandonCause}
 use Rattle.vx_record.specs.declared.entry.Entry.{Entry}
-use Rattle.vx_record.specs.declared.entry.Entry.TheVariants.{Split, Push, Spent, Notice}
+use Rattle.vx_record.specs.declared.entry.Entry.TheVariants.{Split, Push, Spent, Notice, Closed, Abandon}
 use Rattle.vx_record.specs.Additions.{OnlyAdds}
 use Rattle.vx_record.specs.Installs.{component_of, sink_at}
+use Rattle.vx_record.specs.Legal.{Follows}
 use Rattle.vx_record.specs.Makers.{IsBy, IsFor, Spares}
 use Rattle.vx_record.specs.Records.{Record}
 use Rattle.vx_record.specs.Tasks.{out_to}
 use Rattle.vx_record.specs.Turns.{is_out}
-use Rattle.vx_record.proofs.Adding.{adds_none, adds_both, adds_wider}
+use Rattle.vx_record.proofs.Adding.{adds_none, adds_both, adds_narrower, adds_wider}
 use Rattle.vx_record.proofs.OwnTurns.{worker_own}
 use Rattle.vx_record.proofs.TasksOut.{out_to_worker, workers_spare, tasks_spare, spared_stays}
 use Rattle.vx_record.proofs.Wired.{component_in_place}
@@ -23,6 +25,7 @@ use Rattle.vx_tasks.specs.declared.landing.Landing.{Landing}
 use Rattle.vx_tasks.specs.declared.work.Work.{Work}
 use Rattle.vx_tasks.proofs.Kept.{left_kept, done_kept}
 use Rattle.vx_hub.specs.declared.hub.Hub.{Hub}
+use Rattle.vx_hub.specs.Ending.{GivesUp}
 use Rattle.vx_hub.specs.Pushing.{IsMoveOf}
 use Rattle.vx_hub.specs.Standing.{IsHub, IsSameRun}
 use Rattle.vx_hub.proofs.Running.{run_stays}
@@ -61,6 +64,26 @@ moves_spare i old new moves still j worker out = go (i == j) refl
     go false other =
         let differ : i ≢ j = (λ same. let is : (i == i) ≡ false = subst (λ (k : ℕ). (i == k) ≡ false) (sym same) other in grind (arith, nat_tests)) in
         tasks_spare old new j i differ (adds_wider (IsMoveOf i) (IsFor i) (move_for i) old new moves)
+
+-- who is out isn't who is at home
+differs : (h : Record) (k j : ℕ) → is_out h k ≡ false → is_out h j ≡ true → (k == j) ≡ false
+differs h k j home out = go (k == j) refl
+  where
+    go : (b : Bool) → (k == j) ≡ b → (k == j) ≡ false
+    go true same = let contrary : true ≡ false = sym out ∙ subst (λ (i : ℕ). is_out h i ≡ false) (eqb-true k j same) home in cc
+    go false other = other
+
+give_spares : (cause : AbandonCause) (j : ℕ) (h : Record) (e : Entry) → Follows h e → GivesUp cause h e → is_out h j ≡ true → Spares j h e × (is_out (e ∷ h) j ≡ true)
+give_spares cause j h (Spent k c outcome) follows kind out = (differs h k j kind.0 out, out)
+give_spares cause j h (Notice b status) follows kind out = (refl, out)
+give_spares cause j h (Closed k) follows kind out = (differs h k j kind out, out)
+give_spares cause j h (Abandon other) follows kind out = (refl, out)
+give_spares cause j h e follows kind out = absurd kind
+
+-- giving the run up spares each task that is out
+pub given_spares : (cause : AbandonCause) (old new : Record) → OnlyAdds (GivesUp cause) old new → SparesEach old new
+given_spares cause old new gives j worker out =
+    adds_narrower (GivesUp cause) (Spares j) (λ h. is_out h j ≡ true) (give_spares cause j) old new gives (out_to_worker old j ∙ ap (λ (o : Option ℕ). is_some o) out)
 
 module _ {P : Type 0} (told_by : P → Told) (old new : Hub P) (was : IsHub told_by old) (is : IsHub told_by new) where
   pub runs_on : (Kind : Record → Entry → Type 0) → OnlyAdds Kind old.books.log new.books.log → IsSameRun old.books.log new.books.log
@@ -109,3 +132,12 @@ module _ {P : Type 0} (told_by : P → Told) (old new : Hub P) (was : IsHub told
   -- while another comes home, and parcels move
   pub back_beside : (i : ℕ) (landing : Landing P) → landing.instance ≢ i → SparesOthers i old.books.log new.books.log → IsBack told_by old.books.log landing → IsBack told_by new.books.log landing
   back_beside i landing differ spares back = back_kept landing (spares landing.instance landing.worker differ back.done.out) back
+
+  -- while the task of another worker comes home
+  pub back_alone : (first later : Landing P) → first.worker ≢ later.worker → OnlyAdds (IsFor first.instance) old.books.log new.books.log → IsBack told_by old.books.log first → IsBack told_by old.books.log later → IsBack told_by new.books.log later
+  back_alone first later differ adds gone back = back_kept later (tasks_spare old.books.log new.books.log later.instance first.instance other adds) back
+    where
+      other : first.instance ≢ later.instance
+      other same =
+          let one : Some first.worker ≡ Some later.worker = sym gone.done.out ∙ subst (λ (k : ℕ). out_to old.books.log k ≡ Some later.worker) (sym same) back.done.out in
+          differ cc

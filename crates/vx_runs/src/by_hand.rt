@@ -1,9 +1,10 @@
 //! The engine driven by hand: three tasks are out at once, and come home in each order, with parcels moved between.
-ghost use Rattle.std.specs.Prelude.{◌≡◌, ◌<◌, ◌^◌, length, true, IfOk};
+ghost use Rattle.std.specs.Prelude.{◌≡◌, ◌<◌, ◌^◌, length, true, None, IfOk};
 ghost use Rattle.vx_plan.specs.Accepted.{IsPlan};
 ghost use Rattle.vx_plan.specs.Options.{has_device};
 ghost use Rattle.vx_plan.specs.Ports.{port_of};
 ghost use Rattle.vx_record.specs.Additions.{OnlyAdds};
+ghost use Rattle.vx_record.specs.Ceasing.{cause_of};
 ghost use Rattle.vx_record.specs.Makers.{IsBy, IsFor};
 ghost use Rattle.vx_record.specs.Installs.{started};
 ghost use Rattle.vx_hub.specs.Ending.{IsOver};
@@ -19,9 +20,9 @@ use std::process::Abort;
 use std::test::Fail;
 use vx_ends::{Clock, ConfigList, MemoryClock, MemoryPort, MemoryWorld, Port, ScriptedList, World};
 use vx_hub::{Hub, Named, NamedList, NumberedList, Parts, Remains};
-use vx_plan::{Component, Plan};
+use vx_plan::{Class, Component, Plan};
 use vx_reading::read_plan;
-use vx_record::Tally;
+use vx_record::{AbandonCause, Tally};
 use vx_tasks::{Landing, Work};
 use vx_value::{VariableList, WantOfMemory};
 
@@ -164,6 +165,31 @@ fn three_out<R: Abort, P: Port, C: Clock>(
     land_in(rt, hub, order, a, b, c);
 }
 
+/// Gives the run up, as one does that finds no memory.
+fn give_up<P: Port>(hub: &mut Hub<P>)
+    requires hub { IsHub P.told hub.old }
+    requires going { cause_of hub.old.books.log ≡ None }
+    ensures hub { IsHub P.told hub.new }
+    ensures spares { SparesEach hub.old.books.log hub.new.books.log }
+{
+    hub.abandon(AbandonCause::WantOfMemory);
+}
+
+/// Leases the two sinks to two workers, gives the run up, and only then does the work of each and brings it home.
+fn two_given_up<R: Abort, P: Port, C: Clock>(rt: &R, alloc: Global, hub: &mut Hub<P>, clock: &C)
+    requires { IsHub P.told hub.old }
+    ensures { IsHub P.told hub.new }
+{
+    let a = leased(rt, hub, 0, 1);
+    let b = leased(rt, hub, 1, 2);
+    assert!(rt; hub.abandoned().is_none());
+    give_up(hub);
+    let b = done(alloc, hub, b, clock);
+    let a = done(alloc, hub, a, clock);
+    land(rt, hub, b);
+    land(rt, hub, a);
+}
+
 /// Leases the wanted instance, does its work, and brings it home, with nothing else out.
 fn one_out<R: Abort, P: Port, C: Clock>(
     rt: &R,
@@ -259,6 +285,27 @@ fn by_hand<R: Abort, P: Port, C: Clock>(
     ports
 }
 
+/// A run that is given up while both sinks are out, behind one read of the source. The ports at its end.
+fn given_up<R: Abort, P: Port, C: Clock>(
+    rt: &R,
+    alloc: Global,
+    hub: Hub<P>,
+    clock: &C,
+) -> NumberedList<P>
+    requires { IsHub P.told hub }
+{
+    let mut hub = hub;
+    assert!(rt; 0 < hub.instances());
+    assert!(rt; matches!(hub.class_of(0), Class::Source));
+    one_out(rt, alloc, &mut hub, clock, 0);
+    assert!(rt; hub.unspent());
+    two_given_up(rt, alloc, &mut hub, clock);
+    assert!(rt; !hub.unspent());
+    drive(rt, alloc, &mut hub, clock);
+    let Remains { ports, history: _ } = hub.end();
+    ports
+}
+
 /// The plan of a configuration.
 fn plan_of(alloc: Global, text: &str) -> Result<Plan, WantOfMemory>
     ensures few { IfOk result (λ plan. length plan.components < 2 ^ 32) }
@@ -337,10 +384,10 @@ fn world(alloc: Global) -> Result<MemoryWorld, WantOfMemory> {
     Ok(MemoryWorld::new(alloc, ConfigList::new(alloc), scripts))
 }
 
-/// Checks what a sink's port was given: every line, in order.
-fn was_given(rt: &impl Abort, ports: &NumberedList<MemoryPort>, instance: usize) {
+/// Checks what a sink's port was given.
+fn was_given(rt: &impl Abort, ports: &NumberedList<MemoryPort>, instance: usize, wanted: &[u8]) {
     match ports.get(instance) {
-        Some(end) => assert!(rt; end.port.given() == b"a\nb\nc\nd\n".as_slice()),
+        Some(end) => assert!(rt; end.port.given() == wanted),
         None => assert!(rt; false),
     }
 }
@@ -350,8 +397,8 @@ fn comes_home<R: Abort>(rt: &R, alloc: Global, order: Order) -> Result<(), Fail>
     let mut world = world(alloc)?;
     let hub = hub_of(alloc, TWO_SINKS, &mut world)?;
     let ports = by_hand(rt, alloc, hub, &MemoryClock::new(), order);
-    was_given(rt, &ports, 1);
-    was_given(rt, &ports, 2);
+    was_given(rt, &ports, 1, b"a\nb\nc\nd\n");
+    was_given(rt, &ports, 2, b"a\nb\nc\nd\n");
     Ok(())
 }
 
@@ -371,4 +418,14 @@ fn the_source_between_the_sinks(rt: HostRuntime) -> Result<(), Fail> {
 fn the_source_before_the_sinks(rt: HostRuntime) -> Result<(), Fail> {
     comes_home(&rt, rt.alloc(), Order::Cab)?;
     comes_home(&rt, rt.alloc(), Order::Cba)
+}
+
+#[test]
+fn two_sinks_out_when_the_run_is_given_up(rt: HostRuntime) -> Result<(), Fail> {
+    let mut world = world(rt.alloc())?;
+    let hub = hub_of(rt.alloc(), TWO_SINKS, &mut world)?;
+    let ports = given_up(&rt, rt.alloc(), hub, &MemoryClock::new());
+    was_given(&rt, &ports, 1, b"a\n");
+    was_given(&rt, &ports, 2, b"a\n");
+    Ok(())
 }

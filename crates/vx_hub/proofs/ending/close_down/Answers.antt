@@ -7,4 +7,4 @@ close-requires-clause-may g c =
 
 pub returns : goal.returns
 returns g c =
-    closes_down g.P.Port.told c.args.i c.args.books.now c.shut.new.self c.close.new.self c.shut.ensures.stays c.shut.ensures.size c.close.ensures.steps c.close.ensures.leaves
+    closes_down g.P.Port.told c.args.i c.args.books.now c.shut.new.self c.close.new.self c.requires.home c.shut.ensures.stays c.shut.ensures.size c.close.ensures.steps c.close.ensures.leaves
