@@ -1,5 +1,5 @@
 -- Of a run that didn't begin all is said that is said of one that ended.
-use Rattle.std.proofs.Common.{◌≡◌, ℕ, ◌<◌, ◌++◌, [], ◌∷◌, sym, subst, arith}
+use Rattle.std.proofs.Common.{◌≡◌, ℕ, ◌++◌, [], ◌∷◌, sym, subst, arith}
 use Rattle.vx_status.specs.declared.batch_status.BatchStatus.{BatchStatus}
 use Rattle.vx_record.specs.Legal.{IsClosed}
 use Rattle.vx_record.specs.Records.{Record}

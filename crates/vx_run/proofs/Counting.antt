@@ -9,7 +9,7 @@ use Rattle.vx_record.specs.Records.{Record}
 use Rattle.vx_record.specs.Installs.{in_force}
 use Rattle.vx_hub.specs.declared.parts.Numbered.{Numbered}
 use Rattle.vx_run.specs.Answers.{ButForMemory, IsReady, IsAnswer, IsJudged}
-use Rattle.vx_run.specs.Running.{HasInstalled, IsInForce, HasAll, HasEach, NoneMissing}
+use Rattle.vx_run.specs.Running.{Began, HasInstalled, IsInForce, HasAll, HasEach, NoneMissing}
 use Rattle.vx_cli.specs.declared.fault.Fault.{Fault}
 use Rattle.vx_cli.specs.declared.fault.Fault.TheVariants.{Usage, ConfigRead, ConfigRefused, Numbers, SourceFailed, ConfirmFailed, PrintFailed, WantOfMemory}
 
@@ -25,16 +25,16 @@ but_short Before After fault counted (inr short) then before = λ other. absurd 
 -- a run that began has the plan in force that the words ask for
 pub installed_for : (words : List Word) (environment : List Variable) (texts : Option (List Config)) (plan : Plan) (h : Record) (fault : Option Fault) →
     IsReady words environment texts plan → IsJudged h fault → IsInForce plan h fault → HasInstalled words environment texts h fault
-installed_for words environment texts plan h None ready judged is = inl (record { plan = plan; ready = ready; installed = is })
+installed_for words environment texts plan h None ready judged is = inl (record { plan = plan; ready = ready; began = is })
 installed_for words environment texts plan h (Some WantOfMemory) ready judged (inl unbegun) = inl unbegun
-installed_for words environment texts plan h (Some WantOfMemory) ready judged (inr is) = inr (record { plan = plan; ready = ready; installed = is })
+installed_for words environment texts plan h (Some WantOfMemory) ready judged (inr is) = inr (record { plan = plan; ready = ready; began = is })
 installed_for words environment texts plan h (Some Usage) ready judged is = tt
 installed_for words environment texts plan h (Some (ConfigRead path)) ready judged is = tt
 installed_for words environment texts plan h (Some (ConfigRefused f)) ready judged is = tt
-installed_for words environment texts plan h (Some (Numbers next wanted)) ready judged is = record { plan = plan; ready = ready; installed = is }
+installed_for words environment texts plan h (Some (Numbers next wanted)) ready judged is = record { plan = plan; ready = ready; began = is }
 installed_for words environment texts plan h (Some PrintFailed) ready judged is = absurd judged
-installed_for words environment texts plan h (Some (SourceFailed name at)) ready judged is = record { plan = plan; ready = ready; installed = is }
-installed_for words environment texts plan h (Some (ConfirmFailed name)) ready judged is = record { plan = plan; ready = ready; installed = is }
+installed_for words environment texts plan h (Some (SourceFailed name at)) ready judged is = record { plan = plan; ready = ready; began = is }
+installed_for words environment texts plan h (Some (ConfirmFailed name)) ready judged is = record { plan = plan; ready = ready; began = is }
 
 -- what is judged of a run that began is its answer
 pub answered : (words : List Word) (environment : List Variable) (texts : Option (List Config)) (before now : ℕ) (h : Record) (fault : Option Fault) →
@@ -67,23 +67,23 @@ there plan h ports is all = subst (λ (found : Option Plan). IsSomeAnd found (Ha
 
 pub none_missing_for : {P : Type 0} (words : List Word) (environment : List Variable) (texts : Option (List Config)) (plan : Plan) (h : Record) (ports : List (Numbered P)) (fault : Option Fault) →
     IsReady words environment texts plan → IsJudged h fault → IsInForce plan h fault → HasEach plan h ports fault → NoneMissing words environment texts h ports fault
-none_missing_for words environment texts plan h ports None ready judged is each = inl (there plan h ports is each)
+none_missing_for words environment texts plan h ports None ready judged is each = inl (there plan h ports is.installed each)
 none_missing_for words environment texts plan h ports (Some WantOfMemory) ready judged is (inl unbegun) = inl unbegun
 none_missing_for words environment texts plan h ports (Some WantOfMemory) ready judged is (inr all) = inr (record { plan = plan; ready = ready; each = all })
 none_missing_for words environment texts plan h ports (Some Usage) ready judged is each = absurd judged
 none_missing_for words environment texts plan h ports (Some (ConfigRead path)) ready judged is each = absurd judged
 none_missing_for words environment texts plan h ports (Some (ConfigRefused f)) ready judged is each = absurd judged
-none_missing_for words environment texts plan h ports (Some (Numbers next wanted)) ready judged is each = there plan h ports is each
+none_missing_for words environment texts plan h ports (Some (Numbers next wanted)) ready judged is each = there plan h ports is.installed each
 none_missing_for words environment texts plan h ports (Some PrintFailed) ready judged is each = absurd judged
-none_missing_for words environment texts plan h ports (Some (SourceFailed name at)) ready judged is each = there plan h ports is each
-none_missing_for words environment texts plan h ports (Some (ConfirmFailed name)) ready judged is each = there plan h ports is each
+none_missing_for words environment texts plan h ports (Some (SourceFailed name at)) ready judged is each = there plan h ports is.installed each
+none_missing_for words environment texts plan h ports (Some (ConfirmFailed name)) ready judged is each = there plan h ports is.installed each
 
 -- what is judged of a run is no failed print
 pub judged_unprinted : (h : Record) (fault : Option Fault) → IsJudged h fault → (fault ≡ Some PrintFailed → ⊥)
 judged_unprinted h fault judged is = subst (λ (f : Option Fault). IsJudged h f) is judged
 
--- a plan that is in force is so whatever fault is told
-pub force_of : (plan : Plan) (h : Record) (fault : Option Fault) → in_force h ≡ Some plan → IsInForce plan h fault
+-- a run that began with a plan did so whatever fault is told
+pub force_of : (plan : Plan) (h : Record) (fault : Option Fault) → Began plan h → IsInForce plan h fault
 force_of plan h None is = is
 force_of plan h (Some WantOfMemory) is = inr is
 force_of plan h (Some Usage) is = is

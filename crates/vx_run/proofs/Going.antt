@@ -1,5 +1,5 @@
 -- A run goes on.
-use Rattle.std.proofs.Common.{◌≡◌, ◌∙◌, ℕ, Bool, true, List, [], ◌∷◌, length, Some, IsSome, refl, sym, ap, subst}
+use Rattle.std.proofs.Common.{◌≡◌, ◌∙◌, ℕ, Bool, false, [], ◌∷◌, length, Some, refl, ap, subst}
 use Rattle.vx_plan.specs.declared.plan.Plan.{Plan}
 use Rattle.vx_record.specs.declared.entry.Entry.{Entry}
 use Rattle.vx_record.specs.Additions.{OnlyAdds}
@@ -11,6 +11,7 @@ use Rattle.vx_record.proofs.Adding.{adds_none, adds_one, adds_both, adds_wider}
 use Rattle.vx_record.proofs.FirstWiring.{started_stays}
 use Rattle.vx_ready.proofs.Counting.{counted}
 use Rattle.vx_hub.specs.Standing.{GoesOn, IsSameRun}
+use Rattle.vx_run.specs.Running.{Began}
 
 -- an entry of any kind
 abbrev pub AnyKind : Record → Entry → Type 0
@@ -34,6 +35,14 @@ module _ (plan : Plan) (once : Bool) (now : ℕ) (first h : Record) (is : first 
   -- the plan that a run began with stays in force
   pub plan_stays : in_force h ≡ Some plan
   plan_stays = same.plan ∙ ap in_force is
+
+  -- and the record began with it
+  pub began_with : once ≡ false → GoesOn first h → Began plan h
+  began_with off on = record {
+    moment = now;
+    first = subst (λ (was : Record). GoesOn was h) (is ∙ ap (λ (ends : Bool). begun plan ends now) off) on;
+    installed = plan_stays;
+  }
 
   -- and it has an instance for each component
   pub size_stays : IsLegal first → length (started h) ≡ length plan.components

@@ -4,6 +4,8 @@ pub mod Judged
 pub mod Prepared
 pub mod Reading
 pub mod Closing
+pub mod Completing
 pub mod Counting
+pub mod Pacing
 pub mod Ported
 pub mod Tallied

@@ -1,5 +1,5 @@
 -- How far a run that ended read its input.
-use Rattle.std.proofs.Common.{◌≡◌, ◌⊎◌, inl, inr, ℕ, ◌<◌, true, List, [], length, Option, Some, None, IsSome, sym, subst}
+use Rattle.std.proofs.Common.{◌≡◌, ◌⊎◌, inl, inr, ℕ, ◌<◌, true, [], length, Option, Some, None, IsSome, sym, subst}
 use Rattle.vx_plan.specs.declared.plan.Plan.{Plan}
 use Rattle.vx_record.specs.Ceasing.{lost_at, cause_of, TakesNoMore}
 use Rattle.vx_record.specs.Installs.{in_force, started, source_at}

@@ -1,5 +1,7 @@
 pub mod Answers
+pub mod Completeness
 pub mod Judging
+pub mod Moments
 pub mod Running
 pub mod Telling
 pub mod Showing

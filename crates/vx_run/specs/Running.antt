@@ -1,5 +1,5 @@
 -- What a run leaves behind.
-use Rattle.std.specs.Prelude.{◌≡◌, ◌⊎◌, ℕ, true, List, [], length, Option, Some, None, IsSome, IsSomeAnd}
+use Rattle.std.specs.Prelude.{◌≡◌, ◌⊎◌, ℕ, true, false, List, [], length, Option, Some, None, IsSome, IsSomeAnd}
 use Rattle.vx_value.specs.Texts.{Word}
 use Rattle.vx_value.specs.declared.variable.Variable.{Variable}
 use Rattle.vx_ends.specs.Told.{Told}
@@ -7,6 +7,7 @@ use Rattle.vx_ends.specs.declared.world.Config.{Config}
 use Rattle.vx_plan.specs.declared.plan.Plan.{Plan}
 use Rattle.vx_record.specs.Records.{Record}
 use Rattle.vx_record.specs.Installs.{in_force, source_at}
+use Rattle.vx_record.specs.Wirings.{begun}
 use Rattle.vx_record.specs.Reads.{all_ended}
 use Rattle.vx_record.specs.TallyLists.{tallies_of}
 use Rattle.vx_record.specs.Ceasing.{lost_at}
@@ -14,6 +15,7 @@ use Rattle.vx_record.specs.declared.tally.Tally.{Tally}
 use Rattle.vx_moves.specs.Returns.{HaveReturned}
 use Rattle.vx_hub.specs.declared.parts.Numbered.{Numbered}
 use Rattle.vx_hub.specs.Remains.{AreTold, AreToldButGiven}
+use Rattle.vx_hub.specs.Standing.{GoesOn}
 use Rattle.vx_run.specs.Answers.{ButForMemory, IsReady, IsValid, WentOn}
 use Rattle.vx_cli.specs.declared.fault.Fault.{Fault}
 use Rattle.vx_cli.specs.declared.fault.Fault.TheVariants.{Usage, ConfigRead, ConfigRefused, SourceFailed, ConfirmFailed, PrintFailed, WantOfMemory}
@@ -27,11 +29,17 @@ pub record IsTrueTo {P : Type 0} (told_by : P → Told) (h : Record) (ports : Li
 abbrev pub AllReturned : Record → Option Fault → Type 0
 AllReturned h fault = ButForMemory (HaveReturned h) fault
 
--- the plan in force is that of the file for which the words ask
+-- a record began with a plan, as one whose files go on behind their ends, and the plan is in force
+pub record Began (plan : Plan) (h : Record) : Type 0 where
+  pub moment : ℕ
+  pub first : GoesOn (begun plan false moment) h
+  pub installed : in_force h ≡ Some plan
+
+-- that plan is that of the file for which the words ask
 pub record IsInstalled (words : List Word) (environment : List Variable) (texts : Option (List Config)) (h : Record) : Type 0 where
   pub plan : Plan
   pub ready : IsReady words environment texts plan
-  pub installed : in_force h ≡ Some plan
+  pub began : Began plan h
 
 -- a configuration was judged and stands for a plan, and nothing began
 pub record IsOnlyJudged (words : List Word) (environment : List Variable) (texts : Option (List Config)) (h : Record) : Type 0 where
@@ -78,10 +86,10 @@ pub record HasAllAsked {P : Type 0} (words : List Word) (environment : List Vari
   pub ready : IsReady words environment texts plan
   pub each : HasAll ports plan
 
--- a plan is in force, or for want of memory nothing began
+-- a run began with a plan, or for want of memory it didn't begin
 abbrev pub IsInForce : Plan → Record → Option Fault → Type 0
-IsInForce plan h (Some WantOfMemory) = (h ≡ []) ⊎ (in_force h ≡ Some plan)
-IsInForce plan h fault = in_force h ≡ Some plan
+IsInForce plan h (Some WantOfMemory) = (h ≡ []) ⊎ Began plan h
+IsInForce plan h fault = Began plan h
 
 -- no port of a plan is missing, but where for want of memory nothing began
 abbrev pub HasEach : {P : Type 0} → Plan → Record → List (Numbered P) → Option Fault → Type 0

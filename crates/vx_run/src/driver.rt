@@ -3,7 +3,9 @@ ghost use Rattle.vx_moves.specs.Rooms.{IsHandOf};
 ghost use Rattle.vx_tasks.specs.Out.{HasLeft};
 ghost use Rattle.vx_hub.specs.Ending.{IsOver};
 ghost use Rattle.vx_hub.specs.Failures.{HasReason, abandon_cause};
-ghost use Rattle.vx_hub.specs.Standing.{IsHub, GoesOn};
+ghost use Rattle.vx_hub.specs.Standing.{IsHub};
+ghost use Rattle.vx_record.specs.Additions.{OnlyAdds};
+ghost use Rattle.vx_run.specs.Moments.{IsTimely, IsTimeless};
 
 use std::alloc::Global;
 use std::sync::Wait;
@@ -17,10 +19,11 @@ const WORKER: u32 = 0;
 
 /// Turns a hub until each of its instances ended.
 pub(crate) fn drive<R: Wait, P: Port, C: Clock>(rt: &R, alloc: Global, hub: &mut Hub<P>, clock: &C)
-    requires { IsHub P.told hub.old }
+    requires hub { IsHub P.told hub.old }
+    requires moment { C.gave clock.now hub.old.books.run.latest }
     ensures hub { IsHub P.told hub.new }
     ensures over { IsOver hub.new.books.log }
-    ensures on { GoesOn hub.old.books.log hub.new.books.log }
+    ensures on { OnlyAdds (IsTimely (C.gave clock.now)) hub.old.books.log hub.new.books.log }
 {
     for _ in rt.forever() {
         if hub.over() {
@@ -32,9 +35,11 @@ pub(crate) fn drive<R: Wait, P: Port, C: Clock>(rt: &R, alloc: Global, hub: &mut
 
 /// One turn: ends an instance, moves parcels, or does an instance's work.
 fn turn<P: Port, C: Clock>(alloc: Global, hub: &mut Hub<P>, clock: &C)
-    requires { IsHub P.told hub.old }
+    requires hub { IsHub P.told hub.old }
+    requires moment { C.gave clock.now hub.old.books.run.latest }
     ensures hub { IsHub P.told hub.new }
-    ensures on { GoesOn hub.old.books.log hub.new.books.log }
+    ensures on { OnlyAdds (IsTimely (C.gave clock.now)) hub.old.books.log hub.new.books.log }
+    ensures moment { C.gave clock.now hub.new.books.run.latest }
 {
     if let Some(_ended) = hub.retire() {
         return;
@@ -50,7 +55,8 @@ fn push<P: Port>(hub: &mut Hub<P>, instance: u32)
     requires hub { IsHub P.told hub.old }
     requires within { instance < length hub.old.books.seats }
     ensures hub { IsHub P.told hub.new }
-    ensures on { GoesOn hub.old.books.log hub.new.books.log }
+    ensures on { OnlyAdds IsTimeless hub.old.books.log hub.new.books.log }
+    ensures latest { hub.new.books.run.latest ≡ hub.old.books.run.latest }
 {
     if let Err(fatal) = hub.push_pending(instance) {
         give_up(hub, fatal);
@@ -59,9 +65,11 @@ fn push<P: Port>(hub: &mut Hub<P>, instance: u32)
 
 /// Hands out a task, if one has work, does its work, and brings it home.
 fn lease<P: Port, C: Clock>(alloc: Global, hub: &mut Hub<P>, clock: &C)
-    requires { IsHub P.told hub.old }
+    requires hub { IsHub P.told hub.old }
+    requires moment { C.gave clock.now hub.old.books.run.latest }
     ensures hub { IsHub P.told hub.new }
-    ensures on { GoesOn hub.old.books.log hub.new.books.log }
+    ensures on { OnlyAdds (IsTimely (C.gave clock.now)) hub.old.books.log hub.new.books.log }
+    ensures moment { C.gave clock.now hub.new.books.run.latest }
 {
     if let Some(work) = hub.lease(WORKER, clock.now()) {
         land(alloc, hub, work, clock);
@@ -75,7 +83,8 @@ fn land<P: Port, C: Clock>(alloc: Global, hub: &mut Hub<P>, work: Work<P>, clock
     requires room { IsHandOf hub.old.books.log work.instance work.held.room }
     requires within { work.instance < length hub.old.books.seats }
     ensures hub { IsHub P.told hub.new }
-    ensures on { GoesOn hub.old.books.log hub.new.books.log }
+    ensures on { OnlyAdds IsTimeless hub.old.books.log hub.new.books.log }
+    ensures latest { hub.new.books.run.latest ≡ hub.old.books.run.latest }
 {
     let landing = work.work(alloc, clock);
     if let Err(fatal) = hub.land(landing) {
@@ -88,7 +97,8 @@ fn give_up<P: Port>(hub: &mut Hub<P>, fatal: Fatal)
     requires hub { IsHub P.told hub.old }
     requires reason { HasReason hub.old.books.log fatal }
     ensures hub { IsHub P.told hub.new }
-    ensures on { GoesOn hub.old.books.log hub.new.books.log }
+    ensures on { OnlyAdds IsTimeless hub.old.books.log hub.new.books.log }
+    ensures latest { hub.new.books.run.latest ≡ hub.old.books.run.latest }
 {
     if hub.abandoned().is_none() {
         hub.abandon(abandon_cause(fatal));

@@ -1,6 +1,7 @@
 //! The run of a pipeline and the judgement of a configuration: the driver, what is printed, and the top call.
 #![tactic(auto)]
 
+mod completeness;
 mod driver;
 mod ended;
 mod judging;
@@ -10,6 +11,10 @@ mod telling;
 mod top;
 mod validating;
 
+pub use completeness::{
+    blamed_notices, confirmed_ends, faultless_answers, faultless_confirms, faultless_notices,
+    well_ended,
+};
 pub use ended::Ended;
 pub use top::vector;
 pub use validating::valid_text;

@@ -1,4 +1,4 @@
-ghost use Rattle.std.specs.Prelude.{◌≡◌, ◌≢◌, ◌↔◌, ◌<◌, ◌^◌, length, true, Ok, Err, Some, IfOk, IfErr, IfSome, IsSomeAnd};
+ghost use Rattle.std.specs.Prelude.{◌≡◌, ◌≢◌, ◌↔◌, ◌<◌, ◌^◌, length, true, false, Ok, Err, Some, IfOk, IfErr, IfSome, IsSomeAnd};
 ghost use Rattle.vx_ends.specs.Texts.{IsTextAt};
 ghost use Rattle.vx_ends.specs.Told.{Rose};
 ghost use Rattle.vx_plan.specs.Accepted.{IsPlan};
@@ -24,6 +24,7 @@ pub(crate) fn prepare<W: World>(
     world: &mut W,
 ) -> Result<Parts<W::Port>, Fault>
     ensures stands { IfOk result (λ parts. IsPlanAt environment.now (W.texts world.old) file.now parts.plan) }
+    ensures once { IfOk result (λ parts. parts.once ≡ false) }
     ensures few { IfOk result (λ parts. length parts.plan.components < 2 ^ 32) }
     ensures accepted { IfOk result (λ parts. IsPlan parts.plan) }
     ensures ported { IfOk result (λ parts. all_ported parts.plan.components ≡ true) }

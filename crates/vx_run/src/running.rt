@@ -4,11 +4,12 @@ ghost use Rattle.vx_record.specs.Installs.{started};
 ghost use Rattle.vx_record.specs.TallyLists.{tallies_of};
 ghost use Rattle.vx_hub.specs.Making.{AreUntouched, all_ported};
 ghost use Rattle.vx_hub.specs.Remains.{HasEnded, AreNumbered, AreClosed};
-ghost use Rattle.vx_hub.specs.Standing.{IsHub, IsSameRun};
+ghost use Rattle.vx_hub.specs.Standing.{IsHub, IsSameRun, GoesOn};
 ghost use Rattle.vx_value.specs.Texts.{Word};
 ghost use Rattle.vx_cli.specs.Commands.{IsCommand};
 ghost use Rattle.vx_cli.specs.declared.command.Command.TheVariants.{Run};
 ghost use Rattle.vx_run.specs.Answers.{IsAnswer, IsJudged};
+ghost use Rattle.vx_run.specs.Moments.{AreTimely};
 ghost use Rattle.vx_run.specs.Showing.{IsShown};
 ghost use Rattle.vx_run.specs.Running.{IsTrueTo, AllReturned, HasInstalled, IsInForce, IsReadOut, IsCounted, HasEach, NoneMissing};
 
@@ -55,6 +56,7 @@ pub(crate) fn perform<R: Wait, W: World, C: Clock, P: Printer>(
     ensures closed { AreClosed W.Port.told result.ports }
     ensures numbers { AreNumbered 0 result.ports }
     ensures none_missing { NoneMissing words.now environment.now (W.texts world.old) result.history result.ports result.fault }
+    ensures moments { AreTimely (C.gave clock.now) result.history }
     ensures texts { W.texts world.new ≡ W.texts world.old }
 {
     match read_words(alloc, words) {
@@ -87,6 +89,7 @@ fn run<R: Wait, W: World, C: Clock>(
     ensures numbers { AreNumbered 0 result.ports }
     ensures none_missing { (words : List Word) → IsCommand words (Run file.now) → NoneMissing words environment.now (W.texts world.old) result.history result.ports result.fault }
     ensures unprinted { result.fault ≢ Some Fault.PrintFailed }
+    ensures moments { AreTimely (C.gave clock.now) result.history }
     ensures texts { W.texts world.new ≡ W.texts world.old }
 {
     match prepare(alloc, file, environment, world) {
@@ -121,6 +124,7 @@ fn begin<R: Wait, P: Port, C: Clock>(
     parts: Parts<P>,
     clock: &C,
 ) -> Outcome<P>
+    requires once { parts.once ≡ false }
     requires few { length parts.plan.components < 2 ^ 32 }
     requires ports { length parts.ports ≡ length parts.plan.components }
     requires untouched { AreUntouched P.told parts.plan.components parts.ports }
@@ -136,6 +140,7 @@ fn begin<R: Wait, P: Port, C: Clock>(
     ensures closed { AreClosed P.told result.ports }
     ensures numbers { AreNumbered 0 result.ports }
     ensures none_missing { HasEach parts.plan result.history result.ports result.fault }
+    ensures moments { AreTimely (C.gave clock.now) result.history }
 {
     match Hub::new(alloc, parts, clock.now()) {
         Ok(hub) => finish(rt, alloc, hub, clock),
@@ -145,11 +150,15 @@ fn begin<R: Wait, P: Port, C: Clock>(
 
 /// Runs a hub to its end.
 fn finish<R: Wait, P: Port, C: Clock>(rt: &R, alloc: Global, hub: Hub<P>, clock: &C) -> Outcome<P>
-    requires { IsHub P.told hub }
+    requires hub { IsHub P.told hub }
+    requires moment { C.gave clock.now hub.books.run.latest }
+    requires moments { AreTimely (C.gave clock.now) hub.books.log }
     ensures judged { IsJudged result.history result.fault }
     ensures told { IsTrueTo P.told result.history result.ports result.fault }
     ensures returned { AllReturned result.history result.fault }
+    ensures on { GoesOn hub.books.log result.history }
     ensures same { IsSameRun hub.books.log result.history }
+    ensures moments { AreTimely (C.gave clock.now) result.history }
     ensures ended { HasEnded (length result.ports) result.history }
     ensures read { IsReadOut result.history result.fault }
     ensures counted { IsCounted result.history (length result.ports) result.tallies result.fault }

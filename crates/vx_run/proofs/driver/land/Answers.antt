@@ -1,12 +1,13 @@
-use Rattle.vx_record.specs.Makers.{IsFor}
-use Rattle.vx_run.proofs.Going.{on_wider, on_both}
+use Rattle.vx_run.specs.Moments.{IsTimeless}
+use Rattle.vx_record.proofs.Adding.{adds_both}
+use Rattle.vx_run.proofs.Pacing.{landed_on}
 use Rattle.vx_run.proofs.driver.land.Goals as goal
 
 pub returns-in-Err-clause-on : goal.returns-in-Err-clause-on
 returns-in-Err-clause-on g c =
     let old = c.args.hub.now.books.log in
     let mid = c.land.new.self.books.log in
-    on_both old mid c.give_up.new.hub.books.log (on_wider (IsFor c.work-landing.result.instance) old mid c.in-Err.ensures.only) c.give_up.ensures.on
+    adds_both IsTimeless old mid c.give_up.new.hub.books.log (landed_on c.work-landing.result old mid c.in-Err.ensures.hub.stands.legal c.in-Err.ensures.noted) c.give_up.ensures.on
 
 pub returns-in_default-clause-on : goal.returns-in_default-clause-on
-returns-in_default-clause-on g c = on_wider (IsFor c.work-landing.result.instance) c.args.hub.now.books.log c.land.new.self.books.log c.in_default.ensures.only
+returns-in_default-clause-on g c = landed_on c.work-landing.result c.args.hub.now.books.log c.land.new.self.books.log c.in_default.ensures.hub.stands.legal c.in_default.ensures.noted

@@ -1,9 +1,16 @@
-use Rattle.vx_record.specs.Makers.{IsBy}
-use Rattle.vx_run.proofs.Going.{on_wider, on_both}
+use Rattle.vx_run.proofs.Pacing.{latest_of, latest_kept, leased_on, timely_on, timely_both}
 use Rattle.vx_run.proofs.driver.lease.Goals as goal
 
 pub returns-in-Some-clause-on : goal.returns-in-Some-clause-on
 returns-in-Some-clause-on g c =
-    let old = c.args.hub.now.books.log in
+    let gave = g.C.Clock.gave c.args.clock.now in
+    let old = c.args.hub.now.books in
     let mid = c.lease.new.self.books.log in
-    on_both old mid c.land.new.hub.books.log (on_wider (IsBy 0) old mid c.in-Some.ensures.only) c.land.ensures.on
+    timely_both gave old.log mid c.land.new.hub.books.log
+    (leased_on gave c.in-Some.work.instance _ old.log mid (latest_of gave c.now.result old.run.latest c.now.ensures c.requires.moment) c.in-Some.ensures.hub.stands.legal c.in-Some.ensures.noted)
+    (timely_on gave mid c.land.new.hub.books.log c.land.ensures.on)
+
+pub returns-in-Some-clause-moment : goal.returns-in-Some-clause-moment
+returns-in-Some-clause-moment g c =
+    latest_kept (g.C.Clock.gave c.args.clock.now) c.now.result c.args.hub.now.books.run.latest c.lease.new.self.books.run.latest c.land.new.hub.books.run.latest
+    c.in-Some.ensures.latest c.land.ensures.latest c.now.ensures c.requires.moment

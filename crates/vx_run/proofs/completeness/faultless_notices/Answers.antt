@@ -1,0 +1,5 @@
+use Rattle.vx_run.proofs.Completing.{notices_well}
+use Rattle.vx_run.proofs.completeness.faultless_notices.Goals as goal
+
+pub returns : goal.returns
+returns g c words environment configs before now h ports well = notices_well g.P.Port.told words environment configs before now h ports c.one_command.ensures.one well
