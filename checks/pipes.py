@@ -39,6 +39,35 @@ __attribute__((constructor)) static void start(void)
 }
 """
 
+# A library whose program's writes take seven bytes at the most; the first that is cut makes a file at a path.
+PARTS = b"""
+#define _GNU_SOURCE
+#include <fcntl.h>
+#include <stdlib.h>
+#include <sys/syscall.h>
+#include <unistd.h>
+
+static void tell(void)
+{
+    const char *path = getenv("SHORT_WRITE");
+    int made = path ? open(path, O_WRONLY | O_CREAT, 0600) : -1;
+    if (made >= 0)
+        close(made);
+}
+
+ssize_t write(int descriptor, const void *bytes, size_t size)
+{
+    static int told = 0;
+    if (size > 7) {
+        if (!told)
+            tell();
+        told = 1;
+        size = 7;
+    }
+    return syscall(SYS_write, descriptor, bytes, size);
+}
+"""
+
 # A library whose program finds no memory the nth time it asks, n being said by a variable; then it makes a file at a path.
 WANTS = b"""
 #define _GNU_SOURCE
@@ -268,6 +297,27 @@ def signals():
         comes_through_signals("waits that signals interrupt", lines, ["--config", TWO], (0, lines, lines), False, library)
 
 
+def comes_by_parts(name, words, wanted, library, mark):
+    """Checks what a run writes whose writes each take a few bytes alone."""
+    variables = {b"LD_PRELOAD": library, b"SHORT_WRITE": os.fsencode(mark)}
+    seen = read_late(begun(wanted[0], words, True, BUILT, variables), 0)
+    cut = mark.exists()
+    check(name, cut and seen == (0, *wanted), (cut, seen[0], len(seen[1]), len(seen[2])))
+    mark.unlink(missing_ok=True)
+
+
+def short_writes():
+    """Nothing is lost, and nothing comes twice, where a write takes a part of what it is handed."""
+    lines = b"".join(b"%d and more\n" % i for i in range(2_000))
+    with tempfile.TemporaryDirectory() as folder:
+        (Path(folder) / "parts.c").write_bytes(PARTS)
+        subprocess.run(["cc", "-shared", "-fPIC", "-o", "parts.so", "parts.c"], cwd=folder, check=True)
+        library = os.fsencode(folder) + b"/parts.so"
+        mark = Path(folder) / "cut"
+        comes_by_parts("writes that take seven bytes", ["--config", FIRST], (lines, b""), library, mark)
+        comes_by_parts("writes that take seven bytes, to two outputs", ["--config", TWO], (lines, lines), library, mark)
+
+
 def first_of(out, wanted):
     """Whether what came out is the first lines of what had to, each of them whole."""
     return wanted.startswith(out) and (out == b"" or out.endswith(b"\n"))
@@ -438,4 +488,4 @@ def judgements():
 
 
 if __name__ == "__main__":
-    sys.exit(go_through([consoles, acknowledged, judgements, json_lines, inputs, bytes_of_all_kinds, lines_as_they_come, a_reader_that_leaves, late_readers, signals, wanting_memory, late_texts, ends_that_fail, many_lines]))
+    sys.exit(go_through([consoles, acknowledged, judgements, json_lines, inputs, bytes_of_all_kinds, lines_as_they_come, a_reader_that_leaves, late_readers, signals, short_writes, wanting_memory, late_texts, ends_that_fail, many_lines]))
