@@ -167,6 +167,35 @@ NAMES = [
     ('[sources.abcdefghijklmnopqrstuvwxyzABCDEFGHIJKLMNOPQRSTUVWXYZ0123456789_-x]\ntype = "stdin"\n', "bad value at sources.abcdefghijklmnopqrstuvwxyzABCDEFGHIJKLMNOPQRSTUVWXYZ0123456789_-x"),
 ]
 
+# names of options, as TOML writes them, and how each is printed
+HIDDEN = [
+    ('"a\\u001b[31mb"', "a\\u{1b}[31mb"),
+    ('"a\\rb"', "a\\u{d}b"),
+    ('"a\\nvector: forged"', "a\\u{a}vector: forged"),
+    ('"a\\u0000b"', "a\\u{0}b"),
+    ('"\\t\\u001f \\u007e\\u007f\\u0080\\u009f"', "\\u{9}\\u{1f} ~\\u{7f}\\u{80}\\u{9f}"),
+    ('"a\\u202eb"', "a\\u{202e}b"),
+    ('"a\u202eb"', "a\\u{202e}b"),
+    ('"\\u061c\\u200e\\u200f\\u202a\\u202e\\u2066\\u2069"', "\\u{61c}\\u{200e}\\u{200f}\\u{202a}\\u{202e}\\u{2066}\\u{2069}"),
+    ('"\\u2028\\u2029"', "\\u{2028}\\u{2029}"),
+    ('"\\u00a0\\u061b\\u061d\\u200d\\u2010\\u2027\\u202f\\u2065\\u206a"', "\u00a0\u061b\u061d\u200d\u2010\u2027\u202f\u2065\u206a"),
+    ('"a\\\\u{1b}"', "a\\u{1b}"),
+    ('"\\u00e9 \\u4e16 \\U0001f600"', "\u00e9 \u4e16 \U0001f600"),
+]
+
+# names of options by their parts, and what is printed of them: 256 bytes are whole, and no character or code is parted
+LONG = [
+    ("a" * 256, "a" * 256),
+    ("a" * 257, "a" * 256 + ".."),
+    ("a" * 254 + "\\u00e9", "a" * 254 + "\u00e9"),
+    ("a" * 255 + "\\u00e9", "a" * 255 + ".."),
+    ("a" * 250 + "\\u001b", "a" * 250 + "\\u{1b}"),
+    ("a" * 251 + "\\u001b", "a" * 251 + ".."),
+    ("\\n" * 52, "\\u{a}" * 51 + ".."),
+    ("a" * 10_000_000, "a" * 256 + ".."),
+    ("\\n" * 5_000_000, "\\u{a}" * 51 + ".."),
+]
+
 # words that run the file of that name
 RUNNING = [
     (["-c", "f"], "f"),
@@ -267,6 +296,23 @@ def configurations():
         judged(folder, asking, None, {b"VECTOR_CODEC": b"json"})
 
 
+def faults_of_one_line():
+    """Names, paths and inputs that would end a line, hide a part of it or make it long: each fault is one line of at most 1,000 bytes."""
+    with tempfile.TemporaryDirectory() as folder:
+        for key, shown in HIDDEN + [(f'"{key}"', shown) for key, shown in LONG]:
+            judged(folder, f"{key} = 1\n", f"unknown option {shown}")
+        judged(folder, SOURCE + '[sources."a\\nvector: forged"]\ntype = "stdin"\n' + SINK, "bad value at sources.a\\u{a}vector: forged")
+        judged(folder, BEFORE_INPUTS + 'inputs = ["in\\nvector: forged"]\n', "unknown input in\\u{a}vector: forged of component out")
+        judged(folder, BEFORE_INPUTS + f'inputs = ["{"a" * 10_000_000}"]\n', f"unknown input {'a' * 256}.. of component out")
+        judged(folder, "a = $" + "A" * 10_000_000 + "\n", f"missing variable {'A' * 256}.. at 4")
+        for value, shown in [("a=b=", "a=b="), ("\u202e", "\\u{202e}"), ("\\n", "\\u{a}"), ("a" * 100_000, "a" * 256 + "..")]:
+            judged(folder, '"$VECTOR_NAME" = 1\n', f"unknown option {shown}", {b"VECTOR_NAME": value.encode()})
+        for name, shown in [("a\nvector: forged", "a\\u{a}vector: forged"), ("\x1b[31m", "\\u{1b}[31m"), ("a" * 100_000, "a" * 256 + "..")]:
+            for words in [["--config", name], ["validate", name]]:
+                seen = run(b"", words, cwd=folder)
+                check(f"no file {name[:300]!r}", seen == (74, b"", f"vector: cannot read {shown}\n".encode()), seen)
+
+
 def forms_of_one_option():
     """A table of one option in each form that it may have: lines are read as JSON by each."""
     for options in ['decoding.codec = "json"', 'decoding = { codec = "json" }', '[sources.in.decoding]\ncodec = "json"']:
@@ -286,4 +332,4 @@ def as_many_as_may_be():
 
 
 if __name__ == "__main__":
-    sys.exit(go_through([words, files, configurations, forms_of_one_option, as_many_as_may_be]))
+    sys.exit(go_through([words, files, configurations, faults_of_one_line, forms_of_one_option, as_many_as_may_be]))

@@ -2,6 +2,9 @@ pub mod Building
 pub mod Commands
 pub mod Faults
 pub mod Grammars
+pub mod Lines
+pub mod Shown
 pub mod Spellings
 pub mod Statuses
 pub mod Texts
+pub mod Wordings

@@ -1,10 +1,15 @@
-ghost use Rattle.std.specs.Prelude.{◌≡◌, ◌≢◌, ℕ, ◌++◌, ◌∷◌, [], List, codes};
-ghost use Rattle.std.specs.Str.{IsUtf8};
+ghost use Rattle.std.specs.Prelude.{◌≡◌, ◌≢◌, ℕ, ◌<◌, ◌≤◌, ◌++◌, ◌∷◌, [], All, List, codes, length};
+ghost use Rattle.std.specs.Str.{IsUtf8, NoCharPasses, chars};
 ghost use Rattle.vx_value.specs.Texts.{Word};
 ghost use Rattle.vx_cli.specs.Commands.{IsCommand, IsNoCommand};
+ghost use Rattle.vx_cli.specs.Lines.{IsLine, IsPlainByte};
+ghost use Rattle.vx_cli.specs.Shown.{IsCutAt, is_hidden, shown, spelled};
 ghost use Rattle.vx_cli.specs.Spellings.{IsHyphened, IsPlain};
 ghost use Rattle.vx_cli.specs.declared.command.Command.{Command};
+ghost use Rattle.vx_cli.specs.Texts.{text_of};
 ghost use Rattle.vx_cli.specs.declared.command.Command.TheVariants.{Run, Validate};
+ghost use Rattle.vx_cli.specs.declared.fault.Fault.{Fault};
+ghost use Rattle.vx_cli.specs.declared.fault.Fault.TheVariants.{Usage};
 
 /// A list of words is at most one command, and none where it is in no command's grammar.
 pub fn one_command()
@@ -49,4 +54,22 @@ pub fn refusals()
     ensures validate_option { (file : Word) → IsNoCommand (codes "validate" ∷ (codes "--config=" ++ file) ∷ []) }
     ensures help { IsNoCommand (codes "--help" ∷ []) × IsNoCommand (codes "-h" ∷ []) }
     ensures version { IsNoCommand (codes "--version" ∷ []) × IsNoCommand (codes "-V" ∷ []) }
+{}
+
+/// How a name, path or input is printed, whatever its bytes are: without a hidden character, in 258 bytes at most.
+///
+/// What takes no more than 256 bytes, with its hidden characters by their codes, stands whole. What takes more is cut
+/// behind the last character that ends within 256 bytes, and two dots follow.
+pub fn printed_names()
+    ensures characters { (text : Word) → NoCharPasses is_hidden (shown text) }
+    ensures bytes { (text : Word) → All IsPlainByte (shown text) }
+    ensures bounded { (text : Word) → length (shown text) ≤ 258 }
+    ensures whole { (text : Word) → length (spelled text) ≤ 256 → shown text ≡ spelled text }
+    ensures cut { (text : Word) → 256 < length (spelled text) → IsCutAt 256 (chars text) (shown text) }
+    ensures same { (text : Word) → IsUtf8 text → NoCharPasses is_hidden text → length text ≤ 256 → shown text ≡ text }
+{}
+
+/// Where something is printed of a fault, and not how the program is called, that is one line, whatever the fault names.
+pub fn fault_lines()
+    ensures { (fault : Fault) → fault ≢ Usage → text_of fault ≢ [] → IsLine (text_of fault) }
 {}

@@ -9,11 +9,12 @@ mod grammars;
 mod laws;
 mod plan_texts;
 mod reading;
+mod showing;
 mod texts;
 
 pub use cli_fault::CliFault;
 pub use command::Command;
 pub use fault::Fault;
-pub use laws::{one_command, refusals, spellings};
+pub use laws::{fault_lines, one_command, printed_names, refusals, spellings};
 pub use reading::read_words;
 pub use texts::fault_text;

@@ -1,6 +1,7 @@
 ghost use Rattle.std.specs.Prelude.{◌≡◌, IfOk, string_bytes};
 ghost use Rattle.vx_cli.specs.Texts.{listed, of_component, graph_text, plan_text};
 
+use crate::showing::shown;
 use std::alloc::{AllocError, Global};
 use vx_graph::GraphFault;
 use vx_reading::PlanFault;
@@ -12,28 +13,28 @@ pub(crate) fn plan_text(alloc: Global, fault: &PlanFault) -> Result<String, Allo
 {
     match fault {
         PlanFault::MissingVariable { name, at } => {
-            let name = name.as_str();
+            let name = shown(alloc, name)?;
             format!(in alloc; "missing variable {name} at {at}")
         }
         PlanFault::NotToml => format!(in alloc; "not a TOML document"),
         PlanFault::UnknownKind { path } => {
-            let path = path.as_str();
+            let path = shown(alloc, path)?;
             format!(in alloc; "unknown kind at {path}")
         }
         PlanFault::UnknownOption { path } => {
-            let path = path.as_str();
+            let path = shown(alloc, path)?;
             format!(in alloc; "unknown option {path}")
         }
         PlanFault::MissingOption { path } => {
-            let path = path.as_str();
+            let path = shown(alloc, path)?;
             format!(in alloc; "missing option {path}")
         }
         PlanFault::BadValue { path } => {
-            let path = path.as_str();
+            let path = shown(alloc, path)?;
             format!(in alloc; "bad value at {path}")
         }
         PlanFault::TooMany { path, found, limit } => {
-            let path = path.as_str();
+            let path = shown(alloc, path)?;
             format!(in alloc; "too many at {path}: {found}, limit {limit}")
         }
         PlanFault::Graph(fault) => graph_text(alloc, fault),
@@ -53,7 +54,7 @@ fn graph_text(alloc: Global, fault: &GraphFault) -> Result<String, AllocError>
             format!(in alloc; "no inputs{place}")
         }
         GraphFault::UnknownInput { name, input } => {
-            let input = input.as_str();
+            let input = shown(alloc, input)?;
             let place = of_component(alloc, name)?;
             format!(in alloc; "unknown input {input}{place}")
         }
@@ -69,22 +70,19 @@ fn graph_text(alloc: Global, fault: &GraphFault) -> Result<String, AllocError>
 fn of_component(alloc: Global, name: &Text) -> Result<String, AllocError>
     ensures { IfOk result (λ place. string_bytes place ≡ of_component name.now) }
 {
-    let name = name.as_str();
+    let name = shown(alloc, name)?;
     format!(in alloc; " of component {name}")
 }
 
-/// Names, with a comma and a blank between two of them. They are those of a cycle, which has at most 256.
+/// Names as they are printed, with a comma and a blank between two of them. They are those of a cycle, which has at most 256.
 fn listed(alloc: Global, names: &[Text]) -> Result<String, AllocError>
     ensures { IfOk result (λ text. string_bytes text ≡ listed names.now) }
 {
     match names {
         [] => Ok(String::new(alloc)),
-        [name] => {
-            let name = name.as_str();
-            format!(in alloc; "{name}")
-        }
+        [name] => shown(alloc, name),
         [name, rest @ ..] => {
-            let name = name.as_str();
+            let name = shown(alloc, name)?;
             let rest = listed(alloc, rest)?;
             format!(in alloc; "{name}, {rest}")
         }

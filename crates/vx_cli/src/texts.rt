@@ -1,8 +1,10 @@
 ghost use Rattle.std.specs.Prelude.{◌≡◌, ◌++◌, OnOk, OnErr, IfOk, string_bytes};
 ghost use Rattle.vx_cli.specs.Texts.{text_of, reason_of, failed_after};
+ghost use Rattle.vx_cli.specs.Wordings.{text_as};
 
 use crate::fault::Fault;
 use crate::plan_texts::plan_text;
+use crate::showing::shown;
 use std::alloc::{AllocError, Global};
 use vx_graph::GraphFault;
 use vx_reading::PlanFault;
@@ -21,17 +23,42 @@ pub fn fault_text(alloc: Global, fault: &Fault, out: &mut Bytes) -> Result<(), W
     ensures ok { OnOk result (out.new ≡ out.old ++ text_of fault.now) }
     ensures err { OnErr result (out.new ≡ out.old) }
 {
-    match fault {
-        Fault::Usage => out.push_slice(USAGE.as_bytes()),
-        Fault::PrintFailed
-        | Fault::WantOfMemory
-        | Fault::ConfigRefused(PlanFault::WantOfMemory)
-        | Fault::ConfigRefused(PlanFault::Graph(GraphFault::WantOfMemory)) => Ok(()),
-        _ => {
+    match wording_of(fault) {
+        Wording::Usage => out.push_slice(USAGE.as_bytes()),
+        Wording::Nothing => Ok(()),
+        Wording::Line => {
             let reason = reason(alloc, fault)?;
             let line = format!(in alloc; "vector: {reason}\n")?;
             out.push_slice(line.as_str().as_bytes())
         }
+    }
+}
+
+/// What is printed of a fault.
+#[derive(Clone, Copy)]
+enum Wording {
+    /// How the program is called.
+    Usage,
+    /// Nothing.
+    Nothing,
+    /// A line with the reason.
+    Line,
+}
+
+/// What is printed of a fault.
+fn wording_of(fault: &Fault) -> Wording
+    ensures { text_of fault.now ≡ text_as fault.now result }
+{
+    match fault {
+        Fault::Usage => Wording::Usage,
+        Fault::PrintFailed | Fault::WantOfMemory => Wording::Nothing,
+        Fault::ConfigRefused(PlanFault::WantOfMemory) => Wording::Nothing,
+        Fault::ConfigRefused(PlanFault::Graph(GraphFault::WantOfMemory)) => Wording::Nothing,
+        Fault::ConfigRefused(_)
+        | Fault::ConfigRead { .. }
+        | Fault::Numbers { .. }
+        | Fault::SourceFailed { .. }
+        | Fault::ConfirmFailed { .. } => Wording::Line,
     }
 }
 
@@ -41,7 +68,7 @@ fn reason(alloc: Global, fault: &Fault) -> Result<String, AllocError>
 {
     match fault {
         Fault::ConfigRead { path } => {
-            let path = path.as_str();
+            let path = shown(alloc, path)?;
             format!(in alloc; "cannot read {path}")
         }
         Fault::ConfigRefused(fault) => {
@@ -52,12 +79,12 @@ fn reason(alloc: Global, fault: &Fault) -> Result<String, AllocError>
             format!(in alloc; "copy numbers are used up: next {next}, wanted {wanted}")
         }
         Fault::SourceFailed { name, at } => {
-            let name = name.as_str();
+            let name = shown(alloc, name)?;
             let place = failed_after(alloc, *at)?;
             format!(in alloc; "source {name}{place}")
         }
         Fault::ConfirmFailed { name } => {
-            let name = name.as_str();
+            let name = shown(alloc, name)?;
             format!(in alloc; "source {name} could not be confirmed")
         }
         Fault::Usage | Fault::PrintFailed | Fault::WantOfMemory => Ok(String::new(alloc)),
