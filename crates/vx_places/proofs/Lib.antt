@@ -1,11 +1,7 @@
 pub mod Written
-pub mod Rooms
-pub mod Shifting
 pub mod Steps
 pub mod Making
 pub mod Spending
 pub mod Looking
-pub mod Children
-pub mod Ending
 pub mod Recorded
 pub mod Firsts

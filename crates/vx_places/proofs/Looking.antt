@@ -1,35 +1,178 @@
--- What is said of an instance's places, by its row.
-use Rattle.std.proofs.Common.{◌≡◌, ℕ, zero, suc, ◌<◌, Bool, true, false, List, [], ◌∷◌, length, get_or, refl, sym, ap, ◌∙◌, ◌+◌, ◌≤◌, arith, Option, Some, None, inl, inr, subst}
-use Rattle.std.specs.Prelude.{◌↔◌, ◌==◌, if◌then◌else◌, IsSomeAnd}
-use Rattle.std.proofs.lemmas.Bool.{cases_eq, cases_lt}
-use Rattle.vx_value.specs.Filled.{Filled}
+-- What is said of an instance's places, by its row: of the children that wait, and the oldest for a target, and of all of them.
+use Rattle.std.proofs.Common.{◌≡◌, ℕ, zero, suc, ◌+◌, ◌<◌, Bool, true, false, List, [], ◌∷◌, ◌++◌, length, get_or, refl, sym, ap, ◌∙◌, arith, Option, inl, inr, Some, None}
+use Rattle.std.specs.Prelude.{◌≢◌, ◌==◌, if◌then◌else◌, slice_set, remove, IsSomeAnd, ◌↔◌}
+use Rattle.std.specs.List.{slice_get}
+use Rattle.std.specs.declared.collections.VecDeque.{VecDeque}
+use Rattle.std.specs.VecDeque.{deque_with_item}
+use Rattle.std.proofs.lemmas.Bool.{cases_eq, eq-eqb}
+use Rattle.std.proofs.lemmas.Bool.Decides.{nat_tests}
+use Rattle.std.proofs.lemmas.List.{set-get_or}
+use Rattle.std.proofs.lemmas.Option.{slice_get-get_or}
+use native.Mathlib.Nat.{ℕ_set}
+use native.Mathlib.Bridge.{le_prop}
+use Rattle.vx_value.specs.declared.event.Event.{Event}
+use Rattle.vx_ledger.specs.Copies.{Copy}
 use Rattle.vx_ledger.specs.declared.parcel.Parcel.{Parcel}
 use Rattle.vx_ledger.specs.declared.child.Child.{Child}
 use Rattle.vx_record.specs.Places.Place.{Outputs, Waiting, Contents, Held}
-use Rattle.vx_places.specs.declared.row.Row.{Row}
 use Rattle.vx_places.specs.Numbers.{for_target}
-use Rattle.vx_places.specs.Views.{row_at, stage_at, stage_items, held_items, here_if, parcels_here}
-use Rattle.vx_places.specs.Calls.{IsRow, NoneWaits, NoneBefore, IsOldestFor}
-use Rattle.vx_places.specs.Looks.{HasOutput, HasWaiting, HasSent, HasEmptyBuffer, ManyWait, HoldsMany, IsBare}
-use Rattle.vx_places.proofs.Written.{one_some, same_test, stage_read, stage_past, stage_there, stage_is, stage_has, no_stage, child_there, read_at, row_is, row_has}
+use Rattle.vx_places.specs.Calls.{LosesCopy, NothingToLose, NoneBefore, left_of, NoneWaits, IsOldestFor}
+use Rattle.vx_places.specs.declared.row.Row.{Row}
+use Rattle.vx_places.specs.Views.{row_at, here_if, parcels_here}
+use Rattle.vx_places.specs.Looks.{HasSent, HasEmptyBuffer, ManyWait, IsBare}
+use Rattle.vx_places.proofs.Written.{same_but_ok, has, is_there, one_some}
 
--- CHILDREN
+-- THE OLDEST FOR A TARGET
+other_test : (m n : ℕ) → m ≢ n → (m == n) ≡ false
+other_test m n e = grind (arith, nat_tests)
+
+-- the child at a place is for a target
+abbrev pub IsFor : ℕ → List Child → ℕ → Type 0
+IsFor t cs k = IsSomeAnd (slice_get cs k) (λ c. c.target ≡ t)
+
+-- a child is the oldest for a target where it is for that, and none before it is
+pub oldest_of : (t k : ℕ) (cs : List Child) → IsFor t cs k → ((j : ℕ) → j < k → IsFor t cs j → ⊥) → NoneBefore t k cs
+oldest_of t k [] is none = is
+oldest_of t zero (c ∷ cs) is none = is
+oldest_of t (suc k) (c ∷ cs) is none = (none zero (omega arith), oldest_of t k cs is (λ j l. none (suc j) (omega (arith, l))))
+
+pub oldest_for : (t k : ℕ) (cs : List Child) → NoneBefore t k cs → IsFor t cs k
+oldest_for t k [] first = first
+oldest_for t zero (c ∷ cs) first = first
+oldest_for t (suc k) (c ∷ cs) first = oldest_for t k cs first.1
+
+pub none_before : (t k j : ℕ) (cs : List Child) → NoneBefore t k cs → j < k → IsFor t cs j → ⊥
+none_before t k j [] first l is = first
+none_before t zero j (c ∷ cs) first l is = omega arith
+none_before t (suc k) zero (c ∷ cs) first l is = first.0 is
+none_before t (suc k) (suc j) (c ∷ cs) first l is = none_before t k j cs first.1 (omega arith) is
+
+pub child_there : (t k : ℕ) (cs : List Child) → NoneBefore t k cs → k < length cs
+child_there t k cs first = is_there (λ (c : Child). c.target ≡ t) cs k (oldest_for t k cs first)
+
+pub no_first : (cs : List Child) → ((t : ℕ) → NoneBefore t 0 cs → ⊥) → cs ≡ []
+no_first [] none = refl
+no_first (c ∷ cs) none = absurd (none c.target refl)
+
+-- none of the first children is for a target where none before the last of them is, nor that one
+pub none_more : (t k : ℕ) (cs : List Child) (c : Child) → k < length cs → c ≡ get_or cs k c → c.target ≢ t → ((j : ℕ) → j < k → IsFor t cs j → ⊥) →
+    (j : ℕ) → j < k + 1 → IsFor t cs j → ⊥
+none_more t k cs c l at other none j below is =
+    elim (cases_eq j k) [
+      | inl same ↦ other (has (λ (d : Child). d.target ≡ t) cs k c l at (rw same at is))
+      | inr apart ↦ none j (omega (arith, apart, below)) is
+    ]
+
+-- parcels wait for a target where a child at some place is for it, and none where none is
+pub some_for : (t k : ℕ) (cs : List Child) → IsFor t cs k → 0 < length (for_target t cs)
+some_for t k [] is = absurd is
+some_for t zero (c ∷ cs) is = rw (eq-eqb c.target t is) (omega arith)
+some_for t (suc k) (c ∷ cs) is = let later = some_for t k cs is in grind (arith, later)
+
+pub none_for_it : (t : ℕ) (cs : List Child) → ((k : ℕ) → IsFor t cs k → ⊥) → for_target t cs ≡ []
+none_for_it t [] none = refl
+none_for_it t (c ∷ cs) none = rw (other_test c.target t (none zero)) (none_for_it t cs (λ k. none (suc k)))
+
+-- A CHILD IS WRITTEN, OR TAKEN OUT
+remove_set : (cs : List Child) (k : ℕ) (c : Child) → remove (slice_set cs k c) k ≡ remove cs k
+remove_set [] k c = refl
+remove_set (d ∷ cs) zero c = refl
+remove_set (d ∷ cs) (suc k) c = ap (λ (ds : List Child). d ∷ ds) (remove_set cs k c)
+
+-- where it is the oldest for its target, its parcel is the first of those for that
+first_written : (t k : ℕ) (cs : List Child) (c : Child) → NoneBefore t k cs → c.target ≡ t → for_target t (slice_set cs k c) ≡ c.parcel ∷ for_target t (remove cs k)
+first_written t k [] c first is = absurd first
+first_written t zero (d ∷ cs) c first is = rw (eq-eqb c.target t is)
+first_written t (suc k) (d ∷ cs) c first is = rw (other_test d.target t first.0) (first_written t k cs c first.1 is)
+
+-- and of another target none is missed
+other_written : (t u k : ℕ) (cs : List Child) (c : Child) → k < length cs → c.target ≡ t → (t == u) ≡ false → for_target u (slice_set cs k c) ≡ for_target u (remove cs k)
+other_written t u k [] c l is other = absurd (omega arith)
+other_written t u zero (d ∷ cs) c l is other = rw (is, other)
+other_written t u (suc k) (d ∷ cs) c l is other =
+    ap (λ ps. if d.target == u then d.parcel ∷ ps else ps) (other_written t u k cs c (omega arith) is other)
+
+-- a child with other copies
+abbrev pub with_copies : Child → List Copy → Child
+with_copies c copies = record { target = c.target; parcel = record { event = c.parcel.event; finalizers = copies } }
+
+-- where nothing was taken of it, nothing has changed
+pub child_still : {Z : Type 0} (q : VecDeque Child Z) (k : ℕ) (c : Child) (left : List Copy) → c ≡ get_or q.items k c → left ≡ c.parcel.finalizers → deque_with_item q k (with_copies c left) ≡ q
+child_still q k c left at same =
+    same_but_ok (λ (cs : List Child) ok. record q { items = cs; ok = ok }) (λ cs. hlevel (le_prop, ℕ_set)) (deque_with_item q k (with_copies c left)).ok q.ok
+    (ap (slice_set q.items k) (ap (with_copies c) same ∙ at) ∙ set-get_or q.items k c)
+
+pub left_filled : (event : Event) (left : List Copy) (rest : List Parcel) → left ≢ [] → record { event = event; finalizers = left } ∷ rest ≡ left_of event left rest
+left_filled event [] rest filled = absurd (filled refl)
+left_filled event (c ∷ cs) rest filled = refl
+
+module _ (t k : ℕ) (cs : List Child) (c : Child) (first : NoneBefore t k cs) (at : c ≡ get_or cs k c) where
+  is_for : c.target ≡ t
+  is_for = has (λ (d : Child). d.target ≡ t) cs k c (child_there t k cs first) at (oldest_for t k cs first)
+
+  still : cs ≡ slice_set cs k c
+  still = sym (ap (slice_set cs k) at ∙ set-get_or cs k c)
+
+  pub oldest_is : for_target t cs ≡ c.parcel ∷ for_target t (remove cs k)
+  oldest_is = ap (for_target t) still ∙ first_written t k cs c first is_for
+
+  pub others_stay : (u : ℕ) → (t == u) ≡ false → for_target u (remove cs k) ≡ for_target u cs
+  others_stay u other = sym (ap (for_target u) still ∙ other_written t u k cs c (child_there t k cs first) is_for other)
+
+  -- it has fewer copies, or is gone with its only one
+  pub child_lost : (left : List Copy) (copy : Copy) (new : List Parcel) → c.parcel.finalizers ≡ left ++ copy ∷ [] → new ≡ left_of c.parcel.event left (for_target t (remove cs k)) →
+      LosesCopy copy (for_target t cs) new
+  child_lost left copy new are now = record {
+    event = c.parcel.event;
+    left = left;
+    rest = for_target t (remove cs k);
+    was = oldest_is ∙ ap (λ (copies : List Copy). record { event = c.parcel.event; finalizers = copies } ∷ for_target t (remove cs k)) are;
+    now = now;
+  }
+
+  module _ (left : List Copy) where
+    abbrev fewer : List Child
+    fewer = slice_set cs k (with_copies c left)
+
+    pub lost_is : left ≢ [] → for_target t fewer ≡ left_of c.parcel.event left (for_target t (remove cs k))
+    lost_is some = first_written t k cs (with_copies c left) first is_for ∙ left_filled c.parcel.event left (for_target t (remove cs k)) some
+
+    pub gone_is : left ≡ [] → for_target t (remove fewer k) ≡ left_of c.parcel.event left (for_target t (remove cs k))
+    gone_is none = ap (for_target t) (remove_set cs k (with_copies c left)) ∙ sym (ap (λ (copies : List Copy). left_of c.parcel.event copies (for_target t (remove cs k))) none)
+
+    pub others_lost : (u : ℕ) → (t == u) ≡ false → for_target u fewer ≡ for_target u cs
+    others_lost u other = other_written t u k cs (with_copies c left) (child_there t k cs first) is_for other ∙ others_stay u other
+
+    pub others_gone : (u : ℕ) → (t == u) ≡ false → for_target u (remove fewer k) ≡ for_target u cs
+    others_gone u other = ap (for_target u) (remove_set cs k (with_copies c left)) ∙ others_stay u other
+
+  pub nothing_less : c.parcel.finalizers ≡ [] → NothingToLose (for_target t cs)
+  nothing_less none = rw oldest_is none
+
+-- NONE WAITS
+-- a test of their number says whether there is one
+pub no_children : (cs : List Child) (r : Bool) (n : ℕ) → n ≡ length cs → r ≡ (n == 0) → (r ≡ true) ↔ (cs ≡ [])
+no_children [] r n len is = grind (arith, nat_tests, len, is)
+no_children (c ∷ cs) r n len is = grind (arith, nat_tests, len, is)
+
 -- where none is for any target, there is none
 pub none_for : (cs : List Child) → ((t : ℕ) → for_target t cs ≡ []) → cs ≡ []
 none_for [] none = refl
-none_for (c ∷ cs) none = absurd (go (c.target == c.target) (same_test c.target) (none c.target))
-  where
-    go : (b : Bool) → b ≡ true → (if b then c.parcel ∷ for_target c.target cs else for_target c.target cs) ≡ [] → ⊥
-    go true is e = cc
-    go false is e = cc
+none_for (c ∷ cs) none = let here = rw (eq-eqb c.target c.target refl) at (none c.target) in cc
 
 pub none_waits_for_all : (rows : List Row) (i : ℕ) → i < length rows → ((t : ℕ) → parcels_here rows (Waiting i t) ≡ Some []) → NoneWaits rows i
-none_waits_for_all rows i l none = go rows i l none
+none_waits_for_all [] i l all = absurd (omega arith)
+none_waits_for_all (r ∷ rs) i l all =
+    let row = slice_get-get_or (r ∷ rs) i r l in
+    rw row (none_for (get_or (r ∷ rs) i r).waiting.items (λ t. one_some _ _ (rw row at (all t))))
+
+-- and where there is none, none is for a target
+pub none_waits_for : (rows : List Row) (i t : ℕ) → NoneWaits rows i → parcels_here rows (Waiting i t) ≡ Some []
+none_waits_for rows i t = go (row_at rows i)
   where
-    go : (rs : List Row) (k : ℕ) → k < length rs → ((t : ℕ) → here_if (Waiting i t) (row_at rs k) ≡ Some []) → IsRow (λ row. row.waiting.items ≡ []) rs k
-    go [] k below all = absurd (omega arith)
-    go (r ∷ rs) zero below all = none_for r.waiting.items (λ t. one_some _ _ (all t))
-    go (r ∷ rs) (suc k) below all = go rs k (omega arith) all
+    go : (o : Option Row) → IsSomeAnd o (λ row. row.waiting.items ≡ []) → here_if (Waiting i t) o ≡ Some []
+    go None none = absurd none
+    go (Some row) none = ap (λ cs. Some (for_target t cs)) none
 
 -- a child is the oldest for one target at most,
 one_target : (t u k : ℕ) (cs : List Child) → NoneBefore t k cs → NoneBefore u k cs → t ≡ u
@@ -52,106 +195,9 @@ oldest_below rows i t k n = go (row_at rows i)
     go None many first = absurd first
     go (Some row) many first = let below = child_there t k row.waiting.items first in omega (arith, below, many)
 
-module _ (rows : List Row) (i : ℕ) (read : Row) (l : i < length rows) (is_there : read ≡ get_or rows i read) where
-  abbrev row : Row
-  row = get_or rows i read
-
-  at : get_or rows i read ≡ get_or rows i (get_or rows i read)
-  at = ap (get_or rows i) is_there
-
-  pub none_waits_is : row.waiting.items ≡ [] → NoneWaits rows i
-  none_waits_is none = row_is _ rows i row l at none
-
-  pub none_waits_was : NoneWaits rows i → row.waiting.items ≡ []
-  none_waits_was none = row_has _ rows i row l at none
-
-  none_waits_for : NoneWaits rows i → (t : ℕ) → parcels_here rows (Waiting i t) ≡ Some []
-  none_waits_for none t = read_at rows i row l at (Waiting i t) refl ∙ ap (λ cs. Some (for_target t cs)) (none_waits_was none)
-
-  outputs_is : row.outputs.items ≡ [] → parcels_here rows (Outputs i) ≡ Some []
-  outputs_is none = read_at rows i row l at (Outputs i) refl ∙ ap Some none
-
-  pub outputs_was : parcels_here rows (Outputs i) ≡ Some [] → row.outputs.items ≡ []
-  outputs_was none = one_some _ _ (sym (read_at rows i row l at (Outputs i) refl) ∙ none)
-
-  pub sent_is : row.outputs.items ≡ [] → NoneWaits rows i → HasSent rows i
-  sent_is outputs none = (outputs_is outputs, none_waits_for none)
-
-  pub output_is : 0 < length row.outputs.items → HasOutput rows i
-  output_is some = subst (λ (o : Option (List Parcel)). IsSomeAnd o (λ ps. 0 < length ps)) (sym (read_at rows i row l at (Outputs i) refl)) some
-
-  pub output_was : HasOutput rows i → 0 < length row.outputs.items
-  output_was some = subst (λ (o : Option (List Parcel)). IsSomeAnd o (λ ps. 0 < length ps)) (read_at rows i row l at (Outputs i) refl) some
-
-  pub awaits_is : (t : ℕ) → 0 < length (for_target t row.waiting.items) → HasWaiting rows i t
-  awaits_is t some = subst (λ (o : Option (List Parcel)). IsSomeAnd o (λ ps. 0 < length ps)) (sym (read_at rows i row l at (Waiting i t) refl)) some
-
-  pub awaits_was : (t : ℕ) → HasWaiting rows i t → 0 < length (for_target t row.waiting.items)
-  awaits_was t some = subst (λ (o : Option (List Parcel)). IsSomeAnd o (λ ps. 0 < length ps)) (read_at rows i row l at (Waiting i t) refl) some
-
-  pub buffer_is : ((s : ℕ) → stage_items (stage_at row.stages.items s) ≡ []) → HasEmptyBuffer rows i
-  buffer_is none s = read_at rows i row l at (Contents i s) refl ∙ ap Some (none s)
-
-  pub buffer_was : HasEmptyBuffer rows i → (s : ℕ) → stage_items (stage_at row.stages.items s) ≡ []
-  buffer_was none s = one_some _ _ (sym (read_at rows i row l at (Contents i s) refl) ∙ none s)
-
-  pub held_none_is : held_items row.held ≡ Some [] → parcels_here rows (Held i) ≡ Some []
-  held_none_is none = read_at rows i row l at (Held i) refl ∙ none
-
-  pub held_none_was : parcels_here rows (Held i) ≡ Some [] → held_items row.held ≡ Some []
-  held_none_was none = sym (read_at rows i row l at (Held i) refl) ∙ none
-
-  -- a stage of which something is said is there
-  pub stage_within : (F : Filled Parcel → Type 0) (s : ℕ) → IsRow (λ r. IsSomeAnd (stage_at r.stages.items s) F) rows i → s < length row.stages.items
-  stage_within F s has = stage_there F row.stages.items s (row_has _ rows i row l at has)
-
-  -- what is said of a stage that was found, or wasn't
-  pub stage_found : (F : Filled Parcel → Type 0) (answer : Bool) (stages : List (Filled Parcel)) (s : ℕ) (stage : Filled Parcel) → stages ≡ row.stages.items →
-      s < length stages → stage ≡ get_or stages s stage → ((answer ≡ true) ↔ F stage) → (answer ≡ true) ↔ IsRow (λ r. IsSomeAnd (stage_at r.stages.items s) F) rows i
-  stage_found F answer stages s stage same below found says = (
-    λ is. row_is _ rows i row l at (subst (λ (ss : List (Filled Parcel)). IsSomeAnd (stage_at ss s) F) same (stage_is F stages s stage below found (says.0 is))),
-    λ has. says.1 (stage_has F stages s stage below found (subst (λ (ss : List (Filled Parcel)). IsSomeAnd (stage_at ss s) F) (sym same) (row_has _ rows i row l at has))),
-  )
-
-  pub stage_missed : (F : Filled Parcel → Type 0) (stages : List (Filled Parcel)) (s : ℕ) → stages ≡ row.stages.items → length stages ≤ s →
-      (false ≡ true) ↔ IsRow (λ r. IsSomeAnd (stage_at r.stages.items s) F) rows i
-  stage_missed F stages s same past = (
-    λ is. absurd cc,
-    λ has. absurd (no_stage F stages s past (subst (λ (ss : List (Filled Parcel)). IsSomeAnd (stage_at ss s) F) (sym same) (row_has _ rows i row l at has))),
-  )
-
 -- A BARE INSTANCE
 pub bare_is : (rows : List Row) (i : ℕ) → HasSent rows i → HasEmptyBuffer rows i → parcels_here rows (Held i) ≡ Some [] → IsBare rows i
-bare_is rows i sent buffer held (Outputs j) own = subst (λ (k : ℕ). parcels_here rows (Outputs k) ≡ Some []) (sym own) sent.0
-bare_is rows i sent buffer held (Waiting j t) own = subst (λ (k : ℕ). parcels_here rows (Waiting k t) ≡ Some []) (sym own) (sent.1 t)
-bare_is rows i sent buffer held (Contents j s) own = subst (λ (k : ℕ). parcels_here rows (Contents k s) ≡ Some []) (sym own) (buffer s)
-bare_is rows i sent buffer held (Held j) own = subst (λ (k : ℕ). parcels_here rows (Held k) ≡ Some []) (sym own) held
-
-pub bare_sent : (rows : List Row) (i : ℕ) → IsBare rows i → HasSent rows i
-bare_sent rows i bare = (bare (Outputs i) refl, λ t. bare (Waiting i t) refl)
-
-pub bare_buffer : (rows : List Row) (i : ℕ) → IsBare rows i → HasEmptyBuffer rows i
-bare_buffer rows i bare s = bare (Contents i s) refl
-
-pub bare_held : (rows : List Row) (i : ℕ) → IsBare rows i → parcels_here rows (Held i) ≡ Some []
-bare_held rows i bare = bare (Held i) refl
-
--- STAGES
-pub stages_more : (stages : List (Filled Parcel)) (k : ℕ) (stage : Filled Parcel) → k < length stages → stage ≡ get_or stages k stage → stage.items ≡ [] →
-    ((s : ℕ) → s < k → stage_items (stage_at stages s) ≡ []) → (s : ℕ) → s < k + 1 → stage_items (stage_at stages s) ≡ []
-stages_more stages k stage l at none before s below =
-    elim (cases_eq s k) [
-      | inl same ↦ ap (λ (n : ℕ). stage_items (stage_at stages n)) same ∙ ap stage_items (stage_read stages k stage l at) ∙ none
-      | inr other ↦ before s (omega (arith, other, below))
-    ]
-
-pub stages_all : (stages : List (Filled Parcel)) → ((s : ℕ) → s < length stages → stage_items (stage_at stages s) ≡ []) → (s : ℕ) → stage_items (stage_at stages s) ≡ []
-stages_all stages none s =
-    elim (cases_lt s (length stages)) [
-      | inl below ↦ none s below
-      | inr past ↦ ap stage_items (stage_past stages s past)
-    ]
-
-pub stage_none : (stages : List (Filled Parcel)) (s : ℕ) (stage : Filled Parcel) → s < length stages → stage ≡ get_or stages s stage →
-    ((k : ℕ) → stage_items (stage_at stages k) ≡ []) → stage.items ≡ []
-stage_none stages s stage l at none = sym (ap stage_items (stage_read stages s stage l at)) ∙ none s
+bare_is rows i sent buffer held (Outputs j) own = rw own sent.0
+bare_is rows i sent buffer held (Waiting j t) own = rw own (sent.1 t)
+bare_is rows i sent buffer held (Contents j s) own = rw own (buffer s)
+bare_is rows i sent buffer held (Held j) own = rw own held

@@ -1,9 +1,9 @@
--- Stages that are made, and what is left of a parcel.
-use Rattle.std.proofs.Common.{◌≡◌, ℕ, zero, suc, ◌+◌, ◌<◌, List, [], ◌∷◌, ◌++◌, length, take, refl, sym, ap, ◌∙◌, arith}
-use Rattle.std.specs.Prelude.{◌≢◌, slice_index, Option, Some, None, IsSomeAnd, IsSome}
+-- Rows that are made, and rows at which nothing stands.
+use Rattle.std.proofs.Common.{◌≡◌, ℕ, zero, suc, ◌+◌, ◌<◌, List, [], ◌∷◌, ◌++◌, length, take, get_or, refl, sym, ap, ◌∙◌, arith, Option, Some, None}
+use Rattle.std.specs.Prelude.{slice_index, IsSomeAnd, IsSome}
+use Rattle.std.proofs.lemmas.List.Elements.{recursion_from_All}
+use Rattle.std.proofs.lemmas.Option.{slice_get-get_or}
 use Rattle.vx_value.specs.Filled.{Filled}
-use Rattle.vx_value.specs.declared.event.Event.{Event}
-use Rattle.vx_ledger.specs.Copies.{Copy}
 use Rattle.vx_ledger.specs.declared.parcel.Parcel.{Parcel}
 use Rattle.vx_record.specs.Places.{Place, owner}
 use Rattle.vx_record.specs.Places.Place.{Outputs, Waiting, Contents, Held}
@@ -12,15 +12,15 @@ use Rattle.vx_places.specs.Numbers.{for_target}
 use Rattle.vx_places.specs.Views.{row_at, stage_at, stage_items, held_items, here, here_if, Same}
 use Rattle.vx_places.specs.Rooms.{stage_rooms, line_room, rooms_if, held_room_if, AddsRooms}
 use Rattle.vx_places.specs.Laws.{HeldSays}
-use Rattle.vx_places.specs.Calls.{AreEmpty, IsNew, IsRow, empty_stages, left_of}
+use Rattle.vx_places.specs.Looks.{AreBare}
+use Rattle.vx_places.specs.Calls.{AreEmpty, IsNew, IsRow, IsVacant, EachVacant, empty_stages}
+use Rattle.vx_places.proofs.Written.{one_some}
+use Rattle.vx_places.proofs.Looking.{none_for}
 
+-- STAGES THAT ARE MADE
 pub made_empty : (rooms : List ℕ) → AreEmpty (empty_stages rooms)
 made_empty [] = tt
 made_empty (room ∷ rooms) = (refl, made_empty rooms)
-
-pub last_empty : (stages : List (Filled Parcel)) (stage : Filled Parcel) → AreEmpty (stages ++ stage ∷ []) → AreEmpty stages × (stage.items ≡ [])
-last_empty [] stage are = (tt, are.0)
-last_empty (s ∷ stages) stage are = let rest = last_empty stages stage are.1 in ((are.0, rest.0), rest.1)
 
 -- one stage more
 pub stages_more : (rooms : List ℕ) (i : ℕ) (stage : Filled Parcel) → i < length rooms → stage.items ≡ [] → stage.room ≡ slice_index rooms i →
@@ -32,43 +32,25 @@ stages_more (r ∷ rooms) (suc i) stage l none room =
     let e : suc i + 1 ≡ suc (i + 1) = omega arith in
     ap (λ (n : ℕ). empty_stages (take n (r ∷ rooms))) e ∙ ap (λ (ss : List (Filled Parcel)). record { items = []; room = r } ∷ ss) (stages_more rooms i stage (omega arith) none room)
 
--- an instance more, at which nothing stands
 no_items : (rooms : List ℕ) (s : ℕ) → stage_items (stage_at (empty_stages rooms) s) ≡ []
 no_items [] s = refl
 no_items (r ∷ rooms) zero = refl
 no_items (r ∷ rooms) (suc s) = no_items rooms s
 
-none_held : (room : ℕ) (held : Option (Filled Parcel)) → IsSomeAnd held (λ h. (h.items ≡ []) × (h.room ≡ room)) → held_items held ≡ Some []
+rooms_made : (rooms : List ℕ) → stage_rooms (empty_stages rooms) ≡ rooms
+rooms_made [] = refl
+rooms_made (room ∷ rooms) = ap (λ ns. room ∷ ns) (rooms_made rooms)
+
+-- AN INSTANCE MORE, at which nothing stands
+none_held : (room : ℕ) (held : Option (Filled Parcel)) → IsSomeAnd held (λ h. (h.items ≡ []) × (h.room ≡ room)) → (held_items held ≡ Some []) × (line_room held ≡ Some room)
 none_held room None is = absurd is
-none_held room (Some h) is = ap Some is.0
+none_held room (Some h) is = (ap Some is.0, ap Some is.1)
 
 nothing_here : (rooms : List ℕ) (room : ℕ) (row : Row) → IsNew rooms room row → (p : Place) → here p row ≡ Some []
 nothing_here rooms room row is (Outputs i) = ap Some is.outputs
 nothing_here rooms room row is (Waiting i t) = ap (λ cs. Some (for_target t cs)) is.waiting
 nothing_here rooms room row is (Contents i s) = ap (λ ss. Some (stage_items (stage_at ss s))) is.stages ∙ ap Some (no_items rooms s)
-nothing_here rooms room row is (Held i) = none_held room row.held is.held
-
-pub added_same : (rooms : List ℕ) (room : ℕ) (rows : List Row) (row : Row) → IsNew rooms room row → Same rows (rows ++ row ∷ [])
-added_same rooms room rows row is p = go rows (owner p)
-  where
-    go : (rs : List Row) (k : ℕ) → here_if p (row_at (rs ++ row ∷ []) k) ≡ here_if p (row_at rs k)
-    go [] zero = nothing_here rooms room row is p
-    go [] (suc k) = refl
-    go (r ∷ rs) zero = refl
-    go (r ∷ rs) (suc k) = go rs k
-
-pub added_row : (F : Row → Type 0) (rows : List Row) (row : Row) → F row → IsRow F (rows ++ row ∷ []) (length rows)
-added_row F [] row is = is
-added_row F (r ∷ rs) row is = added_row F rs row is
-
--- the rooms of an instance more
-rooms_made : (rooms : List ℕ) → stage_rooms (empty_stages rooms) ≡ rooms
-rooms_made [] = refl
-rooms_made (room ∷ rooms) = ap (λ ns. room ∷ ns) (rooms_made rooms)
-
-held_made : (room : ℕ) (held : Option (Filled Parcel)) → IsSomeAnd held (λ h. (h.items ≡ []) × (h.room ≡ room)) → line_room held ≡ Some room
-held_made room None is = absurd is
-held_made room (Some h) is = ap Some is.1
+nothing_here rooms room row is (Held i) = (none_held room row.held is.held).0
 
 last_row : (rows : List Row) (row : Row) → row_at (rows ++ row ∷ []) (length rows) ≡ Some row
 last_row [] row = refl
@@ -79,28 +61,58 @@ first_rows [] row i l = absurd (omega arith)
 first_rows (r ∷ rows) row zero l = refl
 first_rows (r ∷ rows) row (suc i) l = first_rows rows row i (omega arith)
 
-pub rooms_added : (rooms : List ℕ) (room : ℕ) (rows : List Row) (row : Row) → IsNew rooms room row → AddsRooms rooms room rows (rows ++ row ∷ [])
-rooms_added rooms room rows row is = record {
-  stages = ap rooms_if (last_row rows row) ∙ ap stage_rooms is.stages ∙ rooms_made rooms;
-  held = ap held_room_if (last_row rows row) ∙ held_made room row.held is.held;
-  others = λ i l. (ap rooms_if (first_rows rows row i l), ap held_room_if (first_rows rows row i l));
-}
+module _ (rooms : List ℕ) (room : ℕ) (rows : List Row) (row : Row) (is : IsNew rooms room row) where
+  pub added_same : Same rows (rows ++ row ∷ [])
+  added_same p = go rows (owner p)
+    where
+      go : (rs : List Row) (k : ℕ) → here_if p (row_at (rs ++ row ∷ []) k) ≡ here_if p (row_at rs k)
+      go [] zero = nothing_here rooms room row is p
+      go [] (suc k) = refl
+      go (r ∷ rs) zero = refl
+      go (r ∷ rs) (suc k) = go rs k
 
-pub left_filled : (event : Event) (left : List Copy) (rest : List Parcel) → left ≢ [] → record { event = event; finalizers = left } ∷ rest ≡ left_of event left rest
-left_filled event [] rest filled = absurd (filled refl)
-left_filled event (c ∷ cs) rest filled = refl
+  pub added_row : IsRow (IsNew rooms room) (rows ++ row ∷ []) (length rows)
+  added_row = rw (last_row rows row) is
+
+  pub rooms_added : AddsRooms rooms room rows (rows ++ row ∷ [])
+  rooms_added = record {
+    stages = ap rooms_if (last_row rows row) ∙ ap stage_rooms is.stages ∙ rooms_made rooms;
+    held = ap held_room_if (last_row rows row) ∙ (none_held room row.held is.held).1;
+    others = λ i l. (ap rooms_if (first_rows rows row i l), ap held_room_if (first_rows rows row i l));
+  }
 
 -- WHAT IS LENT
-kept_or_lent : (i : ℕ) (row : Row) (held : Option (Filled Parcel)) → row.held ≡ held → ((ps : List Parcel) → held_items held ≡ Some ps → IsSome held) × (held_items held ≡ None → held ≡ None)
-kept_or_lent i row None is = (λ ps there. absurd cc, λ none. refl)
-kept_or_lent i row (Some h) is = (λ ps there. refl, λ none. absurd cc)
+kept_or_lent : (held : Option (Filled Parcel)) → ((ps : List Parcel) → held_items held ≡ Some ps → IsSome held) × (held_items held ≡ None → held ≡ None)
+kept_or_lent None = (λ ps there. absurd cc, λ none. refl)
+kept_or_lent (Some h) = (λ ps there. refl, λ none. absurd cc)
 
 pub held_says : HeldSays
-held_says rows i l = go rows i l
-  where
-    go : (rs : List Row) (k : ℕ) → k < length rs →
-        ((ps : List Parcel) → here_if (Held i) (row_at rs k) ≡ Some ps → IsRow (λ row. IsSome row.held) rs k)
-        × (here_if (Held i) (row_at rs k) ≡ None → IsRow (λ row. row.held ≡ None) rs k)
-    go [] k below = absurd (omega arith)
-    go (r ∷ rs) zero below = kept_or_lent i r r.held refl
-    go (r ∷ rs) (suc k) below = go rs k (omega arith)
+held_says [] i l = absurd (omega arith)
+held_says (r ∷ rs) i l = rw (slice_get-get_or (r ∷ rs) i r l) (kept_or_lent (get_or (r ∷ rs) i r).held)
+
+-- ROWS AT WHICH NOTHING STANDS
+-- the last of some, and the others
+pub last_empty : (stages : List (Filled Parcel)) (stage : Filled Parcel) → AreEmpty (stages ++ stage ∷ []) → AreEmpty stages × (stage.items ≡ [])
+last_empty [] stage are = (tt, are.0)
+last_empty (s ∷ stages) stage are = let rest = last_empty stages stage are.1 in ((are.0, rest.0), rest.1)
+
+pub last_vacant : (rows : List Row) (row : Row) → EachVacant (rows ++ row ∷ []) → EachVacant rows × IsVacant row
+last_vacant [] row are = (tt, are.0)
+last_vacant (r ∷ rows) row are = let rest = last_vacant rows row are.1 in ((are.0, rest.0), rest.1)
+
+empty_held : (held : Option (Filled Parcel)) → held_items held ≡ Some [] → IsSomeAnd held (λ h. h.items ≡ [])
+empty_held None none = absurd cc
+empty_held (Some h) none = one_some h.items [] none
+
+vacant : (i : ℕ) (row : Row) → ((p : Place) → owner p ≡ i → here p row ≡ Some []) → IsVacant row
+vacant i row none = record {
+  outputs = one_some _ _ (none (Outputs i) refl);
+  waiting = none_for row.waiting.items (λ t. one_some _ _ (none (Waiting i t) refl));
+  stages = recursion_from_All (λ (stage : Filled Parcel). stage.items ≡ []) row.stages.items
+      (λ s d l. one_some _ _ (rw (slice_get-get_or row.stages.items s d l) at (none (Contents i s) refl)));
+  held = empty_held row.held (none (Held i) refl);
+}
+
+pub are_vacant : (rows : List Row) → AreBare rows → EachVacant rows
+are_vacant rows bare = recursion_from_All IsVacant rows
+    (λ i d l. vacant i (get_or rows i d) (λ p own. rw (own, slice_get-get_or rows i d l) at (bare i l p own)))

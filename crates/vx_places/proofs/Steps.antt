@@ -1,28 +1,29 @@
--- The places of a record with one entry more.
-use Rattle.std.proofs.Common.{◌≡◌, ℕ, ◌<◌, Bool, true, false, List, [], ◌∷◌, refl, sym, ap, ◌∙◌, arith, Option, Some, None, IfSome, inl, inr, subst}
-use Rattle.std.specs.Prelude.{◌==◌, if◌then◌else◌, nat_lt}
+-- How a call changes the places, by the numbers of their parcels, and the places of a record with one entry more.
+use Rattle.std.proofs.Common.{◌≡◌, ℕ, Bool, true, false, List, [], ◌∷◌, ◌++◌, refl, sym, ap, ◌∙◌, arith, Option, Some, None, inl, inr, ◌<◌, IfSome}
+use Rattle.std.specs.Prelude.{◌≢◌, ◌==◌, ◌⊎◌, if◌then◌else◌, nat_lt}
 use Rattle.std.specs.Option.{option_map}
 use Rattle.std.proofs.lemmas.Bool.Decides.{nat_tests}
-use Rattle.std.proofs.lemmas.Bool.{cases_eq}
+use Rattle.std.proofs.lemmas.Iterator.Adapters.{option_map_id}
+use Rattle.std.proofs.lemmas.List.{map-append}
 use Rattle.vx_value.specs.declared.event.Event.{Event}
 use Rattle.vx_ledger.specs.Copies.{Copy, numbers_of}
 use Rattle.vx_ledger.specs.declared.parcel.Parcel.{Parcel}
+use Rattle.vx_ledger.specs.declared.child.Child.{Child}
 use Rattle.vx_record.specs.declared.output.Output.{Output}
 use Rattle.vx_record.specs.declared.entry.Entry.{Entry}
 use Rattle.vx_record.specs.declared.entry.Entry.TheVariants.{Born, Split, Push, Take, Answer, Spent}
+use Rattle.vx_record.specs.Places.{Place, same_place, put_out}
+use Rattle.vx_record.specs.Places.Place.{Outputs, Waiting, Contents, Held}
+use Rattle.vx_record.specs.Lists.{and_rest, shrunk, is_child_of}
+use Rattle.vx_record.specs.Moving.{singles, children_for, parcels_of, IsStill}
+use Rattle.vx_record.specs.Shifts.{younger, shift, at}
 use Rattle.vx_record.specs.Records.{Record}
 use Rattle.vx_record.specs.Copies.{count, joined, next_copy}
 use Rattle.vx_record.specs.Batches.{parent, batch_of}
 use Rattle.vx_record.specs.Parcels.{event_of}
-use Rattle.vx_record.specs.Places.{Place, same_place, put_out}
-use Rattle.vx_record.specs.Places.Place.{Held}
-use Rattle.vx_record.specs.Lists.{shrunk}
-use Rattle.vx_record.specs.Moving.{IsStill}
-use Rattle.vx_record.specs.Sending.{IsOldest}
-use Rattle.vx_record.specs.Shifts.{shift, at}
 use Rattle.vx_record.specs.Legal.{IsLegal}
+use Rattle.vx_record.proofs.Changes.{same_place_self, same_place_is}
 use Rattle.vx_record.proofs.Answers.{count-shrunk}
-use Rattle.vx_record.proofs.Changes.{same_place_is}
 use Rattle.vx_record.proofs.Counts.{count-append, unless-some}
 use Rattle.vx_record.proofs.Events.{said_before}
 use Rattle.vx_record.proofs.Hands.{not_there}
@@ -30,11 +31,197 @@ use Rattle.vx_record.proofs.Live.{if_lt}
 use Rattle.vx_record.proofs.OnePlace.{conserved}
 use Rattle.vx_record.proofs.Shifting.{stands_at}
 use Rattle.vx_places.specs.declared.row.Row.{Row}
-use Rattle.vx_places.specs.Numbers.{numbers, IsCopyIn}
-use Rattle.vx_places.specs.Views.{parcels_here, numbers_here, IsAmong, IsIn, IsAt}
-use Rattle.vx_places.specs.Holding.{IsKnown, Holds, IsNoAnswer}
-use Rattle.vx_places.proofs.Written.{one_some}
+use Rattle.vx_places.specs.Numbers.{numbers, parcels_in, for_target, noted, EachFilled, IsCopyIn}
+use Rattle.vx_places.specs.Views.{parcels_here, numbers_here, Others, IsAmong, IsAt, IsIn}
+use Rattle.vx_places.specs.Holding.{IsNoAnswer, WasSomewhere, IsKnown, Holds}
+use Rattle.vx_places.specs.Calls.{Takes, Puts, Waits, Moves, PutsOut, Divides}
 use Rattle.vx_places.specs.Laws.{HoldsStep, StillShifts, SameHolds, OldestThere, LentIs, LentComesBack, NoneHolds}
+use Rattle.vx_places.proofs.Written.{each_place, one_some}
+
+-- LISTS
+among-append : (a b : List Parcel) (event : Event) (copy : Copy) → IsAmong (a ++ b) event copy → IsAmong a event copy ⊎ IsAmong b event copy
+among-append [] b event copy is = inr is
+among-append (p ∷ a) b event copy (inl is) = inl (inl is)
+among-append (p ∷ a) b event copy (inr is) = elim (among-append a b event copy is) [ inl first ↦ inl (inr first) | inr more ↦ inr more ]
+
+both : {X : Type 0} (F G : X → X) (o : Option X) → option_map F (option_map G o) ≡ option_map (λ was. F (G was)) o
+both F G None = refl
+both F G (Some x) = refl
+
+-- the children for a target, by their numbers
+and_filled : (cs : List Copy) (rest : List (List ℕ)) → cs ≢ [] → numbers_of cs ∷ rest ≡ and_rest (numbers_of cs) rest
+and_filled [] rest filled = absurd (filled refl)
+and_filled (c ∷ cs) rest filled = refl
+
+numbers_for : (t : ℕ) (children : List Child) → EachFilled (parcels_in children) → numbers (for_target t children) ≡ children_for t (noted children)
+numbers_for t [] filled = refl
+numbers_for t (child ∷ rest) filled =
+    let later = numbers_for t rest filled.1 in
+    let here = and_filled child.parcel.finalizers (children_for t (noted rest)) filled.0 in
+    grind (arith, later, here)
+
+among_all : (t : ℕ) (children : List Child) (event : Event) (copy : Copy) → IsAmong (for_target t children) event copy → IsAmong (parcels_in children) event copy
+among_all t [] event copy is = is
+among_all t (child ∷ rest) event copy is = go (child.target == t) (among_all t rest event copy) is
+  where
+    go : (b : Bool) → (IsAmong (for_target t rest) event copy → IsAmong (parcels_in rest) event copy) →
+        IsAmong (if b then child.parcel ∷ for_target t rest else for_target t rest) event copy → IsAmong (parcels_in (child ∷ rest)) event copy
+    go true ih (inl here) = inl here
+    go true ih (inr more) = inr (ih more)
+    go false ih more = inr (ih more)
+
+-- ONE PLACE
+module _ (q : Place) (old new : List Row) {a b : List Parcel} (was : parcels_here old q ≡ Some a) (now : parcels_here new q ≡ Some b) (others : Others q old new) where
+  -- what is made of it
+  made : (F : List (List ℕ) → List (List ℕ)) → numbers b ≡ F (numbers a) → (p : Place) →
+      numbers_here new p ≡ option_map (λ xs. if same_place q p then F xs else xs) (numbers_here old p)
+  made F is = each_place q (λ p. numbers_here new p ≡ option_map (λ xs. if same_place q p then F xs else xs) (numbers_here old p))
+      (rw (same_place_self q, now, was) (ap Some is))
+      (λ p other. rw (other, others p other) (sym (option_map_id (numbers_here old p))))
+
+  -- and where its copies were
+  pub came : (More : Event → Copy → Type 0) → ((event : Event) (copy : Copy) → IsAmong b event copy → IsAmong a event copy ⊎ More event copy) →
+      (p : Place) (event : Event) (copy : Copy) → IsAt new p event copy → IsAt old p event copy ⊎ More event copy
+  came More from = each_place q (λ p. (event : Event) (copy : Copy) → IsAt new p event copy → IsAt old p event copy ⊎ More event copy)
+      (λ event copy is. rw was (from event copy (rw now at is)))
+      (λ p other event copy is. inl (rw (others p other) at is))
+
+module _ {q : Place} {parcel : Parcel} {old new : List Row} (takes : Takes q parcel old new) where
+  taken_made : (p : Place) → numbers_here new p ≡ option_map (λ xs. if same_place q p then younger xs else xs) (numbers_here old p)
+  taken_made = made q old new takes.was takes.now takes.others younger refl
+
+  taken_came : (p : Place) (event : Event) (copy : Copy) → IsAt new p event copy → IsAt old p event copy
+  taken_came p event copy is =
+      elim (came q old new takes.was takes.now takes.others (λ e c. ⊥) (λ e c at. inl (inr at)) p event copy is) [ inl before ↦ before | inr none ↦ absurd none ]
+
+  taken_at : (event : Event) (copy : Copy) → IsAmong (parcel ∷ []) event copy → IsAt old q event copy
+  taken_at event copy (inl is) = rw takes.was (inl is)
+  taken_at event copy (inr is) = absurd is
+
+module _ {q : Place} {more : List Parcel} {old new : List Row} (puts : Puts q more old new) where
+  put_made : (p : Place) → numbers_here new p ≡ option_map (λ xs. if same_place q p then xs ++ numbers more else xs) (numbers_here old p)
+  put_made = made q old new puts.was puts.now puts.others (λ xs. xs ++ numbers more) (map-append (λ (p : Parcel). numbers_of p.finalizers) puts.before more)
+
+  put_came : (p : Place) (event : Event) (copy : Copy) → IsAt new p event copy → IsAt old p event copy ⊎ IsAmong more event copy
+  put_came = came q old new puts.was puts.now puts.others (λ e c. IsAmong more e c) (among-append puts.before more)
+
+-- WHAT IS PUT OUT, at a birth, or at an answer while what was held is lent
+module _ {i : ℕ} {parcels : List Parcel} {old new : List Row} (put : Puts (Outputs i) parcels old new) where
+  out : (copies : List (List ℕ)) → numbers parcels ≡ copies → (p : Place) →
+      numbers_here new p ≡ option_map (λ xs. if same_place (Outputs i) p then xs ++ copies else xs) (numbers_here old p)
+  out copies same p = rw same at (put_made put p)
+
+  answered : (outputs : List Output) (discarded kept : List ℕ) → numbers parcels ≡ parcels_of outputs → parcels_here old (Held i) ≡ None →
+      (p : Place) → numbers_here new p ≡ option_map (shift (Answer i outputs discarded kept) p) (numbers_here old p)
+  answered outputs discarded kept same lent (Outputs j) = out (parcels_of outputs) same (Outputs j)
+  answered outputs discarded kept same lent (Held j) = go (i == j) refl
+    where
+      go : (b : Bool) → (i == j) ≡ b → numbers_here new (Held j) ≡ option_map (λ xs. if b then shrunk (put_out outputs) xs else xs) (numbers_here old (Held j))
+      go true is =
+          let own : i ≡ j = grind (arith, nat_tests) in
+          let none : parcels_here old (Held j) ≡ None = rw own at lent in
+          rw (put.others (Held j) refl, none)
+      go false is = out (parcels_of outputs) same (Held j)
+  answered outputs discarded kept same lent p = out (parcels_of outputs) same p
+
+  born : (b place : ℕ) (copies : List ℕ) (events : List Event) (waits : Bool) (stream end : ℕ) → numbers parcels ≡ singles copies →
+      (p : Place) → numbers_here new p ≡ option_map (shift (Born i b place copies events waits stream end) p) (numbers_here old p)
+  born b place copies events waits stream end same (Outputs j) = out (singles copies) same (Outputs j)
+  born b place copies events waits stream end same p = out (singles copies) same p
+
+  out_comes : (e : Entry) (p : Place) (event : Event) (copy : Copy) → IsAt new p event copy →
+      IsAt old p event copy ⊎ ((IsNoAnswer e × WasSomewhere old event copy) ⊎ IsAmong parcels event copy)
+  out_comes e p event copy is = elim (put_came put p event copy is) [ inl before ↦ inl before | inr more ↦ inr (inr more) ]
+
+  pub births_put : PutsOut i parcels old new
+  births_put = record {
+    put = put;
+    born = λ b place copies events waits stream end same.
+        record { each = born b place copies events waits stream end same; comes = out_comes (Born i b place copies events waits stream end) };
+    answered = λ outputs discarded kept same lent.
+        record { each = answered outputs discarded kept same lent; comes = out_comes (Answer i outputs discarded kept) };
+  }
+
+-- A PARCEL THAT MOVES
+abbrev first_gone : Place → Place → List (List ℕ) → List (List ℕ)
+first_gone q p xs = if same_place q p then younger xs else xs
+
+abbrev last_come : Place → List ℕ → Place → List (List ℕ) → List (List ℕ)
+last_come q copies p xs = if same_place q p then xs ++ copies ∷ [] else xs
+
+module _ {from to : Place} {parcel : Parcel} {old mid new : List Row} (taken : Takes from parcel old mid) (put : Puts to (parcel ∷ []) mid new) where
+  moved : (p : Place) → numbers_here new p ≡ option_map (λ (xs : List (List ℕ)). last_come to (numbers_of parcel.finalizers) p (first_gone from p xs)) (numbers_here old p)
+  moved p =
+      put_made put p
+      ∙ ap (option_map (last_come to (numbers_of parcel.finalizers) p)) (taken_made taken p)
+      ∙ both (last_come to (numbers_of parcel.finalizers) p) (first_gone from p) (numbers_here old p)
+
+  -- so it is where an entry that gives no copy another event says so
+  moves : (entry : List ℕ → Entry) → IsNoAnswer (entry (numbers_of parcel.finalizers)) →
+      ((p : Place) → numbers_here new p ≡ option_map (shift (entry (numbers_of parcel.finalizers)) p) (numbers_here old p)) → Moves entry from to old new
+  moves entry none each = record {
+    parcel = parcel;
+    mid = mid;
+    taken = taken;
+    put = put;
+    shifts = record {
+      each = each;
+      comes = λ p event copy is. elim (put_came put p event copy is) [
+        | inl before ↦ inl (taken_came taken p event copy before)
+        | inr more ↦ inr (inl (none, (from, taken_at taken event copy more)))
+      ];
+    };
+  }
+
+pub push_moves : {i t s : ℕ} {parcel : Parcel} {old mid new : List Row} → Takes (Waiting i t) parcel old mid → Puts (Contents t s) (parcel ∷ []) mid new →
+    Moves (λ copies. Push i t s copies) (Waiting i t) (Contents t s) old new
+push_moves {i} {t} {s} {parcel} {old} {mid} {new} taken put = moves taken put (λ copies. Push i t s copies) tt each
+  where
+    each : (p : Place) → numbers_here new p ≡ option_map (shift (Push i t s (numbers_of parcel.finalizers)) p) (numbers_here old p)
+    each (Waiting j u) = moved taken put (Waiting j u)
+    each p = moved taken put p
+
+pub take_moves : {i s : ℕ} {parcel : Parcel} {old mid new : List Row} → Takes (Contents i s) parcel old mid → Puts (Held i) (parcel ∷ []) mid new →
+    Moves (λ copies. Take i s copies) (Contents i s) (Held i) old new
+take_moves {i} {s} {parcel} {old} {mid} {new} taken put = moves taken put (λ copies. Take i s copies) tt each
+  where
+    each : (p : Place) → numbers_here new p ≡ option_map (shift (Take i s (numbers_of parcel.finalizers)) p) (numbers_here old p)
+    each (Held j) = moved taken put (Held j)
+    each p = moved taken put p
+
+-- A SPLIT
+module _ {i : ℕ} {children : List Child} {old mid new : List Row} {parcel : Parcel} (taken : Takes (Outputs i) parcel old mid) (waits : Waits i children mid new) where
+  elsewhere : (p : Place) → is_child_of i p ≡ false → numbers_here new p ≡ option_map (first_gone (Outputs i) p) (numbers_here old p)
+  elsewhere p other = rw (waits.others p other) (taken_made taken p)
+
+  divided : (ports : ℕ) (event : Event) → EachFilled (parcels_in children) → (p : Place) →
+      numbers_here new p ≡ option_map (shift (Split i ports (numbers_of parcel.finalizers) event (noted children)) p) (numbers_here old p)
+  divided ports event filled (Waiting j t) = go (i == j) refl
+    where
+      go : (b : Bool) → (i == j) ≡ b → numbers_here new (Waiting j t) ≡ option_map (λ xs. if b then xs ++ children_for t (noted children) else xs) (numbers_here old (Waiting j t))
+      go true is =
+          let same : j ≡ i = grind (arith, nat_tests) in
+          rw (same, waits.now t, ← (taken.others (Waiting i t) refl), waits.was t) (ap Some (numbers_for t children filled))
+      go false is = elsewhere (Waiting j t) (grind (arith, nat_tests))
+  divided ports event filled (Outputs j) = elsewhere (Outputs j) refl
+  divided ports event filled p = elsewhere p refl
+
+  child_comes : (p : Place) (ev : Event) (copy : Copy) → IsAt new p ev copy → IsAt old p ev copy ⊎ IsAmong (parcels_in children) ev copy
+  child_comes p ev copy is = go p (is_child_of i p) refl is
+    where
+      go : (r : Place) (b : Bool) → is_child_of i r ≡ b → IsAt new r ev copy → IsAt old r ev copy ⊎ IsAmong (parcels_in children) ev copy
+      go (Waiting j t) true mine there = let same : j ≡ i = grind (arith, nat_tests) in inr (among_all t children ev copy (rw (waits.now t) at (rw same at there)))
+      go r false other there = inl (taken_came taken r ev copy (rw (waits.others r other) at there))
+      go r true mine there = absurd cc
+
+pub children_divide : {i : ℕ} {children : List Child} {mid new : List Row} → Waits i children mid new → Divides i children mid new
+children_divide waits = record {
+  wait = waits;
+  split = λ old parcel ports event taken filled. record {
+    each = divided taken waits ports event filled;
+    comes = λ p ev copy is. elim (child_comes taken waits p ev copy is) [ inl before ↦ inl before | inr more ↦ inr (inr more) ];
+  };
+}
 
 -- WHAT STANDS
 stand_step : (F : List (List ℕ) → List (List ℕ)) (was : List (List ℕ)) (new old : Option (List Parcel)) →
@@ -80,60 +267,47 @@ among_counts (p ∷ ps) event copy (inl here) =
 among_counts (p ∷ ps) event copy (inr more) =
     let l = among_counts ps event copy more in let e = count-append copy.number (numbers_of p.finalizers) (joined (numbers ps)) in omega (arith, l, e)
 
-in_counts : (o : Option (List Parcel)) (is_there : List (List ℕ)) (event : Event) (copy : Copy) → IfSome o (λ ps. numbers ps ≡ is_there) → IsIn o event copy →
-    0 < count copy.number (joined is_there)
+in_counts : (o : Option (List Parcel)) (there : List (List ℕ)) (event : Event) (copy : Copy) → IfSome o (λ ps. numbers ps ≡ there) → IsIn o event copy →
+    0 < count copy.number (joined there)
 in_counts None there event copy is at = absurd at
-in_counts (Some ps) there event copy is at = subst (λ (xs : List (List ℕ)). 0 < count copy.number (joined xs)) is (among_counts ps event copy at)
+in_counts (Some ps) there event copy is at = rw is at (among_counts ps event copy at)
 
 gone_none : (c : ℕ) (gone : List ℕ) (ps : List (List ℕ)) → 0 < count c (joined (shrunk gone ps)) → count c gone ≡ 0
-gone_none c gone ps l =
-    let e = count-shrunk c gone ps in
-    elim (cases_eq (count c gone) 0) [
-      | inl none ↦ none
-      | inr some ↦
-          let none = unless-some (count c gone) (count c (joined ps)) (omega (arith, some)) in
-          absurd (omega (arith, l, e, none))
-    ]
+gone_none c gone ps l = let e = count-shrunk c gone ps in grind (arith, unless-some, e, l)
 
--- AN ANSWER
-module _ (h : Record) (i : ℕ) (made : List Output) (discarded rest : List ℕ) (old new : List Row) (legal : IsLegal (Answer i made discarded rest ∷ h))
-    (new_stand : (p : Place) → IfSome (parcels_here new p) (λ ps. numbers ps ≡ at (Answer i made discarded rest ∷ h) p)) (holds : Holds old h) where
-  -- what is put out stood in no place but the hold, and is no more there
-  not_put_out : (p : Place) (event : Event) (copy : Copy) → IsAt new p event copy → IsAt old p event copy → count copy.number (put_out made) ≡ 0
-  not_put_out p event copy now before = go (same_place p (Held i)) refl
+-- ONE ENTRY MORE
+module _ (h : Record) (old new : List Row) (holds : Holds old h) where
+  -- what an answer puts out stood in no place but the hold, and is no more there
+  not_put_out : (i : ℕ) (made : List Output) (discarded rest : List ℕ) → IsLegal (Answer i made discarded rest ∷ h) →
+      ((p : Place) → IfSome (parcels_here new p) (λ ps. numbers ps ≡ at (Answer i made discarded rest ∷ h) p)) →
+      (p : Place) (event : Event) (copy : Copy) → IsAt new p event copy → IsAt old p event copy → count copy.number (put_out made) ≡ 0
+  not_put_out i made discarded rest legal stand p event copy now before = go (same_place p (Held i)) refl
     where
-      c : ℕ
-      c = copy.number
-
-      there : 0 < count copy.number (joined (at h p))
-      there = in_counts (parcels_here old p) (at h p) event copy (holds.stand p) before
-
       self : (i == i) ≡ true
       self = grind (arith, nat_tests)
 
       go : (b : Bool) → same_place p (Held i) ≡ b → count copy.number (put_out made) ≡ 0
       go true e =
-          let at_hold : IsAt new (Held i) event copy = subst (λ (q : Place). IsAt new q event copy) (same_place_is p (Held i) e) now in
-          let l = in_counts (parcels_here new (Held i)) (at (Answer i made discarded rest ∷ h) (Held i)) event copy (new_stand (Held i)) at_hold in
-          gone_none copy.number (put_out made) (at h (Held i)) (subst (λ (b : Bool). 0 < count copy.number (joined (if b then shrunk (put_out made) (at h (Held i)) else at h (Held i)))) self l)
+          let at_hold = rw (same_place_is p (Held i) e) at now in
+          let l = in_counts (parcels_here new (Held i)) (shift (Answer i made discarded rest) (Held i) (at h (Held i))) event copy (stand (Held i)) at_hold in
+          gone_none copy.number (put_out made) (at h (Held i)) (rw self at l)
       go false e =
-          let l = subst (λ (xs : List (List ℕ)). 0 < count copy.number (joined xs)) (sym (stands_at h p legal.1)) there in
-          let none = not_there h p (Held i) copy.number (conserved h legal.1) e l in
+          let there = in_counts (parcels_here old p) (at h p) event copy (holds.stand p) before in
+          let none = not_there h p (Held i) copy.number (conserved h legal.1) e (rw (stands_at h p legal.1) there) in
           let released = (conserved (Answer i made discarded rest ∷ h) legal).0 copy.number in
           omega (arith, none, released)
 
--- ONE ENTRY MORE
-said_stays : (h : Record) (e : Entry) (old new : List Row) → IsLegal (e ∷ h) → ((p : Place) → IfSome (parcels_here new p) (λ ps. numbers ps ≡ at (e ∷ h) p)) → Holds old h →
-    (p : Place) (event : Event) (copy : Copy) → IsAt new p event copy → IsAt old p event copy → event_of (e ∷ h) copy.number ≡ event_of h copy.number
-said_stays h (Answer i made discarded rest) old new legal stand holds p event copy now before =
-    said_before (λ (output : Output). output.event) made copy.number (event_of h copy.number) (not_put_out h i made discarded rest old new legal stand holds p event copy now before)
-said_stays h e old new legal stand holds p event copy now before = event_stays h e copy.number tt (holds.known p event copy before).made
+  said_stays : (e : Entry) → IsLegal (e ∷ h) → ((p : Place) → IfSome (parcels_here new p) (λ ps. numbers ps ≡ at (e ∷ h) p)) →
+      (p : Place) (event : Event) (copy : Copy) → IsAt new p event copy → IsAt old p event copy → event_of (e ∷ h) copy.number ≡ event_of h copy.number
+  said_stays (Answer i made discarded rest) legal stand p event copy now before =
+      said_before (λ (output : Output). output.event) made copy.number (event_of h copy.number) (not_put_out i made discarded rest legal stand p event copy now before)
+  said_stays e legal stand p event copy now before = event_stays h e copy.number tt (holds.known p event copy before).made
 
 pub holds_step : HoldsStep
 holds_step h e put old new legal shifts known holds = record {
   stand = stand;
   known = λ p event copy now. elim (shifts.comes p event copy now) [
-    | inl before ↦ known_later h e event copy (said_stays h e old new legal stand holds p event copy now before) (holds.known p event copy before)
+    | inl before ↦ known_later h e event copy (said_stays h old new holds e legal stand p event copy now before) (holds.known p event copy before)
     | inr other ↦ elim other [
       | inl moved ↦
           let was = holds.known moved.1.0 event copy moved.1.1 in
@@ -146,10 +320,6 @@ holds_step h e put old new legal shifts known holds = record {
     stand : (p : Place) → IfSome (parcels_here new p) (λ ps. numbers ps ≡ shift e p (at h p))
     stand p = stand_step (shift e p) (at h p) (parcels_here new p) (parcels_here old p) (shifts.each p) (holds.stand p)
 
-kept : {X : Type 0} (o : Option X) → o ≡ option_map (λ was. was) o
-kept None = refl
-kept (Some x) = refl
-
 still_each : (e : Entry) (rows : List Row) (p : Place) → IsStill e → numbers_here rows p ≡ option_map (shift e p) (numbers_here rows p)
 still_each (Born i b place copies events waits stream end) rows p is = absurd is
 still_each (Split i ports copies event children) rows p is = absurd is
@@ -157,61 +327,39 @@ still_each (Push i t s copies) rows p is = absurd is
 still_each (Take i s copies) rows p is = absurd is
 still_each (Answer i outputs discarded rest) rows p is = absurd is
 still_each (Spent i c outcome) rows p is = absurd is
-still_each e rows p is = kept (numbers_here rows p)
+still_each e rows p is = sym (option_map_id (numbers_here rows p))
 
 pub still_shifts : StillShifts
 still_shifts e rows is = record { each = λ p. still_each e rows p is; comes = λ p event copy now. inl now }
 
 pub same_holds : SameHolds
 same_holds h old new same holds = record {
-  stand = λ p. subst (λ (o : Option (List Parcel)). IfSome o (λ ps. numbers ps ≡ at h p)) (sym (same p)) (holds.stand p);
-  known = λ p event copy now. holds.known p event copy (subst (λ (o : Option (List Parcel)). IsIn o event copy) (same p) now);
+  stand = λ p. rw (same p) (holds.stand p);
+  known = λ p event copy now. holds.known p event copy (rw (same p) at now);
 }
 
 pub oldest_there : OldestThere
-oldest_there h rows p parcel rest legal holds first =
-    let is : numbers_of parcel.finalizers ∷ numbers rest ≡ at h p = subst (λ (o : Option (List Parcel)). IfSome o (λ ps. numbers ps ≡ at h p)) first (holds.stand p) in
-    subst (λ (xs : List (List ℕ)). IsOldest (numbers_of parcel.finalizers) xs) (is ∙ sym (stands_at h p legal)) refl
+oldest_there h rows p parcel rest legal holds first = let is = rw first at (holds.stand p) in rw (stands_at h p legal, ← is) refl
 
 -- WHAT IS LENT
-but_hold : (i : ℕ) (p : Place) → same_place (Held i) p ≡ true → Held i ≡ p
-but_hold i p e = same_place_is (Held i) p e
+-- where the hold alone has changed, and what stands there is the record's, all does
+hold_changed : (h : Record) (i : ℕ) (old new : List Row) → Others (Held i) old new → Holds old h → IfSome (parcels_here new (Held i)) (λ ps. numbers ps ≡ at h (Held i)) →
+    ((event : Event) (copy : Copy) → IsAt new (Held i) event copy → IsKnown h event copy) → Holds new h
+hold_changed h i old new others holds stand known = record {
+  stand = each_place (Held i) (λ p. IfSome (parcels_here new p) (λ ps. numbers ps ≡ at h p)) stand (λ p other. rw (others p other) (holds.stand p));
+  known = each_place (Held i) (λ p. (event : Event) (copy : Copy) → IsAt new p event copy → IsKnown h event copy) known
+      (λ p other event copy now. holds.known p event copy (rw (others p other) at now));
+}
 
 pub lent_is : LentIs
 lent_is h i parcels old new lends holds = (
-  record {
-    stand = λ p. go p (same_place (Held i) p) refl;
-    known = λ p event copy now. known p event copy now (same_place (Held i) p) refl;
-  },
-  (
-    subst (λ (o : Option (List Parcel)). IfSome o (λ ps. numbers ps ≡ at h (Held i))) lends.was (holds.stand (Held i)),
-    λ event copy is. holds.known (Held i) event copy (subst (λ (o : Option (List Parcel)). IsIn o event copy) (sym lends.was) is),
-  ),
+  hold_changed h i old new lends.others holds (rw lends.now tt) (λ event copy now. absurd (rw lends.now at now)),
+  (rw lends.was at (holds.stand (Held i)), λ event copy is. holds.known (Held i) event copy (rw lends.was is)),
 )
-  where
-    go : (p : Place) (b : Bool) → same_place (Held i) p ≡ b → IfSome (parcels_here new p) (λ ps. numbers ps ≡ at h p)
-    go p true e = subst (λ (q : Place). IfSome (parcels_here new q) (λ ps. numbers ps ≡ at h q)) (but_hold i p e) (subst (λ (o : Option (List Parcel)). IfSome o (λ ps. numbers ps ≡ at h (Held i))) (sym lends.now) tt)
-    go p false e = subst (λ (o : Option (List Parcel)). IfSome o (λ ps. numbers ps ≡ at h p)) (sym (lends.others p e)) (holds.stand p)
-
-    known : (p : Place) (event : Event) (copy : Copy) → IsAt new p event copy → (b : Bool) → same_place (Held i) p ≡ b → IsKnown h event copy
-    known p event copy now true e =
-        absurd (subst (λ (o : Option (List Parcel)). IsIn o event copy) lends.now (subst (λ (q : Place). IsAt new q event copy) (sym (but_hold i p e)) now))
-    known p event copy now false e = holds.known p event copy (subst (λ (o : Option (List Parcel)). IsIn o event copy) (lends.others p e) now)
 
 pub lent_comes_back : LentComesBack
-lent_comes_back h i parcels old new lends is are holds = record {
-  stand = λ p. go p (same_place (Held i) p) refl;
-  known = λ p event copy now. known p event copy now (same_place (Held i) p) refl;
-}
-  where
-    go : (p : Place) (b : Bool) → same_place (Held i) p ≡ b → IfSome (parcels_here new p) (λ ps. numbers ps ≡ at h p)
-    go p true e = subst (λ (q : Place). IfSome (parcels_here new q) (λ ps. numbers ps ≡ at h q)) (but_hold i p e) (subst (λ (o : Option (List Parcel)). IfSome o (λ ps. numbers ps ≡ at h (Held i))) (sym lends.was) is)
-    go p false e = subst (λ (o : Option (List Parcel)). IfSome o (λ ps. numbers ps ≡ at h p)) (lends.others p e) (holds.stand p)
-
-    known : (p : Place) (event : Event) (copy : Copy) → IsAt new p event copy → (b : Bool) → same_place (Held i) p ≡ b → IsKnown h event copy
-    known p event copy now true e =
-        are event copy (subst (λ (o : Option (List Parcel)). IsIn o event copy) lends.was (subst (λ (q : Place). IsAt new q event copy) (sym (but_hold i p e)) now))
-    known p event copy now false e = holds.known p event copy (subst (λ (o : Option (List Parcel)). IsIn o event copy) (sym (lends.others p e)) now)
+lent_comes_back h i parcels old new lends is are holds =
+    hold_changed h i old new (λ p other. sym (lends.others p other)) holds (rw lends.was is) (λ event copy now. are event copy (rw lends.was at now))
 
 pub none_holds : NoneHolds
 none_holds = record { stand = λ p. refl; known = λ p event copy now. absurd now }

@@ -1,5 +1,7 @@
-use Rattle.vx_places.proofs.Children.{NoneOf}
+use Rattle.std.proofs.Common.{ℕ, ◌<◌}
+use Rattle.vx_places.proofs.Looking.{IsFor}
 use Rattle.vx_places.proofs.looks.any_for.Given as goal
 
+-- none of the children so far is for the target
 abbrev pub invariant-loop-k : goal.invariant-loop-k
-invariant-loop-k l = NoneOf l.target l.k l.waiting.items
+invariant-loop-k l = (j : ℕ) → j < l.k → IsFor l.target l.waiting.items j → ⊥

@@ -1,5 +1,6 @@
 use Rattle.std.proofs.Common.{arith, get_or}
-use Rattle.vx_places.proofs.Looking.{stage_within}
+use Rattle.std.proofs.lemmas.Option.{slice_get-get_or}
+use Rattle.vx_places.proofs.Written.{is_there}
 use Rattle.vx_places.proofs.looks.first_filled.Goals as goal
 
 pub returns-then-has_some : goal.returns-then-has_some
@@ -7,6 +8,7 @@ returns-then-has_some c = (c.has_some.ensures.0 c.if-has_some.true, c.loop-s.inv
 
 pub returns : goal.returns
 returns c s is =
-    let l = stage_within c.args.rows.now c.args.i c.index-rows-i.result c.requires c.index-rows-i.is _ s is in
-    let ok = (get_or c.args.rows.now c.args.i c.index-rows-i.result).stages.ok.0 in
+    let row = get_or c.args.rows.now c.args.i c.index-rows-i.result in
+    let l = is_there _ row.stages.items s (rw (slice_get-get_or c.args.rows.now c.args.i c.index-rows-i.result c.requires) at is) in
+    let ok = row.stages.ok.0 in
     c.loop-s.invariant s (omega (arith, l, ok, c.len-s-end.ensures, c.loop-s-test.false)) is

@@ -1,16 +1,17 @@
 use Rattle.std.proofs.Common.{arith}
 use Rattle.std.proofs.lemmas.Bool.Decides.{nat_tests}
-use Rattle.vx_places.proofs.Written.{not_empty, has_item}
-use Rattle.vx_places.proofs.Looking.{stage_found, stage_missed}
+use Rattle.std.proofs.lemmas.Option.{slice_get-get_or, slice_get_past}
+use Rattle.vx_places.proofs.Written.{read, not_empty}
 use Rattle.vx_places.proofs.looks.has_some.Goals as goal
 
 pub returns-in-Some : goal.returns-in-Some
 returns-in-Some c =
     let found = c.in-Some.ensures.lookup in
-    stage_found c.args.rows.now c.args.i c.index-rows-i.result c.requires c.index-rows-i.is _ _ c.deref.result.now c.args.s c.in-Some.stage.now c.deref.ensures.value
-    (grind (arith, nat_tests, found.0)) found.1 (not_empty c.is_empty.result _ c.is_empty.ensures, has_item c.is_empty.result _ c.is_empty.ensures)
+    let stage = read c.deref.result.now c.args.s c.in-Some.stage.now (grind (arith, nat_tests, found.0)) found.1 in
+    rw (slice_get-get_or c.args.rows.now c.args.i c.index-rows-i.result c.requires, ← c.deref.ensures.value, stage) (not_empty c.is_empty.result _ c.is_empty.ensures)
 
 pub returns-in-None : goal.returns-in-None
 returns-in-None c =
     let missed = c.in-None.ensures.lookup in
-    stage_missed c.args.rows.now c.args.i c.index-rows-i.result c.requires c.index-rows-i.is _ c.deref.result.now c.args.s c.deref.ensures.value (grind (arith, nat_tests, missed.0))
+    let past = slice_get_past c.deref.result.now c.args.s (grind (arith, nat_tests, missed.0)) in
+    rw (slice_get-get_or c.args.rows.now c.args.i c.index-rows-i.result c.requires, ← c.deref.ensures.value, past) (λ is. cc, λ has. absurd has)

@@ -1,13 +1,10 @@
-use Rattle.vx_places.proofs.Looking.{held_none_is, held_none_was}
+use Rattle.std.proofs.lemmas.Option.{slice_get-get_or}
 use Rattle.vx_places.proofs.looks.is_unfilled.Goals as goal
 
 pub returns-then-is_empty_buffer : goal.returns-then-is_empty_buffer
 returns-then-is_empty_buffer c = (
-  λ is. (
-    c.is_empty_buffer.ensures.0 c.if-is_empty_buffer.true,
-    held_none_is c.args.rows.now c.args.i c.index-rows-i.result c.requires c.index-rows-i.is (c.is_none_held.ensures.0 is),
-  ),
-  λ none. c.is_none_held.ensures.1 (held_none_was c.args.rows.now c.args.i c.index-rows-i.result c.requires c.index-rows-i.is none.1),
+  λ is. (c.is_empty_buffer.ensures.0 c.if-is_empty_buffer.true, rw (slice_get-get_or c.args.rows.now c.args.i c.index-rows-i.result c.requires) (c.is_none_held.ensures.0 is)),
+  λ none. c.is_none_held.ensures.1 (rw (slice_get-get_or c.args.rows.now c.args.i c.index-rows-i.result c.requires) at none.1),
 )
 
 pub returns-else-is_empty_buffer : goal.returns-else-is_empty_buffer

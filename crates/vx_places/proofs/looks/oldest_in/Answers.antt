@@ -1,6 +1,6 @@
-use Rattle.std.proofs.Common.{arith, refl, ◌≡◌, subst}
-use Rattle.vx_places.proofs.Written.{if_none, child_there}
-use Rattle.vx_places.proofs.Children.{NoneOf, none_more, oldest_of, not_oldest}
+use Rattle.std.proofs.Common.{arith, refl, ◌∙◌}
+use Rattle.vx_places.proofs.Written.{if_none, read, has}
+use Rattle.vx_places.proofs.Looking.{child_there, oldest_of, oldest_for, none_before, none_more}
 use Rattle.vx_places.proofs.looks.oldest_in.Goals as goal
 
 pub returns-in_err-target-clause-none : goal.returns-in_err-target-clause-none
@@ -11,8 +11,11 @@ returns-in_err-target-clause-none c = if_none c.from_residual.result (λ t first
 
 pub returns-then-index-target-clause-none : goal.returns-then-index-target-clause-none
 returns-then-index-target-clause-none c t first =
-    not_oldest t c.in_ok-target.field-0.now.target c.args.k c.loop-j.j c.args.waiting.now.items c.in_ok-target.field-0.now c.index.result.now c.in_ok-target.ensures.lookup refl
-    c.loop-j-test.true c.index.ensures c.if-index-target.true first
+    let children = c.args.waiting.now.items in
+    let l = child_there t c.args.k children first in
+    let same = has _ children c.args.k _ l c.in_ok-target.ensures.lookup (oldest_for t c.args.k children first) in
+    let here = read children c.loop-j.j _ (omega (arith, l, c.loop-j-test.true)) c.index.ensures in
+    none_before t c.args.k c.loop-j.j children first c.loop-j-test.true (rw here (c.if-index-target.true ∙ same))
 
 pub loop-j-preserved : goal.loop-j-preserved
 loop-j-preserved c =
@@ -24,6 +27,6 @@ pub returns-clause-some : goal.returns-clause-some
 returns-clause-some c =
     let ok = c.args.waiting.now.ok.0 in
     let l = c.in_ok-target.ensures.variant.0 refl in
-    let all : c.loop-j.j ≡ c.args.k = omega arith in
-    oldest_of c.in_ok-target.field-0.now.target c.args.k c.args.waiting.now.items c.in_ok-target.field-0.now (omega (arith, ok, l)) c.in_ok-target.ensures.lookup refl
-    (subst (λ n. NoneOf c.in_ok-target.field-0.now.target n c.args.waiting.now.items) all c.loop-j.invariant)
+    let here = read c.args.waiting.now.items c.args.k _ (omega (arith, ok, l)) c.in_ok-target.ensures.lookup in
+    oldest_of c.in_ok-target.field-0.now.target c.args.k c.args.waiting.now.items (rw here refl)
+    (λ i below. c.loop-j.invariant i (omega (arith, below, c.loop-j-test.false)))

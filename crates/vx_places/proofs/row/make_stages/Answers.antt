@@ -1,10 +1,9 @@
-use Rattle.std.proofs.Common.{◌∙◌, ◌++◌, ◌∷◌, [], ap, sym, subst, arith}
-use Rattle.vx_places.specs.Calls.{AreEmpty}
+use Rattle.std.proofs.Common.{◌∙◌, ◌++◌, ◌∷◌, [], ap, sym, arith}
 use Rattle.vx_places.proofs.Making.{made_empty, stages_more}
 use Rattle.vx_places.proofs.row.make_stages.Goals as goal
 
 pub end_stages-requires : goal.end_stages-requires
-end_stages-requires c = subst (λ (ss : _). AreEmpty ss) (sym c.loop-room.invariant.0) (made_empty _)
+end_stages-requires c = rw c.loop-room.invariant.0 (made_empty _)
 
 pub loop-room-preserved : goal.loop-room-preserved
 loop-room-preserved c = (

@@ -1,16 +1,18 @@
-use Rattle.std.proofs.Common.{subst, sym, refl}
-use Rattle.std.specs.Prelude.{IsSome}
-use Rattle.vx_places.proofs.Written.{held_back, row_gets, row_has}
-use Rattle.vx_places.proofs.Rooms.{room_back}
+use Rattle.std.proofs.Common.{ap, refl}
+use Rattle.vx_places.specs.Views.{held_items}
+use Rattle.vx_places.specs.Rooms.{line_room}
+use Rattle.vx_places.proofs.Written.{held_written, back, lends, has, gets, room_back}
 use Rattle.vx_places.proofs.rows.give_back.Goals as goal
 
 pub returns-clause-lends : goal.returns-clause-lends
-returns-clause-lends c = held_back c.args.rows.now.items c.args.i c.index_mut.result.now c.requires.within c.index_mut.ensures.value c.replace.new.dest c.args.held
-    (row_has _ c.args.rows.now.items c.args.i c.index_mut.result.now c.requires.within c.index_mut.ensures.value c.requires.lent) c.replace.ensures.after
+returns-clause-lends c =
+    let lent = has _ c.args.rows.now.items c.args.i _ c.requires.within c.index_mut.ensures.value c.requires.lent in
+    lends (back (held_written _ _ _ c.requires.within c.index_mut.ensures.value _)) _ (ap held_items c.replace.ensures.after) (ap held_items lent)
 
 pub returns-clause-kept : goal.returns-clause-kept
-returns-clause-kept c = row_gets _ c.args.rows.now.items c.args.i _ c.requires.within (subst (λ (o : _). IsSome o) (sym c.replace.ensures.after) refl)
+returns-clause-kept c = gets _ c.args.rows.now.items c.args.i _ c.requires.within (rw c.replace.ensures.after refl)
 
 pub returns-clause-rooms : goal.returns-clause-rooms
-returns-clause-rooms c = room_back c.args.rows.now.items c.args.i c.index_mut.result.now c.index_mut.ensures.value c.requires.within c.replace.new.dest c.args.held
-    (row_has _ c.args.rows.now.items c.args.i c.index_mut.result.now c.requires.within c.index_mut.ensures.value c.requires.lent) c.replace.ensures.after
+returns-clause-rooms c =
+    let lent = has _ c.args.rows.now.items c.args.i _ c.requires.within c.index_mut.ensures.value c.requires.lent in
+    room_back _ _ _ c.requires.within c.index_mut.ensures.value _ _ (ap line_room lent) (ap line_room c.replace.ensures.after)

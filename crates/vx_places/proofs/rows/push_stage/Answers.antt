@@ -1,21 +1,18 @@
-use Rattle.std.proofs.Common.{arith, refl}
-use Rattle.vx_places.proofs.Written.{stage_there, stage_has, stage_put, row_has}
-use Rattle.vx_places.proofs.Rooms.{rooms_kept, stage_room_kept}
+use Rattle.std.proofs.Common.{arith, refl, ap, Some}
+use Rattle.vx_places.proofs.Written.{stage_of, stage_written, puts, stage_room_kept}
 use Rattle.vx_places.proofs.rows.push_stage.Goals as goal
 
 pub index_mut-requires-2 : goal.index_mut-requires-2
 index_mut-requires-2 c =
-    let ok = c.index_mut.result.now.stages.ok in
-    let l = stage_there _ c.index_mut.result.now.stages.items c.args.s (row_has _ c.args.rows.now.items c.args.t c.index_mut.result.now c.requires.within c.index_mut.ensures.value c.requires.room) in
-    omega (arith, l, ok)
+    let ok = c.index_mut.result.now.stages.ok in omega (arith, ok, (stage_of c.args.rows.now.items c.args.t _ c.requires.within c.index_mut.ensures.value _ c.args.s c.requires.room).0)
 
 pub push-requires : goal.push-requires
-push-requires c = stage_has _ c.index_mut.result.now.stages.items c.args.s c.index_mut-2.result.now (stage_there _ c.index_mut.result.now.stages.items c.args.s (row_has _ c.args.rows.now.items c.args.t c.index_mut.result.now c.requires.within c.index_mut.ensures.value c.requires.room))
-    c.index_mut-2.ensures.value (row_has _ c.args.rows.now.items c.args.t c.index_mut.result.now c.requires.within c.index_mut.ensures.value c.requires.room)
+push-requires c = (stage_of c.args.rows.now.items c.args.t _ c.requires.within c.index_mut.ensures.value _ c.args.s c.requires.room).1 _ c.index_mut-2.ensures.value
 
 pub returns-clause-puts : goal.returns-clause-puts
-returns-clause-puts c = stage_put c.args.rows.now.items c.args.t c.index_mut.result.now c.requires.within c.index_mut.ensures.value c.args.s (stage_there _ c.index_mut.result.now.stages.items c.args.s (row_has _ c.args.rows.now.items c.args.t c.index_mut.result.now c.requires.within c.index_mut.ensures.value c.requires.room))
-    c.index_mut-2.result.now c.index_mut-2.ensures.value c.push.new.self _ c.push.ensures.items
+returns-clause-puts c =
+    let l = (stage_of c.args.rows.now.items c.args.t _ c.requires.within c.index_mut.ensures.value _ c.args.s c.requires.room).0 in
+    puts (stage_written _ _ _ c.requires.within c.index_mut.ensures.value c.args.s _ _ l c.index_mut-2.ensures.value) _ _ refl (ap Some c.push.ensures.items)
 
 pub returns-clause-rooms : goal.returns-clause-rooms
-returns-clause-rooms c = rooms_kept c.args.rows.now.items c.args.t c.index_mut.result.now c.index_mut.ensures.value _ (stage_room_kept c.index_mut.result.now.stages.items c.args.s c.index_mut-2.result.now c.push.new.self c.index_mut-2.ensures.value c.push.ensures.room) refl
+returns-clause-rooms c = search stage_room_kept

@@ -1,31 +1,36 @@
-use Rattle.std.proofs.Common.{arith, ap, length, ◌<◌, refl}
-use Rattle.std.proofs.lemmas.Option.{IfSome_then}
-use Rattle.vx_places.proofs.Written.{if_none_then, same_read, stage_lost, stage_still, nothing_in_stage, nothing_past}
-use Rattle.vx_places.proofs.Rooms.{rooms_kept, stage_room_kept}
+use Rattle.std.proofs.Common.{arith, ap, length, ◌<◌, refl, sym, ◌∙◌}
+use Rattle.std.proofs.lemmas.Option.{IfSome_then, slice_get_past}
+use Rattle.vx_record.specs.Places.Place.{Contents}
+use Rattle.vx_places.proofs.Written.{if_none_then, one_some, read, read_at, stage_written, stage_still, loses, stage_room_kept}
 use Rattle.vx_places.proofs.rows.spend_stage.Goals as goal
 
+-- both rows that were read are one, so the stage is in the one that is written
 within : (c : goal.After-rows-1) → c.args.s < length c.index_mut.result.now.stages.items
 within c =
-    let same = ap (λ row. row.stages.len) (same_read c.args.rows.now.items c.args.i c.index.result.now c.index_mut.result.now c.requires c.index.ensures c.index_mut.ensures.value) in
+    let first = read c.args.rows.now.items c.args.i _ c.requires c.index.ensures in
+    let again = read c.args.rows.now.items c.args.i _ c.requires c.index_mut.ensures.value in
+    let same = ap (λ row. row.stages.len) (one_some _ _ (sym first ∙ again)) in
     let ok = c.index_mut.result.now.stages.ok in omega (arith, ok, same, c.len.ensures, c.if-s-len.true)
 
 pub returns-then-s-len-clause-loses : goal.returns-then-s-len-clause-loses
-returns-then-s-len-clause-loses c = IfSome_then c.take_copy.result c.take_copy.ensures.loses (λ copy loses. stage_lost c.args.rows.now.items c.args.i c.index_mut.result.now c.requires
-    c.index_mut.ensures.value c.args.s (within c) c.index_mut-then-s-len.result.now c.index_mut-then-s-len.ensures.value c.take_copy.new.line copy loses)
+returns-then-s-len-clause-loses c = IfSome_then c.take_copy.result c.take_copy.ensures.loses (λ copy less.
+    loses (stage_written _ _ _ c.requires c.index_mut.ensures.value c.args.s _ _ (within c) c.index_mut-then-s-len.ensures.value) copy _ _ refl refl less)
 
 pub returns-then-s-len-clause-none : goal.returns-then-s-len-clause-none
-returns-then-s-len-clause-none c = if_none_then c.take_copy.result (stage_still c.args.rows.now.items c.args.i c.index_mut.result.now c.requires c.index_mut.ensures.value c.args.s (within c)
-    c.index_mut-then-s-len.result.now c.index_mut-then-s-len.ensures.value c.take_copy.new.line) c.take_copy.ensures.none
+returns-then-s-len-clause-none c = if_none_then c.take_copy.result
+    (stage_still _ _ _ c.requires c.index_mut.ensures.value c.args.s _ _ (within c) c.index_mut-then-s-len.ensures.value) c.take_copy.ensures.none
 
 pub returns-then-s-len-clause-empty : goal.returns-then-s-len-clause-empty
-returns-then-s-len-clause-empty c = if_none_then c.take_copy.result (nothing_in_stage c.args.rows.now.items c.args.i c.index_mut.result.now c.requires c.index_mut.ensures.value c.args.s (within c)
-    c.index_mut-then-s-len.result.now c.index_mut-then-s-len.ensures.value c.take_copy.new.line) c.take_copy.ensures.empty
+returns-then-s-len-clause-empty c =
+    let change = stage_written c.args.rows.now.items c.args.i c.index_mut.result.now c.requires c.index_mut.ensures.value c.args.s
+    c.index_mut-then-s-len.result.now c.take_copy.new.line (within c) c.index_mut-then-s-len.ensures.value in
+    if_none_then c.take_copy.result (λ none. rw change.was none) c.take_copy.ensures.empty
 
 pub returns-else-s-len-clause-empty : goal.returns-else-s-len-clause-empty
 returns-else-s-len-clause-empty c =
     let ok = c.index.result.now.stages.ok in
-    nothing_past c.args.rows.now.items c.args.i c.index.result.now c.requires c.index.ensures c.args.s (omega (arith, ok, c.len.ensures, c.if-s-len.false))
+    let past = slice_get_past c.index.result.now.stages.items c.args.s (omega (arith, ok, c.len.ensures, c.if-s-len.false)) in
+    rw (read_at c.args.rows.now.items c.args.i _ c.requires c.index.ensures (Contents c.args.i c.args.s) refl, past) tt
 
 pub returns-then-s-len-clause-rooms : goal.returns-then-s-len-clause-rooms
-returns-then-s-len-clause-rooms c = rooms_kept c.args.rows.now.items c.args.i c.index_mut.result.now c.index_mut.ensures.value _
-    (stage_room_kept c.index_mut.result.now.stages.items c.args.s c.index_mut-then-s-len.result.now c.take_copy.new.line c.index_mut-then-s-len.ensures.value c.take_copy.ensures.room) refl
+returns-then-s-len-clause-rooms c = search stage_room_kept
