@@ -1,15 +1,9 @@
 pub mod Telling
 pub mod Owing
-pub mod Births
 pub mod Progressing
-pub mod Asking
-pub mod Shutting
+pub mod Holding
 pub mod Staying
 pub mod Knowing
 pub mod Steps
-pub mod Turns
-pub mod Holding
-pub mod Taken
-pub mod Spends
 pub mod Aside
 pub mod Beginning

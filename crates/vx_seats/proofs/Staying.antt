@@ -1,7 +1,8 @@
 -- One seat is written, and what a call leaves of all.
-use Rattle.std.proofs.Common.{◌≡◌, ◌∙◌, ◌≢◌, ◌<◌, ℕ, zero, suc, Bool, List, [], ◌∷◌, Option, Some, None, IfSome, length, refl, sym, ap, subst, arith, slice_get}
-use Rattle.std.specs.Prelude.{◌==◌, ◌||◌, IsSomeAnd, slice_set, get_or, true, false}
-use Rattle.std.proofs.lemmas.Bool.Decides.{nat_tests}
+use Rattle.std.proofs.Common.{◌≡◌, ◌∙◌, ◌≢◌, ◌<◌, inl, inr, ℕ, zero, suc, Bool, List, [], ◌∷◌, Option, Some, None, IfSome, length, refl, ap, arith, slice_get}
+use Rattle.std.specs.Prelude.{◌||◌, IsSomeAnd, slice_set, get_or, false}
+use Rattle.std.proofs.lemmas.Bool.{cases_eq}
+use Rattle.std.proofs.lemmas.Option.{IfSome_then, slice_get_read}
 use Rattle.vx_ends.specs.Told.{Told}
 use Rattle.vx_ends.specs.declared.position.Position.{Position}
 use Rattle.vx_counts.specs.declared.counts.Counts.{Counts}
@@ -20,9 +21,7 @@ module _ {P : Type 0} where
   written (r ∷ seats) (suc i) new l = written seats i new (omega arith)
 
   pub read_seat : (seats : List (Seat P)) (i : ℕ) (seat : Seat P) → i < length seats → seat ≡ get_or seats i seat → slice_get seats i ≡ Some seat
-  read_seat [] i seat l at = absurd (omega arith)
-  read_seat (r ∷ seats) zero seat l at = ap Some (sym at)
-  read_seat (r ∷ seats) (suc i) seat l at = read_seat seats i seat (omega arith) at
+  read_seat seats i seat = slice_get_read seats (length seats) i seat refl
 
   pub other_seat : (seats : List (Seat P)) (i j : ℕ) (new : Seat P) → j ≢ i → slice_get (slice_set seats i new) j ≡ slice_get seats j
   other_seat [] i j new other = refl
@@ -36,68 +35,46 @@ module _ {P : Type 0} where
   size_set (r ∷ seats) zero new = refl
   size_set (r ∷ seats) (suc i) new = ap suc (size_set seats i new)
 
-  stays_itself : (seat : Seat P) → Stays seat seat
-  stays_itself seat = record { wiring = record { name = refl; class = refl; outlet = refl; batching = refl }; flags = record { owing = refl; behind = refl; starved = refl }; task = refl }
+  -- what is said of each seat behind a write: of the one that is written, and of the others by what was said of them
+  pub each_set : (F G : ℕ → Seat P → Type 0) (old : List (Seat P)) (i : ℕ) (is : Seat P) → i < length old →
+      ((j : ℕ) (seat : Seat P) → j ≢ i → F j seat → G j seat) → G i is →
+      ((j : ℕ) → IfSome (slice_get old j) (F j)) → (j : ℕ) → IfSome (slice_get (slice_set old i is) j) (G j)
+  each_set F G old i is l others own each j = elim (cases_eq j i) [
+    | inl same ↦ rw (same, written old i is l) own
+    | inr other ↦ rw (other_seat old i j is other) (IfSome_then (slice_get old j) (each j) (λ seat. others j seat other))
+  ]
 
   itself : (o : Option (Seat P)) → IfSome o (λ is. IsSomeAnd o (λ was. Stays was is))
   itself None = tt
-  itself (Some seat) = stays_itself seat
+  itself (Some seat) = assumption
 
-  module _ (i : ℕ) (items now : List (Seat P)) (was : Seat P) (view : items ≡ now) (l : i < length now) (read : was ≡ get_or items i was) where
-    within : i < length items
-    within = subst (λ (s : List (Seat P)). i < length s) (sym view) l
+  -- CALLS
+  -- a call that writes the seat of an instance: that is there
+  module _ (i : ℕ) {items now : List (Seat P)} {was : Seat P} (view : items ≡ now) (l : i < length now) (read : was ≡ get_or items i was) where
+    pub there : slice_get now i ≡ Some was
+    there = rw (← view) (read_seat items i was (rw view l) read)
 
-    -- the seat of an instance is written
+    -- what is said of both
     pub writes : (F : Seat P → Seat P → Type 0) (is : Seat P) → F was is → OneSeat F i now (slice_set items i is)
-    writes F is so = record {
-      one = subst (λ (s : List (Seat P)). IsSomeAnd (slice_get s i) (λ w. IsSomeAnd (slice_get (slice_set items i is) i) (λ n. F w n))) view
-          (subst (λ (o : Option (Seat P)). IsSomeAnd o (λ w. IsSomeAnd (slice_get (slice_set items i is) i) (λ n. F w n))) (sym (read_seat items i was within read))
-          (subst (λ (o : Option (Seat P)). IsSomeAnd o (λ n. F was n)) (sym (written items i is within)) so));
-      others = λ j other. subst (λ (s : List (Seat P)). slice_get (slice_set items i is) j ≡ slice_get s j) view (other_seat items i j is other);
-    }
+    writes F is so = rw view (record { one = rw (there, written now i is l) so; others = λ j other. other_seat now i j is other })
 
-    -- what it leaves of that it leaves of all
-    each_stays : (is : Seat P) → Stays was is → EachSeat Stays now (slice_set items i is)
-    each_stays is so j = subst (λ (s : List (Seat P)). IfSome (slice_get (slice_set items i is) j) (λ n. IsSomeAnd (slice_get s j) (λ w. Stays w n))) view (go (j == i) refl)
-      where
-        go : (b : Bool) → (j == i) ≡ b → IfSome (slice_get (slice_set items i is) j) (λ n. IsSomeAnd (slice_get items j) (λ w. Stays w n))
-        go true same =
-            let at : j ≡ i = grind (arith, nat_tests) in
-            subst (λ (k : ℕ). IfSome (slice_get (slice_set items i is) k) (λ n. IsSomeAnd (slice_get items k) (λ w. Stays w n))) (sym at)
-            (subst (λ (o : Option (Seat P)). IfSome o (λ n. IsSomeAnd (slice_get items i) (λ w. Stays w n))) (sym (written items i is within))
-            (subst (λ (o : Option (Seat P)). IsSomeAnd o (λ w. Stays w is)) (sym (read_seat items i was within read)) so))
-        go false apart =
-            let other : j ≢ i = grind (arith, nat_tests) in
-            subst (λ (o : Option (Seat P)). IfSome o (λ n. IsSomeAnd (slice_get items j) (λ w. Stays w n))) (sym (other_seat items i j is other)) (itself (slice_get items j))
-
-    -- so do calls that write neither its task nor what isn't known any more
+    -- calls that write neither its task nor what isn't known any more leave that of all
     pub stay : (f : Facts) (p : Progress) (c : Counts) → f.owing ≡ was.facts.owing → f.behind ≡ was.facts.behind → f.starved ≡ was.facts.starved →
         EachSeat Stays now (slice_set items i (record was { facts = f; progress = p; counts = c }))
-    stay f p c owing behind starved = each_stays (record was { facts = f; progress = p; counts = c }) (record {
-      wiring = record { name = refl; class = refl; outlet = refl; batching = refl };
-      flags = record { owing = owing; behind = behind; starved = starved };
-      task = refl;
-    })
+    stay f p c owing behind starved =
+        let so : Stays was (record was { facts = f; progress = p; counts = c }) = assumption in
+        rw view (each_set (λ j n. IsSomeAnd (slice_get now j) (λ w. Stays w n)) (λ j n. IsSomeAnd (slice_get now j) (λ w. Stays w n)) now i _ l (λ j seat other stays. stays)
+        (rw there so) (λ j. itself (slice_get now j)))
 
     -- a read of an instance
     pub read_stays : (f : Facts) (c : Counts) (untold : Bool) → f.owing ≡ was.facts.owing → f.behind ≡ (untold || was.facts.behind) → f.starved ≡ was.facts.starved →
         OneSeat (HasRead untold) i now (slice_set items i (record was { facts = f; counts = c }))
-    read_stays f c untold owing behind starved = writes (HasRead untold) (record was { facts = f; counts = c }) (record {
-      wiring = record { name = refl; class = refl; outlet = refl; batching = refl };
-      owing = owing;
-      behind = behind;
-      starved = starved;
-      task = refl;
-    })
+    read_stays f c untold owing behind starved = writes (HasRead untold) (record was { facts = f; counts = c }) (assumption)
 
     -- its task leaves
-    pub left_stays : (is : Seat P) (task : Task P) (positions : Option (List Position)) → Leaves was is task positions → OneSeat (IsLeft task) i now (slice_set items i is)
-    left_stays is task positions leaves = writes (IsLeft task) is (record {
-      wiring = record { name = ap (λ s. s.name) leaves.rest; class = ap (λ s. s.class) leaves.rest; outlet = ap (λ s. s.outlet) leaves.rest; batching = ap (λ s. s.batching) leaves.rest };
-      flags = record { owing = ap (λ s. s.facts.owing) leaves.rest; behind = ap (λ s. s.facts.behind) leaves.rest; starved = ap (λ s. s.facts.starved) leaves.rest };
-      had = leaves.had;
-      gone = ap (λ s. s.task) leaves.rest;
-    })
+    pub left_stays : (is : Seat P) (task : Task P) (positions : Option (List Position)) → Leaves was is task positions →
+        OneSeat (IsLeft task) i now (slice_set items i is)
+    left_stays is task positions leaves = writes (IsLeft task) is (rw leaves.rest (assumption leaves.had))
 
 -- what is said of a seat that was is said of the one that is
 carried : {A : Type 0} (o n : Option A) (R : A → A → Type 0) (F : A → Type 0) → ((was is : A) → R was is → F was → F is) →
@@ -110,6 +87,5 @@ pub stays_known : {P : Type 0} (told_by : P → Told) → StaysKnown told_by
 stays_known told_by old new i each = record {
   settled = carried (slice_get old i) (slice_get new i) Stays (λ seat. seat.facts.owing ≡ false) (λ was is so known. so.flags.owing ∙ known) (each i);
   counts = carried (slice_get old i) (slice_get new i) Stays (λ seat. seat.facts.behind ≡ false) (λ was is so known. so.flags.behind ∙ known) (each i);
-  shut = carried (slice_get old i) (slice_get new i) Stays (λ seat. IfSome seat.task (λ task. (told_by task.port).started ≡ false))
-      (λ was is so known. subst (λ (o : Option (Task _)). IfSome o (λ task. (told_by task.port).started ≡ false)) (sym so.task) known) (each i);
+  shut = carried (slice_get old i) (slice_get new i) Stays (λ seat. IfSome seat.task (λ task. (told_by task.port).started ≡ false)) (λ was is so known. rw so.task known) (each i);
 }

@@ -1,335 +1,409 @@
--- What is known of an instance, behind an entry of its own task.
-use Rattle.std.proofs.Common.{◌≡◌, ◌∙◌, ◌<◌, inl, inr, ◌⊎◌, ℕ, ◌+◌, Bool, true, false, List, ◌∷◌, Option, Some, None, IfSome, IfNone, length, refl, sym, ap, subst, arith, slice_get}
-use Rattle.std.specs.Prelude.{◌==◌, ◌&&◌, ◌||◌, not, if◌then◌else◌, slice_set, get_or, IsSomeAnd}
-use Rattle.std.proofs.lemmas.Bool.Decides.{nat_tests}
-use Rattle.vx_value.specs.Texts.{Word}
-use Rattle.vx_ends.specs.Told.{Told}
+-- What each call makes of what is known: one lemma a call, for the seat that it writes.
+use Rattle.std.proofs.Common.{◌≡◌, ◌∙◌, ◌≢◌, ◌<◌, ◌≤◌, inl, inr, ◌⊎◌, ℕ, ◌+◌, ◌-◌, Bool, true, false, List, [], ◌∷◌, ◌++◌, Option, Some, None, IfSome, IfNone, length, refl, sym, ap, subst, arith}
+use Rattle.std.specs.Prelude.{◌&&◌, ◌||◌, not, if◌then◌else◌, slice_set, get_or, is_some, IsSomeAnd}
+use Rattle.std.proofs.lemmas.Bool.{cases_Bool, cases_eq, false_from_ne_true, not-false, or_parts}
+use Rattle.std.proofs.lemmas.List.{append-nil}
+use Rattle.std.proofs.lemmas.Option.{IfSome_then}
+use Rattle.vx_value.specs.Texts.{Word, is_empty}
+use Rattle.vx_value.specs.declared.event.Event.{Event}
+use Rattle.vx_ends.specs.Told.{Told, SameBytes}
 use Rattle.vx_ends.specs.declared.position.Position.{Position}
 use Rattle.vx_ends.specs.declared.trouble.Reply.{Reply}
-use Rattle.vx_plan.specs.declared.class.Class.TheVariants.{Source}
+use Rattle.vx_plan.specs.declared.class.Class.{Class}
+use Rattle.vx_plan.specs.declared.class.Class.TheVariants.{Source, Transform, Sink}
 use Rattle.vx_plan.specs.declared.component.Component.{Component}
+use Rattle.vx_status.specs.declared.batch_status.BatchStatus.{BatchStatus}
+use Rattle.vx_status.specs.declared.outcome.Outcome.{Outcome}
+use Rattle.vx_status.specs.declared.outcome.Outcome.TheVariants.{NewestDropped}
+use Rattle.vx_record.specs.declared.taken.Taken.{Taken}
 use Rattle.vx_record.specs.declared.entry.Entry.{Entry}
-use Rattle.vx_record.specs.declared.entry.Entry.TheVariants.{Install, Idle, SourceLost, Take, Answer, Attempt, Spent, Confirm, Closed, Retired, Abandon}
+use Rattle.vx_record.specs.declared.entry.Entry.TheVariants.{Lease, Home, Read, Idle, SourceLost, Born, Take, Attempt, Spent, Notice, Confirm, Closed, Retired}
 use Rattle.vx_record.specs.declared.tally.Tally.{Tally}
 use Rattle.vx_record.specs.Records.{Record, capped}
 use Rattle.vx_record.specs.Legal.{IsLegal}
-use Rattle.vx_record.specs.Turns.{is_out}
-use Rattle.vx_record.specs.Reads.{bytes_taken}
-use Rattle.vx_record.specs.Installs.{component_of, sink_at, source_at, is_closed, is_retired}
-use Rattle.vx_record.specs.Ceasing.{lost_at}
+use Rattle.vx_record.specs.Turns.{is_out, lease_now}
+use Rattle.vx_record.specs.Reads.{bytes_taken, is_end, all_ended}
+use Rattle.vx_record.specs.Installs.{component_of, device_at, source_at}
 use Rattle.vx_record.specs.Sourcing.{failed_starts}
-use Rattle.vx_record.specs.Confirms.{is_unconfirmed}
-use Rattle.vx_record.specs.Places.Place.{Held}
+use Rattle.vx_record.specs.Confirms.{Birth, births, is_delivered}
+use Rattle.vx_record.specs.Places.Place.{Waiting, Held}
 use Rattle.vx_record.specs.Shifts.{at}
-use Rattle.vx_counts.specs.Meets.{Meets}
+use Rattle.vx_record.specs.Tallies.{is_batch_of, is_newest}
+use Rattle.vx_record.proofs.Senders.{bearer}
+use Rattle.vx_counts.specs.declared.counts.Counts.{Counts}
+use Rattle.vx_counts.specs.Classes.{class_at, IsGiver}
+use Rattle.vx_counts.specs.Meets.{Meets, LeavesBe}
+use Rattle.vx_counts.specs.Spends.{WasPutIn}
 use Rattle.vx_counts.proofs.Classes.{source_is, tally_is}
-use Rattle.vx_counts.proofs.Stays.{others_stay}
+use Rattle.vx_counts.proofs.Numbering.{one_owner}
+use Rattle.vx_counts.proofs.Once.{itself}
+use Rattle.vx_sourcecore.specs.declared.prefix.Prefix.{Prefix}
+use Rattle.vx_sourcecore.specs.Prefixes.{AreApart, GoesOn, IsPrefixOf, Judgement, Tells, birth_at}
 use Rattle.vx_tasks.specs.declared.task.Task.{Task}
-use Rattle.vx_tasks.specs.Telling.{IsTold, IsToldButGiven}
+use Rattle.vx_tasks.specs.Telling.{IsTold}
+use Rattle.vx_tasks.specs.Out.{AreDue}
+use Rattle.vx_seats.specs.declared.facts.Facts.{Facts}
+use Rattle.vx_seats.specs.declared.progress.Progress.{Progress}
 use Rattle.vx_seats.specs.declared.seat.Seat.{Seat}
-use Rattle.vx_seats.specs.Knowing.{IsFitted, IsFittedTo, IsSince, HasFacts, HasProgress, HasHome, IsAtHomeBut, IsKnown, Knows}
-use Rattle.vx_seats.proofs.Telling.{InstallsNothing}
-use Rattle.vx_seats.proofs.Staying.{read_seat}
-use Rattle.vx_seats.proofs.Progressing.{progress_on, this_side}
-use Rattle.vx_seats.proofs.Knowing.{IsOwnOf, counts_on, fitted_on, home_still, known_at, knows_own, knows_same, nobody, away_out, since_by}
+use Rattle.vx_seats.specs.Knowing.{HasProgress, HasHome, IsAtHomeBut, IsFitted, IsFittedTo, IsKnown, Knows, asked, count_unnoticed, judged_by}
+use Rattle.vx_seats.specs.Calls.{CountsAt, HasTaskBack, IsAskedOf, IsBack, IsClosedBy, IsSettledAt, IsShutAt, Leaves, Shuts, TaskShuts}
+use Rattle.vx_seats.specs.Staying.{IsShut, OneSeat}
+use Rattle.vx_seats.proofs.Holding.{since_calm, since_spent, since_took}
+use Rattle.vx_seats.proofs.Knowing.{CountsOwn, apart_of, but_by, counts_on, facts_far, fitted_by, home_far, keeps, known_far, known_was, knows_next, leaves_far, out_known, own_steps, still_known}
+use Rattle.vx_seats.proofs.Owing.{owes_still}
+use Rattle.vx_seats.proofs.Progressing.{asked_due, births_apart, count_born, count_noticed, count_on, due_unnoticed, going_on, may_new, progress_on, tells, unborn_unnoticed, unnoticed_few}
+use Rattle.vx_seats.proofs.Staying.{there, writes, written}
+use Rattle.vx_seats.proofs.Telling.{told_mute, come_mute}
 
-pub itself : (i : ℕ) → (i == i) ≡ true
-itself i = grind (arith, nat_tests)
+-- what is known of seats leads to what is known of others behind an entry
+abbrev pub Leads : {P : Type 0} → (P → Told) → List (Seat P) → List (Seat P) → Record → Entry → Type 0
+Leads told_by now new h e = Knows told_by now h → IsLegal (e ∷ h) → Knows told_by new (e ∷ h)
 
--- an entry that takes, answers and spends nothing
-abbrev pub IsCalm : Entry → Type 0
-IsCalm (Install version plan once instances now) = ⊥
-IsCalm (Take i s copies) = ⊥
-IsCalm (Answer i outputs discarded kept) = ⊥
-IsCalm (Spent i c outcome) = ⊥
-IsCalm other = Unit {0}
+-- so do counts of an instance
+abbrev pub Counted : ℕ → Record → Entry → Tally → Tally → Type 0
+Counted i h e was is = IsLegal (e ∷ h) → Meets i h was → Meets i (e ∷ h) is
 
--- leaves the moment of the oldest parcel
-pub since_calm : (since : ℕ) (h : Record) (e : Entry) (i : ℕ) → IsCalm e → (sink_at h i ≡ true → IsSince h i since (at h (Held i))) →
-    sink_at (e ∷ h) i ≡ true → IsSince (e ∷ h) i since (at (e ∷ h) (Held i))
-since_calm since h (Install version plan once instances now) i calm was sink = absurd calm
-since_calm since h (Take j s copies) i calm was sink = absurd calm
-since_calm since h (Answer j outputs discarded kept) i calm was sink = absurd calm
-since_calm since h (Spent j c outcome) i calm was sink = absurd calm
-since_calm since h (Attempt j copies bytes reply) i calm was sink =
-    since_by h (Attempt j copies bytes reply ∷ h) i since (at h (Held i)) (λ going. going) (λ c none. omega (arith, none)) (λ c. refl) (was sink)
-since_calm since h (Abandon cause) i calm was sink = since_by h (Abandon cause ∷ h) i since (at h (Held i)) (λ going. cc) (λ c none. none) (λ c. refl) (was sink)
-since_calm since h e i calm was sink = since_by h (e ∷ h) i since (at h (Held i)) (λ going. going) (λ c none. none) (λ c. refl) (was sink)
+-- the seats, where that of an instance is written
+abbrev pub seated : {P : Type 0} → List (Seat P) → ℕ → Seat P → Facts → Progress → Counts → List (Seat P)
+seated items i was f p c = slice_set items i (record was { facts = f; progress = p; counts = c })
 
--- a confirm that failed counts for nobody
-pub confirm_stays : (h : Record) (i : ℕ) (positions : List Position) (made : Bool) (t : Tally) → made ≡ false → IsLegal (Confirm i positions made ∷ h) → Meets i h t →
-    Meets i (Confirm i positions made ∷ h) t
-confirm_stays h i positions made t failed legal meets = meets ∙ sym (others_stay (Confirm i positions made) h i legal (ap (λ (b : Bool). (i == i) && b) failed ∙ none (i == i)))
+-- what was to be confirmed is taken along by a lease
+leased_progress : {o : Option (List Position)} {p q : Progress} {h : Record} (i worker moment polls : ℕ) → IsAskedOf o p q → HasProgress p h i →
+    HasProgress q (Lease i worker moment polls ∷ h) i
+leased_progress {o} {p} {q} {h} i worker moment polls set has = record {
+  unnoticed = set.unnoticed ∙ has.unnoticed ∙ sym (count_on h (Lease i worker moment polls ∷ h) i (λ b. refl) (append-nil (births h i)));
+  waits = set.waits ∙ has.waits;
+  prefix = rw (append-nil, itself i) (set.asked (judged_by h) (births h i) (asked h i) has.prefix);
+}
+
+-- CLASSES
+class_is : {P : Type 0} (seat : Seat P) (h : Record) (i : ℕ) → IsFitted seat h i → class_at h i ≡ Some seat.class
+class_is seat h i fit = go (component_of h i) fit.component
   where
-    none : (b : Bool) → (b && false) ≡ false
-    none true = refl
-    none false = refl
+    go : (o : Option Component) → IsSomeAnd o (IsFittedTo seat) → elim o as (λ _. Option Class) [ None ↦ None | Some c ↦ Some c.class ] ≡ Some seat.class
+    go None f = absurd f
+    go (Some c) f = ap (λ (k : Class). Some k) (sym f.class)
 
--- what follows where nothing is there
-pub none_then : {X : Type 0} {A B : Type 0} (o : Option X) → IfNone o A → (A → B) → IfNone o B
-none_then None is step = step is
-none_then (Some x) is step = tt
+pub no_sink : {o : Option Class} {k : Class} → o ≡ Some k → (k ≡ Sink → ⊥) → o ≡ Some Sink → ⊥
+no_sink is never sink = never (cc)
+
+-- a class that is no sink's gives
+pub gives : {o : Option Class} (k : Class) → o ≡ Some k → (k ≡ Sink → ⊥) → IsGiver o
+gives Source is never = rw is tt
+gives Transform is never = rw is tt
+gives Sink is never = absurd (never refl)
+
+-- SPENDS
+-- what is said of a spend that isn't counted: the test fails on one side or the other
+pub unless : {A : Type 0} (s f r b : Bool) → (s ≡ false → A → ⊥) → f ≡ r → b ≡ (s && f) → b ≡ false → A → r ≡ false
+unless true f r b other is both none a = sym is ∙ sym both ∙ none
+unless false f r b other is both none a = absurd (other refl a)
+
+-- a spend that isn't of the newest counts for its own task alone
+own_spend : (i c : ℕ) (outcome : Outcome) → is_newest outcome ≡ false → CountsOwn (Spent i c outcome)
+own_spend i c NewestDropped never = cc
+own_spend i c outcome never = λ x. x
+
+pub leaves_own : (h : Record) (i c : ℕ) (outcome : Outcome) → is_newest outcome ≡ false → IsLegal (Spent i c outcome ∷ h) → (k : ℕ) → k ≢ i →
+    LeavesBe h k (Spent i c outcome)
+leaves_own h i c outcome newest legal k other = leaves_far h (Spent i c outcome) k legal (own_spend i c outcome newest) (apart_of i k other)
+
+-- nor does what waited for another count
+pub leaves_target : (h : Record) (i t c : ℕ) (copies : List ℕ) → WasPutIn h (Waiting i t) copies c → (k : ℕ) → k ≢ t → LeavesBe h k (Spent i c NewestDropped)
+leaves_target h i t c copies put k other = λ class. record { giver = i; target = t; copies = copies; put = put; apart = rw (apart_of t k other) refl }
+
+-- the seat of whatever instance, behind a spend
+pub spent_known : {P : Type 0} {told_by : P → Told} {counts : Counts} (was : Seat P) (h : Record) (i j c : ℕ) (outcome : Outcome) → IsLegal (Spent i c outcome ∷ h) →
+    (was.facts.behind ≡ false → Meets j (Spent i c outcome ∷ h) counts.tally) → IsKnown told_by was h j →
+    IsKnown told_by (record was { counts = counts }) (Spent i c outcome ∷ h) j
+spent_known {told_by = told_by} {counts = counts} was h i j c outcome legal met k = elim (cases_eq i j) [
+  | inl same ↦ rw same (own (subst (λ (n : ℕ). IsLegal (Spent n c outcome ∷ h)) same legal) (λ known. subst (λ (n : ℕ). Meets j (Spent n c outcome ∷ h) counts.tally) same (met known)))
+  | inr other ↦ known_far was h (Spent i c outcome) j legal tt tt (apart_of i j (λ same. other (sym same))) met k
+]
+  where
+    own : IsLegal (Spent j c outcome ∷ h) → (was.facts.behind ≡ false → Meets j (Spent j c outcome ∷ h) counts.tally) →
+        IsKnown told_by (record was { counts = counts }) (Spent j c outcome ∷ h) j
+    own legal met =
+        still_known h (Spent j c outcome) j tt tt tt tt refl (search (since_spent h j c was.facts.since outcome legal k.facts.since)) met
+        (IfSome_then was.task k.home (λ task home. home.shut)) k
+
+-- CLOSED PORTS
+-- a port that is closed tells what it told
+told_shut : (was is : Told) (h : Record) (i : ℕ) → SameBytes was is → was.faults ≤ is.faults → was.idles ≤ is.idles → was.refusals ≤ is.refusals →
+    IsTold was h i → IsTold is h i
+told_shut was is h i same faults idles refusals told =
+    search (
+      arith,
+      same.given,
+      same.confirmed,
+      same.spec,
+      same.ended,
+      λ (stream : ℕ). rw (← same.taken) at (told.taken stream),
+      λ (all : all_ended h i ≡ true) (stream : ℕ). rw (← same.left) at (told.over all stream),
+    )
 
 module _ {P : Type 0} (told_by : P → Told) where
-  -- a seat that is as fitted as another one
-  fitted_as : (was is : Seat P) (h : Record) (i : ℕ) → is.name ≡ was.name → is.class ≡ was.class → is.batching ≡ was.batching → is.outlet ≡ was.outlet → IsFitted was h i → IsFitted is h i
-  fitted_as was is h i name class batching outlet fit = record { component = go (component_of h i) fit.component; outlet = outlet ∙ fit.outlet }
-    where
-      go : (o : Option Component) → IsSomeAnd o (IsFittedTo was) → IsSomeAnd o (IsFittedTo is)
-      go None f = f
-      go (Some c) f = record { name = name ∙ f.name; class = class ∙ f.class; batching = batching ∙ f.batching }
+  home_shut : (starved : Bool) (h : Record) (i : ℕ) (was is : Task P) → is.role ≡ was.role → IsClosedBy (told_by was.port) (told_by is.port) →
+      IsAtHomeBut told_by starved h i was → IsAtHomeBut told_by starved h i is
+  home_shut true h i was is role closed home = (
+    told_shut (record (told_by was.port) { given = None }) (record (told_by is.port) { given = None }) h i (assumption closed.bytes) closed.faults closed.idles closed.refusals home.0,
+    rw role home.1,
+  )
+  home_shut false h i was is role closed home =
+      record { told = told_shut (told_by was.port) (told_by is.port) h i closed.bytes closed.faults closed.idles closed.refusals home.told; come = rw role home.come }
 
-  -- what is known of a seat that is written
-  pub known_next : (was is : Seat P) (h : Record) (e : Entry) (i : ℕ) → InstallsNothing e → is.name ≡ was.name → is.class ≡ was.class → is.batching ≡ was.batching → is.outlet ≡ was.outlet →
-      HasFacts is.facts (e ∷ h) i → HasProgress is.progress (e ∷ h) i → (is.facts.behind ≡ false → Meets i (e ∷ h) is.counts.tally) →
-      IfSome is.task (HasHome told_by is.facts (e ∷ h) i) → IfNone is.task (is_out (e ∷ h) i ≡ true) → IsFitted was h i → IsKnown told_by is (e ∷ h) i
-  known_next was is h e i none name class batching outlet facts progress counts home away fit = record {
-    fitted = fitted_as was is (e ∷ h) i name class batching outlet (fitted_on was h e i none fit);
-    facts = facts;
-    progress = progress;
-    counts = counts;
-    home = home;
-    away = away;
+  -- what a closed port leaves of a task, if that is at home
+  record IsLeftBy (was is : Option (Task P)) : Type 0 where
+    same : is_some is ≡ is_some was
+    shut : IfSome is (λ task. (told_by task.port).started ≡ false)
+    home : (f : Facts) (h : Record) (i : ℕ) → IfSome was (HasHome told_by f h i) → IfSome is (HasHome told_by f h i)
+    away : (h : Record) (i : ℕ) → IfNone was (is_out h i ≡ true) → IfNone is (is_out h i ≡ true)
+
+  left_by : (was is : Option (Task P)) → TaskShuts told_by was is → IsLeftBy was is
+  left_by None is shuts = rw shuts (record { same = refl; shut = tt; home = λ f h i home. home; away = λ h i away. away })
+  left_by (Some was) None shuts = absurd shuts
+  left_by (Some was) (Some is) shuts = record {
+    same = refl;
+    shut = shuts.1.shut;
+    home = λ f h i home. record {
+      home = home.home;
+      settled = home.settled;
+      answered = home.answered;
+      task_is = home_shut f.starved h i was is shuts.0 shuts.1 home.task_is;
+      shut = λ _. shuts.1.shut;
+      fit = λ counted. rw shuts.0 (home.fit counted);
+    };
+    away = λ h i away. tt;
   }
 
-  pub known_same : (was is : Seat P) (h : Record) (i : ℕ) → is.name ≡ was.name → is.class ≡ was.class → is.batching ≡ was.batching → is.outlet ≡ was.outlet →
-      HasFacts is.facts h i → HasProgress is.progress h i → (is.facts.behind ≡ false → Meets i h is.counts.tally) →
-      IfSome is.task (HasHome told_by is.facts h i) → IfNone is.task (is_out h i ≡ true) → IsFitted was h i → IsKnown told_by is h i
-  known_same was is h i name class batching outlet facts progress counts home away fit = record {
-    fitted = fitted_as was is h i name class batching outlet fit;
-    facts = facts;
-    progress = progress;
-    counts = counts;
-    home = home;
-    away = away;
-  }
+-- STARVED PORTS
+-- a port of which more isn't known than what it was given tells the rest
+but_less : {P : Type 0} (told_by : P → Told) (starved : Bool) (h : Record) (i : ℕ) (task : Task P) → IsAtHomeBut told_by starved h i task →
+    IsAtHomeBut told_by true h i task
+but_less told_by true h i task home = home
+but_less told_by false h i task home = (assumption home.told, home.come)
 
-  -- CALLS
-  -- a call that writes the seat of the entry's instance
-  module _ (e : Entry) (i : ℕ) (items now : List (Seat P)) (was : Seat P) (view : items ≡ now) (l : i < length now) (read : was ≡ get_or items i was) where
-    pub within : i < length items
-    within = subst (λ (s : List (Seat P)). i < length s) (sym view) l
+module _ {P : Type 0} {told_by : P → Told} (i : ℕ) {items now : List (Seat P)} {was : Seat P} (view : items ≡ now) (l : i < length now) (read : was ≡ get_or items i was) where
+  -- AT HOME OR OUT
+  pub closed_knows : (h : Record) → IsShutAt told_by now i → Leads told_by now (seated items i was (record was.facts { closed = true }) was.progress was.counts) h (Closed i)
+  closed_knows h shut = own_steps i view l read (Closed i) (tt, λ j. refl, λ k j. tt, λ no. no) (λ legal k.
+      still_known h (Closed i) i tt tt tt tt refl (search (itself i, since_calm was.facts.since h (Closed i) i tt k.facts.since)) (counts_on h (Closed i) i legal tt k.counts)
+      (IfSome_then was.task (rw (there i view l read) at shut) (λ task is _. is)) k)
 
-    -- what is said of the seat
-    pub of_seat : (F : Seat P → Type 0) → IfSome (slice_get now i) F → F was
-    of_seat F said = subst (λ (o : Option (Seat P)). IfSome o F) (read_seat items i was within read) (subst (λ (s : List (Seat P)). IfSome (slice_get s i) F) (sym view) said)
+  pub retired_knows : (h : Record) → Leads told_by now (seated items i was (record was.facts { retired = true }) was.progress was.counts) h (Retired i)
+  retired_knows h = own_steps i view l read (Retired i) (tt, λ j. refl, λ k j. tt, λ no. no) (λ legal k.
+      still_known h (Retired i) i tt tt tt tt refl (search (itself i, since_calm was.facts.since h (Retired i) i tt k.facts.since)) (counts_on h (Retired i) i legal tt k.counts)
+      (IfSome_then was.task k.home (λ task home. home.shut)) k)
 
-    pub of_there : (F : Seat P → Type 0) → IsSomeAnd (slice_get now i) F → F was
-    of_there F said = subst (λ (o : Option (Seat P)). IsSomeAnd o F) (read_seat items i was within read) (subst (λ (s : List (Seat P)). IsSomeAnd (slice_get s i) F) (sym view) said)
+  -- OUT
+  pub idle_knows : {after : ℕ} {failed : Bool} → (was.facts.failed_starts < 4 ⊎ (failed ≡ false) → after ≡ (if failed then was.facts.failed_starts + 1 else 0)) →
+      (h : Record) → Leads told_by now (seated items i was (record was.facts { failed_starts = after }) was.progress was.counts) h (Idle i failed)
+  idle_knows {after} {failed} set h = own_steps i view l read (Idle i failed) (tt, λ j. refl, λ k j. tt, λ no. no) (λ legal k.
+      let few : was.facts.failed_starts < 4 ⊎ (failed ≡ false) = elim (cases_Bool failed) [ inl is ↦ inl (rw k.facts.failed_starts (legal.0.row.few is)) | inr is ↦ inr is ] in
+      let starts : after ≡ (if failed then failed_starts h i + 1 else 0) = set few ∙ ap (λ (n : ℕ). if failed then n + 1 else 0) k.facts.failed_starts in
+      out_known h (Idle i failed) i tt refl legal.0.row.turn.out (search (itself i, starts, since_calm was.facts.since h (Idle i failed) i tt k.facts.since))
+      (progress_on was.progress h (Idle i failed) i tt k.progress) (counts_on h (Idle i failed) i legal tt k.counts) k)
 
-    -- what is said of it the other way round
-    pub says_seat : (F : Seat P → Type 0) → F was → IfSome (slice_get now i) F
-    says_seat F is = subst (λ (s : List (Seat P)). IfSome (slice_get s i) F) view (subst (λ (o : Option (Seat P)). IfSome o F) (sym (read_seat items i was within read)) is)
-
-    pub known_was : (h : Record) → Knows told_by now h → IsKnown told_by was h i
-    known_was h knows = known_at told_by items h i was within read (subst (λ (s : List (Seat P)). Knows told_by s h) (sym view) knows)
-
-    pub steps : (is : Seat P) (h : Record) → IsLegal (e ∷ h) → IsOwnOf i e → (IsKnown told_by was h i → IsKnown told_by is (e ∷ h) i) → Knows told_by now h →
-        Knows told_by (slice_set items i is) (e ∷ h)
-    steps is h legal own step knows =
-        knows_own told_by e i items is h within legal own (subst (λ (s : List (Seat P)). Knows told_by s h) (sym view) knows) (step (known_was h knows))
-
-  -- and one that notes none
-  pub keeps : (i : ℕ) (items now : List (Seat P)) (was : Seat P) → items ≡ now → i < length now → was ≡ get_or items i was →
-      (is : Seat P) (h : Record) → (IsKnown told_by was h i → IsKnown told_by is h i) → Knows told_by now h → Knows told_by (slice_set items i is) h
-  keeps i items now was view l read is h step knows =
-      let inside = subst (λ (s : List (Seat P)). i < length s) (sym view) l in
-      let before = subst (λ (s : List (Seat P)). Knows told_by s h) (sym view) knows in
-      knows_same told_by i items is h inside before (step (known_at told_by items h i was inside read before))
-
-  -- KINDS
-  pub home_map : (o : Option (Task P)) (F G : Task P → Type 0) → ((task : Task P) → F task → G task) → IfSome o F → IfSome o G
-  home_map None F G step is = tt
-  home_map (Some task) F G step is = step task is
-
-  pub closed_known : (was : Seat P) (h : Record) (i : ℕ) → IsLegal (Closed i ∷ h) → IfSome was.task (λ task. (told_by task.port).started ≡ false) → IsKnown told_by was h i →
-      IsKnown told_by (record was { facts = record was.facts { closed = true } }) (Closed i ∷ h) i
-  closed_known was h i legal shut k =
-      known_next was (record was { facts = record was.facts { closed = true } }) h (Closed i) i tt refl refl refl refl
-      (record {
-        over = k.facts.over;
-        lost = k.facts.lost;
-        failed_starts = k.facts.failed_starts;
-        confirm_failed = k.facts.confirm_failed;
-        closed = ap (λ (b : Bool). b || is_closed h i) (sym (itself i));
-        retired = k.facts.retired;
-        since = since_calm was.facts.since h (Closed i) i tt k.facts.since;
-      })
-      (progress_on was.progress h (Closed i) i tt k.progress)
-      (counts_on was.facts.behind was.counts.tally h (Closed i) i legal tt k.counts)
-      (homes was.task k.home shut) k.away k.fitted
-    where
-      homes : (o : Option (Task P)) → IfSome o (HasHome told_by was.facts h i) → IfSome o (λ task. (told_by task.port).started ≡ false) →
-          IfSome o (HasHome told_by (record was.facts { closed = true }) (Closed i ∷ h) i)
-      homes None home shut = tt
-      homes (Some task) home shut = home_still told_by was.facts (record was.facts { closed = true }) h (Closed i) i task tt tt refl refl refl refl (λ closed. shut) home
-
-  pub retired_known : (was : Seat P) (h : Record) (i : ℕ) → IsLegal (Retired i ∷ h) → IsKnown told_by was h i →
-      IsKnown told_by (record was { facts = record was.facts { retired = true } }) (Retired i ∷ h) i
-  retired_known was h i legal k =
-      known_next was (record was { facts = record was.facts { retired = true } }) h (Retired i) i tt refl refl refl refl
-      (record {
-        over = k.facts.over;
-        lost = k.facts.lost;
-        failed_starts = k.facts.failed_starts;
-        confirm_failed = k.facts.confirm_failed;
-        closed = k.facts.closed;
-        retired = ap (λ (b : Bool). b || is_retired h i) (sym (itself i));
-        since = since_calm was.facts.since h (Retired i) i tt k.facts.since;
-      })
-      (progress_on was.progress h (Retired i) i tt k.progress)
-      (counts_on was.facts.behind was.counts.tally h (Retired i) i legal tt k.counts)
-      (home_map was.task (HasHome told_by was.facts h i) (HasHome told_by (record was.facts { retired = true }) (Retired i ∷ h) i)
-      (λ task home. home_still told_by was.facts (record was.facts { retired = true }) h (Retired i) i task tt tt refl refl refl refl home.shut home) k.home)
-      k.away k.fitted
-
-  pub idle_known : (was : Seat P) (h : Record) (i after : ℕ) (failed : Bool) → IsLegal (Idle i failed ∷ h) →
-      (was.facts.failed_starts < 4 ⊎ (failed ≡ false) → after ≡ (if failed then was.facts.failed_starts + 1 else 0)) → IsKnown told_by was h i →
-      IsKnown told_by (record was { facts = record was.facts { failed_starts = after } }) (Idle i failed ∷ h) i
-  idle_known was h i after failed legal set k =
-      known_next was (record was { facts = record was.facts { failed_starts = after } }) h (Idle i failed) i tt refl refl refl refl
-      (record {
-        over = k.facts.over;
-        lost = k.facts.lost;
-        failed_starts = set (few failed refl) ∙ ap (λ (n : ℕ). if failed then n + 1 else 0) k.facts.failed_starts ∙ sym (this_side (i == i) (if failed then failed_starts h i + 1 else 0) (failed_starts h i) (itself i));
-        confirm_failed = k.facts.confirm_failed;
-        closed = k.facts.closed;
-        retired = k.facts.retired;
-        since = since_calm was.facts.since h (Idle i failed) i tt k.facts.since;
-      })
-      (progress_on was.progress h (Idle i failed) i tt k.progress)
-      (counts_on was.facts.behind was.counts.tally h (Idle i failed) i legal tt k.counts)
-      (nobody told_by was.task was.facts (record was.facts { failed_starts = after }) h (Idle i failed ∷ h) i legal.0.row.turn.out k.home)
-      (away_out told_by was.task (Idle i failed ∷ h) i legal.0.row.turn.out) k.fitted
-    where
-      few : (b : Bool) → failed ≡ b → was.facts.failed_starts < 4 ⊎ (failed ≡ false)
-      few true is = inl (let same = k.facts.failed_starts in let less = legal.0.row.few is in omega (arith, same, less))
-      few false is = inr is
-
-  pub lost_known : (was : Seat P) (h : Record) (i after : ℕ) (failed : Bool) → IsLegal (SourceLost i after failed ∷ h) → IsKnown told_by was h i →
-      IsKnown told_by (record was { facts = record was.facts { lost = Some after } }) (SourceLost i after failed ∷ h) i
-  lost_known was h i after failed legal k =
-      known_next was (record was { facts = record was.facts { lost = Some after } }) h (SourceLost i after failed) i tt refl refl refl refl
-      (record {
-        over = k.facts.over;
-        lost = sym (this_side (i == i) (Some after) (lost_at h i) (itself i));
-        failed_starts = k.facts.failed_starts;
-        confirm_failed = k.facts.confirm_failed;
-        closed = k.facts.closed;
-        retired = k.facts.retired;
-        since = since_calm was.facts.since h (SourceLost i after failed) i tt k.facts.since;
-      })
-      (progress_on was.progress h (SourceLost i after failed) i tt k.progress)
-      (counts_on was.facts.behind was.counts.tally h (SourceLost i after failed) i legal tt k.counts)
-      (nobody told_by was.task was.facts (record was.facts { lost = Some after }) h (SourceLost i after failed ∷ h) i legal.0.row.turn.out k.home)
-      (away_out told_by was.task (SourceLost i after failed ∷ h) i legal.0.row.turn.out) k.fitted
+  pub lost_knows : (after : ℕ) (failed : Bool) (h : Record) →
+      Leads told_by now (seated items i was (record was.facts { lost = Some after }) was.progress was.counts) h (SourceLost i after failed)
+  lost_knows after failed h = own_steps i view l read (SourceLost i after failed) (tt, λ j. refl, λ k j. tt, λ no. no) (λ legal k.
+      out_known h (SourceLost i after failed) i tt refl legal.0.row.turn.out (search (itself i, since_calm was.facts.since h (SourceLost i after failed) i tt k.facts.since))
+      (progress_on was.progress h (SourceLost i after failed) i tt k.progress) (counts_on h (SourceLost i after failed) i legal tt k.counts) k)
 
   -- what a source took is counted
-  pub bytes_read : (was : Seat P) (h : Record) (i : ℕ) → was.facts.behind ≡ false → source_at h i ≡ true → IsKnown told_by was h i → was.counts.tally.read ≡ capped (bytes_taken h i)
-  bytes_read was h i counts source k = ap (λ (t : Tally). t.read) (k.counts counts ∙ tally_is h i Source (source_is h i source))
+  pub bytes_read : (h : Record) → CountsAt now i → source_at h i ≡ true → Knows told_by now h → was.counts.tally.read ≡ capped (bytes_taken h i)
+  bytes_read h counts source knows =
+      ap (λ (t : Tally). t.read) ((known_was i view l read knows).counts (rw (there i view l read) at counts) ∙ tally_is h i Source (source_is h i source))
 
-  pub attempted_known : (was : Seat P) (new : Tally) (h : Record) (i : ℕ) (copies : List ℕ) (gave : Word) (reply : Reply) → IsLegal (Attempt i copies gave reply ∷ h) →
-      (Meets i h was.counts.tally → Meets i (Attempt i copies gave reply ∷ h) new) → IsKnown told_by was h i →
-      IsKnown told_by (record was { counts = record { tally = new } }) (Attempt i copies gave reply ∷ h) i
-  attempted_known was new h i copies gave reply legal counted k =
-      known_next was (record was { counts = record { tally = new } }) h (Attempt i copies gave reply) i tt refl refl refl refl
-      (record {
-        over = k.facts.over;
-        lost = k.facts.lost;
-        failed_starts = k.facts.failed_starts;
-        confirm_failed = k.facts.confirm_failed;
-        closed = k.facts.closed;
-        retired = k.facts.retired;
-        since = since_calm was.facts.since h (Attempt i copies gave reply) i tt k.facts.since;
-      })
-      (progress_on was.progress h (Attempt i copies gave reply) i tt k.progress)
-      (λ counts. counted (k.counts counts))
-      (nobody told_by was.task was.facts was.facts h (Attempt i copies gave reply ∷ h) i legal.0.row.out k.home)
-      (away_out told_by was.task (Attempt i copies gave reply ∷ h) i legal.0.row.out) k.fitted
+  pub read_knows : {counted behind over all : Bool} {new : Tally} {stream : ℕ} {took : Taken} (h : Record) →
+      behind ≡ (not counted || was.facts.behind) → over ≡ (all || was.facts.over) → all ≡ is_end took →
+      (counted ≡ true → Counted i h (Read i stream took) was.counts.tally new) →
+      Leads told_by now (seated items i was (record was.facts { over = over; failed_starts = 0; behind = behind }) was.progress (record { tally = new })) h (Read i stream took)
+  read_knows {counted} {behind} {over} {all} {new} {stream} {took} h is_behind is_over is_all counts = own_steps i view l read (Read i stream took) (tt, λ j. refl, λ k j. tt, λ no. no) (λ legal k.
+      let told : over ≡ (is_end took || all_ended h i) = rw (is_over, is_all, k.facts.over) refl in
+      out_known h (Read i stream took) i tt refl legal.0.row.turn.out (search (itself i, told, since_calm was.facts.since h (Read i stream took) i tt k.facts.since))
+      (progress_on was.progress h (Read i stream took) i tt k.progress)
+      (λ known. let two = or_parts (not counted) was.facts.behind (sym is_behind ∙ known) in counts (not-false counted two.0) legal (k.counts two.1)) k)
 
-  pub confirmed_known : (was : Seat P) (new : Tally) (h : Record) (i : ℕ) (positions : List Position) (made : Bool) → IsLegal (Confirm i positions made ∷ h) →
-      (Meets i h was.counts.tally → Meets i (Confirm i positions made ∷ h) new) → IsKnown told_by was h i →
-      IsKnown told_by (record was { facts = record was.facts { confirm_failed = not made }; counts = record { tally = new } }) (Confirm i positions made ∷ h) i
-  confirmed_known was new h i positions made legal counted k =
-      known_next was (record was { facts = record was.facts { confirm_failed = not made }; counts = record { tally = new } }) h (Confirm i positions made) i tt refl refl refl refl
-      (record {
-        over = k.facts.over;
-        lost = k.facts.lost;
-        failed_starts = k.facts.failed_starts;
-        confirm_failed = sym (this_side (i == i) (not made) (is_unconfirmed h i) (itself i));
-        closed = k.facts.closed;
-        retired = k.facts.retired;
-        since = since_calm was.facts.since h (Confirm i positions made) i tt k.facts.since;
+  pub attempted_knows : {new : Tally} (h : Record) (copies : List ℕ) (gave : Word) (reply : Reply) →
+      Counted i h (Attempt i copies gave reply) was.counts.tally new →
+      Leads told_by now (seated items i was was.facts was.progress (record { tally = new })) h (Attempt i copies gave reply)
+  attempted_knows h copies gave reply counted = own_steps i view l read (Attempt i copies gave reply) (tt, λ j. refl, λ k j. tt, λ no. no) (λ legal k.
+      out_known h (Attempt i copies gave reply) i tt refl legal.0.row.out (search (since_calm was.facts.since h (Attempt i copies gave reply) i tt k.facts.since))
+      (progress_on was.progress h (Attempt i copies gave reply) i tt k.progress) (λ known. counted legal (k.counts known)) k)
+
+  pub confirmed_knows : {new : Tally} {positions : List Position} {made : Bool} (h : Record) → Counted i h (Confirm i positions made) was.counts.tally new →
+      Leads told_by now (seated items i was (record was.facts { confirm_failed = not made }) was.progress (record { tally = new })) h (Confirm i positions made)
+  confirmed_knows {new} {positions} {made} h counted = own_steps i view l read (Confirm i positions made) (tt, λ j. refl, λ k j. tt, λ no. no) (λ legal k.
+      out_known h (Confirm i positions made) i tt refl legal.0.row.out (search (itself i, since_calm was.facts.since h (Confirm i positions made) i tt k.facts.since))
+      (progress_on was.progress h (Confirm i positions made) i tt k.progress) (λ known. counted legal (k.counts known)) k)
+
+  pub took_knows : {since moment : ℕ} {first : Bool} {new : Tally} (h : Record) (s : ℕ) (copies : List ℕ) → since ≡ (if first then moment else was.facts.since) →
+      first ≡ is_empty (at h (Held i)) → moment ≡ lease_now h i → Counted i h (Take i s copies) was.counts.tally new →
+      Leads told_by now (seated items i was (record was.facts { since = since }) was.progress (record { tally = new })) h (Take i s copies)
+  took_knows {since} {moment} {first} h s copies is_since is_first is_now counted = own_steps i view l read (Take i s copies) (tt, λ j. refl, λ k j. tt, λ no. no) (λ legal k.
+      let kept : since ≡ (if is_empty (at h (Held i)) then lease_now h i else was.facts.since) = is_since ∙ rw (is_first, is_now) refl in
+      out_known h (Take i s copies) i tt refl legal.0.row.out (search (since_took h i s copies since was.facts.since legal kept k.facts.since))
+      (progress_on was.progress h (Take i s copies) i tt k.progress) (λ known. counted legal (k.counts known)) k)
+
+  -- LEASES AND HOMES
+  pub left_knows : {is : Seat P} {task : Task P} {positions : Option (List Position)} → Leaves was is task positions →
+      (h : Record) (worker moment polls : ℕ) → Leads told_by now (slice_set items i is) h (Lease i worker moment polls)
+  left_knows {is} leaves h worker moment polls = own_steps i view l read (Lease i worker moment polls) (tt, λ j. refl, λ k j. tt, λ no. no) (λ legal k. rw leaves.rest (record {
+    fitted = fitted_by refl k.fitted;
+    facts = search (since_calm was.facts.since h (Lease i worker moment polls) i tt k.facts.since);
+    progress = leased_progress i worker moment polls leaves.asked k.progress;
+    counts = counts_on h (Lease i worker moment polls) i legal tt k.counts;
+    home = tt;
+    away = rw (itself i) refl;
+  }))
+
+  -- the task that is taken along was at home
+  pub left_home : {is : Seat P} {task : Task P} {positions : Option (List Position)} → Leaves was is task positions → (h : Record) → Knows told_by now h →
+      HasHome told_by was.facts h i task
+  left_home leaves h knows = rw leaves.had at (known_was i view l read knows).home
+
+  -- and what it takes along is due
+  pub left_due : {is : Seat P} {task : Task P} {positions : Option (List Position)} → Leaves was is task positions → (h : Record) (worker moment polls : ℕ) →
+      IsSettledAt now i → device_at h i ≡ true →
+      Knows told_by now h → IsLegal (Lease i worker moment polls ∷ h) → AreDue (Lease i worker moment polls ∷ h) i positions
+  left_due {positions = positions} leaves h worker moment polls settled device knows legal =
+      let told = (left_home leaves h knows).answered device (rw (there i view l read) at settled) (going_on h legal.0.still) in
+      asked_due h i legal.1 told positions worker moment polls device (leaves.asked.due (judged_by h) (births h i) (asked h i) (known_was i view l read knows).progress.prefix)
+
+  pub back_knows : (task : Task P) (h : Record) → HasTaskBack told_by now h i task → Leads told_by now (slice_set items i (record was { task = Some task })) h (Home i)
+  back_knows task h there_is = own_steps i view l read (Home i) (tt, λ j. refl, λ k j. tt, λ no. no) (λ legal k.
+      let back : IsBack told_by was.facts h i task = rw (there i view l read) at there_is in
+      record {
+        fitted = fitted_by refl k.fitted;
+        facts = search (since_calm was.facts.since h (Home i) i tt k.facts.since);
+        progress = progress_on was.progress h (Home i) i tt k.progress;
+        counts = counts_on h (Home i) i legal tt k.counts;
+        home = record {
+          home = rw (itself i) refl;
+          settled = λ owing going. owes_still h (Home i) i tt (back.settled owing going);
+          answered = back.answered;
+          task_is = but_by told_by was.facts.starved h (Home i ∷ h) i task (λ t. told_mute t h (Home i) i tt) (come_mute task.role h (Home i) i tt) back.task_is;
+          shut = back.shut;
+          fit = back.fit;
+        };
+        away = tt;
       })
-      (progress_on was.progress h (Confirm i positions made) i tt k.progress)
-      (λ counts. counted (k.counts counts))
-      (nobody told_by was.task was.facts (record was.facts { confirm_failed = not made }) h (Confirm i positions made ∷ h) i legal.0.row.out k.home)
-      (away_out told_by was.task (Confirm i positions made ∷ h) i legal.0.row.out) k.fitted
+
+  -- BIRTHS AND NOTICES
+  pub born_knows : {n : ℕ} {q : Prefix} {new : Tally} (h : Record) (batch place stream end : ℕ) (copies : List ℕ) (made : List Event) (waits : Bool) →
+      n ≡ capped (was.progress.unnoticed + 1) → q.waits ≡ was.progress.prefix.waits → ((judged : Judgement) (bs : List Birth) (asked : List Position) →
+      judged.may (birth_at was.progress.prefix.waits batch (record { stream = stream; end = end })) ≡ not was.progress.prefix.waits →
+      IsPrefixOf was.progress.prefix judged bs asked →
+      IsPrefixOf q judged (bs ++ birth_at was.progress.prefix.waits batch (record { stream = stream; end = end }) ∷ []) asked) →
+      Counted i h (Born i batch place copies made waits stream end) was.counts.tally new →
+      Leads told_by now (seated items i was was.facts (record { unnoticed = n; prefix = q }) (record { tally = new })) h (Born i batch place copies made waits stream end)
+  born_knows {n} h batch place stream end copies made waits is_n keeps grows counted =
+      own_steps i view l read (Born i batch place copies made waits stream end) (tt, λ j. refl, λ k j. tt, λ no. no) (λ legal k.
+      let birth : Birth = record { batch = batch; waits = waits; stream = stream; end = end } in
+      let own : was.progress.prefix.waits ≡ waits = k.progress.waits ∙ sym legal.0.row.waiting in
+      let none = unborn_unnoticed h batch legal.1 legal.0.row.number in
+      let grown : births (Born i batch place copies made waits stream end ∷ h) i ≡ births h i ++ birth ∷ [] = rw (itself i) refl in
+      let before = k.progress.unnoticed in
+      let few = unnoticed_few h i legal.1 in
+      let fits = legal.0.row.fits in
+      let number : n ≡ count_unnoticed h (births h i) + 1 = is_n ∙ ap (λ (m : ℕ). capped (m + 1)) before ∙ omega (arith, few, fits) in
+      let may = may_new h batch was.progress.prefix.waits (record { stream = stream; end = end }) legal.1 legal.0.row.number in
+      out_known h (Born i batch place copies made waits stream end) i tt refl (bearer h i (record { events = made; stream = stream; end = end }) legal.1 legal.0.row.yields).1
+      (search (since_calm was.facts.since h (Born i batch place copies made waits stream end) i tt k.facts.since))
+      (record {
+        unnoticed = number ∙ sym (count_born h (births h i) birth none) ∙ sym (ap (count_unnoticed h) grown);
+        waits = keeps ∙ k.progress.waits;
+        prefix = rw grown (rw own at (grows (judged_by h) (births h i) (asked h i) may k.progress.prefix));
+      })
+      (λ known. counted legal (k.counts known)) k)
+
+  -- a notice is told to the instance that bore its batch alone
+  pub noticed_knows : {n : ℕ} {q : Prefix} {new : Tally} {b : ℕ} {status : BatchStatus} (h : Record) → n ≡ was.progress.unnoticed - 1 →
+      q.waits ≡ was.progress.prefix.waits →
+      ((judged next : Judgement) (bs : List Birth) (asked : List Position) → Tells b (is_delivered status) judged next → AreApart bs →
+      IsPrefixOf was.progress.prefix judged bs asked → IsPrefixOf q next bs asked) → Counted i h (Notice b status) was.counts.tally new → is_batch_of h i b ≡ true →
+      Leads told_by now (seated items i was was.facts (record { unnoticed = n; prefix = q }) (record { tally = new })) h (Notice b status)
+  noticed_knows {n} {b = b} {status = status} h is_n keeps noticed counted own knows legal =
+      let k = known_was i view l read knows in
+      let none = due_unnoticed h b status legal in
+      let apart = births_apart h i legal.1 in
+      let before = k.progress.unnoticed in
+      let less = count_noticed h b status (births h i) none apart own in
+      let number : n ≡ count_unnoticed (Notice b status ∷ h) (births h i) = omega (arith, is_n, before, less) in
+      rw view (knows_next (Notice b status) tt l (λ j seat other known.
+      let far : is_batch_of h j b ≡ false = false_from_ne_true (is_batch_of h j b) (λ is. other (one_owner h j i b legal.1 is own)) in
+      known_far seat h (Notice b status) j legal tt far refl (counts_on h (Notice b status) j legal far known.counts) known) knows
+      (record {
+        fitted = fitted_by refl k.fitted;
+        facts = facts_far was.facts h (Notice b status) i tt refl k.facts;
+        progress = record {
+          unnoticed = rw append-nil number;
+          waits = keeps ∙ k.progress.waits;
+          prefix = rw append-nil (noticed (judged_by h) (judged_by (Notice b status ∷ h)) (births h i) (asked h i) (tells h b status none) apart k.progress.prefix);
+        };
+        counts = λ known. counted legal (k.counts known);
+        home = IfSome_then was.task k.home (λ task. home_far was.facts h (Notice b status) i task legal tt refl);
+        away = k.away;
+      }))
+
+  -- SPENDS
+  -- one that the instance counts, whoever spends: it counts for no other
+  pub spent_knows : {new : Tally} {c : ℕ} {outcome : Outcome} (h : Record) (by : ℕ) →
+      (IsLegal (Spent by c outcome ∷ h) → (k : ℕ) → k ≢ i → LeavesBe h k (Spent by c outcome)) →
+      (class_at h i ≡ Some was.class → Counted i h (Spent by c outcome) was.counts.tally new) →
+      Leads told_by now (seated items i was was.facts was.progress (record { tally = new })) h (Spent by c outcome)
+  spent_knows {c = c} {outcome = outcome} h by leaves counted knows legal =
+      let k = known_was i view l read knows in
+      rw view (knows_next (Spent by c outcome) tt l
+      (λ j seat other known. spent_known seat h by j c outcome legal (counts_on h (Spent by c outcome) j legal (leaves legal j other) known.counts) known) knows
+      (spent_known was h by i c outcome legal (λ met. counted (class_is was h i k.fitted) legal (k.counts met)) k))
 
   -- MARKS
   -- what is owed isn't known any more
-  pub owed_known : (was : Seat P) (h : Record) (i : ℕ) → IsKnown told_by was h i → IsKnown told_by (record was { facts = record was.facts { owing = true } }) h i
-  owed_known was h i k =
-      known_same was (record was { facts = record was.facts { owing = true } }) h i refl refl refl refl
-      (record {
-        over = k.facts.over;
-        lost = k.facts.lost;
-        failed_starts = k.facts.failed_starts;
-        confirm_failed = k.facts.confirm_failed;
-        closed = k.facts.closed;
-        retired = k.facts.retired;
-        since = k.facts.since;
-      })
-      k.progress k.counts
-      (home_map was.task (HasHome told_by was.facts h i) (HasHome told_by (record was.facts { owing = true }) h i)
-      (λ task home. record {
-        home = home.home;
-        settled = λ owing going. let contrary : true ≡ false = owing in cc;
-        answered = λ device owing going. let contrary : true ≡ false = owing in cc;
-        task_is = home.task_is;
-        shut = home.shut;
-        fit = home.fit;
-      }) k.home)
-      k.away k.fitted
+  pub owed_knows : (h : Record) → Knows told_by now h → Knows told_by (seated items i was (record was.facts { owing = true }) was.progress was.counts) h
+  owed_knows h = keeps i view l read h (λ k. record {
+    fitted = fitted_by refl k.fitted;
+    facts = assumption k.facts;
+    progress = k.progress;
+    counts = k.counts;
+    home = IfSome_then was.task k.home (λ task home.
+        record { home = home.home; settled = λ owing going. cc; answered = λ device owing going. cc; task_is = home.task_is; shut = home.shut; fit = home.fit });
+    away = k.away;
+  })
 
-  -- nor what a port gave
-  told_less : (t : Told) (h : Record) (i : ℕ) → IsTold t h i → IsToldButGiven t h i
-  told_less t h i told = record {
-    taken = told.taken;
-    given = tt;
-    spec = told.spec;
-    confirmed = told.confirmed;
-    ended = told.ended;
-    over = told.over;
-    faults = told.faults;
-    refusals = told.refusals;
-    idles = told.idles;
-  }
+  -- nor what its port gave
+  pub starved_knows : (h : Record) → Knows told_by now h → Knows told_by (seated items i was (record was.facts { starved = true }) was.progress was.counts) h
+  starved_knows h = keeps i view l read h (λ k. record {
+    fitted = fitted_by refl k.fitted;
+    facts = assumption k.facts;
+    progress = k.progress;
+    counts = k.counts;
+    home = IfSome_then was.task k.home (λ task home.
+        record { home = home.home; settled = home.settled; answered = home.answered; task_is = but_less told_by was.facts.starved h i task home.task_is; shut = home.shut; fit = home.fit });
+    away = k.away;
+  })
 
-  but_less : (starved : Bool) (h : Record) (i : ℕ) (task : Task P) → IsAtHomeBut told_by starved h i task → IsAtHomeBut told_by true h i task
-  but_less true h i task home = home
-  but_less false h i task home = (told_less (told_by task.port) h i home.told, home.come)
+  -- there is memory for a batch more
+  pub ready_knows : {q : Prefix} → GoesOn was.progress.prefix q → (h : Record) → Knows told_by now h →
+      Knows told_by (seated items i was was.facts (record was.progress { prefix = q }) was.counts) h
+  ready_knows goes h = keeps i view l read h (λ k. record {
+    fitted = fitted_by refl k.fitted;
+    facts = k.facts;
+    progress = record { unnoticed = k.progress.unnoticed; waits = goes.waits ∙ k.progress.waits; prefix = goes.stands (judged_by h) (births h i) (asked h i) k.progress.prefix };
+    counts = k.counts;
+    home = k.home;
+    away = k.away;
+  })
 
-  pub starved_known : (was : Seat P) (h : Record) (i : ℕ) → IsKnown told_by was h i → IsKnown told_by (record was { facts = record was.facts { starved = true } }) h i
-  starved_known was h i k =
-      known_same was (record was { facts = record was.facts { starved = true } }) h i refl refl refl refl
-      (record {
-        over = k.facts.over;
-        lost = k.facts.lost;
-        failed_starts = k.facts.failed_starts;
-        confirm_failed = k.facts.confirm_failed;
-        closed = k.facts.closed;
-        retired = k.facts.retired;
-        since = k.facts.since;
-      })
-      k.progress k.counts
-      (home_map was.task (HasHome told_by was.facts h i) (HasHome told_by (record was.facts { starved = true }) h i)
-      (λ task home. record {
-        home = home.home;
-        settled = home.settled;
-        answered = home.answered;
-        task_is = but_less was.facts.starved h i task home.task_is;
-        shut = home.shut;
-        fit = home.fit;
-      }) k.home)
-      k.away k.fitted
+  -- its port is closed
+  pub shut_knows : {is : Seat P} → Shuts told_by was is → (h : Record) → Knows told_by now h → Knows told_by (slice_set items i is) h
+  shut_knows {is} shuts h = keeps i view l read h (λ k.
+      let left = left_by told_by was.task is.task shuts.task in
+      rw shuts.rest (record { fitted = fitted_by refl k.fitted; facts = k.facts; progress = k.progress; counts = k.counts; home = left.home was.facts h i k.home; away = left.away h i k.away }))
+
+  pub shut_stays : {is : Seat P} → Shuts told_by was is → OneSeat IsShut i now (slice_set items i is)
+  shut_stays {is} shuts = writes i view l read IsShut is (record { rest = shuts.rest; home = (left_by told_by was.task is.task shuts.task).same })
+
+  pub shut_at : {is : Seat P} → Shuts told_by was is → IsShutAt told_by (slice_set items i is) i
+  shut_at {is} shuts = rw (view, written now i is l) (left_by told_by was.task is.task shuts.task).shut

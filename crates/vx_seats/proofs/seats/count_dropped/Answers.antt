@@ -1,12 +1,19 @@
 use Rattle.std.proofs.Common.{◌∙◌, sym}
-use Rattle.vx_seats.proofs.Spends.{dropped_stays, both_first, both_second, not_true}
+use Rattle.std.proofs.lemmas.Bool.{and_parts, not-true}
+use Rattle.vx_status.specs.declared.outcome.Outcome.TheVariants.{NewestDropped}
+use Rattle.vx_record.specs.declared.entry.Entry.TheVariants.{Spent}
+use Rattle.vx_counts.proofs.Once.{itself}
+use Rattle.vx_counts.proofs.Stays.{others_stay}
+use Rattle.vx_seats.proofs.Steps.{unless}
 use Rattle.vx_seats.proofs.seats.count_dropped.Goals as goal
 
 pub returns-then-both : goal.returns-then-both
 returns-then-both c = λ h i j k copies legal sinks others put first meets.
-    c.dropped_newest.ensures h j i k legal (sinks (both_first c.args.sink c.args.first c.both.result c.both.ensures c.if-both.true))
-    (record { giver = i; copies = copies; put = put; first = not_true _ (sym first ∙ both_second c.args.sink c.args.first c.both.result c.both.ensures c.if-both.true) }) meets
+    let two = and_parts c.args.sink c.args.first (sym c.both.ensures ∙ c.if-both.true) in
+    c.dropped_newest.ensures h j i k legal (sinks two.0) (record { giver = i; copies = copies; put = put; first = not-true _ (sym first ∙ two.1) }) meets
 
+-- a copy that is dropped as the newest, that isn't the first of its parcel, or whose target is no sink, counts for nobody
 pub returns-else-both : goal.returns-else-both
 returns-else-both c = λ h i j k copies legal sinks others put first meets.
-    dropped_stays h i j k copies c.args.sink c.args.first c.both.result c.args.counts.now.tally legal others put first c.both.ensures c.if-both.false meets
+    let none = unless c.args.sink c.args.first _ c.both.result others first c.both.ensures c.if-both.false in
+    meets ∙ sym (others_stay (Spent i k NewestDropped) h j legal (λ class. record { giver = i; target = j; copies = copies; put = put; apart = rw (itself j) (none class) }))

@@ -1,13 +1,20 @@
 use Rattle.std.proofs.Common.{◌∙◌, sym}
 use Rattle.std.specs.Prelude.{not}
-use Rattle.vx_seats.proofs.Spends.{unread_stays, both_first, both_second, not_true}
+use Rattle.std.proofs.lemmas.Bool.{and_parts, not-false, not-true}
+use Rattle.vx_status.specs.declared.outcome.Outcome.TheVariants.{NoConsumer}
+use Rattle.vx_record.specs.declared.entry.Entry.TheVariants.{Spent}
+use Rattle.vx_counts.proofs.Once.{itself}
+use Rattle.vx_counts.proofs.Stays.{others_stay}
+use Rattle.vx_seats.proofs.Steps.{unless}
 use Rattle.vx_seats.proofs.seats.count_unread.Goals as goal
 
 pub returns-then-both : goal.returns-then-both
 returns-then-both c = λ h i k copies legal sinks givers put first meets.
-    c.unread.ensures h i i k legal (givers (not_true c.args.sink (both_first (not c.args.sink) c.args.first c.both.result c.both.ensures c.if-both.true)))
-    (record { copies = copies; put = put; first = not_true _ (sym first ∙ both_second (not c.args.sink) c.args.first c.both.result c.both.ensures c.if-both.true) }) meets
+    let two = and_parts (not c.args.sink) c.args.first (sym c.both.ensures ∙ c.if-both.true) in
+    c.unread.ensures h i i k legal (givers (not-true c.args.sink two.0)) (record { copies = copies; put = put; first = not-true _ (sym first ∙ two.1) }) meets
 
+-- a copy for want of a reader, that isn't the first of its parcel, or whose instance gives nothing, counts for nobody
 pub returns-else-both : goal.returns-else-both
 returns-else-both c = λ h i k copies legal sinks givers put first meets.
-    unread_stays h i k copies c.args.sink c.args.first c.both.result c.args.counts.now.tally legal sinks put first c.both.ensures c.if-both.false meets
+    let none = unless (not c.args.sink) c.args.first _ c.both.result (λ off giver. rw (sinks (not-false c.args.sink off)) at giver) first c.both.ensures c.if-both.false in
+    meets ∙ sym (others_stay (Spent i k NoConsumer) h i legal (λ giver. record { giver = i; copies = copies; put = put; apart = rw (itself i) (none giver) }))

@@ -1,13 +1,10 @@
 use Rattle.std.proofs.Common.{refl}
-use Rattle.vx_record.specs.declared.entry.Entry.TheVariants.{Confirm}
-use Rattle.vx_seats.proofs.Steps.{steps, confirmed_known}
 use Rattle.vx_seats.proofs.Staying.{stay}
+use Rattle.vx_seats.proofs.Steps.{confirmed_knows}
 use Rattle.vx_seats.proofs.seats.Seats.confirmed.Goals as goal
 
 pub returns-clause-knows : goal.returns-clause-knows
-returns-clause-knows g c = λ h knows legal.
-    steps g.P.Port.told (Confirm c.args.i c.args.positions.now c.args.made) c.args.i c.self.inside.seats.items c.args.self.now c.index_mut-seat.result.now c.self.view_is c.requires c.index_mut-seat.ensures.value _ h legal (tt, (λ j. refl, (λ k j. tt, λ no. no)))
-    (confirmed_known g.P.Port.told c.index_mut-seat.result.now c.count_confirm.new.counts.tally h c.args.i c.args.positions.now c.args.made legal (c.count_confirm.ensures h c.args.i legal)) knows
+returns-clause-knows g c = λ h. confirmed_knows c.args.i c.self.view_is c.requires c.index_mut-seat.ensures.value h (c.count_confirm.ensures h c.args.i)
 
 pub returns-clause-stays : goal.returns-clause-stays
-returns-clause-stays g c = stay c.args.i c.self.inside.seats.items c.args.self.now c.index_mut-seat.result.now c.self.view_is c.requires c.index_mut-seat.ensures.value _ _ _ refl refl refl
+returns-clause-stays g c = stay c.args.i c.self.view_is c.requires c.index_mut-seat.ensures.value _ _ _ refl refl refl
