@@ -1,5 +1,4 @@
-ghost use Rattle.std.specs.Prelude.{◌≡◌, ◌↔◌, [], ◌∷◌, ◌++◌, map, OnOk, OnErr, IfErr, IfSome, IfNone, IsNone};
-ghost use Rattle.vx_ledger.specs.Copies.{joined};
+ghost use Rattle.std.specs.Prelude.{◌≡◌, ◌↔◌, [], ◌∷◌, OnOk, OnErr, IfErr, IfSome, IfNone, IsNone};
 ghost use Rattle.vx_transform.specs.Shelves.{put, discard, copies_on, copies_put_out, copies_dropped};
 
 use crate::back::Back;

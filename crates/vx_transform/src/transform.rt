@@ -12,9 +12,9 @@ use vx_value::WantOfMemory;
 /// A stage between sources and sinks. It is given parcels, one by one, and puts what it makes of them on a shelf: an
 /// event with its copies on some ports, or a parcel that it discards. Meanwhile it may hold copies.
 ///
-/// No call loses a copy or doubles one (`Moves`), whatever the call answers. A call that can find no memory says so; no
-/// other refusal is there. A transform is let go only when it holds nothing.
-pub trait Transform: Send {
+/// No call loses a copy or doubles one (`Moves`), whatever the call answers. A call that can find no memory may say so; no
+/// other refusal is there. A type that holds finalizers can't be dropped, so a transform is let go only where it holds nothing.
+pub trait Transform {
     /// How many ports it has.
     ghost port_count: { Self → ℕ };
 

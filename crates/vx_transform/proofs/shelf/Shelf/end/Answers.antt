@@ -1,4 +1,4 @@
-use Rattle.std.proofs.Common.{sym, ap, ◌∙◌}
+use Rattle.std.proofs.Common.{ap, ◌∙◌}
 use Rattle.vx_transform.specs.Shelves.{copies_on, copies_put_out, copies_dropped}
 use Rattle.vx_transform.proofs.Nothing.{none_before, none_behind}
 use Rattle.vx_transform.proofs.shelf.Shelf.end.Goals as goal

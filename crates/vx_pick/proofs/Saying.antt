@@ -1,0 +1,52 @@
+-- What conditions say of an event, by whatever tests they mean.
+use Rattle.std.proofs.Common.{◌≡◌, ℕ, zero, suc, ◌<◌, Bool, List, [], ◌∷◌, length, drop, refl, sym, ap, ◌∙◌, subst, arith}
+use Rattle.std.specs.Prelude.{true, false, slice_index_or, if◌then◌else◌}
+use Rattle.vx_value.specs.Texts.{Word}
+use Rattle.vx_value.specs.Datum.{NamedDatum}
+use Rattle.vx_value.specs.declared.event.Event.{Event}
+use Rattle.vx_condition.specs.Trees.{Disjunction}
+use Rattle.vx_condition.specs.Meaning.{disjunction_holds}
+use Rattle.vx_condition.specs.Conditions.{Says}
+use Rattle.vx_condition.specs.Steps.{Test}
+use Rattle.vx_condition.specs.Picking.{filter_passes}
+use Rattle.vx_condition.proofs.Complete.{one_tree}
+use Rattle.vx_record.specs.Transforms.{Means, AllMean, passing, port_bits}
+
+-- a condition says one thing of an event
+pub one_answer : (text : Word) (fields : List NamedDatum) (a b : Bool) → Says text fields a → Says text fields b → a ≡ b
+one_answer text fields a b s t =
+    let trees = one_tree s.tree t.tree text s.condition.spelled t.condition.spelled in
+    s.meant ∙ (ap (λ (tree : Disjunction). disjunction_holds tree fields) trees ∙ sym t.meant)
+
+-- the test that a condition means, in its place
+pub record Tested (text : Word) (tests : List Test) (i : ℕ) : Type 0 where
+  pub test : Test
+  pub stands : drop i tests ≡ test ∷ drop (suc i) tests
+  pub means : Means text test
+
+pub tested : (texts : List Word) (tests : List Test) (i : ℕ) (text : Word) → AllMean texts tests → i < length texts →
+    text ≡ slice_index_or texts i text → Tested text tests i
+tested [] tests i text mean below is = absurd (omega arith)
+tested (t ∷ texts) [] i text mean below is = absurd mean
+tested (t ∷ texts) (test ∷ tests) zero text mean below is =
+    record { test = test; stands = refl; means = subst (λ (w : Word). Means w test) (sym is) mean.0 }
+tested (t ∷ texts) (test ∷ tests) (suc i) text mean below is =
+    let rest = tested texts tests i text mean.1 (omega arith) is in
+    record { test = rest.test; stands = rest.stands; means = rest.means }
+
+pub length-tests : (texts : List Word) (tests : List Test) → AllMean texts tests → length tests ≡ length texts
+length-tests [] [] mean = refl
+length-tests [] (test ∷ tests) mean = absurd mean
+length-tests (text ∷ texts) [] mean = absurd mean
+length-tests (text ∷ texts) (test ∷ tests) mean = omega (arith, length-tests texts tests mean.1)
+
+bit_of : (passes : Bool) → (if passes then 1 else 0) ≡ port_bits (if passes then 0 ∷ [] else [])
+bit_of true = refl
+bit_of false = refl
+
+-- the port on which what passes is put out, as a bit
+pub passing_bits : (text : Word) (event : Event) (test : Test) (earlier : List Event) (holds : Bool) (ports : ℕ) →
+    Means text test → Says text event.fields holds → ports ≡ (if holds then 1 else 0) →
+    ports ≡ port_bits (passing (filter_passes test) earlier event)
+passing_bits text event test earlier holds ports mean says is =
+    is ∙ ap (λ (b : Bool). if b then 1 else 0) (one_answer text event.fields holds (test event) says (mean event)) ∙ bit_of (test event)
