@@ -270,6 +270,13 @@ def late_readers():
     check("a reader that leaves an output that would block", seen == (0, b"", b""), (seen[0], seen[2][:200]))
 
 
+def built(source, folder):
+    """The path of a library in C, built in a folder."""
+    (Path(folder) / "library.c").write_bytes(source)
+    subprocess.run(["cc", "-shared", "-fPIC", "-o", "library.so", "library.c"], cwd=folder, check=True)
+    return os.fsencode(folder) + b"/library.so"
+
+
 def catches(ran, number):
     """Whether a run has a handler for that signal."""
     told = Path(f"/proc/{ran.pid}/status").read_text().splitlines()
@@ -290,9 +297,7 @@ def signals():
     """Nothing is lost, and nothing comes twice, where signals interrupt writes and waits."""
     lines = b"".join(b"%d\n" % i for i in range(200_000))
     with tempfile.TemporaryDirectory() as folder:
-        (Path(folder) / "alarms.c").write_bytes(ALARMS)
-        subprocess.run(["cc", "-shared", "-fPIC", "-o", "alarms.so", "alarms.c"], cwd=folder, check=True)
-        library = os.fsencode(folder) + b"/alarms.so"
+        library = built(ALARMS, folder)
         comes_through_signals("writes that signals interrupt", lines, ["--config", FIRST], (0, lines, b""), True, library)
         comes_through_signals("waits that signals interrupt", lines, ["--config", TWO], (0, lines, lines), False, library)
 
@@ -310,9 +315,7 @@ def short_writes():
     """Nothing is lost, and nothing comes twice, where a write takes a part of what it is handed."""
     lines = b"".join(b"%d and more\n" % i for i in range(2_000))
     with tempfile.TemporaryDirectory() as folder:
-        (Path(folder) / "parts.c").write_bytes(PARTS)
-        subprocess.run(["cc", "-shared", "-fPIC", "-o", "parts.so", "parts.c"], cwd=folder, check=True)
-        library = os.fsencode(folder) + b"/parts.so"
+        library = built(PARTS, folder)
         mark = Path(folder) / "cut"
         comes_by_parts("writes that take seven bytes", ["--config", FIRST], (lines, b""), library, mark)
         comes_by_parts("writes that take seven bytes, to two outputs", ["--config", TWO], (lines, lines), library, mark)
@@ -345,9 +348,7 @@ def wanting_memory():
     lines = b"".join(b"%d\n" % i for i in range(100))
     events = b"".join(b'{"message":"%d","source_type":"stdin"}\n' % i for i in range(100))
     with tempfile.TemporaryDirectory() as folder:
-        (Path(folder) / "wants.c").write_bytes(WANTS)
-        subprocess.run(["cc", "-shared", "-fPIC", "-o", "wants.so", "wants.c"], cwd=folder, check=True)
-        library = os.fsencode(folder) + b"/wants.so"
+        library = built(WANTS, folder)
         wants_memory("lines", lines, ["--config", FIRST], (lines, b""), library, folder)
         wants_memory("events as JSON", events, ["--config", JSON], (events, lines), library, folder)
         wants_memory("acknowledged lines to two outputs", lines, ["--config", ACKNOWLEDGED], (lines, lines), library, folder)
