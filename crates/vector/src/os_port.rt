@@ -1,5 +1,5 @@
-ghost use Rattle.std.specs.Prelude.{◌≡◌, ◌<◌, ◌≤◌, ◌^◌, length, None, [], false};
-ghost use Rattle.vx_ends.specs.Told.{Rose};
+ghost use Rattle.std.specs.Prelude.{◌≡◌, ◌<◌, ◌≤◌, ◌^◌, length, None, [], true, false};
+ghost use Rattle.vx_ends.specs.Told.{Rose, raised};
 
 use crate::os_output::OsOutput;
 use std::io::{ErrorKind, Read, Write};
@@ -58,6 +58,9 @@ pub struct OsPort {
     started: bool,
     faults: u64,
     idles: u64,
+    starts: u64,
+    finishes: u64,
+    confirms: u64,
 }
 
 impl OsPort {
@@ -67,6 +70,9 @@ impl OsPort {
         ensures started { result.started ≡ false }
         ensures faults { result.faults ≡ 0 }
         ensures idles { result.idles ≡ 0 }
+        ensures starts { result.starts ≡ 0 }
+        ensures finishes { result.finishes ≡ 0 }
+        ensures confirms { result.confirms ≡ 0 }
     {
         OsPort {
             stream,
@@ -74,6 +80,9 @@ impl OsPort {
             started: false,
             faults: 0,
             idles: 0,
+            starts: 0,
+            finishes: 0,
+            confirms: 0,
         }
     }
 
@@ -81,6 +90,7 @@ impl OsPort {
     fn failed(&mut self) -> Trouble
         ensures trouble { result ≡ Trouble.Failed }
         ensures rose { Rose self.old.faults self.new.faults }
+        ensures raised { self.new.faults ≡ raised self.old.faults true }
         ensures later { self.old.faults ≤ self.new.faults }
         ensures rest { self.new ≡ record self.old { faults = self.new.faults } }
     {
@@ -102,10 +112,17 @@ impl Port for OsPort {
       faults = p.faults;
       idles = p.idles;
       refusals = 0;
+      starts = p.starts;
+      finishes = p.finishes;
+      confirms = p.confirms;
+      exact = true;
     } };
 
     fn start(&mut self) -> Result<(), Trouble> {
-        self.started = true;
+        if !self.started {
+            self.started = true;
+            self.starts = self.starts.saturating_add(1);
+        }
         Ok(())
     }
 
@@ -144,6 +161,7 @@ impl Port for OsPort {
 
     fn finish(&mut self) -> Result<(), Trouble> {
         if self.stream.flush() {
+            self.finishes = self.finishes.saturating_add(1);
             Ok(())
         } else {
             Err(self.failed())
@@ -151,6 +169,7 @@ impl Port for OsPort {
     }
 
     fn confirm(&mut self, _positions: &PositionList) -> Result<(), Trouble> {
+        self.confirms = self.confirms.saturating_add(1);
         Ok(())
     }
 

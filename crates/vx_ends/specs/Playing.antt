@@ -1,5 +1,5 @@
 -- What contracts see of a port in memory.
-use Rattle.std.specs.Prelude.{ℕ, List, [], ◌++◌, Bool, false, Option, Some, Result, Ok, Err, is_ok, if◌then◌else◌}
+use Rattle.std.specs.Prelude.{ℕ, List, [], ◌++◌, Bool, true, false, Option, Some, Result, Ok, Err, is_ok, if◌then◌else◌}
 use Rattle.vx_ends.specs.Acts.{first_act, later_acts, plain_answer, is_failed, raised}
 use Rattle.vx_ends.specs.declared.trouble.Trouble.{Trouble}
 use Rattle.vx_ends.specs.Script.{Progress, bytes_of, left_of, ends_of}
@@ -29,6 +29,9 @@ pub record Playing : Type 0 where
   pub faults : ℕ
   pub idles : ℕ
   pub refusals : ℕ
+  pub starts : ℕ
+  pub finishes : ℕ
+  pub confirms : ℕ
 
 -- a closed port through which nothing went yet
 abbrev pub closed_port : Option PortSpec → List Step → List Act → Playing
@@ -43,6 +46,9 @@ closed_port spec steps acts = record {
   faults = 0;
   idles = 0;
   refusals = 0;
+  starts = 0;
+  finishes = 0;
+  confirms = 0;
 }
 
 -- what such a port tells: everything
@@ -59,6 +65,10 @@ told_by p = record {
   faults = p.faults;
   idles = p.idles;
   refusals = p.refusals;
+  starts = p.starts;
+  finishes = p.finishes;
+  confirms = p.confirms;
+  exact = true;
 }
 
 -- the answer of a start
@@ -73,6 +83,7 @@ after_start p =
       acts = later_acts p.acts;
       started = is_ok (start_answer p);
       faults = raised p.faults (is_failed (start_answer p));
+      starts = raised p.starts (is_ok (start_answer p));
     }
 
 -- the positions that are confirmed after a confirm

@@ -1,6 +1,7 @@
 -- The scripts of a world in memory, which its ports take by their names.
 use Rattle.std.specs.Prelude.{ℕ, List, [], ◌∷◌, Option, Some, None, if◌then◌else◌}
 use Rattle.std.specs.Str.{bytes_eq}
+use Rattle.vx_ends.specs.declared.call.Call.{Call}
 use Rattle.vx_ends.specs.declared.world.Config.{Config}
 use Rattle.vx_ends.specs.declared.scripted.Scripted.{Scripted}
 use Rattle.vx_ends.specs.declared.step.Step.{Step}
@@ -14,6 +15,8 @@ pub record Staged : Type 0 where
   pub scripts : List Scripted
   -- how many reads of a configuration failed
   pub faults : ℕ
+  -- its calls, the latest first
+  pub calls : List Call
 
 -- the next script of a name
 abbrev pub script_for : List Scripted → List ℕ → Option Scripted

@@ -1,7 +1,7 @@
 -- What a port tells, and how a call changes it.
-use Rattle.std.specs.Prelude.{◌<◌, ◌≡◌, ◌⊎◌, ◌^◌, ◌-◌, ℕ, ◌≤◌, ◌==◌, if◌then◌else◌, List, [], ◌∷◌, ◌++◌, take, Bool, true, false, Result, Ok, Err, IsErrOf, Option, Some, None, IfSome, IsSomeAnd, Contains}
+use Rattle.std.specs.Prelude.{◌<◌, ◌≡◌, ◌⊎◌, ◌^◌, ◌-◌, ◌+◌, min, ℕ, ◌≤◌, ◌==◌, if◌then◌else◌, List, [], ◌∷◌, ◌++◌, take, Bool, true, false, Result, Ok, Err, IsErrOf, Option, Some, None, IfSome, IsSomeAnd, Contains}
 use Rattle.vx_ends.specs.declared.trouble.Trouble.{Trouble}
-use Rattle.vx_ends.specs.declared.trouble.Trouble.TheVariants.{Failed, Refused}
+use Rattle.vx_ends.specs.declared.trouble.Trouble.TheVariants.{Failed, Refused, WantOfMemory}
 use Rattle.vx_ends.specs.declared.port.Took.{Took}
 use Rattle.vx_ends.specs.declared.port.Took.TheVariants.{Bytes, StreamEnded, AllEnded, Idle}
 use Rattle.vx_ends.specs.declared.position.Position.{Position}
@@ -25,10 +25,16 @@ pub record Told : Type 0 where
   pub over : Bool
   -- whether it is started and not closed since
   pub started : Bool
-  -- its counts
+  -- how often a call failed, had nothing to take, and was refused
   pub faults : ℕ
   pub idles : ℕ
   pub refusals : ℕ
+  -- how often it was started, finished an attempt, and took a confirm
+  pub starts : ℕ
+  pub finishes : ℕ
+  pub confirms : ℕ
+  -- whether each of these counts rises by one where that happens, and at nothing else
+  pub exact : Bool
 
 -- a port that was just made: closed, with counts of 0, and nothing went through it
 pub record IsFresh (spec : PortSpec) (told : Told) : Type 0 where
@@ -42,6 +48,9 @@ pub record IsFresh (spec : PortSpec) (told : Told) : Type 0 where
   pub faults : told.faults ≡ 0
   pub idles : told.idles ≡ 0
   pub refusals : told.refusals ≡ 0
+  pub starts : told.starts ≡ 0
+  pub finishes : told.finishes ≡ 0
+  pub confirms : told.confirms ≡ 0
 
 -- a list has this more at its end, where it is told; it is told afterwards exactly where it was before
 abbrev pub Grows : {X : Type 0} → Option (List X) → Option (List X) → List X → Type 0
@@ -88,6 +97,61 @@ pub record HasRefusal {T : Type 0} (before now : ℕ) (result : Result T Trouble
 pub record HasIdle (before now : ℕ) (result : Result Took Trouble) : Type 0 where
   pub later : before ≤ now
   pub idle : result ≡ Ok Idle → Rose before now
+
+-- whether an answer is `Failed`
+abbrev pub is_failed : {T : Type 0} → Result T Trouble → Bool
+is_failed (Ok x) = false
+is_failed (Err Failed) = true
+is_failed (Err Refused) = false
+is_failed (Err WantOfMemory) = false
+
+-- whether an answer is `Refused`
+abbrev pub is_refused : {T : Type 0} → Result T Trouble → Bool
+is_refused (Ok x) = false
+is_refused (Err Failed) = false
+is_refused (Err Refused) = true
+is_refused (Err WantOfMemory) = false
+
+-- whether an answer is `Idle`
+abbrev pub is_idle : Result Took Trouble → Bool
+is_idle (Ok (Bytes from n)) = false
+is_idle (Ok (StreamEnded from)) = false
+is_idle (Ok AllEnded) = false
+is_idle (Ok Idle) = true
+is_idle (Err e) = false
+
+-- a count, and one more where something happened: at the end of its type it stands still
+abbrev pub raised : ℕ → Bool → ℕ
+raised count happened = if happened then min (count + 1) (2 ^ 64 - 1) else count
+
+-- what a call may count
+pub record Happened : Type 0 where
+  pub failed : Bool
+  pub refused : Bool
+  pub idle : Bool
+  pub started : Bool
+  pub finished : Bool
+  pub confirmed : Bool
+
+-- nothing to count
+abbrev pub nothing : Happened
+nothing = record { failed = false; refused = false; idle = false; started = false; finished = false; confirmed = false }
+
+-- a count never falls, rises where that happened, and where counts are exact it rises by one then, and else stays
+pub record Counts (exact : Bool) (before now : ℕ) (happened : Bool) : Type 0 where
+  pub later : before ≤ now
+  pub rose : happened ≡ true → Rose before now
+  pub exactly : exact ≡ true → now ≡ raised before happened
+
+-- so does each count of a port, by what happened in a call
+pub record CountsBy (what : Happened) (old new : Told) : Type 0 where
+  pub faults : Counts old.exact old.faults new.faults what.failed
+  pub refusals : Counts old.exact old.refusals new.refusals what.refused
+  pub idles : Counts old.exact old.idles new.idles what.idle
+  pub starts : Counts old.exact old.starts new.starts what.started
+  pub finishes : Counts old.exact old.finishes new.finishes what.finished
+  pub confirms : Counts old.exact old.confirms new.confirms what.confirmed
+  pub exact : new.exact ≡ old.exact
 
 -- the bytes of a stream that a take brought into the buffer
 abbrev pub piece_of : ℕ → Result Took Trouble → List ℕ → List ℕ

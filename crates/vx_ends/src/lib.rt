@@ -7,6 +7,7 @@
 mod act;
 mod acts;
 mod answers;
+mod call;
 mod clock;
 mod memory_clock;
 mod memory_port;
@@ -23,6 +24,7 @@ mod trouble;
 mod world;
 
 pub use act::{Act, ActList};
+pub use call::Call;
 pub use clock::Clock;
 pub use memory_clock::MemoryClock;
 pub use memory_port::MemoryPort;

@@ -1,7 +1,7 @@
-ghost use Rattle.std.specs.Prelude.{◌≡◌, ◌≢◌, ◌<◌, ◌≤◌, ℕ, ◌++◌, length, take, IfOk, IsOk, IsTrue, OnOk, OnErr, false, None};
+ghost use Rattle.std.specs.Prelude.{◌≡◌, ◌≢◌, ◌<◌, ◌≤◌, ℕ, ◌++◌, length, take, IfOk, IsOk, IsTrue, OnOk, OnErr, false, None, not, ◌&&◌, is_ok};
 ghost use Rattle.vx_ends.specs.Acts.{first_act, later_acts, plain_answer, finish_answer, give_answer, AnswersOrWants, is_failed, is_refused, is_idle, raised};
 ghost use Rattle.vx_ends.specs.Script.{upcoming, answer_of, brought_by, rest_after};
-ghost use Rattle.vx_ends.specs.Told.{Grows, Shrinks, SameBytes, SameTelling, HasCause, HasIdle, HasRefusal, piece_of, part_of, ended_by, over_after, IsWithin, IsOfOpen, EndsAll, EndsStream};
+ghost use Rattle.vx_ends.specs.Told.{Grows, Shrinks, SameBytes, SameTelling, HasCause, HasIdle, HasRefusal, CountsBy, nothing, piece_of, part_of, ended_by, over_after, IsWithin, IsOfOpen, EndsAll, EndsStream};
 
 use crate::act::ActList;
 use crate::acts::Acts;
@@ -36,6 +36,9 @@ pub struct MemoryPort {
     faults: u64,
     idles: u64,
     refusals: u64,
+    starts: u64,
+    finishes: u64,
+    confirms: u64,
 }
 
 impl Model for MemoryPort {
@@ -44,7 +47,7 @@ impl Model for MemoryPort {
 
     ghost Value = { Playing };
 
-    ghost view = { λ p. record { script = p.script; acts = p.acts; given = p.given; confirmed = p.confirmed; spec = p.spec; started = p.started; over = p.over; faults = p.faults; idles = p.idles; refusals = p.refusals } };
+    ghost view = { λ p. record { script = p.script; acts = p.acts; given = p.given; confirmed = p.confirmed; spec = p.spec; started = p.started; over = p.over; faults = p.faults; idles = p.idles; refusals = p.refusals; starts = p.starts; finishes = p.finishes; confirms = p.confirms } };
 
     // After the end of all no step is left.
     ghost invariant = { λ p. IsTrue p.over → length p.script.rest ≤ 0 };
@@ -81,6 +84,9 @@ impl MemoryPort {
             faults: 0,
             idles: 0,
             refusals: 0,
+            starts: 0,
+            finishes: 0,
+            confirms: 0,
         }
     }
 
@@ -116,6 +122,7 @@ impl Port for MemoryPort {
         ensures unrefused { result ≢ Err Trouble.Refused }
         ensures idles { self.old.idles ≤ self.new.idles }
         ensures refusals { self.old.refusals ≤ self.new.refusals }
+        ensures counts { CountsBy (record nothing { failed = is_failed result; started = is_ok result && not self.old.started }) (told_by self.old) (told_by self.new) }
     {
         if self.started {
             return Ok(());
@@ -123,6 +130,7 @@ impl Port for MemoryPort {
         let answer = answer_plainly(self.acts.next());
         self.started = answer.is_ok();
         self.faults = count_if(self.faults, has_failed(&answer));
+        self.starts = count_if(self.starts, answer.is_ok());
         answer
     }
 
@@ -148,6 +156,7 @@ impl Port for MemoryPort {
         ensures idle { HasIdle self.old.idles self.new.idles result }
         ensures unrefused { result ≢ Err Trouble.Refused }
         ensures refusals { self.old.refusals ≤ self.new.refusals }
+        ensures counts { CountsBy (record nothing { failed = is_failed result; idle = is_idle result }) (told_by self.old) (told_by self.new) }
     {
         let answer = self.script.take(into);
         self.over = has_ended_all(self.over, &answer);
@@ -170,6 +179,7 @@ impl Port for MemoryPort {
         ensures cause { HasCause self.old.faults self.new.faults result }
         ensures refusal { HasRefusal self.old.refusals self.new.refusals result }
         ensures idles { self.old.idles ≤ self.new.idles }
+        ensures counts { CountsBy (record nothing { failed = is_failed result; refused = is_refused result }) (told_by self.old) (told_by self.new) }
     {
         let act = self.acts.next();
         let answer = give_by(act, bytes, &mut self.given);
@@ -180,23 +190,25 @@ impl Port for MemoryPort {
 
     fn finish(&mut self) -> Result<(), Trouble>
         ensures answer { result ≡ finish_answer (first_act self.old.acts) }
-        ensures after { self.new ≡ record self.old { acts = later_acts self.old.acts; faults = raised self.old.faults (is_failed result); refusals = raised self.old.refusals (is_refused result) } }
+        ensures after { self.new ≡ record self.old { acts = later_acts self.old.acts; faults = raised self.old.faults (is_failed result); refusals = raised self.old.refusals (is_refused result); finishes = raised self.old.finishes (is_ok result) } }
 
         ensures bytes { SameBytes (told_by self.old) (told_by self.new) }
         ensures started { self.new.started ≡ self.old.started }
         ensures cause { HasCause self.old.faults self.new.faults result }
         ensures refusal { HasRefusal self.old.refusals self.new.refusals result }
         ensures idles { self.old.idles ≤ self.new.idles }
+        ensures counts { CountsBy (record nothing { failed = is_failed result; refused = is_refused result; finished = is_ok result }) (told_by self.old) (told_by self.new) }
     {
         let answer = answer_finish(self.acts.next());
         self.faults = count_if(self.faults, has_failed(&answer));
         self.refusals = count_if(self.refusals, has_refused(&answer));
+        self.finishes = count_if(self.finishes, answer.is_ok());
         answer
     }
 
     fn confirm(&mut self, positions: &PositionList) -> Result<(), Trouble>
         ensures answer { AnswersOrWants result (plain_answer (first_act self.old.acts)) }
-        ensures after { self.new ≡ record self.old { acts = later_acts self.old.acts; confirmed = confirmed_after self.old.confirmed result positions.now; faults = raised self.old.faults (is_failed result) } }
+        ensures after { self.new ≡ record self.old { acts = later_acts self.old.acts; confirmed = confirmed_after self.old.confirmed result positions.now; faults = raised self.old.faults (is_failed result); confirms = raised self.old.confirms (is_ok result) } }
 
         ensures ok { OnOk result (Grows (told_by self.old).confirmed (told_by self.new).confirmed positions.now) }
         ensures err { OnErr result ((told_by self.new).confirmed ≡ (told_by self.old).confirmed) }
@@ -206,10 +218,12 @@ impl Port for MemoryPort {
         ensures unrefused { result ≢ Err Trouble.Refused }
         ensures idles { self.old.idles ≤ self.new.idles }
         ensures refusals { self.old.refusals ≤ self.new.refusals }
+        ensures counts { CountsBy (record nothing { failed = is_failed result; confirmed = is_ok result }) (told_by self.old) (told_by self.new) }
     {
         let act = self.acts.next();
         let answer = confirm_by(self.alloc, act, positions, &mut self.confirmed);
         self.faults = count_if(self.faults, has_failed(&answer));
+        self.confirms = count_if(self.confirms, answer.is_ok());
         answer
     }
 
@@ -221,6 +235,7 @@ impl Port for MemoryPort {
         ensures faults { self.old.faults ≤ self.new.faults }
         ensures idles { self.old.idles ≤ self.new.idles }
         ensures refusals { self.old.refusals ≤ self.new.refusals }
+        ensures counts { CountsBy (nothing) (told_by self.old) (told_by self.new) }
     {
         self.started = false;
     }

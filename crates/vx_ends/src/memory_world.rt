@@ -1,12 +1,14 @@
-ghost use Rattle.std.specs.Prelude.{◌≡◌, ◌≢◌, ◌<◌, ◌↔◌, ℕ, length, remove, slice_get, IfOk, IfSome, IfNone, OnOk, OnErr, IsErrOf, Some, None};
+ghost use Rattle.std.specs.Prelude.{◌≡◌, ◌≢◌, ◌<◌, ◌↔◌, ℕ, length, remove, slice_get, IfOk, IfSome, IfNone, OnOk, OnErr, IsErrOf, Some, None, [], ◌∷◌, reverse};
 ghost use Rattle.std.specs.Option.{option_copied};
 ghost use Rattle.vx_ends.specs.Acts.{is_failed, raised};
 ghost use Rattle.vx_ends.specs.Playing.{closed_port, told_by};
 ghost use Rattle.vx_ends.specs.Scripts.{script_for, scripts_without, steps_of, acts_of};
 ghost use Rattle.vx_ends.specs.Texts.{text_at, IsTextAt};
-ghost use Rattle.vx_ends.specs.Told.{HasCause, IsFresh};
+ghost use Rattle.vx_ends.specs.Told.{Grows, HasCause, IsFresh};
+ghost use Rattle.vx_ends.specs.declared.call.Call.TheVariants as call;
 
 use crate::act::ActList;
+use crate::call::Call;
 use crate::memory_port::MemoryPort;
 use crate::port_spec::PortSpec;
 use crate::scripted::{Scripted, ScriptedList};
@@ -16,6 +18,7 @@ use crate::world::{Config, ConfigList, World};
 use std::alloc::Global;
 use std::marker::Model;
 use std::mem;
+use vx_history::History;
 use vx_value::{Bytes, WantOfMemory};
 
 /// A world of texts in memory, and of ports that play scripts.
@@ -28,6 +31,7 @@ pub struct MemoryWorld {
     configs: ConfigList,
     scripts: ScriptedList,
     faults: u64,
+    calls: History<Call>,
 }
 
 impl Model for MemoryWorld {
@@ -35,7 +39,7 @@ impl Model for MemoryWorld {
 
     ghost Value = { Staged };
 
-    ghost view = { λ w. record { configs = w.configs; scripts = w.scripts; faults = w.faults } };
+    ghost view = { λ w. record { configs = w.configs; scripts = w.scripts; faults = w.faults; calls = w.calls } };
 }
 
 // The bytes of the first text with a path.
@@ -86,13 +90,14 @@ fn take_script(alloc: Global, scripts: &mut ScriptedList, name: &str) -> (StepLi
 impl MemoryWorld {
     /// A world with these texts and scripts.
     pub fn new(alloc: Global, configs: ConfigList, ports: ScriptedList) -> Self
-        ensures { result ≡ record { configs = configs; scripts = ports; faults = 0 } }
+        ensures { result ≡ record { configs = configs; scripts = ports; faults = 0; calls = [] } }
     {
         MemoryWorld {
             alloc,
             configs,
             scripts: ports,
             faults: 0,
+            calls: History::new(),
         }
     }
 }
@@ -104,16 +109,20 @@ impl World for MemoryWorld {
 
     ghost faults = { λ w. w.faults };
 
+    ghost calls = { λ w. Some (reverse w.calls) };
+
     fn config(&mut self, path: &str) -> Result<Bytes, Trouble>
         // It fails exactly where no text has the path.
         ensures missing { IsErrOf result Trouble.Failed ↔ (text_at self.old.configs path.now ≡ None) }
-        ensures after { self.new ≡ record self.old { faults = raised self.old.faults (is_failed result) } }
+        ensures after { self.new ≡ record self.old { faults = raised self.old.faults (is_failed result); calls = call.Config path.now ∷ self.old.calls } }
 
         ensures text { IfOk result (IsTextAt (Some self.old.configs) path.now) }
         ensures texts { Some self.new.configs ≡ Some self.old.configs }
+        ensures calls { Grows (Some (reverse self.old.calls)) (Some (reverse self.new.calls)) (call.Config path.now ∷ []) }
         ensures cause { HasCause self.old.faults self.new.faults result }
         ensures unrefused { result ≢ Err Trouble.Refused }
     {
+        self.calls.note(&path.as_bytes());
         match find_text(self.configs.as_slice(), path) {
             Some(bytes) => match Bytes::copy_of(self.alloc, bytes.as_slice()) {
                 Ok(copy) => Ok(copy),
@@ -129,13 +138,15 @@ impl World for MemoryWorld {
     fn port(&mut self, spec: &PortSpec) -> Result<MemoryPort, WantOfMemory>
         // The port plays the next script of its name.
         ensures script { IfOk result (λ port. port ≡ closed_port (Some spec.now) (steps_of (script_for self.old.scripts spec.now.name)) (acts_of (script_for self.old.scripts spec.now.name))) }
-        ensures ok { OnOk result (self.new ≡ record self.old { scripts = scripts_without self.old.scripts spec.now.name }) }
-        ensures err { OnErr result (self.new ≡ self.old) }
+        ensures ok { OnOk result (self.new ≡ record self.old { scripts = scripts_without self.old.scripts spec.now.name; calls = call.Port spec.now ∷ self.old.calls }) }
+        ensures err { OnErr result (self.new ≡ record self.old { calls = call.Port spec.now ∷ self.old.calls }) }
 
         ensures fresh { IfOk result (λ port. IsFresh spec.now (told_by port)) }
         ensures texts { Some self.new.configs ≡ Some self.old.configs }
+        ensures calls { Grows (Some (reverse self.old.calls)) (Some (reverse self.new.calls)) (call.Port spec.now ∷ []) }
         ensures faults { self.new.faults ≡ self.old.faults }
     {
+        self.calls.note(&spec);
         let made_for = spec.copy(self.alloc)?;
         let (steps, acts) = take_script(self.alloc, &mut self.scripts, spec.name.as_str());
         Ok(MemoryPort::made_for(self.alloc, Some(made_for), steps, acts))

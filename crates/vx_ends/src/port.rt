@@ -1,5 +1,5 @@
-ghost use Rattle.std.specs.Prelude.{◌≡◌, ◌≢◌, ℕ, ◌<◌, ◌≤◌, ◌++◌, List, length, IfOk, OnOk, OnErr, IsOk, IsTrue, false};
-ghost use Rattle.vx_ends.specs.Told.{Told, Grows, Shrinks, SameBytes, SameTelling, HasCause, HasIdle, HasRefusal, piece_of, part_of, ended_by, over_after, IsWithin, IsOfOpen, EndsAll, EndsStream};
+ghost use Rattle.std.specs.Prelude.{◌≡◌, ◌≢◌, ℕ, ◌<◌, ◌≤◌, ◌++◌, List, length, IfOk, OnOk, OnErr, IsOk, IsTrue, false, not, ◌&&◌, is_ok};
+ghost use Rattle.vx_ends.specs.Told.{Told, Grows, Shrinks, SameBytes, SameTelling, HasCause, HasIdle, HasRefusal, CountsBy, nothing, is_failed, is_refused, is_idle, piece_of, part_of, ended_by, over_after, IsWithin, IsOfOpen, EndsAll, EndsStream};
 
 use crate::position::PositionList;
 use crate::trouble::Trouble;
@@ -20,7 +20,8 @@ pub enum Took {
 /// A device, as a run sees it: it is started, bytes are taken or given, positions are confirmed, and it is closed.
 ///
 /// What it tells (`Told`) are the bytes that went through it, as far as it tells them, whether it is started, the
-/// streams that have ended, and its counts of faults, idles and refusals, which never fall.
+/// streams that have ended, and its counts of faults, idles, refusals, starts, finishes and confirms, which never fall, and which may
+/// be exact.
 pub trait Port: Drop {
     ghost told: { Self → Told };
 
@@ -33,11 +34,13 @@ pub trait Port: Drop {
         ensures cause { HasCause (told self.old).faults (told self.new).faults result }
         ensures unrefused { result ≢ Err Trouble.Refused }
         ensures idles { (told self.old).idles ≤ (told self.new).idles }
-        ensures refusals { (told self.old).refusals ≤ (told self.new).refusals };
+        ensures refusals { (told self.old).refusals ≤ (told self.new).refusals }
+        ensures counts { CountsBy (record nothing { failed = is_failed result; started = is_ok result && not (told self.old).started }) (told self.old) (told self.new) };
 
-    /// Takes bytes of one stream into the front of the buffer, at most as many as it holds.
+    /// Takes bytes of one stream into the front of the buffer, at most as many as it holds. The port is started.
     fn take(&mut self, into: &mut [u8]) -> Result<Took, Trouble>
-        requires { 0 < length into.old }
+        requires room { 0 < length into.old }
+        requires started { IsTrue (told self.old).started }
         ensures within { IfOk result (IsWithin (length into.old)) }
         ensures taken { (stream : ℕ) → Grows ((told self.old).taken stream) ((told self.new).taken stream) (piece_of stream result into.new) }
         ensures left { (stream : ℕ) → Shrinks ((told self.old).left stream) ((told self.new).left stream) (piece_of stream result into.new) }
@@ -51,11 +54,13 @@ pub trait Port: Drop {
         ensures cause { HasCause (told self.old).faults (told self.new).faults result }
         ensures idle { HasIdle (told self.old).idles (told self.new).idles result }
         ensures unrefused { result ≢ Err Trouble.Refused }
-        ensures refusals { (told self.old).refusals ≤ (told self.new).refusals };
+        ensures refusals { (told self.old).refusals ≤ (told self.new).refusals }
+        ensures counts { CountsBy (record nothing { failed = is_failed result; idle = is_idle result }) (told self.old) (told self.new) };
 
-    /// Gives the first bytes of a piece, and answers how many were given.
+    /// Gives the first bytes of a piece, and answers how many were given. The port is started.
     fn give(&mut self, bytes: &[u8]) -> Result<u32, Trouble>
-        requires { 0 < length bytes.now }
+        requires some { 0 < length bytes.now }
+        requires started { IsTrue (told self.old).started }
         ensures some { IfOk result (λ n. 0 < n) }
         ensures within { IfOk result (λ n. n ≤ length bytes.now) }
         ensures given { Grows (told self.old).given (told self.new).given (part_of result bytes.now) }
@@ -63,15 +68,18 @@ pub trait Port: Drop {
         ensures started { (told self.new).started ≡ (told self.old).started }
         ensures cause { HasCause (told self.old).faults (told self.new).faults result }
         ensures refusal { HasRefusal (told self.old).refusals (told self.new).refusals result }
-        ensures idles { (told self.old).idles ≤ (told self.new).idles };
+        ensures idles { (told self.old).idles ≤ (told self.new).idles }
+        ensures counts { CountsBy (record nothing { failed = is_failed result; refused = is_refused result }) (told self.old) (told self.new) };
 
-    /// Ends what was given since the last finish: the device has it where the answer is `Ok`.
+    /// Ends what was given since the last finish: the device has it where the answer is `Ok`. The port is started.
     fn finish(&mut self) -> Result<(), Trouble>
+        requires { IsTrue (told self.old).started }
         ensures bytes { SameBytes (told self.old) (told self.new) }
         ensures started { (told self.new).started ≡ (told self.old).started }
         ensures cause { HasCause (told self.old).faults (told self.new).faults result }
         ensures refusal { HasRefusal (told self.old).refusals (told self.new).refusals result }
-        ensures idles { (told self.old).idles ≤ (told self.new).idles };
+        ensures idles { (told self.old).idles ≤ (told self.new).idles }
+        ensures counts { CountsBy (record nothing { failed = is_failed result; refused = is_refused result; finished = is_ok result }) (told self.old) (told self.new) };
 
     /// Confirms positions: what stands before them in their streams isn't wanted any more.
     fn confirm(&mut self, positions: &PositionList) -> Result<(), Trouble>
@@ -82,7 +90,8 @@ pub trait Port: Drop {
         ensures cause { HasCause (told self.old).faults (told self.new).faults result }
         ensures unrefused { result ≢ Err Trouble.Refused }
         ensures idles { (told self.old).idles ≤ (told self.new).idles }
-        ensures refusals { (told self.old).refusals ≤ (told self.new).refusals };
+        ensures refusals { (told self.old).refusals ≤ (told self.new).refusals }
+        ensures counts { CountsBy (record nothing { failed = is_failed result; confirmed = is_ok result }) (told self.old) (told self.new) };
 
     /// Closes the port. It can't fail.
     fn close(&mut self)
@@ -90,5 +99,6 @@ pub trait Port: Drop {
         ensures bytes { SameBytes (told self.old) (told self.new) }
         ensures faults { (told self.old).faults ≤ (told self.new).faults }
         ensures idles { (told self.old).idles ≤ (told self.new).idles }
-        ensures refusals { (told self.old).refusals ≤ (told self.new).refusals };
+        ensures refusals { (told self.old).refusals ≤ (told self.new).refusals }
+        ensures counts { CountsBy nothing (told self.old) (told self.new) };
 }

@@ -1,5 +1,7 @@
-ghost use Rattle.std.specs.Prelude.{◌≡◌, ◌≢◌, ℕ, List, Option, IfOk, Err};
-ghost use Rattle.vx_ends.specs.Told.{HasCause, IsFresh};
+ghost use Rattle.std.specs.Prelude.{◌≡◌, ◌≢◌, ℕ, List, [], ◌∷◌, Option, IfOk, Err};
+ghost use Rattle.vx_ends.specs.declared.call.Call.{Call};
+ghost use Rattle.vx_ends.specs.declared.call.Call.TheVariants as call;
+ghost use Rattle.vx_ends.specs.Told.{Grows, HasCause, IsFresh};
 ghost use Rattle.vx_ends.specs.Texts.{IsTextAt};
 ghost use Rattle.vx_ends.specs.declared.world.Config.{Config};
 
@@ -29,10 +31,14 @@ pub trait World: Drop {
     /// 2^64 - 1 it stays).
     ghost faults: { Self → ℕ };
 
+    /// Its calls, in order, whatever was answered, where it tells them.
+    ghost calls: { Self → Option (List Call) };
+
     /// The bytes of the text at a path.
     fn config(&mut self, path: &str) -> Result<Bytes, Trouble>
         ensures text { IfOk result (IsTextAt (texts self.old) path.now) }
         ensures texts { texts self.new ≡ texts self.old }
+        ensures calls { Grows (calls self.old) (calls self.new) (call.Config path.now ∷ []) }
         ensures cause { HasCause (faults self.old) (faults self.new) result }
         ensures unrefused { result ≢ Err Trouble.Refused };
 
@@ -40,5 +46,6 @@ pub trait World: Drop {
     fn port(&mut self, spec: &PortSpec) -> Result<Self::Port, WantOfMemory>
         ensures fresh { IfOk result (λ port. IsFresh spec.now (Self.Port.told port)) }
         ensures texts { texts self.new ≡ texts self.old }
+        ensures calls { Grows (calls self.old) (calls self.new) (call.Port spec.now ∷ []) }
         ensures faults { faults self.new ≡ faults self.old };
 }

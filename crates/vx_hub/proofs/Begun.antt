@@ -144,9 +144,11 @@ module _ (plan : Plan) (once : Bool) (now : ℕ) (accepted : IsPlan plan) (i : �
     confirmed = u.confirmed;
     ended = u.ended;
     over = λ over. cc;
-    faults = omega arith;
-    refusals = omega arith;
-    idles = omega arith;
+    faults = u.faults;
+    refusals = u.refusals;
+    idles = u.idles;
+    finishes = u.finishes;
+    confirms = u.confirms;
   }
 
   come_first : (role : Role) → IsRoleFor role c → HasCome (begun plan once now) i role

@@ -157,6 +157,8 @@ but_given t h i told = record {
   faults = told.faults;
   refusals = told.refusals;
   idles = told.idles;
+  finishes = told.finishes;
+  confirms = told.confirms;
 }
 
 -- WHAT STANDS FOR A RECORD THAT IS OVER

@@ -8,6 +8,7 @@ use Rattle.vx_plan.specs.Ports.{port_of}
 use Rattle.vx_record.specs.Records.{Record}
 use Rattle.vx_record.specs.Installs.{in_force}
 pub use Rattle.vx_ready.specs.Asking.{is_ported, all_ported}
+use Rattle.vx_tasks.specs.Telling.{HasCounted}
 use Rattle.vx_hub.specs.declared.parts.Named.{Named}
 
 -- nothing went through a port, and it is made for that
@@ -17,6 +18,11 @@ pub record IsUntouched (spec : Option PortSpec) (told : Told) : Type 0 where
   pub given : IfSome told.given (λ bytes. bytes ≡ [])
   pub confirmed : IfSome told.confirmed (λ positions. positions ≡ [])
   pub ended : told.ended ≡ []
+  pub faults : HasCounted told.exact 0 told.faults
+  pub refusals : HasCounted told.exact 0 told.refusals
+  pub idles : HasCounted told.exact 0 told.idles
+  pub finishes : HasCounted told.exact 0 told.finishes
+  pub confirms : HasCounted told.exact 0 told.confirms
 
 -- nothing went through the ports, and each is made for the component in its place
 abbrev pub AreUntouched : {P : Type 0} → (P → Told) → List Component → List (Named P) → Type 0

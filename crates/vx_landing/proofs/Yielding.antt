@@ -1,5 +1,5 @@
 -- What is left of an instance that is given up at home.
-use Rattle.std.proofs.Common.{◌≡◌, ◌∙◌, ℕ, ◌<◌, Bool, true, false, ◌∷◌, length, Option, Some, IfSome, refl, sym, ap, subst, inr, arith}
+use Rattle.std.proofs.Common.{◌≡◌, ◌∙◌, ℕ, ◌<◌, Bool, true, false, ◌∷◌, length, Option, Some, None, IfSome, refl, sym, ap, subst, inr, arith}
 use Rattle.std.specs.Prelude.{slice_get, if◌then◌else◌}
 use Rattle.vx_record.specs.Turns.{is_out}
 use Rattle.vx_status.specs.declared.outcome.Outcome.{Outcome}
@@ -20,7 +20,12 @@ use Rattle.vx_moves.specs.Leaving.{Leaves}
 use Rattle.vx_moves.specs.Spends.{IsSpendOf, OnlySpends}
 use Rattle.vx_moves.specs.Stands.{Steps}
 use Rattle.vx_moves.proofs.Leaving.{rooms_both, each_both}
-use Rattle.vx_seats.specs.Knowing.{IsKnown}
+use Rattle.vx_tasks.specs.declared.task.Role.{Role}
+use Rattle.vx_tasks.specs.Telling.{IsToldButGiven}
+use Rattle.vx_tasks.proofs.Saying.{told_closed}
+use Rattle.vx_seats.specs.Calls.{IsBack, IsClosedBy}
+use Rattle.vx_seats.specs.declared.facts.Facts.{Facts}
+use Rattle.vx_seats.specs.Knowing.{IsAtHomeBut, IsKnown}
 use Rattle.vx_seats.specs.declared.seat.Seat.{Seat}
 use Rattle.vx_ready.specs.Asking.{IsServed, all_ported}
 use Rattle.vx_ready.proofs.Done.{device_there}
@@ -105,3 +110,22 @@ module _ {P : Type 0} (told_by : P → Told) where
   shut_behind i old mid new over spent steps =
       let still : abandoned mid.log ≡ true = carry (IsSpendOf i Abandoned) (λ h. abandoned h ≡ true) (over_on i Abandoned) old.log mid.log spent.only over in
       adds_one (ComesBehind i) old.log mid.log new.log (Closed i) (spends_behind i Abandoned old mid spent) steps.follows (refl, still) steps.noted
+
+-- WHAT IS HANDED BACK CLOSED
+module _ {P : Type 0} (told_by : P → Told) (h : Record) (i : ℕ) (port shut : P) (does : Role) (closed : IsClosedBy (told_by port) (told_by shut)) where
+  still_told : IsToldButGiven (told_by port) h i → IsToldButGiven (told_by shut) h i
+  still_told told =
+      told_closed (record (told_by port) { given = None }) (record (told_by shut) { given = None }) h i (assumption closed.bytes) (assumption closed.counts) told
+
+  still_home : (starved : Bool) → IsAtHomeBut told_by starved h i (record { port = port; role = does }) → IsAtHomeBut told_by starved h i (record { port = shut; role = does })
+  still_home true home = (still_told home.0, home.1)
+  still_home false home = record { told = told_closed (told_by port) (told_by shut) h i closed.bytes closed.counts home.told; come = home.come }
+
+  pub back_shut : (f : Facts) → IsBack told_by f h i (record { port = port; role = does }) → IsBack told_by f h i (record { port = shut; role = does })
+  back_shut f back = record {
+    settled = back.settled;
+    answered = back.answered;
+    task_is = still_home f.starved back.task_is;
+    shut = λ is. closed.shut;
+    fit = back.fit;
+  }

@@ -8,7 +8,7 @@ use Rattle.vx_record.specs.declared.entry.Entry.TheVariants.{Idle, SourceLost, B
 use Rattle.vx_record.specs.Records.{Record}
 use Rattle.vx_record.specs.Copies.{all_of}
 use Rattle.vx_record.specs.Confirms.{last_of_each}
-use Rattle.vx_record.specs.PortCounts.{faults_in, refusals_in, idles_in, fault_count, refusal_count, idle_count}
+use Rattle.vx_record.specs.PortCounts.{faults_in, refusals_in, idles_in, finishes_in, confirms_in, fault_count, refusal_count, idle_count, finish_count, confirm_count}
 use Rattle.vx_record.specs.Tallies.{events_born, confirmed_ends, takes, sent_parcels, firsts_in, is_first, dropped_parcels, attempts_made, bytes_sent}
 use Rattle.vx_record.specs.Tasks.{is_of, mine, IsOwn}
 use Rattle.vx_record.proofs.Mine.{owned, listed}
@@ -47,6 +47,26 @@ idles_own =
     owned idle_count
     (λ h e i is. let none = no_idle e i is in omega arith)
     (λ h e i same. ap (λ n. n + idles_in i e) same)
+
+no_finish : (e : Entry) (i : ℕ) → is_of i e ≡ false → finishes_in i e ≡ 0
+no_finish (Attempt j copies bytes reply) i is = rw is refl
+no_finish e i is = refl
+
+pub finishes_own : IsOwn finish_count
+finishes_own =
+    owned finish_count
+    (λ h e i is. let none = no_finish e i is in omega arith)
+    (λ h e i same. ap (λ n. n + finishes_in i e) same)
+
+no_confirm : (e : Entry) (i : ℕ) → is_of i e ≡ false → confirms_in i e ≡ 0
+no_confirm (Confirm j positions made) i is = rw is refl
+no_confirm e i is = refl
+
+pub confirms_own : IsOwn confirm_count
+confirms_own =
+    owned confirm_count
+    (λ h e i is. let none = no_confirm e i is in omega arith)
+    (λ h e i same. ap (λ n. n + confirms_in i e) same)
 
 -- WHAT IS COUNTED
 events_apart : (h : Record) (e : Entry) (i : ℕ) → is_of i e ≡ false → events_born (e ∷ h) i ≡ events_born h i

@@ -1,4 +1,4 @@
--- How often an instance's port failed, refused or had nothing, by the record.
+-- How often an instance's port failed, refused, had nothing, finished an attempt or took a confirm, by the record.
 use Rattle.std.specs.Prelude.{ℕ, ◌+◌, Bool, true, false, not, ◌&&◌, [], ◌∷◌, ◌==◌, if◌then◌else◌}
 use Rattle.vx_ends.specs.declared.trouble.Reply.{Reply}
 use Rattle.vx_ends.specs.declared.trouble.Reply.TheVariants as reply
@@ -12,6 +12,12 @@ abbrev pub is_refused : Reply → Bool
 is_refused reply.Ok = false
 is_refused reply.Failed = false
 is_refused reply.Refused = true
+
+-- whether a device has what it was given
+abbrev pub is_ok : Reply → Bool
+is_ok reply.Ok = true
+is_ok reply.Failed = false
+is_ok reply.Refused = false
 
 -- 1 where an entry tells a failure of the instance's port: of an attempt, a confirm or a start, or a loss
 abbrev pub faults_in : ℕ → Entry → ℕ
@@ -31,6 +37,16 @@ abbrev pub idles_in : ℕ → Entry → ℕ
 idles_in i (Idle j failed) = if (j == i) && not failed then 1 else 0
 idles_in i other = 0
 
+-- 1 where an entry tells that the instance's port finished an attempt
+abbrev pub finishes_in : ℕ → Entry → ℕ
+finishes_in i (Attempt j copies bytes reply) = if (j == i) && is_ok reply then 1 else 0
+finishes_in i other = 0
+
+-- 1 where an entry tells a confirm that the instance's port took
+abbrev pub confirms_in : ℕ → Entry → ℕ
+confirms_in i (Confirm j positions made) = if (j == i) && made then 1 else 0
+confirms_in i other = 0
+
 -- how often so in a record
 abbrev pub fault_count : Record → ℕ → ℕ
 fault_count [] i = 0
@@ -43,3 +59,11 @@ refusal_count (e ∷ h) i = refusal_count h i + refusals_in i e
 abbrev pub idle_count : Record → ℕ → ℕ
 idle_count [] i = 0
 idle_count (e ∷ h) i = idle_count h i + idles_in i e
+
+abbrev pub finish_count : Record → ℕ → ℕ
+finish_count [] i = 0
+finish_count (e ∷ h) i = finish_count h i + finishes_in i e
+
+abbrev pub confirm_count : Record → ℕ → ℕ
+confirm_count [] i = 0
+confirm_count (e ∷ h) i = confirm_count h i + confirms_in i e

@@ -15,7 +15,7 @@ ghost use Rattle.vx_record.specs.SinkBatches.{taken_at, attempts_with, failures_
 ghost use Rattle.vx_record.specs.Spending.{last_attempted, last_reply};
 ghost use Rattle.vx_record.specs.Owing.{last_discarded, took_since};
 ghost use Rattle.vx_record.specs.Inputs.{ticks_wait};
-ghost use Rattle.vx_record.specs.PortCounts.{fault_count, refusal_count, idle_count};
+ghost use Rattle.vx_record.specs.PortCounts.{fault_count, refusal_count, idle_count, finish_count, confirm_count};
 ghost use Rattle.vx_record.specs.Tallies.{events_born, takes, sent_parcels, dropped_parcels, attempts_made, bytes_sent, confirmed_ends};
 ghost use Rattle.vx_record.specs.Places.Place.{Outputs, Waiting, Held};
 ghost use Rattle.vx_record.specs.Tasks.{IsOwn, out_to};
@@ -81,11 +81,13 @@ pub fn own_answers()
     ensures ticks { IsOwn ticks_wait }
 {}
 
-/// So is how often a port failed, refused or had nothing, and each count to which the entries of the task alone add.
+/// So is how often a port failed, refused, had nothing, finished an attempt or took a confirm, and each count to which the entries of the task alone add.
 pub fn own_counts()
     ensures faults { IsOwn fault_count }
     ensures refusals { IsOwn refusal_count }
     ensures idles { IsOwn idle_count }
+    ensures finishes { IsOwn finish_count }
+    ensures confirms { IsOwn confirm_count }
     ensures events { IsOwn events_born }
     ensures takes { IsOwn takes }
     ensures sent { IsOwn sent_parcels }

@@ -200,7 +200,7 @@ module _ {P : Type 0} (told_by : P → Told) (h : Record) where
   none_counted : (k : ℕ) (ports : List (Numbered P)) → NoneFailed told_by ports → AreToldButGiven told_by h ports → AreNumbered k ports → (i : ℕ) → k ≤ i → i < k + length ports → NoneCounted h i
   none_counted k [] none told numbers i from below = absurd (omega (arith, from, below))
   none_counted k (n ∷ ns) none told numbers i from below = elim (cases_eq i k) [
-    | inl same ↦ subst (NoneCounted h) (numbers.0 ∙ sym same) (counted_by (told_by n.port) h n.instance none.0 none.1 told.0.faults told.0.refusals)
+    | inl same ↦ subst (NoneCounted h) (numbers.0 ∙ sym same) (counted_by (told_by n.port) h n.instance none.0 none.1 told.0.faults.least told.0.refusals.least)
     | inr other ↦ none_counted (k + 1) ns none.2 told.1 numbers.1 i (omega (arith, from, other)) (omega (arith, below))
   ]
 

@@ -3,6 +3,7 @@ pub mod Going
 pub mod Judged
 pub mod Prepared
 pub mod Reading
+pub mod Called
 pub mod Closing
 pub mod Completing
 pub mod Counting

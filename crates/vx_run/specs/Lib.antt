@@ -1,4 +1,5 @@
 pub mod Answers
+pub mod Calling
 pub mod Completeness
 pub mod Judging
 pub mod Moments

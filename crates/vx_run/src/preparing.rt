@@ -1,12 +1,14 @@
-ghost use Rattle.std.specs.Prelude.{◌≡◌, ◌≢◌, ◌↔◌, ◌<◌, ◌^◌, length, true, false, Ok, Err, Some, IfOk, IfErr, IfSome, IsSomeAnd};
+ghost use Rattle.std.specs.Prelude.{◌≡◌, ◌≢◌, ◌↔◌, ◌<◌, ◌^◌, [], ◌∷◌, length, true, false, Ok, Err, Some, IfOk, IfErr, IfSome, IsSomeAnd, OnOk, OnErr};
 ghost use Rattle.vx_ends.specs.Texts.{IsTextAt};
-ghost use Rattle.vx_ends.specs.Told.{Rose};
+ghost use Rattle.vx_ends.specs.Told.{Grows, Rose};
+ghost use Rattle.vx_ends.specs.declared.call.Call.TheVariants as call;
 ghost use Rattle.vx_plan.specs.Accepted.{IsPlan};
 ghost use Rattle.vx_plan.specs.Options.{has_device};
 ghost use Rattle.vx_plan.specs.Ports.{port_of};
 ghost use Rattle.vx_hub.specs.Making.{IsUntouched, AreUntouched, all_ported};
 ghost use Rattle.vx_reading.specs.Reading.{IsReading};
 ghost use Rattle.vx_run.specs.Answers.{IsPlanAt, IsUnready, IsUnread, IsMisread};
+ghost use Rattle.vx_run.specs.Calling.{HasBegun, HasCalledFor, call_of, port_calls, run_calls};
 
 use std::alloc::Global;
 use vx_cli::Fault;
@@ -31,6 +33,8 @@ pub(crate) fn prepare<W: World>(
     ensures ports { IfOk result (λ parts. length parts.ports ≡ length parts.plan.components) }
     ensures untouched { IfOk result (λ parts. AreUntouched W.Port.told parts.plan.components parts.ports) }
     ensures unready { IfErr result (IsUnready environment.now (W.texts world.old) file.now (W.faults world.old) (W.faults world.new)) }
+    ensures called { IfOk result (λ parts. Grows (W.calls world.old) (W.calls world.new) (run_calls file.now parts.plan)) }
+    ensures begun { IfErr result (HasCalledFor environment.now (W.texts world.old) file.now (W.calls world.old) (W.calls world.new)) }
     ensures texts { W.texts world.new ≡ W.texts world.old }
 {
     let plan = plan_at(alloc, file, environment, world)?;
@@ -56,6 +60,7 @@ pub(crate) fn plan_at<W: World>(
     ensures accepted { IfOk result (λ plan. IsPlan plan) }
     ensures ported { IfOk result (λ plan. all_ported plan.components ≡ true) }
     ensures unready { IfErr result (IsUnready environment.now (W.texts world.old) file.now (W.faults world.old) (W.faults world.new)) }
+    ensures called { Grows (W.calls world.old) (W.calls world.new) (call.Config file.now ∷ []) }
     ensures texts { W.texts world.new ≡ W.texts world.old }
 {
     let bytes = config(alloc, file, world)?;
@@ -66,6 +71,7 @@ pub(crate) fn plan_at<W: World>(
 fn config<W: World>(alloc: Global, file: &Text, world: &mut W) -> Result<Bytes, Fault>
     ensures text { IfOk result (IsTextAt (W.texts world.old) file.now) }
     ensures unread { IfErr result (IsUnread file.now (W.faults world.old) (W.faults world.new)) }
+    ensures called { Grows (W.calls world.old) (W.calls world.new) (call.Config file.now ∷ []) }
     ensures texts { W.texts world.new ≡ W.texts world.old }
 {
     match world.config(file.as_str()) {
@@ -103,6 +109,8 @@ fn ports<W: World>(
     requires { all_ported plan.now.components ≡ true }
     ensures count { IfOk result (λ ports. length ports ≡ length plan.now.components) }
     ensures untouched { IfOk result (λ ports. AreUntouched W.Port.told plan.now.components ports) }
+    ensures called { OnOk result (Grows (W.calls world.old) (W.calls world.new) (port_calls plan.now.components)) }
+    ensures begun { OnErr result (HasBegun (W.calls world.old) (W.calls world.new) (port_calls plan.now.components)) }
     ensures texts { W.texts world.new ≡ W.texts world.old }
     ensures faults { W.faults world.new ≡ W.faults world.old }
 {
@@ -125,6 +133,8 @@ fn port<W: World>(
 ) -> Result<Named<W::Port>, WantOfMemory>
     requires { has_device component.now.settings ≡ true }
     ensures untouched { IfOk result (λ named. IsUntouched (port_of component.now) (W.Port.told named.port)) }
+    ensures called { OnOk result (Grows (W.calls world.old) (W.calls world.new) (call_of (port_of component.now))) }
+    ensures begun { OnErr result (HasBegun (W.calls world.old) (W.calls world.new) (call_of (port_of component.now))) }
     ensures texts { W.texts world.new ≡ W.texts world.old }
     ensures faults { W.faults world.new ≡ W.faults world.old }
 {

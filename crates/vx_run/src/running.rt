@@ -9,6 +9,7 @@ ghost use Rattle.vx_value.specs.Texts.{Word};
 ghost use Rattle.vx_cli.specs.Commands.{IsCommand};
 ghost use Rattle.vx_cli.specs.declared.command.Command.TheVariants.{Run};
 ghost use Rattle.vx_run.specs.Answers.{IsAnswer, IsJudged};
+ghost use Rattle.vx_run.specs.Calling.{HasCalled};
 ghost use Rattle.vx_run.specs.Moments.{AreTimely};
 ghost use Rattle.vx_run.specs.Showing.{IsShown};
 ghost use Rattle.vx_run.specs.Running.{IsTrueTo, AllReturned, HasInstalled, IsInForce, IsReadOut, IsCounted, HasEach, NoneMissing};
@@ -57,6 +58,7 @@ pub(crate) fn perform<R: Wait, W: World, C: Clock, P: Printer>(
     ensures numbers { AreNumbered 0 result.ports }
     ensures none_missing { NoneMissing words.now environment.now (W.texts world.old) result.history result.ports result.fault }
     ensures moments { AreTimely (C.gave clock.now) result.history }
+    ensures called { HasCalled words.now environment.now (W.texts world.old) (W.calls world.old) (W.calls world.new) result.history result.fault }
     ensures texts { W.texts world.new ≡ W.texts world.old }
 {
     match read_words(alloc, words) {
@@ -90,6 +92,7 @@ fn run<R: Wait, W: World, C: Clock>(
     ensures none_missing { (words : List Word) → IsCommand words (Run file.now) → NoneMissing words environment.now (W.texts world.old) result.history result.ports result.fault }
     ensures unprinted { result.fault ≢ Some Fault.PrintFailed }
     ensures moments { AreTimely (C.gave clock.now) result.history }
+    ensures called { (words : List Word) → IsCommand words (Run file.now) → HasCalled words environment.now (W.texts world.old) (W.calls world.old) (W.calls world.new) result.history result.fault }
     ensures texts { W.texts world.new ≡ W.texts world.old }
 {
     match prepare(alloc, file, environment, world) {

@@ -4,6 +4,7 @@ ghost use Rattle.vx_hub.specs.Making.{ArePorted};
 ghost use Rattle.vx_hub.specs.Remains.{AreNumbered, AreClosed, HasOnePlace, AllSpent, HasNotices, HasEnds};
 ghost use Rattle.vx_run.specs.Answers.{IsAnswer};
 ghost use Rattle.vx_cli.specs.Statuses.{ended_status};
+ghost use Rattle.vx_run.specs.Calling.{HasCalled};
 ghost use Rattle.vx_run.specs.Moments.{AreTimely};
 ghost use Rattle.vx_run.specs.Running.{IsTrueTo, AllReturned, HasInstalled, IsReadOut, IsCounted, NoneMissing};
 ghost use Rattle.vx_run.specs.Showing.{IsShown};
@@ -51,6 +52,7 @@ pub fn vector<R: Wait, W: World, C: Clock, P: Printer, L: Printer>(
     ensures said { IsSaid (err.new ≡ err.old) (L.printed err.old) (L.printed err.new) (L.faults err.old) (L.faults err.new) result.fault }
     ensures shown { IsShown words.now environment.now (W.texts world) (out.new ≡ out.old) (P.printed out.old) (P.printed out.new) (P.faults out.old) (P.faults out.new) result.fault }
     ensures moments { AreTimely (C.gave clock.now) result.history }
+    ensures called { HasCalled words.now environment.now (W.texts world) (W.calls world) (W.calls result.world) result.history result.fault }
     ensures texts { W.texts result.world ≡ W.texts world }
 {
     let mut world = world;

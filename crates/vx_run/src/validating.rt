@@ -1,4 +1,6 @@
-ghost use Rattle.std.specs.Prelude.{◌≡◌, ◌≤◌, length, IfOk, string_bytes};
+ghost use Rattle.std.specs.Prelude.{◌≡◌, ◌≤◌, [], ◌∷◌, length, IfOk, string_bytes};
+ghost use Rattle.vx_ends.specs.Told.{Grows};
+ghost use Rattle.vx_ends.specs.declared.call.Call.TheVariants as call;
 ghost use Rattle.vx_run.specs.Showing.{IsJudgedSo, count_of, same_class, valid_text};
 
 use crate::preparing::plan_at;
@@ -18,6 +20,7 @@ pub(crate) fn validate<W: World, P: Printer>(
     out: &mut P,
 ) -> Option<Fault>
     ensures judged { IsJudgedSo environment.now (W.texts world.old) file.now (W.faults world.old) (W.faults world.new) (out.new ≡ out.old) (P.printed out.old) (P.printed out.new) (P.faults out.old) (P.faults out.new) result }
+    ensures called { Grows (W.calls world.old) (W.calls world.new) (call.Config file.now ∷ []) }
     ensures texts { W.texts world.new ≡ W.texts world.old }
 {
     let plan = match plan_at(alloc, file, environment, world) {

@@ -5,8 +5,10 @@ ghost use Rattle.vx_ends.specs.Told.{Grows, SameBytes, Rose};
 use vx_ends::{Port, Took, Trouble};
 use vx_value::Bytes;
 
-// Gives the bytes until a give fails: how many were given, and whether all were.
+// Gives the bytes to a started port until a give fails: how many were given, and whether all were.
 pub fn give_all<P: Port>(port: &mut P, bytes: &[u8]) -> (usize, bool)
+    requires { IsTrue (P.told port.old).started }
+    ensures started { (P.told port.new).started ≡ (P.told port.old).started }
     ensures within { result.0 ≤ length bytes.now }
     ensures given { Grows (P.told port.old).given (P.told port.new).given (take result.0 bytes.now) }
     ensures rest { SameBytes (record (P.told port.old) { given = (P.told port.new).given }) (P.told port.new) }
@@ -25,13 +27,14 @@ pub fn give_all<P: Port>(port: &mut P, bytes: &[u8]) -> (usize, bool)
     (at, true)
 }
 
-// Takes once, and appends to `out` what came. The stream of which it came.
+// Takes once of a started port, and appends to `out` what came. The stream of which it came.
 pub fn take_once<P: Port>(
     port: &mut P,
     buffer: &mut [u8],
     out: &mut Bytes,
 ) -> Result<Option<u64>, Trouble>
-    requires { 0 < length buffer.old }
+    requires room { 0 < length buffer.old }
+    requires started { IsTrue (P.told port.old).started }
     ensures some { IfOk result (λ came. IfSome came (λ from. (more : List ℕ) × Grows ((P.told port.old).taken from) ((P.told port.new).taken from) more × (out.new ≡ out.old ++ more))) }
     ensures none { IfOk result (λ came. IfNone came ((out.new ≡ out.old) × ((stream : ℕ) → Grows ((P.told port.old).taken stream) ((P.told port.new).taken stream) []))) }
     ensures failed { IsErrOf result Trouble.Failed → Rose (P.told port.old).faults (P.told port.new).faults }

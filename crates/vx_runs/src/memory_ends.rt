@@ -88,7 +88,9 @@ fn is_met(port: &mut MemoryPort, positions: &PositionList, call: &Call) -> bool 
             port.close();
             true
         }
-        Call::GiveAll(bytes, want) => give_all(port, bytes.as_bytes()) == *want,
+        Call::GiveAll(bytes, want) => {
+            port.start() == Ok(()) && give_all(port, bytes.as_bytes()) == *want
+        }
         Call::Attempt(bytes, want) => attempt(port, bytes.as_bytes()) == *want,
         Call::HasGiven(want) => port.given() == want.as_bytes(),
         Call::HasConfirmed(want) => port.confirmed().len() == *want,
@@ -238,7 +240,7 @@ fn confirms_by_its_acts(rt: HostRuntime) -> Result<(), Fail> {
 
 const ATTEMPTS: Calls = Calls {
     steps: &[],
-    acts: &[Act::Part(2), Act::Fail],
+    acts: &[Act::Pass, Act::Part(2), Act::Fail],
     calls: &[
         Call::GiveAll("given", (2, false)),
         Call::Attempt("more", Ok(())),
@@ -253,6 +255,7 @@ fn serves_attempts_by_its_clauses(rt: HostRuntime) -> Result<(), Fail> {
 
 fn takes_into(rt: &impl Abort, port: &mut MemoryPort, out: &mut Bytes, want: Option<u64>) {
     let mut room = [0u8; 8];
+    assert_eq!(rt; port.start(), Ok(()));
     assert_eq!(rt; take_once(port, &mut room, out), Ok(want));
 }
 

@@ -6,7 +6,7 @@ use Rattle.std.proofs.lemmas.List.{append-nil}
 use Rattle.std.proofs.lemmas.Option.{IfSome_then}
 use Rattle.vx_value.specs.Texts.{Word, is_empty}
 use Rattle.vx_value.specs.declared.event.Event.{Event}
-use Rattle.vx_ends.specs.Told.{Told, SameBytes}
+use Rattle.vx_ends.specs.Told.{Told}
 use Rattle.vx_ends.specs.declared.position.Position.{Position}
 use Rattle.vx_ends.specs.declared.trouble.Reply.{Reply}
 use Rattle.vx_plan.specs.declared.class.Class.{Class}
@@ -40,7 +40,8 @@ use Rattle.vx_counts.proofs.Once.{itself}
 use Rattle.vx_sourcecore.specs.declared.prefix.Prefix.{Prefix}
 use Rattle.vx_sourcecore.specs.Prefixes.{AreApart, GoesOn, IsPrefixOf, Judgement, Tells, birth_at}
 use Rattle.vx_tasks.specs.declared.task.Task.{Task}
-use Rattle.vx_tasks.specs.Telling.{IsTold}
+use Rattle.vx_tasks.specs.Telling.{IsToldButGiven}
+use Rattle.vx_tasks.proofs.Saying.{told_closed}
 use Rattle.vx_tasks.specs.Out.{AreDue}
 use Rattle.vx_seats.specs.declared.facts.Facts.{Facts}
 use Rattle.vx_seats.specs.declared.progress.Progress.{Progress}
@@ -128,29 +129,20 @@ spent_known {told_by = told_by} {counts = counts} was h i j c outcome legal met 
         (IfSome_then was.task k.home (λ task home. home.shut)) k
 
 -- CLOSED PORTS
--- a port that is closed tells what it told
-told_shut : (was is : Told) (h : Record) (i : ℕ) → SameBytes was is → was.faults ≤ is.faults → was.idles ≤ is.idles → was.refusals ≤ is.refusals →
-    IsTold was h i → IsTold is h i
-told_shut was is h i same faults idles refusals told =
-    search (
-      arith,
-      same.given,
-      same.confirmed,
-      same.spec,
-      same.ended,
-      λ (stream : ℕ). rw (← same.taken) at (told.taken stream),
-      λ (all : all_ended h i ≡ true) (stream : ℕ). rw (← same.left) at (told.over all stream),
-    )
+-- a port that is closed tells what it told, but for what was given, too
+but_given_shut : (was is : Told) (h : Record) (i : ℕ) → IsClosedBy was is → IsToldButGiven was h i → IsToldButGiven is h i
+but_given_shut was is h i closed told =
+    told_closed (record was { given = None }) (record is { given = None }) h i (assumption closed.bytes) (assumption closed.counts) told
 
 module _ {P : Type 0} (told_by : P → Told) where
   home_shut : (starved : Bool) (h : Record) (i : ℕ) (was is : Task P) → is.role ≡ was.role → IsClosedBy (told_by was.port) (told_by is.port) →
       IsAtHomeBut told_by starved h i was → IsAtHomeBut told_by starved h i is
   home_shut true h i was is role closed home = (
-    told_shut (record (told_by was.port) { given = None }) (record (told_by is.port) { given = None }) h i (assumption closed.bytes) closed.faults closed.idles closed.refusals home.0,
+    but_given_shut (told_by was.port) (told_by is.port) h i closed home.0,
     rw role home.1,
   )
   home_shut false h i was is role closed home =
-      record { told = told_shut (told_by was.port) (told_by is.port) h i closed.bytes closed.faults closed.idles closed.refusals home.told; come = rw role home.come }
+      record { told = told_closed (told_by was.port) (told_by is.port) h i closed.bytes closed.counts home.told; come = rw role home.come }
 
   -- what a closed port leaves of a task, if that is at home
   record IsLeftBy (was is : Option (Task P)) : Type 0 where

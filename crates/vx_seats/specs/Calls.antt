@@ -1,6 +1,6 @@
 -- What the calls of the seats need and tell.
 use Rattle.std.specs.Prelude.{◌≡◌, ◌≢◌, ◌≤◌, ℕ, true, false, List, Option, Some, None, IfSome, IsSomeAnd, slice_get, take_while}
-use Rattle.vx_ends.specs.Told.{Told, SameBytes}
+use Rattle.vx_ends.specs.Told.{Told, SameBytes, CountsBy, nothing}
 use Rattle.vx_ends.specs.declared.position.Position.{Position}
 use Rattle.vx_record.specs.Records.{Record}
 use Rattle.vx_record.specs.Ceasing.{cause_of}
@@ -66,13 +66,11 @@ pub record Leaves {P : Type 0} (was is : Seat P) (task : Task P) (positions : Op
   pub rest : is ≡ record was { progress = is.progress; task = None }
   pub asked : IsAskedOf positions was.progress is.progress
 
--- a port that is closed tells what it told, with counts that never fall
+-- a port that is closed tells what it told, and counts nothing
 pub record IsClosedBy (was is : Told) : Type 0 where
   pub shut : is.started ≡ false
   pub bytes : SameBytes was is
-  pub faults : was.faults ≤ is.faults
-  pub idles : was.idles ≤ is.idles
-  pub refusals : was.refusals ≤ is.refusals
+  pub counts : CountsBy nothing was is
 
 -- the port of a task is closed
 abbrev pub TaskShuts : {P : Type 0} → (P → Told) → Option (Task P) → Option (Task P) → Type 0

@@ -5,3 +5,4 @@ pub mod Lining
 pub mod Bridging
 pub mod Following
 pub mod Keeping
+pub mod Counting

@@ -1,7 +1,7 @@
 -- What one turn of a source brought, as the record and the port have it.
-use Rattle.std.specs.Prelude.{◌≡◌, ℕ, ◌≤◌, ◌<◌, ◌==◌, true, false, not, if◌then◌else◌, List, [], ◌∷◌, ◌++◌, take, length, Option, Some, None, IfSome}
+use Rattle.std.specs.Prelude.{◌≡◌, ℕ, Bool, ◌≤◌, ◌<◌, ◌==◌, true, false, not, ◌&&◌, if◌then◌else◌, List, [], ◌∷◌, ◌++◌, take, length, Option, Some, None, IfSome}
 use Rattle.vx_value.specs.Texts.{Word}
-use Rattle.vx_ends.specs.Told.{Told, Rose, Grows}
+use Rattle.vx_ends.specs.Told.{Told, Rose, Grows, Happened, CountsBy, nothing}
 use Rattle.vx_record.specs.declared.taken.Taken.{Taken}
 use Rattle.vx_record.specs.declared.taken.Taken.TheVariants as taken
 use Rattle.vx_record.specs.Reads.{bytes_of}
@@ -70,6 +70,20 @@ ShowsTurn old new (Failed at_start) =
 abbrev pub LeavesNothing : Told → Turned → Type 0
 LeavesNothing new (AllEnded stream cut) = NothingLeft new
 LeavesNothing new other = Unit {0}
+
+-- what a turn counts at the port, by whether that was started before: a failure, that there is nothing, and a start
+abbrev pub turn_counts : Bool → Turned → Happened
+turn_counts was (Lines stream n room cut) = record nothing { started = not was }
+turn_counts was (StreamEnded stream cut) = record nothing { started = not was }
+turn_counts was (AllEnded stream cut) = record nothing { started = not was }
+turn_counts was Idle = record nothing { idle = true; started = not was }
+turn_counts was (Failed at_start) = record nothing { failed = true; started = not at_start && not was }
+
+-- nothing is counted but perhaps a start, of a port that wasn't started
+pub record StartsAtMost (old new : Told) : Type 0 where
+  pub started : Bool
+  pub first : started ≡ true → old.started ≡ false
+  pub counts : CountsBy (record nothing { started = started }) old new
 
 -- a turn gives and confirms nothing, brings nothing back, and no count falls
 pub record OnlyTakes (old new : Told) : Type 0 where

@@ -65,9 +65,10 @@ pub struct SourceCore {
 }
 
 impl SourceCore {
-    ghost use Rattle.std.specs.Prelude.{◌≡◌, ℕ, ◌≤◌, length, take, IfOk, OnErr, IfSome, IsTrue};
+    ghost use Rattle.std.specs.Prelude.{◌≡◌, ℕ, ◌≤◌, length, take, true, IfOk, OnErr, IfSome, IsTrue};
     ghost use Rattle.vx_record.specs.Records.{Record, capped};
-    ghost use Rattle.vx_sourcecore.specs.Turns.{DidTake, IsUnmoved, IsInRoom, cut_of};
+    ghost use Rattle.vx_ends.specs.Told.{CountsBy, nothing};
+    ghost use Rattle.vx_sourcecore.specs.Turns.{DidTake, IsUnmoved, IsInRoom, StartsAtMost, cut_of, turn_counts};
     ghost use Rattle.vx_sourcecore.specs.Sources.{IsOf, HasFed, HasFinished, HasBrought, BringsSome, IsOfOpen, IsSame, IsFresh};
     ghost use Rattle.vx_sourcecore.specs.Abreast.{IsAbreast, HasTurned, MayTurnOn};
 
@@ -99,7 +100,9 @@ impl SourceCore {
     /// what was taken, the answer tells that without a `Cut`.
     pub fn turn<P: Port>(&mut self, port: &mut P) -> Result<Turned, WantOfMemory>
         ensures did { IfOk result (λ turned. DidTake (P.told port.old) turned (P.told port.new)) }
+        ensures counts { IfOk result (λ turned. CountsBy (turn_counts (P.told port.old).started turned) (P.told port.old) (P.told port.new)) }
         ensures unmoved { OnErr result (IsUnmoved (P.told port.old) (P.told port.new)) }
+        ensures uncounted { OnErr result (StartsAtMost (P.told port.old) (P.told port.new)) }
         ensures whole { IfOk result IsInRoom }
         ensures few { IfOk result (λ turned. IfSome (cut_of turned) (λ cut. length cut.events ≤ 65536)) }
         ensures turned { IfOk result (λ turned. (h : Record) → (i : ℕ) → MayTurnOn h i (P.told port.old).ended → IsAbreast h i self.old → HasTurned h i self.new turned) }
@@ -116,7 +119,9 @@ impl SourceCore {
     fn take<P: Port>(&mut self, port: &mut P) -> Result<Turned, WantOfMemory>
         requires { IsTrue (P.told port.old).started }
         ensures did { IfOk result (λ turned. DidTake (P.told port.old) turned (P.told port.new)) }
+        ensures counts { IfOk result (λ turned. CountsBy (turn_counts true turned) (P.told port.old) (P.told port.new)) }
         ensures unmoved { OnErr result (IsUnmoved (P.told port.old) (P.told port.new)) }
+        ensures uncounted { OnErr result (CountsBy nothing (P.told port.old) (P.told port.new)) }
         ensures whole { IfOk result IsInRoom }
         ensures some { IfOk result BringsSome }
         ensures open { IfOk result (IsOfOpen (P.told port.old).ended) }

@@ -1,3 +1,4 @@
+pub mod Tallying
 pub mod Telling
 pub mod Writing
 pub mod Saying

@@ -3,8 +3,11 @@ use Rattle.std.proofs.Common.{◌≡◌, inl, inr, ◌≤◌, ℕ, ◌+◌, Bool
 use Rattle.std.specs.Prelude.{◌==◌, ◌⊎◌, ◌&&◌, ◌||◌, not, nat_lt, if◌then◌else◌}
 use Rattle.std.proofs.lemmas.List.{append-nil}
 use Rattle.std.proofs.lemmas.Bool.Decides.{nat_tests}
-use Rattle.vx_ends.specs.Told.{Told, Rose, Grows}
+use Rattle.vx_ends.specs.Told.{Told, Rose, Grows, SameBytes, Happened, Counts, CountsBy, nothing, raised}
 use Rattle.vx_ends.specs.declared.port_spec.PortSpec.{PortSpec}
+use Rattle.vx_ends.specs.declared.position.Position.{Position}
+use Rattle.vx_ends.specs.declared.trouble.Reply.{Reply}
+use Rattle.vx_ends.specs.declared.trouble.Reply.TheVariants as reply
 use Rattle.vx_plan.specs.declared.component.Component.{Component}
 use Rattle.vx_record.specs.declared.entry.Entry.{Entry}
 use Rattle.vx_record.specs.declared.entry.Entry.TheVariants as entry
@@ -17,40 +20,66 @@ use Rattle.vx_record.specs.Reads.{bytes_of, bytes_taken, taken as taken_of, all_
 use Rattle.vx_record.specs.Encoding.{given, given_in}
 use Rattle.vx_record.specs.Confirms.{confirmed, confirmed_in}
 use Rattle.vx_record.specs.Growth.{taken_in}
-use Rattle.vx_record.specs.PortCounts.{fault_count, refusal_count, idle_count, faults_in, refusals_in, idles_in}
+use Rattle.vx_record.specs.PortCounts.{fault_count, refusal_count, idle_count, finish_count, confirm_count, faults_in, refusals_in, idles_in, finishes_in, confirms_in}
 use Rattle.vx_record.proofs.Grows.{taken_grows}
 use Rattle.vx_sourcecore.specs.declared.source.Turned.{Turned}
 use Rattle.vx_sourcecore.specs.declared.source.Turned.TheVariants as turned
-use Rattle.vx_sourcecore.specs.Turns.{reading_of, read_bytes, NothingLeft, DidTake}
-use Rattle.vx_tasks.specs.Telling.{IsTold, spec_of}
+use Rattle.vx_sourcecore.specs.Turns.{reading_of, read_bytes, NothingLeft, DidTake, IsUnmoved, StartsAtMost, turn_counts}
+use Rattle.vx_tasks.specs.Telling.{IsTold, IsToldButGiven, HasCounted, spec_of}
+use Rattle.vx_tasks.specs.Attempts.{OnlyGives, reply_counts}
 use Rattle.vx_tasks.specs.Out.{turn_entry}
 
 pub same_test : (i : ℕ) → (i == i) ≡ true
 same_test i = grind (arith, nat_tests)
 
--- a count that rose as an entry says, as far as it can
-abbrev Counts : ℕ → ℕ → ℕ → Type 0
-Counts before more now = (n : ℕ) → capped n ≤ before → capped (n + more) ≤ now
+-- a count that rose as an entry says
+rose_least : (x y n m : ℕ) → m ≡ 1 → capped n ≤ x → x ≤ y → Rose x y → capped (n + m) ≤ y
+rose_least x y n m is least later (inl more) = omega (arith, is, more, least)
+rose_least x y n m is least later (inr last) = omega (arith, is, last, later)
+
+pub counted_on : (e f : Bool) (x y n m : ℕ) (b : Bool) → f ≡ e → m ≡ (if b then 1 else 0) → Counts e x y b → HasCounted e n x → HasCounted f (n + m) y
+counted_on e f x y n m true same is count was = record {
+  least = rose_least x y n m is was.least count.later (count.rose refl);
+  exactly = λ on.
+      let known : x ≡ capped n = was.exactly (sym same ∙ on) in
+      let now : y ≡ raised x true = count.exactly (sym same ∙ on) in
+      omega (arith, is, known, now);
+}
+counted_on e f x y n m false same is count was = record {
+  least = let least = was.least in let later = count.later in omega (arith, is, least, later);
+  exactly = λ on.
+      let known : x ≡ capped n = was.exactly (sym same ∙ on) in
+      let now : y ≡ raised x false = count.exactly (sym same ∙ on) in
+      omega (arith, is, known, now);
+}
+
+-- what an entry tells of its instance's port is what happened there
+pub record TellsOf (i : ℕ) (e : Entry) (what : Happened) : Type 0 where
+  pub faults : faults_in i e ≡ (if what.failed then 1 else 0)
+  pub refusals : refusals_in i e ≡ (if what.refused then 1 else 0)
+  pub idles : idles_in i e ≡ (if what.idle then 1 else 0)
+  pub finishes : finishes_in i e ≡ (if what.finished then 1 else 0)
+  pub confirms : confirms_in i e ≡ (if what.confirmed then 1 else 0)
 
 -- a port goes on as an entry of its instance says
-record Says (e : Entry) (h : Record) (i : ℕ) (old new : Told) : Type 0 where
-  taken : (stream : ℕ) → Grows (old.taken stream) (new.taken stream) (taken_in i stream e)
-  given : Grows old.given new.given (given_in i e)
-  confirmed : Grows old.confirmed new.confirmed (confirmed_in i e)
-  spec : new.spec ≡ old.spec
-  runs : component_of (e ∷ h) i ≡ component_of h i
-  ended : new.ended ≡ old.ended ++ ended_by i e
-  over : (all_ended h i ≡ true → NothingLeft old) → all_ended (e ∷ h) i ≡ true → NothingLeft new
-  faults : Counts old.faults (faults_in i e) new.faults
-  refusals : Counts old.refusals (refusals_in i e) new.refusals
-  idles : Counts old.idles (idles_in i e) new.idles
+pub record Says (e : Entry) (h : Record) (i : ℕ) (old new : Told) : Type 0 where
+  pub taken : (stream : ℕ) → Grows (old.taken stream) (new.taken stream) (taken_in i stream e)
+  pub given : Grows old.given new.given (given_in i e)
+  pub confirmed : Grows old.confirmed new.confirmed (confirmed_in i e)
+  pub spec : new.spec ≡ old.spec
+  pub runs : component_of (e ∷ h) i ≡ component_of h i
+  pub ended : new.ended ≡ old.ended ++ ended_by i e
+  pub over : (all_ended h i ≡ true → NothingLeft old) → all_ended (e ∷ h) i ≡ true → NothingLeft new
+  pub what : Happened
+  pub tells : TellsOf i e what
+  pub counts : CountsBy what old new
 
 pub grown : {X : Type 0} (o n : Option (List X)) (more had : List X) → Grows o n more → IfSome o (λ xs. xs ≡ had) → IfSome n (λ xs. xs ≡ had ++ more)
 grown None n more had g is = subst (λ (x : Option (List _)). IfSome x (λ xs. xs ≡ had ++ more)) (sym g) tt
 grown (Some xs) n more had g is = subst (λ (x : Option (List _)). IfSome x (λ ys. ys ≡ had ++ more)) (sym g) (ap (λ ys. ys ++ more) is)
 
 -- then it tells what the record has with that entry
-told_said : (e : Entry) (h : Record) (i : ℕ) (old new : Told) → Says e h i old new → IsTold old h i → IsTold new (e ∷ h) i
+pub told_said : (e : Entry) (h : Record) (i : ℕ) (old new : Told) → Says e h i old new → IsTold old h i → IsTold new (e ∷ h) i
 told_said e h i old new says told = record {
   taken = λ stream. subst (λ (w : List ℕ). IfSome (new.taken stream) (λ bytes. bytes ≡ w)) (sym (taken_grows e h i stream))
       (grown (old.taken stream) (new.taken stream) (taken_in i stream e) (taken_of h i stream) (says.taken stream) (told.taken stream));
@@ -60,37 +89,34 @@ told_said e h i old new says told = record {
   confirmed = grown old.confirmed new.confirmed (confirmed_in i e) (confirmed h i) says.confirmed told.confirmed;
   ended = says.ended ∙ ap (λ (xs : List ℕ). xs ++ ended_by i e) told.ended;
   over = says.over told.over;
-  faults = says.faults (fault_count h i) told.faults;
-  refusals = says.refusals (refusal_count h i) told.refusals;
-  idles = says.idles (idle_count h i) told.idles;
+  faults = counted_on old.exact new.exact old.faults new.faults (fault_count h i) (faults_in i e) says.what.failed says.counts.exact says.tells.faults says.counts.faults told.faults;
+  refusals = counted_on old.exact new.exact old.refusals new.refusals (refusal_count h i) (refusals_in i e) says.what.refused says.counts.exact says.tells.refusals says.counts.refusals told.refusals;
+  idles = counted_on old.exact new.exact old.idles new.idles (idle_count h i) (idles_in i e) says.what.idle says.counts.exact says.tells.idles says.counts.idles told.idles;
+  finishes = counted_on old.exact new.exact old.finishes new.finishes (finish_count h i) (finishes_in i e) says.what.finished says.counts.exact says.tells.finishes says.counts.finishes told.finishes;
+  confirms = counted_on old.exact new.exact old.confirms new.confirms (confirm_count h i) (confirms_in i e) says.what.confirmed says.counts.exact says.tells.confirms says.counts.confirms told.confirms;
 }
 
 -- COUNTS
-none_more : (before now : ℕ) → before ≤ now → Counts before 0 now
-none_more before now later n is = omega arith
+abbrev ones : Bool → ℕ
+ones b = if b then 1 else 0
 
-one_more : (before now : ℕ) → before ≤ now → Rose before now → Counts before 1 now
-one_more before now later (inl less) n is = omega arith
-one_more before now later (inr last) n is = omega arith
+pub by_test : (i : ℕ) (b : Bool) → (if (i == i) && b then 1 else 0) ≡ ones b
+by_test i b = ap (λ (t : Bool). ones (t && b)) (same_test i)
 
-one_if : (b : Bool) (before now : ℕ) → b ≡ true → before ≤ now → Rose before now → Counts before (if b then 1 else 0) now
-one_if true before now is later rose = one_more before now later rose
-one_if false before now is later rose = cc
+tells_none : (i stream : ℕ) (took : Taken) (started : Bool) → TellsOf i (entry.Read i stream took) (record nothing { started = started })
+tells_none i stream took started = record { faults = refl; refusals = refl; idles = refl; finishes = refl; confirms = refl }
 
-none_if : (b : Bool) (before now : ℕ) → b ≡ false → before ≤ now → Counts before (if b then 1 else 0) now
-none_if true before now is later = cc
-none_if false before now is later = none_more before now later
+tells_idle : (i : ℕ) (started : Bool) → TellsOf i (entry.Idle i false) (record nothing { idle = true; started = started })
+tells_idle i started = record { faults = by_test i false; refusals = refl; idles = by_test i true; finishes = refl; confirms = refl }
 
-off_by : (a b : Bool) → b ≡ false → (a && b) ≡ false
-off_by true b e = e
-off_by false b e = refl
+tells_failed : (i : ℕ) (started : Bool) → TellsOf i (entry.Idle i true) (record nothing { failed = true; started = started })
+tells_failed i started = record { faults = by_test i true; refusals = refl; idles = by_test i false; finishes = refl; confirms = refl }
 
-on_by : (a b : Bool) → a ≡ true → b ≡ true → (a && b) ≡ true
-on_by true b e f = f
-on_by false b e f = cc
+tells_lost : (i after : ℕ) (at_start started : Bool) → TellsOf i (entry.SourceLost i after at_start) (record nothing { failed = true; started = started })
+tells_lost i after at_start started = record { faults = ap ones (same_test i); refusals = refl; idles = refl; finishes = refl; confirms = refl }
 
 -- what a turn leaves
-same_grows : {X : Type 0} (o n : Option (List X)) → n ≡ o → Grows o n []
+pub same_grows : {X : Type 0} (o n : Option (List X)) → n ≡ o → Grows o n []
 same_grows None n e = e
 same_grows (Some xs) n e = e ∙ ap Some (sym (append-nil xs))
 
@@ -106,11 +132,11 @@ over_before true true r off is = cc
 over_before true false r off is = is
 over_before false b r off is = is
 
-reads : (h : Record) (i stream : ℕ) (took : Taken) (turned : Turned) (old new : Told) → DidTake old turned new →
+reads : (h : Record) (i stream : ℕ) (took : Taken) (turned : Turned) (old new : Told) (started : Bool) → DidTake old turned new → CountsBy (record nothing { started = started }) old new →
     ((s : ℕ) → read_bytes (reading_of turned) s ≡ (if stream == s then bytes_of took else [])) →
     new.ended ≡ old.ended ++ ended_by i (entry.Read i stream took) → ((is_end took ≡ false) ⊎ NothingLeft new) →
     IsTold old h i → IsTold new (entry.Read i stream took ∷ h) i
-reads h i stream took turned old new did are ended over = told_said (entry.Read i stream took) h i old new (record {
+reads h i stream took turned old new started did counts are ended over = told_said (entry.Read i stream took) h i old new (record {
   taken = λ s. subst (λ (w : List ℕ). Grows (old.taken s) (new.taken s) w) (are s ∙ sym (on_test i (stream == s) (bytes_of took))) (did.taken s);
   given = same_grows old.given new.given did.rest.given;
   confirmed = same_grows old.confirmed new.confirmed did.rest.confirmed;
@@ -121,57 +147,207 @@ reads h i stream took turned old new did are ended over = told_said (entry.Read 
     | inl goes ↦ did.rest.left (before (over_before (i == i) (is_end took) (all_ended h i) goes now))
     | inr none ↦ none
   ];
-  faults = none_more old.faults new.faults did.rest.faults;
-  refusals = none_more old.refusals new.refusals did.rest.refusals;
-  idles = none_more old.idles new.idles did.rest.idles;
+  what = record nothing { started = started };
+  tells = tells_none i stream took started;
+  counts = counts;
 })
 
-rests : (h : Record) (i : ℕ) (failed : Bool) (turned : Turned) (old new : Told) → DidTake old turned new → ((s : ℕ) → read_bytes (reading_of turned) s ≡ []) →
-    new.ended ≡ old.ended ++ [] → ((failed ≡ true) × Rose old.faults new.faults) ⊎ ((failed ≡ false) × Rose old.idles new.idles) →
-    IsTold old h i → IsTold new (entry.Idle i failed ∷ h) i
-rests h i failed turned old new did none ended rose = told_said (entry.Idle i failed) h i old new (record {
-  taken = λ s. subst (λ (w : List ℕ). Grows (old.taken s) (new.taken s) w) (none s) (did.taken s);
-  given = same_grows old.given new.given did.rest.given;
-  confirmed = same_grows old.confirmed new.confirmed did.rest.confirmed;
-  spec = did.rest.spec;
-  runs = refl;
-  ended = ended;
-  over = λ before now. did.rest.left (before now);
-  faults = elim rose [
-    | inl fault ↦ one_if ((i == i) && failed) old.faults new.faults (on_by (i == i) failed (same_test i) fault.0) did.rest.faults fault.1
-    | inr idle ↦ none_if ((i == i) && failed) old.faults new.faults (off_by (i == i) failed idle.0) did.rest.faults
-  ];
-  refusals = none_more old.refusals new.refusals did.rest.refusals;
-  idles = elim rose [
-    | inl fault ↦ none_if ((i == i) && not failed) old.idles new.idles (off_by (i == i) (not failed) (ap not fault.0)) did.rest.idles
-    | inr idle ↦ one_if ((i == i) && not failed) old.idles new.idles (on_by (i == i) (not failed) (same_test i) (ap not idle.0)) did.rest.idles idle.1
-  ];
-})
+-- an entry that tells of no bytes
+record TookNothing (h : Record) (i : ℕ) (e : Entry) : Type 0 where
+  taken : (stream : ℕ) → taken_in i stream e ≡ []
+  given : given_in i e ≡ []
+  confirmed : confirmed_in i e ≡ []
+  runs : component_of (e ∷ h) i ≡ component_of h i
+  ended : ended_by i e ≡ []
+  over : all_ended (e ∷ h) i ≡ all_ended h i
 
-is_lost : (h : Record) (i after : ℕ) (failed : Bool) (turned : Turned) (old new : Told) → DidTake old turned new → ((s : ℕ) → read_bytes (reading_of turned) s ≡ []) →
-    new.ended ≡ old.ended ++ [] → Rose old.faults new.faults → IsTold old h i → IsTold new (entry.SourceLost i after failed ∷ h) i
-is_lost h i after failed turned old new did none ended rose = told_said (entry.SourceLost i after failed) h i old new (record {
-  taken = λ s. subst (λ (w : List ℕ). Grows (old.taken s) (new.taken s) w) (none s) (did.taken s);
-  given = same_grows old.given new.given did.rest.given;
-  confirmed = same_grows old.confirmed new.confirmed did.rest.confirmed;
+idle_nothing : (h : Record) (i : ℕ) (failed : Bool) → TookNothing h i (entry.Idle i failed)
+idle_nothing h i failed = record { taken = λ s. refl; given = refl; confirmed = refl; runs = refl; ended = refl; over = refl }
+
+lost_nothing : (h : Record) (i after : ℕ) (at_start : Bool) → TookNothing h i (entry.SourceLost i after at_start)
+lost_nothing h i after at_start = record { taken = λ s. refl; given = refl; confirmed = refl; runs = refl; ended = refl; over = refl }
+
+-- what took nothing
+rests : (h : Record) (i : ℕ) (e : Entry) (what : Happened) (turned : Turned) (old new : Told) → TookNothing h i e → TellsOf i e what → CountsBy what old new → DidTake old turned new →
+    ((s : ℕ) → read_bytes (reading_of turned) s ≡ []) → new.ended ≡ old.ended ++ [] → IsTold old h i → IsTold new (e ∷ h) i
+rests h i e what turned old new took tells counts did none ended = told_said e h i old new (record {
+  taken = λ s. subst (λ (w : List ℕ). Grows (old.taken s) (new.taken s) w) (none s ∙ sym (took.taken s)) (did.taken s);
+  given = subst (λ (w : List ℕ). Grows old.given new.given w) (sym took.given) (same_grows old.given new.given did.rest.given);
+  confirmed = subst (λ (ps : List Position). Grows old.confirmed new.confirmed ps) (sym took.confirmed) (same_grows old.confirmed new.confirmed did.rest.confirmed);
   spec = did.rest.spec;
-  runs = refl;
-  ended = ended;
-  over = λ before now. did.rest.left (before now);
-  faults = one_if (i == i) old.faults new.faults (same_test i) did.rest.faults rose;
-  refusals = none_more old.refusals new.refusals did.rest.refusals;
-  idles = none_more old.idles new.idles did.rest.idles;
+  runs = took.runs;
+  ended = ended ∙ ap (λ (xs : List ℕ). old.ended ++ xs) (sym took.ended);
+  over = λ before now. did.rest.left (before (sym took.over ∙ now));
+  what = what;
+  tells = tells;
+  counts = counts;
 })
 
 -- whatever the turn was
-pub turn_told : (old new : Told) (h : Record) (i : ℕ) (turned : Turned) → DidTake old turned new → IsTold old h i → IsTold new (turn_entry h i turned ∷ h) i
-turn_told old new h i (turned.Lines stream n room cut) did told = reads h i stream _ (turned.Lines stream n room cut) old new did (λ s. refl) did.ended (inl refl) told
-turn_told old new h i (turned.StreamEnded stream cut) did told =
-    reads h i stream taken.StreamEnded (turned.StreamEnded stream cut) old new did (λ s. refl) (did.ended ∙ ap (λ (xs : List ℕ). old.ended ++ xs) (sym (end_by i stream))) (inl refl) told
-turn_told old new h i (turned.AllEnded stream cut) did told = reads h i stream taken.AllEnded (turned.AllEnded stream cut) old new did (λ s. refl) did.ended (inr did.over) told
-turn_told old new h i turned.Idle did told = rests h i false turned.Idle old new did (λ s. refl) did.ended (inr (refl, did.shown.0)) told
-turn_told old new h i (turned.Failed at_start) did told = go (at_start && nat_lt (failed_starts h i) 4)
+pub turn_told : (old new : Told) (h : Record) (i : ℕ) (turned : Turned) → DidTake old turned new → CountsBy (turn_counts old.started turned) old new → IsTold old h i → IsTold new (turn_entry h i turned ∷ h) i
+turn_told old new h i (turned.Lines stream n room cut) did counts told =
+    reads h i stream _ (turned.Lines stream n room cut) old new (not old.started) did counts (λ s. refl) did.ended (inl refl) told
+turn_told old new h i (turned.StreamEnded stream cut) did counts told =
+    reads h i stream taken.StreamEnded (turned.StreamEnded stream cut) old new (not old.started) did counts (λ s. refl) (did.ended ∙ ap (λ (xs : List ℕ). old.ended ++ xs) (sym (end_by i stream))) (inl refl) told
+turn_told old new h i (turned.AllEnded stream cut) did counts told =
+    reads h i stream taken.AllEnded (turned.AllEnded stream cut) old new (not old.started) did counts (λ s. refl) did.ended (inr did.over) told
+turn_told old new h i turned.Idle did counts told =
+    rests h i (entry.Idle i false) (turn_counts old.started turned.Idle) turned.Idle old new (idle_nothing h i false) (tells_idle i (not old.started)) counts did (λ s. refl) did.ended told
+turn_told old new h i (turned.Failed at_start) did counts told = go (at_start && nat_lt (failed_starts h i) 4)
   where
+    started : Bool
+    started = not at_start && not old.started
+
     go : (b : Bool) → IsTold new ((if b then entry.Idle i true else entry.SourceLost i (capped (bytes_taken h i)) at_start) ∷ h) i
-    go true = rests h i true (turned.Failed at_start) old new did (λ s. refl) did.ended (inl (refl, did.shown.0)) told
-    go false = is_lost h i (capped (bytes_taken h i)) at_start (turned.Failed at_start) old new did (λ s. refl) did.ended did.shown.0 told
+    go true = rests h i (entry.Idle i true) (turn_counts old.started (turned.Failed at_start)) (turned.Failed at_start) old new (idle_nothing h i true) (tells_failed i started) counts did (λ s. refl) did.ended told
+    go false =
+        rests h i (entry.SourceLost i (capped (bytes_taken h i)) at_start) (turn_counts old.started (turned.Failed at_start)) (turned.Failed at_start) old new
+        (lost_nothing h i (capped (bytes_taken h i)) at_start) (tells_lost i (capped (bytes_taken h i)) at_start started) counts did (λ s. refl) did.ended told
+
+-- what a port tells of bytes is what it told
+pub record SameNews (old new : Told) : Type 0 where
+  pub taken : new.taken ≡ old.taken
+  pub given : new.given ≡ old.given
+  pub spec : new.spec ≡ old.spec
+  pub confirmed : new.confirmed ≡ old.confirmed
+  pub ended : new.ended ≡ old.ended
+  pub left : NothingLeft old → NothingLeft new
+
+-- what happened is nothing that an entry tells
+pub record IsQuiet (what : Happened) : Type 0 where
+  pub failed : what.failed ≡ false
+  pub refused : what.refused ≡ false
+  pub idle : what.idle ≡ false
+  pub finished : what.finished ≡ false
+  pub confirmed : what.confirmed ≡ false
+
+-- nothing happened at a port: it tells what it told
+pub told_unmoved : (old new : Told) (h : Record) (i : ℕ) (what : Happened) → SameNews old new → IsQuiet what → CountsBy what old new → IsTold old h i → IsTold new h i
+told_unmoved old new h i what same quiet counts told = record {
+  taken = λ stream. subst (λ (f : ℕ → Option (List ℕ)). IfSome (f stream) (λ bytes. bytes ≡ taken_of h i stream)) (sym same.taken) (told.taken stream);
+  given = subst (λ (o : Option (List ℕ)). IfSome o (λ bytes. bytes ≡ given h i)) (sym same.given) told.given;
+  spec = subst (λ (o : Option PortSpec). IfSome o (λ spec. spec_of (component_of h i) ≡ Some spec)) (sym same.spec) told.spec;
+  confirmed = subst (λ (o : Option (List Position)). IfSome o (λ positions. positions ≡ confirmed h i)) (sym same.confirmed) told.confirmed;
+  ended = same.ended ∙ told.ended;
+  over = λ over. same.left (told.over over);
+  faults = stays_counted (fault_count h i) old.faults new.faults what.failed quiet.failed counts.faults told.faults;
+  refusals = stays_counted (refusal_count h i) old.refusals new.refusals what.refused quiet.refused counts.refusals told.refusals;
+  idles = stays_counted (idle_count h i) old.idles new.idles what.idle quiet.idle counts.idles told.idles;
+  finishes = stays_counted (finish_count h i) old.finishes new.finishes what.finished quiet.finished counts.finishes told.finishes;
+  confirms = stays_counted (confirm_count h i) old.confirms new.confirms what.confirmed quiet.confirmed counts.confirms told.confirms;
+}
+  where
+    stays_counted : (n x y : ℕ) (b : Bool) → b ≡ false → Counts old.exact x y b → HasCounted old.exact n x → HasCounted new.exact n y
+    stays_counted n x y b none count was =
+        let none_added : 0 ≡ ones b = ap ones (sym none) in
+        let same_count : n + 0 ≡ n = omega arith in
+        subst (λ (m : ℕ). HasCounted new.exact m y) same_count (counted_on old.exact new.exact x y n 0 b counts.exact none_added count was)
+
+-- CONFIRMS AND ATTEMPTS
+left_on : (old new : Told) → new.left ≡ old.left → NothingLeft old → NothingLeft new
+left_on old new same none = λ s. subst (λ (f : ℕ → Option (List ℕ)). IfSome (f s) (λ rest. rest ≡ [])) (sym same) (none s)
+
+pub confirm_told : (old new : Told) (h : Record) (i : ℕ) (positions : List Position) (made : Bool) → SameBytes (record old { confirmed = new.confirmed }) new → Grows old.confirmed new.confirmed (if made then positions else []) →
+    CountsBy (record nothing { failed = not made; confirmed = made }) old new → IsTold old h i → IsTold new (entry.Confirm i positions made ∷ h) i
+confirm_told old new h i positions made same grew counts = told_said (entry.Confirm i positions made) h i old new (record {
+  taken = λ s. same_grows (old.taken s) (new.taken s) (ap (λ (f : ℕ → Option (List ℕ)). f s) same.taken);
+  given = same_grows old.given new.given same.given;
+  confirmed = subst (λ (ps : List Position). Grows old.confirmed new.confirmed ps) (sym (ap (λ (t : Bool). if t && made then positions else []) (same_test i))) grew;
+  spec = same.spec;
+  runs = refl;
+  ended = same.ended ∙ sym (append-nil old.ended);
+  over = λ before now. left_on old new same.left (before now);
+  what = record nothing { failed = not made; confirmed = made };
+  tells = record { faults = by_test i (not made); refusals = refl; idles = refl; finishes = refl; confirms = by_test i made };
+  counts = counts;
+})
+
+pub attempt_told : (old new : Told) (h : Record) (i : ℕ) (copies : List ℕ) (bytes : List ℕ) (started : Bool) (answer : Reply) → OnlyGives old new → Grows old.given new.given bytes →
+    CountsBy (reply_counts started answer) old new → IsTold old h i → IsTold new (entry.Attempt i copies bytes answer ∷ h) i
+attempt_told old new h i copies bytes started answer only grew counts = told_said (entry.Attempt i copies bytes answer) h i old new (record {
+  taken = λ s. same_grows (old.taken s) (new.taken s) (ap (λ (f : ℕ → Option (List ℕ)). f s) only.taken);
+  given = subst (λ (w : List ℕ). Grows old.given new.given w) (sym (ap (λ (t : Bool). if t then bytes else []) (same_test i))) grew;
+  confirmed = same_grows old.confirmed new.confirmed only.confirmed;
+  spec = only.spec;
+  runs = refl;
+  ended = only.ended ∙ sym (append-nil old.ended);
+  over = λ before now. left_on old new only.left (before now);
+  what = reply_counts started answer;
+  tells = replied answer;
+  counts = counts;
+})
+  where
+    replied : (answer : Reply) → TellsOf i (entry.Attempt i copies bytes answer) (reply_counts started answer)
+    replied reply.Ok = record { faults = by_test i false; refusals = by_test i false; idles = refl; finishes = by_test i true; confirms = refl }
+    replied reply.Failed = record { faults = by_test i true; refusals = by_test i false; idles = refl; finishes = by_test i false; confirms = refl }
+    replied reply.Refused = record { faults = by_test i false; refusals = by_test i true; idles = refl; finishes = by_test i false; confirms = refl }
+
+-- a port that no entry tells of
+pub quiet : (started : Bool) → IsQuiet (record nothing { started = started })
+quiet started = record { failed = refl; refused = refl; idle = refl; finished = refl; confirmed = refl }
+
+pub told_closed : (old new : Told) (h : Record) (i : ℕ) → SameBytes old new → CountsBy nothing old new → IsTold old h i → IsTold new h i
+told_closed old new h i same counts told = told_unmoved old new h i nothing (record {
+  taken = same.taken;
+  given = same.given;
+  spec = same.spec;
+  confirmed = same.confirmed;
+  ended = same.ended;
+  left = left_on old new same.left;
+}) (quiet false) counts told
+
+pub told_untaken : (old new : Told) (h : Record) (i : ℕ) → IsUnmoved old new → StartsAtMost old new → IsTold old h i → IsTold new h i
+told_untaken old new h i same starts told = told_unmoved old new h i (record nothing { started = starts.started }) (record {
+  taken = same.taken;
+  given = same.rest.given;
+  spec = same.rest.spec;
+  confirmed = same.rest.confirmed;
+  ended = same.ended;
+  left = same.rest.left;
+}) (quiet starts.started) starts.counts told
+
+-- what was given may be more than the record has
+pub told_but_given : (old new : Told) (h : Record) (i : ℕ) → OnlyGives old new → StartsAtMost old new → IsTold old h i → IsToldButGiven new h i
+told_but_given old new h i only starts told = told_unmoved (record old { given = None }) (record new { given = None }) h i (record nothing { started = starts.started }) (record {
+  taken = only.taken;
+  given = refl;
+  spec = only.spec;
+  confirmed = only.confirmed;
+  ended = only.ended;
+  left = left_on old new only.left;
+}) (quiet starts.started) (record {
+  faults = starts.counts.faults;
+  refusals = starts.counts.refusals;
+  idles = starts.counts.idles;
+  starts = starts.counts.starts;
+  finishes = starts.counts.finishes;
+  confirms = starts.counts.confirms;
+  exact = starts.counts.exact;
+}) (record {
+  taken = told.taken;
+  given = tt;
+  spec = told.spec;
+  confirmed = told.confirmed;
+  ended = told.ended;
+  over = told.over;
+  faults = told.faults;
+  refusals = told.refusals;
+  idles = told.idles;
+  finishes = told.finishes;
+  confirms = told.confirms;
+})
+
+-- or nothing of it was given
+pub told_ungiven : (old new : Told) (h : Record) (i : ℕ) → OnlyGives old new → StartsAtMost old new → Grows old.given new.given [] → IsTold old h i → IsTold new h i
+told_ungiven old new h i only starts none told = told_unmoved old new h i (record nothing { started = starts.started }) (record {
+  taken = only.taken;
+  given = ungrown old.given new.given none;
+  spec = only.spec;
+  confirmed = only.confirmed;
+  ended = only.ended;
+  left = left_on old new only.left;
+}) (quiet starts.started) starts.counts told
+  where
+    ungrown : (o n : Option (List ℕ)) → Grows o n [] → n ≡ o
+    ungrown None n e = e
+    ungrown (Some xs) n e = e ∙ ap Some (append-nil xs)

@@ -1,5 +1,5 @@
 -- What entries that spare a task leave of it.
-use Rattle.std.proofs.Common.{◌≡◌, ℕ, ◌<◌, ◌≤◌, Bool, true, false, List, [], ◌∷◌, Option, Some, None, IfSome, refl, sym, ap, ◌∙◌, arith, subst}
+use Rattle.std.proofs.Common.{◌≡◌, ℕ, ◌<◌, Bool, true, false, List, [], ◌∷◌, Option, Some, None, IfSome, refl, sym, ap, ◌∙◌, arith, subst}
 use Rattle.std.specs.Prelude.{◌==◌, is_some, if◌then◌else◌}
 use Rattle.std.proofs.lemmas.Bool.{eqb-true}
 use Rattle.std.proofs.lemmas.Bool.Decides.{nat_tests}
@@ -12,7 +12,7 @@ use Rattle.vx_plan.specs.declared.component.Component.{Component}
 use Rattle.vx_record.specs.declared.output.Output.{Output}
 use Rattle.vx_record.specs.declared.entry.Entry.{Entry}
 use Rattle.vx_record.specs.declared.entry.Entry.TheVariants.{Install, Lease, Home, Answer}
-use Rattle.vx_record.specs.Records.{Record, capped}
+use Rattle.vx_record.specs.Records.{Record}
 use Rattle.vx_record.specs.Copies.{count, joined, next_copy}
 use Rattle.vx_record.specs.Parcels.{event_of}
 use Rattle.vx_record.specs.Places.Place.{Held}
@@ -22,7 +22,7 @@ use Rattle.vx_record.specs.Installs.{component_of}
 use Rattle.vx_record.specs.Reads.{taken, all_ended, ended_streams}
 use Rattle.vx_record.specs.Encoding.{given}
 use Rattle.vx_record.specs.Confirms.{confirmed}
-use Rattle.vx_record.specs.PortCounts.{fault_count, refusal_count, idle_count}
+use Rattle.vx_record.specs.PortCounts.{fault_count, refusal_count, idle_count, finish_count, confirm_count}
 use Rattle.vx_record.specs.Legal.{IsLegal}
 use Rattle.vx_record.specs.Tasks.{is_of, mine, out_to, IsOwn}
 use Rattle.vx_record.specs.Makers.{Spares}
@@ -36,10 +36,10 @@ use Rattle.vx_record.proofs.Promises.{leased_runs}
 use Rattle.vx_record.proofs.OwnReads.{taken_own, end_own, ended_own}
 use Rattle.vx_record.proofs.OwnPlaces.{held_apart}
 use Rattle.vx_record.proofs.OwnConfirms.{confirmed_own, given_own}
-use Rattle.vx_record.proofs.OwnCounts.{faults_own, refusals_own, idles_own}
+use Rattle.vx_record.proofs.OwnCounts.{faults_own, refusals_own, idles_own, finishes_own, confirms_own}
 use Rattle.vx_places.specs.Holding.{IsKnown}
 use Rattle.vx_places.proofs.Steps.{among_counts, event_stays as unanswered, known_later}
-use Rattle.vx_tasks.specs.Telling.{IsTold, spec_of}
+use Rattle.vx_tasks.specs.Telling.{IsTold, HasCounted, spec_of}
 use Rattle.vx_tasks.specs.Out.{IsHeld}
 
 -- what is a task's own stays with its entries
@@ -73,9 +73,11 @@ told_same told old new i same run is = record {
   confirmed = subst (λ (ps : List Position). IfSome told.confirmed (λ positions. positions ≡ ps)) (sym (stays confirmed confirmed_own old new i same)) is.confirmed;
   ended = is.ended ∙ sym (stays ended_streams ended_own old new i same);
   over = λ over. is.over (sym (stays all_ended end_own old new i same) ∙ over);
-  faults = subst (λ (n : ℕ). capped n ≤ told.faults) (sym (stays fault_count faults_own old new i same)) is.faults;
-  refusals = subst (λ (n : ℕ). capped n ≤ told.refusals) (sym (stays refusal_count refusals_own old new i same)) is.refusals;
-  idles = subst (λ (n : ℕ). capped n ≤ told.idles) (sym (stays idle_count idles_own old new i same)) is.idles;
+  faults = subst (λ (n : ℕ). HasCounted told.exact n told.faults) (sym (stays fault_count faults_own old new i same)) is.faults;
+  refusals = subst (λ (n : ℕ). HasCounted told.exact n told.refusals) (sym (stays refusal_count refusals_own old new i same)) is.refusals;
+  idles = subst (λ (n : ℕ). HasCounted told.exact n told.idles) (sym (stays idle_count idles_own old new i same)) is.idles;
+  finishes = subst (λ (n : ℕ). HasCounted told.exact n told.finishes) (sym (stays finish_count finishes_own old new i same)) is.finishes;
+  confirms = subst (λ (n : ℕ). HasCounted told.exact n told.confirms) (sym (stays confirm_count confirms_own old new i same)) is.confirms;
 }
 
 -- WHAT IT HOLDS

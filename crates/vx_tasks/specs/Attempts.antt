@@ -1,6 +1,8 @@
 -- What an attempt does to the port, and what its answer says.
-use Rattle.std.specs.Prelude.{◌≡◌, ℕ, ◌≤◌, true, false}
-use Rattle.vx_ends.specs.Told.{Told, Rose}
+use Rattle.std.specs.Prelude.{◌≡◌, ◌≢◌, ℕ, ◌≤◌, not, Bool, true, false, Option, Some, None, Result, is_ok}
+use Rattle.vx_ends.specs.Told.{Told, Rose, Happened, CountsBy, nothing, is_failed, is_refused}
+use Rattle.vx_ends.specs.declared.trouble.Trouble.{Trouble}
+use Rattle.vx_ends.specs.declared.trouble.Trouble.TheVariants as trouble
 use Rattle.vx_ends.specs.declared.trouble.Reply.TheVariants.{Ok, Failed, Refused}
 use Rattle.vx_ends.specs.declared.trouble.Reply.{Reply}
 use Rattle.vx_tasks.specs.declared.sending.Attempted.{Attempted}
@@ -16,9 +18,9 @@ pub record OnlyGives (old new : Told) : Type 0 where
   pub refusals : old.refusals ≤ new.refusals
   pub idles : old.idles ≤ new.idles
 
--- what a reply says of the port: it is started, and a failure closes it; a failure and a refusal raise their counts
+-- what a reply says of the port: it is started, and a failure closes it; each reply raises its count
 abbrev pub RepliesBy : Told → Told → Reply → Type 0
-RepliesBy old new Ok = new.started ≡ true
+RepliesBy old new Ok = Rose old.finishes new.finishes × (new.started ≡ true)
 RepliesBy old new Failed = Rose old.faults new.faults × (new.started ≡ false)
 RepliesBy old new Refused = Rose old.refusals new.refusals × (new.started ≡ true)
 
@@ -29,3 +31,27 @@ IsCaused old new attempted = RepliesBy old new attempted.reply
 -- with the reply `Ok` all bytes were sent
 abbrev pub IsWhole : ℕ → Attempted → Type 0
 IsWhole length attempted = attempted.reply ≡ Ok → attempted.sent ≡ length
+
+-- what a give that may have had trouble counts
+abbrev pub trouble_counts : Option Trouble → Happened
+trouble_counts None = nothing
+trouble_counts (Some trouble.Failed) = record nothing { failed = true }
+trouble_counts (Some trouble.Refused) = record nothing { refused = true }
+trouble_counts (Some trouble.WantOfMemory) = nothing
+
+-- what gives and a finish count
+abbrev pub sent_counts : {T : Type 0} → Result T Trouble → Happened
+sent_counts answer = record nothing { failed = is_failed answer; refused = is_refused answer; finished = is_ok answer }
+
+-- what a reply counts, with a start or without
+abbrev pub reply_counts : Bool → Reply → Happened
+reply_counts started Ok = record nothing { started = started; finished = true }
+reply_counts started Failed = record nothing { started = started; failed = true }
+reply_counts started Refused = record nothing { started = started; refused = true }
+
+-- an attempt counts its reply once, and one start exactly where the port wasn't started, but perhaps none where that failed
+pub record CountsReply (old new : Told) (attempted : Attempted) : Type 0 where
+  pub started : Bool
+  pub first : started ≡ true → old.started ≡ false
+  pub known : attempted.reply ≢ Failed → started ≡ not old.started
+  pub counts : CountsBy (reply_counts started attempted.reply) old new

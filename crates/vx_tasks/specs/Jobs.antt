@@ -1,6 +1,6 @@
 -- What comes of a job, whatever the record has.
-use Rattle.std.specs.Prelude.{◌≡◌, ◌≤◌, false, List, Option, IsSome, IsNone}
-use Rattle.vx_ends.specs.Told.{Told}
+use Rattle.std.specs.Prelude.{◌≡◌, ◌≤◌, Bool, true, false, List, Option, IsSome, IsNone}
+use Rattle.vx_ends.specs.Told.{Told, Counts}
 use Rattle.vx_ends.specs.declared.position.Position.{Position}
 use Rattle.vx_sourcecore.specs.Turns.{ShowsTurn}
 use Rattle.vx_tasks.specs.declared.confirming.Confirmed.{Confirmed}
@@ -46,9 +46,23 @@ pub record NoneFell (old new : Told) : Type 0 where
   pub faults : old.faults ≤ new.faults
   pub refusals : old.refusals ≤ new.refusals
   pub idles : old.idles ≤ new.idles
+  pub finishes : old.finishes ≤ new.finishes
+  pub confirms : old.confirms ≤ new.confirms
 
--- what the port tells before and after shows what was done: a failure, a refusal and an idle turn raised their counts; a port is
--- started behind an attempt, but closed where that failed or starved, and where it was closed for good
+-- a port wasn't started
+pub record StartsNone (old new : Told) : Type 0 where
+  pub starts : Counts old.exact old.starts new.starts false
+  pub exact : new.exact ≡ old.exact
+
+-- a port was started at most once, and not where it was started
+pub record StartsOnce (old new : Told) : Type 0 where
+  pub started : Bool
+  pub first : started ≡ true → old.started ≡ false
+  pub starts : Counts old.exact old.starts new.starts started
+  pub exact : new.exact ≡ old.exact
+
+-- what the port tells before and after shows what was done: a failure, a refusal, an idle turn and an attempt that the device took
+-- raised their counts; a port is started behind an attempt, but closed where that failed or starved, and where it was closed for good
 abbrev pub ShowsDone : Told → Told → Done → Type 0
 ShowsDone old new done.Nothing = new.started ≡ old.started
 ShowsDone old new (done.Read turned) = ShowsTurn old new turned

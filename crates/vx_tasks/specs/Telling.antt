@@ -1,5 +1,5 @@
 -- When a port tells what a record has of its instance.
-use Rattle.std.specs.Prelude.{◌≡◌, ℕ, ◌<◌, ◌≤◌, ◌++◌, length, take, true, Option, Some, None, IfSome}
+use Rattle.std.specs.Prelude.{◌≡◌, ℕ, ◌<◌, ◌≤◌, ◌++◌, length, take, Bool, true, Option, Some, None, IfSome}
 use Rattle.vx_value.specs.Texts.{Word}
 use Rattle.vx_ends.specs.Told.{Told}
 use Rattle.vx_ends.specs.declared.port_spec.PortSpec.{PortSpec}
@@ -10,7 +10,7 @@ use Rattle.vx_record.specs.Installs.{component_of}
 use Rattle.vx_record.specs.Reads.{taken, ended_streams, all_ended}
 use Rattle.vx_record.specs.Encoding.{given}
 use Rattle.vx_record.specs.Confirms.{confirmed}
-use Rattle.vx_record.specs.PortCounts.{fault_count, refusal_count, idle_count}
+use Rattle.vx_record.specs.PortCounts.{fault_count, refusal_count, idle_count, finish_count, confirm_count}
 use Rattle.vx_sourcecore.specs.Turns.{NothingLeft}
 
 -- what the port of an instance is made for
@@ -18,8 +18,13 @@ abbrev pub spec_of : Option Component → Option PortSpec
 spec_of None = None
 spec_of (Some component) = port_of component
 
+-- a port counted at least so many, and just so many where its counts are exact
+pub record HasCounted (exact : Bool) (count : ℕ) (told : ℕ) : Type 0 where
+  pub least : capped count ≤ told
+  pub exactly : exact ≡ true → told ≡ capped count
+
 -- what a port tells is what the record has of its instance: bytes, confirmed positions and ends, what it is made for, and at
--- least as many failures, refusals and idle takes
+-- least as many failures, refusals, idle takes, finishes and confirms, and not one more where its counts are exact
 pub record IsTold (told : Told) (h : Record) (i : ℕ) : Type 0 where
   pub taken : (stream : ℕ) → IfSome (told.taken stream) (λ bytes. bytes ≡ taken h i stream)
   pub given : IfSome told.given (λ bytes. bytes ≡ given h i)
@@ -27,9 +32,11 @@ pub record IsTold (told : Told) (h : Record) (i : ℕ) : Type 0 where
   pub confirmed : IfSome told.confirmed (λ positions. positions ≡ confirmed h i)
   pub ended : told.ended ≡ ended_streams h i
   pub over : all_ended h i ≡ true → NothingLeft told
-  pub faults : capped (fault_count h i) ≤ told.faults
-  pub refusals : capped (refusal_count h i) ≤ told.refusals
-  pub idles : capped (idle_count h i) ≤ told.idles
+  pub faults : HasCounted told.exact (fault_count h i) told.faults
+  pub refusals : HasCounted told.exact (refusal_count h i) told.refusals
+  pub idles : HasCounted told.exact (idle_count h i) told.idles
+  pub finishes : HasCounted told.exact (finish_count h i) told.finishes
+  pub confirms : HasCounted told.exact (confirm_count h i) told.confirms
 
 -- the same, but for the bytes that were given, of which the record doesn't have all
 abbrev pub IsToldButGiven : Told → Record → ℕ → Type 0

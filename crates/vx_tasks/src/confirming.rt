@@ -2,7 +2,7 @@ ghost use Rattle.std.specs.Prelude.{◌≡◌, ℕ, ◌++◌, IfOk, OnErr, IsSom
 ghost use Rattle.vx_record.specs.Records.{Record};
 ghost use Rattle.vx_tasks.specs.Telling.{IsTold};
 ghost use Rattle.vx_tasks.specs.Out.{AreDue, IsConfirmedSo, confirm_entries};
-ghost use Rattle.vx_tasks.specs.Jobs.{NoneFell};
+ghost use Rattle.vx_tasks.specs.Jobs.{NoneFell, StartsNone};
 ghost use Rattle.vx_tasks.specs.declared.landing.Done.{Done};
 
 use vx_ends::{Port, PositionList, Trouble};
@@ -23,6 +23,7 @@ pub(crate) fn confirm<P: Port>(
     ensures told { IfOk result (λ confirmed. (h : Record) (i : ℕ) → IsTold (P.told port.old) h i → IsTold (P.told port.new) (confirm_entries i confirmed ++ h) i) }
     ensures short { OnErr result ((h : Record) (i : ℕ) → IsTold (P.told port.old) h i → IsTold (P.told port.new) h i) }
     ensures counts { NoneFell (P.told port.old) (P.told port.new) }
+    ensures starts { StartsNone (P.told port.old) (P.told port.new) }
     ensures started { (P.told port.new).started ≡ (P.told port.old).started }
     ensures asked { OnErr result (IsSome positions) }
     ensures due { IfOk result (λ confirmed. (h : Record) (i : ℕ) (done : Done) → AreDue h i positions → IsConfirmedSo h i done confirmed) }

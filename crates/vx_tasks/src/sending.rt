@@ -1,6 +1,7 @@
-ghost use Rattle.std.specs.Prelude.{◌≡◌, ◌≤◌, length, take, IfOk, IfErr, OnErr, OnOk, IsNone, IsErrOf, Some, false};
-ghost use Rattle.vx_ends.specs.Told.{Grows, Rose};
-ghost use Rattle.vx_tasks.specs.Attempts.{OnlyGives, IsCaused, IsWhole};
+ghost use Rattle.std.specs.Prelude.{◌≡◌, ◌≤◌, length, take, IfOk, IfErr, OnErr, OnOk, IsNone, IsErrOf, IsTrue, Some, false};
+ghost use Rattle.vx_ends.specs.Told.{Grows, Rose, CountsBy, nothing};
+ghost use Rattle.vx_tasks.specs.Attempts.{OnlyGives, IsCaused, IsWhole, CountsReply, sent_counts, trouble_counts};
+ghost use Rattle.vx_sourcecore.specs.Turns.{StartsAtMost};
 
 use vx_ends::{Port, Reply, Trouble};
 
@@ -18,13 +19,14 @@ pub(crate) struct CutShort {
 }
 
 /// Starts the port if it isn't started, gives it the bytes, and finishes. After a failure or want of memory the port is closed.
-/// What a finish does to the device no port tells, so no clause says that it is made.
 pub(crate) fn attempt<P: Port>(port: &mut P, bytes: &[u8]) -> Result<Attempted, CutShort>
     ensures within { IfOk result (λ attempted. attempted.sent ≤ length bytes.now) }
     ensures given { IfOk result (λ attempted. Grows (P.told port.old).given (P.told port.new).given (take attempted.sent bytes.now)) }
     ensures whole { IfOk result (IsWhole (length bytes.now)) }
     ensures cause { IfOk result (IsCaused (P.told port.old) (P.told port.new)) }
     ensures others { OnlyGives (P.told port.old) (P.told port.new) }
+    ensures counts { IfOk result (CountsReply (P.told port.old) (P.told port.new)) }
+    ensures uncounted { OnErr result (StartsAtMost (P.told port.old) (P.told port.new)) }
     ensures short { IfErr result (λ short. Grows (P.told port.old).given (P.told port.new).given (take short.sent bytes.now)) }
     ensures part { IfErr result (λ short. short.sent ≤ length bytes.now) }
     ensures closed { OnErr result ((P.told port.new).started ≡ false) }
@@ -33,23 +35,28 @@ pub(crate) fn attempt<P: Port>(port: &mut P, bytes: &[u8]) -> Result<Attempted, 
         Ok(()) => give_and_finish(port, bytes),
         Err(trouble) => (0, Err(trouble)),
     };
-    match answer {
-        Ok(()) => Ok(Attempted {
-            sent,
-            reply: Reply::Ok,
-        }),
-        Err(Trouble::Refused) => Ok(Attempted {
+    let trouble = match answer {
+        Ok(()) => {
+            return Ok(Attempted {
+                sent,
+                reply: Reply::Ok,
+            });
+        }
+        Err(trouble) => trouble,
+    };
+    match trouble {
+        Trouble::Refused => Ok(Attempted {
             sent,
             reply: Reply::Refused,
         }),
-        Err(Trouble::Failed) => {
+        Trouble::Failed => {
             port.close();
             Ok(Attempted {
                 sent,
                 reply: Reply::Failed,
             })
         }
-        Err(Trouble::WantOfMemory) => {
+        Trouble::WantOfMemory => {
             port.close();
             Err(CutShort { sent })
         }
@@ -58,11 +65,11 @@ pub(crate) fn attempt<P: Port>(port: &mut P, bytes: &[u8]) -> Result<Attempted, 
 
 /// Gives the bytes, and finishes where all were given.
 fn give_and_finish<P: Port>(port: &mut P, bytes: &[u8]) -> (u64, Result<(), Trouble>)
+    requires { IsTrue (P.told port.old).started }
     ensures within { result.0 ≤ length bytes.now }
     ensures given { Grows (P.told port.old).given (P.told port.new).given (take result.0 bytes.now) }
     ensures whole { OnOk result.1 (result.0 ≡ length bytes.now) }
-    ensures failed { IsErrOf result.1 Trouble.Failed → Rose (P.told port.old).faults (P.told port.new).faults }
-    ensures refused { IsErrOf result.1 Trouble.Refused → Rose (P.told port.old).refusals (P.told port.new).refusals }
+    ensures counts { CountsBy (sent_counts result.1) (P.told port.old) (P.told port.new) }
     ensures others { OnlyGives (P.told port.old) (P.told port.new) }
     ensures started { (P.told port.new).started ≡ (P.told port.old).started }
 {
@@ -75,11 +82,11 @@ fn give_and_finish<P: Port>(port: &mut P, bytes: &[u8]) -> (u64, Result<(), Trou
 
 /// Gives the bytes until a give fails: how many were given, and why not all of them.
 fn give_all<P: Port>(port: &mut P, bytes: &[u8]) -> (usize, Option<Trouble>)
+    requires { IsTrue (P.told port.old).started }
     ensures within { result.0 ≤ length bytes.now }
     ensures given { Grows (P.told port.old).given (P.told port.new).given (take result.0 bytes.now) }
     ensures whole { IsNone result.1 → result.0 ≡ length bytes.now }
-    ensures failed { result.1 ≡ Some Trouble.Failed → Rose (P.told port.old).faults (P.told port.new).faults }
-    ensures refused { result.1 ≡ Some Trouble.Refused → Rose (P.told port.old).refusals (P.told port.new).refusals }
+    ensures counts { CountsBy (trouble_counts result.1) (P.told port.old) (P.told port.new) }
     ensures others { OnlyGives (P.told port.old) (P.told port.new) }
     ensures started { (P.told port.new).started ≡ (P.told port.old).started }
 {

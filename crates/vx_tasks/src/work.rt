@@ -7,7 +7,7 @@ ghost use Rattle.vx_sourcecore.specs.Abreast.{HasTurned};
 ghost use Rattle.vx_tasks.specs.Telling.{IsTold};
 ghost use Rattle.vx_tasks.specs.Out.{HasLeft, HasDone, TellsDone, HasActed, HasRoleTurned, is_unfit, lacks_cut};
 ghost use Rattle.vx_tasks.specs.Doing.{MayAct, written};
-ghost use Rattle.vx_tasks.specs.Jobs.{DoesJob, LacksConfirm, KeepsRole, NoneFell, ShowsDone};
+ghost use Rattle.vx_tasks.specs.Jobs.{DoesJob, LacksConfirm, KeepsRole, NoneFell, ShowsDone, StartsNone, StartsOnce};
 ghost use Rattle.vx_tasks.specs.declared.landing.Done.{Done};
 ghost use Rattle.vx_tasks.specs.declared.task.Role.{Role};
 ghost use Rattle.vx_tasks.specs.declared.work.Job.{Job};
@@ -62,6 +62,7 @@ impl<P: Port> Work<P> {
         ensures does { DoesJob self.job self.task.role result.done ⊎ LacksConfirm self.positions result.confirmed result.done }
         ensures role { KeepsRole self.task.role result.task.role result.done }
         ensures counts { NoneFell (P.told self.task.port) (P.told result.task.port) }
+        ensures starts { StartsOnce (P.told self.task.port) (P.told result.task.port) }
         ensures shows { ShowsDone (P.told self.task.port) (P.told result.task.port) result.done }
         ensures done { (h : Record) → IsLegal h → HasLeft P.told h self → HasDone P.told h result }
     {
@@ -112,6 +113,7 @@ fn act<P: Port>(alloc: Global, job: Job, port: &mut P, role: Role, held: &Line<P
     ensures does { DoesJob job role result.done }
     ensures keeps { KeepsRole role result.role result.done }
     ensures counts { NoneFell (P.told port.old) (P.told port.new) }
+    ensures starts { StartsOnce (P.told port.old) (P.told port.new) }
     ensures shows { ShowsDone (P.told port.old) (P.told port.new) result.done }
 {
     match (job, role) {
@@ -138,6 +140,7 @@ fn read<P: Port>(port: &mut P, core: SourceCore) -> Deed
     ensures does { DoesJob Job.Read (Role.Source core) result.done }
     ensures keeps { KeepsRole (Role.Source core) result.role result.done }
     ensures counts { NoneFell (P.told port.old) (P.told port.new) }
+    ensures starts { StartsOnce (P.told port.old) (P.told port.new) }
     ensures shows { ShowsDone (P.told port.old) (P.told port.new) result.done }
 {
     let mut core = core;
@@ -184,6 +187,7 @@ fn close<P: Port>(port: &mut P) -> Done
     ensures told { (h : Record) (i : ℕ) → IsTold (P.told port.old) h i → IsTold (P.told port.new) h i }
     ensures shut { (P.told port.new).started ≡ false }
     ensures counts { NoneFell (P.told port.old) (P.told port.new) }
+    ensures starts { StartsNone (P.told port.old) (P.told port.new) }
 {
     port.close();
     Done::Closed
@@ -195,6 +199,7 @@ fn send<P: Port>(alloc: Global, port: &mut P, codec: Codec, held: &Line<Parcel>)
     ensures acted { (h : Record) (i : ℕ) → MayAct (P.told port.old) h i (Role.Sink codec) held.now.items Job.Attempt → HasActed (P.told port.new) h i (Role.Sink codec) result }
     ensures does { DoesJob Job.Attempt (Role.Sink codec) result }
     ensures counts { NoneFell (P.told port.old) (P.told port.new) }
+    ensures starts { StartsOnce (P.told port.old) (P.told port.new) }
     ensures shows { ShowsDone (P.told port.old) (P.told port.new) result }
 {
     let Ok(bytes) = encode(alloc, codec, held) else {

@@ -1,4 +1,4 @@
-use Rattle.vx_record.proofs.OwnCounts.{faults_own, refusals_own, idles_own, events_own, takes_own, sent_own, dropped_own, attempts_own, bytes_own, ends_own}
+use Rattle.vx_record.proofs.OwnCounts.{faults_own, refusals_own, idles_own, finishes_own, confirms_own, events_own, takes_own, sent_own, dropped_own, attempts_own, bytes_own, ends_own}
 use Rattle.vx_record.proofs.task_laws.own_counts.Goals as goal
 
 pub returns-clause-faults : goal.returns-clause-faults
@@ -9,6 +9,12 @@ returns-clause-refusals c = refusals_own
 
 pub returns-clause-idles : goal.returns-clause-idles
 returns-clause-idles c = idles_own
+
+pub returns-clause-finishes : goal.returns-clause-finishes
+returns-clause-finishes c = finishes_own
+
+pub returns-clause-confirms : goal.returns-clause-confirms
+returns-clause-confirms c = confirms_own
 
 pub returns-clause-events : goal.returns-clause-events
 returns-clause-events c = events_own

@@ -1,5 +1,8 @@
-use Rattle.std.proofs.Common.{ap, ◌∙◌, length, ◌+◌}
+use Rattle.std.proofs.Common.{refl, ap, ◌∙◌, length, ◌+◌}
+use Rattle.vx_plan.specs.Ports.{port_of}
 use Rattle.vx_hub.specs.Making.{all_ported}
+use Rattle.vx_run.specs.Calling.{HasBegun, call_of, port_calls}
+use Rattle.vx_run.proofs.Called.{on_err, begun_all, ports_more, ports_cut}
 use Rattle.vx_run.proofs.Ported.{item_device}
 use Rattle.vx_run.proofs.Prepared.{untouched_added, component_got, one_more}
 use Rattle.vx_run.proofs.preparing.ports.Goals as goal
@@ -16,6 +19,24 @@ loop-component-preserved g c =
       untouched = untouched_added g.W.Port.Port.told c.args.plan.now.components c.loop-component.ports c.push.new.self c.component-item.result c.in_ok-port.port c.in-Ok.ensures.ok
           (component_got c.args.plan.now.components c.as_slice-component-items.result.now c.loop-component.component-index (length c.loop-component.ports) c.component-item.result c.as_slice-component-items.ensures inv.count
           c.loop-component-test.true c.component-item.is) inv.untouched c.in_ok-port.ensures.untouched;
+      called = ports_more (g.W.World.calls c.args.world.now) (g.W.World.calls c.loop-component.world) (g.W.World.calls c.port.new.world) c.args.plan.now.components c.loop-component.component-index c.component-item.result
+          (component_got c.args.plan.now.components c.as_slice-component-items.result.now c.loop-component.component-index c.loop-component.component-index c.component-item.result c.as_slice-component-items.ensures refl
+          c.loop-component-test.true c.component-item.is) inv.called c.in_ok-port.ensures.called;
       texts = c.in_ok-port.ensures.texts ∙ inv.texts;
       faults = c.in_ok-port.ensures.faults ∙ inv.faults;
     }
+
+pub returns-in_err-port-clause-begun : goal.returns-in_err-port-clause-begun
+returns-in_err-port-clause-begun g c =
+    on_err c.from_residual.result (HasBegun (g.W.World.calls c.args.world.now) (g.W.World.calls c.port.new.world) (port_calls c.args.plan.now.components))
+    (ports_cut (g.W.World.calls c.args.world.now) (g.W.World.calls c.loop-component.world) (g.W.World.calls c.port.new.world) c.args.plan.now.components c.loop-component.component-index c.component-item.result
+    (component_got c.args.plan.now.components c.as_slice-component-items.result.now c.loop-component.component-index c.loop-component.component-index c.component-item.result c.as_slice-component-items.ensures refl
+    c.loop-component-test.true c.component-item.is) c.loop-component.invariant.called c.in_err-port.ensures.begun)
+
+pub returns-in-Err-clause-begun : goal.returns-in-Err-clause-begun
+returns-in-Err-clause-begun g c =
+    let mid = g.W.World.calls c.loop-component.world in
+    let new = g.W.World.calls c.port.new.world in
+    ports_cut (g.W.World.calls c.args.world.now) mid new c.args.plan.now.components c.loop-component.component-index c.component-item.result
+    (component_got c.args.plan.now.components c.as_slice-component-items.result.now c.loop-component.component-index c.loop-component.component-index c.component-item.result c.as_slice-component-items.ensures refl
+    c.loop-component-test.true c.component-item.is) c.loop-component.invariant.called (begun_all mid new (call_of (port_of c.component-item.result)) c.in_ok-port.ensures.called)

@@ -1,3 +1,7 @@
+use Rattle.std.proofs.Common.{Option, Some, sym, subst}
+use Rattle.vx_cli.specs.declared.fault.Fault.{Fault}
+use Rattle.vx_run.specs.Calling.{HasCalled}
+use Rattle.vx_run.proofs.Called.{called_all, called_unready}
 use Rattle.vx_run.proofs.Counting.{answered, installed_for, none_missing_for, judged_unprinted}
 use Rattle.vx_run.proofs.running.run.Goals as goal
 
@@ -16,3 +20,16 @@ returns-in-Ok-clause-none_missing g c words asked =
 
 pub returns-in-Ok-clause-unprinted : goal.returns-in-Ok-clause-unprinted
 returns-in-Ok-clause-unprinted g c = judged_unprinted c.begin.result.history c.begin.result.fault c.begin.ensures.judged
+
+pub returns-in-Ok-clause-called : goal.returns-in-Ok-clause-called
+returns-in-Ok-clause-called g c words asked =
+    called_all words c.args.environment.now (g.W.World.texts c.args.world.now) c.args.file.now c.in-Ok.parts.plan (g.W.World.calls c.args.world.now) (g.W.World.calls c.prepare.new.world) c.begin.result.history c.begin.result.fault
+    asked c.in-Ok.ensures.stands c.begin.ensures.judged c.begin.ensures.installed c.in-Ok.ensures.called
+
+pub returns-in-Err-clause-called : goal.returns-in-Err-clause-called
+returns-in-Err-clause-called g c words asked =
+    let old = g.W.World.calls c.args.world.now in
+    let new = g.W.World.calls c.prepare.new.world in
+    subst (λ (f : Option Fault). HasCalled words c.args.environment.now (g.W.World.texts c.args.world.now) old new c.unbegun.result.history f) (sym c.unbegun.ensures.fault)
+    (called_unready words c.args.environment.now (g.W.World.texts c.args.world.now) c.args.file.now (g.W.World.faults c.args.world.now) (g.W.World.faults c.prepare.new.world) old new c.unbegun.result.history c.in-Err.fault c.unbegun.ensures.history
+    asked c.in-Err.ensures.unready c.in-Err.ensures.begun)

@@ -1,4 +1,4 @@
-use Rattle.std.proofs.Common.{arith}
+use Rattle.std.proofs.Common.{arith, ◌∙◌}
 use Rattle.vx_runs.proofs.Growing.{same_on}
 use Rattle.vx_tasks.proofs.Telling.{grows_on, take_on}
 use Rattle.vx_runs.proofs.callers.give_all.Goals as goal
@@ -10,5 +10,9 @@ loop-at-preserved g c = record {
   within = omega (arith, c.in-Ok.ensures.within);
   faults = omega (arith, c.give.ensures.cause.later);
   refusals = omega (arith, c.give.ensures.refusal.later);
+  started = c.give.ensures.started ∙ c.loop-at.invariant.started;
   idles = omega arith;
 }
+
+pub give-requires-clause-started : goal.give-requires-clause-started
+give-requires-clause-started g c = c.loop-at.invariant.started ∙ c.requires

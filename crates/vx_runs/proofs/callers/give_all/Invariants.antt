@@ -1,4 +1,4 @@
-use Rattle.std.proofs.Common.{length, ◌-◌, ◌≤◌, take}
+use Rattle.std.proofs.Common.{◌≡◌, length, ◌-◌, ◌≤◌, take}
 use Rattle.vx_ends.specs.Told.{Grows, SameBytes}
 use Rattle.vx_runs.proofs.callers.give_all.Given as goal
 
@@ -9,6 +9,7 @@ invariant-loop-at g l = record {
   within : l.at ≤ length l.bytes;
   faults : (g.P.Port.told l.fn.port).faults ≤ (g.P.Port.told l.port).faults;
   refusals : (g.P.Port.told l.fn.port).refusals ≤ (g.P.Port.told l.port).refusals;
+  started : (g.P.Port.told l.port).started ≡ (g.P.Port.told l.fn.port).started;
   idles : (g.P.Port.told l.fn.port).idles ≤ (g.P.Port.told l.port).idles;
 }
 

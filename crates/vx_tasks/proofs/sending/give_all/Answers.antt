@@ -1,5 +1,7 @@
 use Rattle.std.proofs.Common.{arith, ◌∙◌}
 use Rattle.vx_tasks.proofs.Telling.{grows_on, take_on, gives_on}
+use Rattle.vx_ends.specs.Told.{nothing}
+use Rattle.vx_tasks.proofs.Tallying.{behind_nothing}
 use Rattle.vx_tasks.proofs.sending.give_all.Goals as goal
 
 pub loop-at-preserved : goal.loop-at-preserved
@@ -16,5 +18,9 @@ loop-at-preserved g c = record {
     refusals = c.give.ensures.refusal.later;
     idles = c.give.ensures.idles;
   });
+  counts = behind_nothing nothing _ _ _ c.loop-at.invariant.counts c.in-Ok.ensures.counts;
   started = c.give.ensures.started ∙ c.loop-at.invariant.started;
 }
+
+pub give-requires-clause-started : goal.give-requires-clause-started
+give-requires-clause-started g c = c.loop-at.invariant.started ∙ c.requires

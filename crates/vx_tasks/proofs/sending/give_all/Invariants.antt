@@ -1,5 +1,5 @@
 use Rattle.std.proofs.Common.{◌≡◌, length, ◌-◌, ◌≤◌, take}
-use Rattle.vx_ends.specs.Told.{Grows}
+use Rattle.vx_ends.specs.Told.{Grows, CountsBy, nothing}
 use Rattle.vx_tasks.specs.Attempts.{OnlyGives}
 use Rattle.vx_tasks.proofs.sending.give_all.Given as goal
 
@@ -8,6 +8,7 @@ invariant-loop-at g l = record {
   within : l.at ≤ length l.bytes;
   given : Grows (g.P.Port.told l.fn.port).given (g.P.Port.told l.port).given (take l.at l.bytes);
   others : OnlyGives (g.P.Port.told l.fn.port) (g.P.Port.told l.port);
+  counts : CountsBy nothing (g.P.Port.told l.fn.port) (g.P.Port.told l.port);
   started : (g.P.Port.told l.port).started ≡ (g.P.Port.told l.fn.port).started;
 }
 

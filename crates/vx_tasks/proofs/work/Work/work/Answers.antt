@@ -1,10 +1,11 @@
 use Rattle.std.proofs.Common.{sym, subst, Option, None, inl, inr, refl}
 use Rattle.std.specs.Prelude.{◌⊎◌}
 use Rattle.vx_tasks.specs.Out.{HasDone}
-use Rattle.vx_tasks.specs.Jobs.{DoesJob, LacksConfirm}
+use Rattle.vx_tasks.specs.Jobs.{DoesJob, LacksConfirm, ShowsDone}
 use Rattle.vx_tasks.specs.declared.confirming.Confirmed.{Confirmed}
 use Rattle.vx_tasks.specs.declared.landing.Done.TheVariants.{Short}
 use Rattle.vx_tasks.specs.declared.work.Deed.{Deed}
+use Rattle.vx_tasks.proofs.Tallying.{shows_behind}
 use Rattle.vx_tasks.proofs.Doing.{landed, done_of, short_of}
 use Rattle.vx_tasks.proofs.work.Work.work.Goals as goal
 use Rattle.vx_tasks.proofs.work.Work.work.Goals.{in-Ok, in-Err}
@@ -30,4 +31,16 @@ returns-clause-does g c =
     elim c.match-confirm.branch [
       | in-Ok w ↦ subst (λ (both : Option Confirmed × Deed). DoesJob work.job work.task.role both.1.done ⊎ LacksConfirm work.positions both.0 both.1.done) (sym w.confirmed-is) (inl w.act.ensures.does)
       | in-Err w ↦ subst (λ (both : Option Confirmed × Deed). DoesJob work.job work.task.role both.1.done ⊎ LacksConfirm work.positions both.0 both.1.done) (sym w.confirmed-is) (inr (w.in-Err.ensures.asked, refl, refl))
+    ]
+
+pub returns-clause-shows : goal.returns-clause-shows
+returns-clause-shows g c =
+    let told = g.P.Port.told in
+    let old = told c.args.self.task.port in
+    elim c.match-confirm.branch [
+      | in-Ok w ↦
+          subst (λ (both : Option Confirmed × Deed). ShowsDone old (told c.match-confirm.port) both.1.done) (sym w.confirmed-is)
+          (subst (λ (port : g.row.P.Denot). ShowsDone old (told port) w.act.result.done) (sym w.port-is)
+          (shows_behind old (told c.confirm.new.port) (told w.act.new.port) w.act.result.done c.confirm.ensures.counts w.act.ensures.counts c.confirm.ensures.started w.act.ensures.shows))
+      | in-Err w ↦ subst (λ (both : Option Confirmed × Deed). ShowsDone old (told c.match-confirm.port) both.1.done) (sym w.confirmed-is) tt
     ]

@@ -1,0 +1,93 @@
+-- What a run asks its world for.
+use Rattle.std.specs.Prelude.{◌≡◌, ◌⊎◌, List, [], ◌∷◌, ◌++◌, Option, Some, None}
+use Rattle.vx_value.specs.Texts.{Word}
+use Rattle.vx_value.specs.declared.variable.Variable.{Variable}
+use Rattle.vx_ends.specs.Told.{Grows}
+use Rattle.vx_ends.specs.declared.call.Call.{Call}
+use Rattle.vx_ends.specs.declared.call.Call.TheVariants.{Config, Port}
+use Rattle.vx_ends.specs.declared.port_spec.PortSpec.{PortSpec}
+use Rattle.vx_ends.specs.declared.world.Config.{Config as ConfigAt}
+use Rattle.vx_plan.specs.declared.component.Component.{Component}
+use Rattle.vx_plan.specs.declared.plan.Plan.{Plan}
+use Rattle.vx_plan.specs.Ports.{port_of}
+use Rattle.vx_record.specs.Records.{Record}
+use Rattle.vx_record.specs.Installs.{in_force}
+use Rattle.vx_cli.specs.declared.fault.Fault.{Fault}
+use Rattle.vx_cli.specs.declared.fault.Fault.TheVariants.{Usage, ConfigRead, ConfigRefused, PrintFailed, WantOfMemory}
+use Rattle.vx_cli.specs.Commands.{IsCommand}
+use Rattle.vx_cli.specs.declared.command.Command.TheVariants.{Run, Validate}
+use Rattle.vx_run.specs.Answers.{NamesFile, IsPlanAt}
+
+-- a port of that form is asked for, if there is one
+abbrev pub call_of : Option PortSpec → List Call
+call_of None = []
+call_of (Some spec) = Port spec ∷ []
+
+-- a port is asked for each component, in order
+abbrev pub port_calls : List Component → List Call
+port_calls [] = []
+port_calls (c ∷ cs) = call_of (port_of c) ++ port_calls cs
+
+-- the configuration in a file is asked for, and then the ports of its plan
+abbrev pub run_calls : Word → Plan → List Call
+run_calls file plan = Config file ∷ port_calls plan.components
+
+-- the first of these calls were made, or all of them, and no other, where the world tells its calls
+pub record HasBegun (old new : Option (List Call)) (all : List Call) : Type 0 where
+  pub done : List Call
+  pub rest : List Call
+  pub whole : done ++ rest ≡ all
+  pub calls : Grows old new done
+
+-- a file was read; and of a plan that it stands for the first ports were made, or all
+abbrev pub HasBegunFor : List Variable → Option (List ConfigAt) → Word → Option (List Call) → Option (List Call) → Type 0
+HasBegunFor environment texts file old new =
+    Grows old new (Config file ∷ []) ⊎ ((plan : Plan) × (IsPlanAt environment texts file plan × HasBegun old new (run_calls file plan)))
+
+-- what a file that gave no plan was asked
+abbrev pub HasCalledFor : List Variable → Option (List ConfigAt) → Word → Option (List Call) → Option (List Call) → Fault → Type 0
+HasCalledFor environment texts file old new WantOfMemory = HasBegunFor environment texts file old new
+HasCalledFor environment texts file old new fault = Grows old new (Config file ∷ [])
+
+-- a run of the words' file read it, and made a port for each component of the plan that it installed, in order, and asked for
+-- nothing else
+pub record HasCalledAll (words : List Word) (old new : Option (List Call)) (h : Record) : Type 0 where
+  pub file : Word
+  pub asked : IsCommand words (Run file)
+  pub plan : Plan
+  pub installed : in_force h ≡ Some plan
+  pub calls : Grows old new (run_calls file plan)
+
+-- a judgement of the words' file read it, and asked for nothing else
+pub record HasRead (words : List Word) (old new : Option (List Call)) : Type 0 where
+  pub file : Word
+  pub asked : IsCommand words (Validate file)
+  pub calls : Grows old new (Config file ∷ [])
+
+-- the same of a run or a judgement
+pub record HasReadNamed (words : List Word) (old new : Option (List Call)) : Type 0 where
+  pub file : Word
+  pub asked : NamesFile words file
+  pub calls : Grows old new (Config file ∷ [])
+
+-- a run that didn't begin read the words' file, and perhaps asked for the first ports of a plan that it stands for, or for all
+pub record HasBegunRun (words : List Word) (environment : List Variable) (texts : Option (List ConfigAt)) (old new : Option (List Call)) (h : Record) : Type 0 where
+  pub unbegun : h ≡ []
+  pub file : Word
+  pub asked : IsCommand words (Run file)
+  pub begun : HasBegunFor environment texts file old new
+
+-- a beginning of what the words ask for: nothing; the file of a judgement; what a run that didn't begin asked; and all where one began
+abbrev pub HasAskedFirst : List Word → List Variable → Option (List ConfigAt) → Option (List Call) → Option (List Call) → Record → Type 0
+HasAskedFirst words environment texts old new h =
+    (new ≡ old) ⊎ (HasRead words old new ⊎ (HasBegunRun words environment texts old new h ⊎ HasCalledAll words old new h))
+
+-- what the world was asked for, by the answer of a run
+abbrev pub HasCalled : List Word → List Variable → Option (List ConfigAt) → Option (List Call) → Option (List Call) → Record → Option Fault → Type 0
+HasCalled words environment texts old new h None = HasCalledAll words old new h ⊎ HasRead words old new
+HasCalled words environment texts old new h (Some Usage) = new ≡ old
+HasCalled words environment texts old new h (Some (ConfigRead path)) = HasReadNamed words old new
+HasCalled words environment texts old new h (Some (ConfigRefused fault)) = HasReadNamed words old new
+HasCalled words environment texts old new h (Some PrintFailed) = HasRead words old new
+HasCalled words environment texts old new h (Some WantOfMemory) = HasAskedFirst words environment texts old new h
+HasCalled words environment texts old new h fault = HasCalledAll words old new h
