@@ -66,10 +66,7 @@ fn layered(alloc: Global, acknowledges: bool) -> Result<Plan, WantOfMemory> {
         }
         components.push(sink).map_err(|_| WantOfMemory)?;
     }
-    Ok(Plan {
-        global: first.global,
-        components,
-    })
+    Plan::new(alloc, first.global, components)
 }
 
 /// How many targets the components of the layers have, and whether the source's batches wait: where the sink acknowledges,
@@ -78,7 +75,7 @@ pub fn judged(alloc: Global) -> Result<(u64, bool, bool), WantOfMemory> {
     let plan = layered(alloc, true)?;
     let mut targets: u64 = 0;
     for component in plan.components.as_slice() {
-        let readers = plan.targets(alloc, component.name.as_str(), 0)?;
+        let readers = plan.targets(component.name.as_str(), 0);
         targets = targets.saturating_add(readers.len() as u64);
     }
     let silent = layered(alloc, false)?;

@@ -1,5 +1,5 @@
 -- What a hub is made of.
-use Rattle.std.specs.Prelude.{◌≡◌, ℕ, true, List, [], ◌∷◌, Option, Some, IfSome}
+use Rattle.std.specs.Prelude.{◌≡◌, ℕ, true, false, List, [], ◌∷◌, Option, Some, IfSome}
 use Rattle.vx_ends.specs.Told.{Told}
 use Rattle.vx_ends.specs.declared.port_spec.PortSpec.{PortSpec}
 use Rattle.vx_plan.specs.declared.component.Component.{Component}
@@ -11,13 +11,15 @@ pub use Rattle.vx_ready.specs.Asking.{is_ported, all_ported}
 use Rattle.vx_tasks.specs.Telling.{HasCounted}
 use Rattle.vx_hub.specs.declared.parts.Named.{Named}
 
--- nothing went through a port, and it is made for that
+-- nothing went through a port, it wasn't started, its counts are 0 where they are exact, and it is made for that
 pub record IsUntouched (spec : Option PortSpec) (told : Told) : Type 0 where
   pub made_for : IfSome told.spec (λ made. spec ≡ Some made)
   pub taken : (stream : ℕ) → IfSome (told.taken stream) (λ bytes. bytes ≡ [])
   pub given : IfSome told.given (λ bytes. bytes ≡ [])
   pub confirmed : IfSome told.confirmed (λ positions. positions ≡ [])
   pub ended : told.ended ≡ []
+  pub closed : told.started ≡ false
+  pub starts : HasCounted told.exact 0 told.starts
   pub faults : HasCounted told.exact 0 told.faults
   pub refusals : HasCounted told.exact 0 told.refusals
   pub idles : HasCounted told.exact 0 told.idles

@@ -10,7 +10,7 @@ ghost use Rattle.vx_tasks.specs.Out.{HasDone};
 ghost use Rattle.vx_moves.specs.Rooms.{IsHandOf};
 ghost use Rattle.vx_moves.specs.Stands.{Stands};
 ghost use Rattle.vx_hub.specs.Failures.{HasReason, fatal_of};
-ghost use Rattle.vx_landing.specs.Landings.{IsNotedSo, wants_memory};
+ghost use Rattle.vx_landing.specs.Landings.{HasTask, IsNotedSo, wants_memory};
 ghost use Rattle.vx_hub.specs.Standing.{IsHub};
 
 use crate::fatal::Fatal;
@@ -26,7 +26,8 @@ impl<P: Port> Hub<P> {
     /// Brings a task home with what was done, and notes it, whatever others did meanwhile.
     ///
     /// `Fatal` comes where a birth found no numbers or no memory, or the work found no memory, in a run that wasn't given up. Each
-    /// entry that was made stands then, every copy that isn't spent is still held, and the instance is at home. After an abandonment
+    /// entry that was made stands then, every copy that isn't spent is still held, and the instance is at home. In a run that goes on
+    /// its task stands there as it came, so that its port stays started. After an abandonment
     /// no batch is born, and all that stands at the instance is spent as abandoned, and its port closed for good.
     pub fn land(&mut self, landing: Landing<P>) -> Result<(), Fatal>
         requires hub { IsHub P.told self.old }
@@ -43,6 +44,7 @@ impl<P: Port> Hub<P> {
         ensures ceased { abandoned self.old.books.log ≡ true → IsGivenUp self.new.books.log landing.instance }
         ensures going { cause_of self.new.books.log ≡ cause_of self.old.books.log }
         ensures marked { self.new.books.run.short ≡ (wants_memory landing.done || self.old.books.run.short) }
+        ensures task { abandoned self.old.books.log ≡ false → HasTask self.new.books.seats landing.instance landing.task }
         ensures latest { self.new.books.run.latest ≡ self.old.books.run.latest }
         ensures stuck { self.old.fatal ≡ true → self.new.fatal ≡ true }
         ensures sound { OnOk result (abandoned self.old.books.log ≡ false → self.new.fatal ≡ self.old.fatal) }

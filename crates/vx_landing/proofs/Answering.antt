@@ -134,5 +134,12 @@ module _ {P : Type 0} (told_by : P → Told) where
   pub over_known : (books : Books P) → Stands told_by books → is_some books.run.abandoned ≡ true → abandoned books.log ≡ true
   over_known books stands some = has_abandoned books.log (subst (λ (o : Option AbandonCause). IsSome o) stands.run.cause some)
 
+  pub going_known : (books : Books P) → Stands told_by books → abandoned books.log ≡ false → is_some books.run.abandoned ≡ false
+  going_known books stands going = go (is_some books.run.abandoned) refl
+    where
+      go : (b : Bool) → is_some books.run.abandoned ≡ b → b ≡ false
+      go false is = refl
+      go true is = let over : true ≡ false = sym (over_known books stands is) ∙ going in cc
+
   pub still_kept : (i : ℕ) (e : Entry) (old mid : Books P) → Stands told_by old → i < length old.seats → HasNoted told_by i e old mid → IsSome (parcels_here old.places (Held i)) → IsSome (parcels_here mid.places (Held i))
   still_kept i e old mid stands within noted kept = kept_on old.places mid.places i (let size = stands.size in omega (arith, size, within)) noted.leaves.rooms kept

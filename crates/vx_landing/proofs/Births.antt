@@ -12,7 +12,6 @@ use Rattle.vx_record.specs.declared.entry.Entry.{Entry}
 use Rattle.vx_record.specs.declared.entry.Entry.TheVariants.{Read, Born, Split}
 use Rattle.vx_record.specs.declared.taken.Taken.{Taken}
 use Rattle.vx_record.specs.Records.{Record}
-use Rattle.vx_record.specs.Additions.{OnlyAdds}
 use Rattle.vx_record.specs.Confirms.{Birth, births, births_in}
 use Rattle.vx_record.specs.Copies.{next_copy}
 use Rattle.vx_record.specs.Ending.{last_events}
@@ -20,7 +19,6 @@ use Rattle.vx_record.specs.Legal.{IsLegal}
 use Rattle.vx_record.specs.Owing.{fruitful, owes_birth}
 use Rattle.vx_record.specs.Reads.{events_of}
 use Rattle.vx_record.specs.Sourcing.{Yield, yield, yield_of}
-use Rattle.vx_record.proofs.Adding.{carry}
 use Rattle.vx_record.proofs.Further.{numbers_bounded}
 use Rattle.vx_moves.specs.Bearing.{IsBirthShort}
 use Rattle.vx_landing.specs.Failures.{LacksBirth}

@@ -1,12 +1,11 @@
 -- What is out stays so behind its entries, and each stands behind its lease.
-use Rattle.std.proofs.Common.{◌≡◌, ◌∙◌, ℕ, Bool, true, false, ◌||◌, [], ◌∷◌, refl, ap}
+use Rattle.std.proofs.Common.{◌≡◌, ◌∙◌, ℕ, Bool, true, false, ◌∷◌, refl, ap}
 use Rattle.std.specs.Prelude.{◌==◌, if◌then◌else◌}
-use Rattle.std.specs.List.{list_any}
 use Rattle.vx_record.specs.declared.entry.Entry.{Entry}
 use Rattle.vx_record.specs.declared.entry.Entry.TheVariants.{Lease, Home}
 use Rattle.vx_record.specs.Records.{Record}
 use Rattle.vx_record.specs.Additions.{OnlyAdds}
-use Rattle.vx_record.specs.Turns.{is_out, at_lease, since_lease}
+use Rattle.vx_record.specs.Turns.{is_out}
 use Rattle.vx_record.proofs.Adding.{carry}
 
 -- an entry that neither leases the instance nor brings it home

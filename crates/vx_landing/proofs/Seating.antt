@@ -8,7 +8,7 @@ use Rattle.vx_seats.specs.Staying.{EachSeat, OneSeat, SameFlags, Stays}
 use Rattle.vx_moves.specs.declared.books.Books.{Books}
 use Rattle.vx_moves.specs.declared.run.Run.{Run}
 use Rattle.vx_moves.specs.Leaving.{Leaves}
-use Rattle.vx_landing.specs.Landings.{OthersStay, LandsOn, Owes, IsOwingNow}
+use Rattle.vx_landing.specs.Landings.{HasTask, OthersStay, LandsOn, Owes, IsOwingNow}
 use Rattle.vx_landing.specs.Standing.{IsWellAt, IsFedAt}
 
 -- another number
@@ -125,3 +125,12 @@ module _ {P : Type 0} where
     | inl same ↦ subst (λ k. IfSome (slice_get new k) (λ is. IsSomeAnd (slice_get old k) (λ was. SameFlags was is))) (sym same) (home_flags task (slice_get old i) (slice_get new i) back.one)
     | inr other ↦ others_one (λ was is. is ≡ record was { task = Some task }) i old new back j other
   ]
+
+-- WHAT CAME HOME
+pub has_task : {P : Type 0} (i : ℕ) (task : Task P) (old new : List (Seat P)) → OneSeat (λ was is. is ≡ record was { task = Some task }) i old new → HasTask new i task
+has_task i task old new back = go (slice_get old i) (slice_get new i) back.one
+  where
+    go : (o n : Option (Seat _)) → IsSomeAnd o (λ was. IsSomeAnd n (λ is. is ≡ record was { task = Some task })) → IsSomeAnd n (λ seat. seat.task ≡ Some task)
+    go None n one = absurd one
+    go (Some was) None one = absurd one
+    go (Some was) (Some is) one = ap (λ (seat : Seat _). seat.task) one

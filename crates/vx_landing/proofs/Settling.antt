@@ -13,7 +13,6 @@ use Rattle.vx_record.specs.declared.entry.Entry.{Entry}
 use Rattle.vx_record.specs.declared.entry.Entry.TheVariants.{Read, Born, Attempt, Spent, Notice}
 use Rattle.vx_record.specs.declared.taken.Taken.{Taken}
 use Rattle.vx_record.specs.Records.{Record}
-use Rattle.vx_record.specs.Abandoning.{abandoned}
 use Rattle.vx_record.specs.Additions.{OnlyAdds}
 use Rattle.vx_record.specs.Confirms.{Birth, births, births_in}
 use Rattle.vx_record.specs.Copies.{count, contains, joined, all_of, spends, times_spent}
@@ -31,7 +30,6 @@ use Rattle.vx_record.proofs.Counts.{count-append}
 use Rattle.vx_record.proofs.Promises.{or_left, or_right}
 use Rattle.vx_record.proofs.Shifting.{stands_at}
 use Rattle.vx_record.proofs.Untried.{spends_settled, owed_spent}
-use Rattle.vx_seats.proofs.Owing.{OwesNoMore, owes_still}
 use Rattle.vx_moves.specs.Returns.{AreSettled}
 use Rattle.vx_moves.specs.Spends.{IsSpendOf}
 

@@ -7,15 +7,12 @@ use Rattle.vx_value.specs.Texts.{is_empty}
 use Rattle.vx_ends.specs.declared.position.Position.{Position}
 use Rattle.vx_plan.specs.declared.component.Component.{Component}
 use Rattle.vx_plan.specs.Options.{has_device}
-use Rattle.vx_record.specs.declared.entry.Entry.{Entry}
 use Rattle.vx_record.specs.declared.entry.Entry.TheVariants.{Install, Lease, Home, Confirm}
 use Rattle.vx_record.specs.Records.{Record}
-use Rattle.vx_record.specs.Additions.{OnlyAdds}
 use Rattle.vx_record.specs.Confirms.{Birth, confirm_prefix, moved_to, last_of_each, position_of, due, last_confirm, same_positions, is_confirm_due}
 use Rattle.vx_record.specs.Installs.{component_of, device_at}
 use Rattle.vx_record.specs.Legal.{IsLegal, Follows}
 use Rattle.vx_record.specs.Turns.{is_out, at_lease, since_lease, is_confirm_of}
-use Rattle.vx_record.proofs.Adding.{carry}
 use Rattle.vx_record.proofs.Further.{prefix_grows}
 use Rattle.vx_record.proofs.Promises.{legal_lease, or_left, or_right, and_left, and_right}
 

@@ -176,6 +176,10 @@ pub record HasComeHome {P : Type 0} (told_by : P → Told) (i : ℕ) (old new : 
   pub away : AwayIsWell new
   pub fed : IsFed old → IsFed new
 
+-- a task stands at home as it came
+abbrev pub HasTask : {P : Type 0} → List (Seat P) → ℕ → Task P → Type 0
+HasTask seats i task = IsSomeAnd (slice_get seats i) (λ seat. seat.task ≡ Some task)
+
 -- the entries that tell what was done: those that went through the port, and its close
 abbrev pub done_entries : Record → ℕ → Done → List Entry
 done_entries h i done.Nothing = []

@@ -1,5 +1,5 @@
 // What is done at an instance that comes home after the run was given up.
-ghost use Rattle.std.specs.Prelude.{◌≡◌, ◌<◌, [], ◌∷◌, length, true, false, Some, IsSome, ℕ};
+ghost use Rattle.std.specs.Prelude.{◌≡◌, ◌<◌, [], ◌∷◌, length, is_some, true, false, Some, IsSome, ℕ};
 ghost use Rattle.vx_record.specs.declared.entry.Entry.TheVariants.{Home};
 ghost use Rattle.vx_record.specs.Abandoning.{abandoned};
 ghost use Rattle.vx_record.specs.Additions.{OnlyAdds};
@@ -19,7 +19,7 @@ ghost use Rattle.vx_moves.specs.Returns.{IsReturned};
 ghost use Rattle.vx_moves.specs.Leaving.{Leaves};
 ghost use Rattle.vx_moves.specs.Stands.{Stands, Steps};
 ghost use Rattle.vx_ready.specs.Asking.{IsServed};
-ghost use Rattle.vx_landing.specs.Landings.{ComesBehind};
+ghost use Rattle.vx_landing.specs.Landings.{ComesBehind, HasTask};
 
 use vx_ends::Port;
 use vx_moves::Books;
@@ -88,6 +88,7 @@ pub(crate) fn come_home<P: Port>(books: &mut Books<P>, i: u32, task: Task<P>)
     ensures noted { abandoned books.old.log ≡ false → books.new.log ≡ Home i ∷ books.old.log }
     ensures bare { abandoned books.old.log ≡ true → (p : Place) → owner p ≡ i → at books.new.log p ≡ [] }
     ensures closed { abandoned books.old.log ≡ true → is_closed books.new.log i ≡ true }
+    ensures task { is_some books.old.run.abandoned ≡ false → HasTask books.new.seats i task }
 {
     if books.run.abandoned.is_none() {
         note_home(books, i, task);

@@ -1,5 +1,5 @@
 // How a task comes home.
-ghost use Rattle.std.specs.Prelude.{◌≡◌, ◌<◌, ◌∷◌, ◌++◌, ◌||◌, true, false, length, None, Ok, IfErr, OnOk};
+ghost use Rattle.std.specs.Prelude.{◌≡◌, ◌<◌, ◌∷◌, ◌++◌, ◌||◌, is_some, true, false, length, None, Ok, IfErr, OnOk};
 ghost use Rattle.vx_record.specs.Abandoning.{abandoned};
 ghost use Rattle.vx_record.specs.Additions.{OnlyAdds};
 ghost use Rattle.vx_record.specs.Makers.{IsFor};
@@ -10,7 +10,7 @@ ghost use Rattle.vx_moves.specs.Rooms.{IsHandOf};
 ghost use Rattle.vx_moves.specs.Stands.{Stands};
 ghost use Rattle.vx_ready.specs.Asking.{IsServed};
 ghost use Rattle.vx_landing.specs.Failures.{LacksBirth};
-ghost use Rattle.vx_landing.specs.Landings.{ComesBehind, HasComeHome, IsNotedSo, done_entries, IsConfirmable, IsBackWith, HasLanded, IsWellLanded, is_reading, wants_memory};
+ghost use Rattle.vx_landing.specs.Landings.{ComesBehind, HasComeHome, HasTask, IsNotedSo, done_entries, IsConfirmable, IsBackWith, HasLanded, IsWellLanded, is_reading, wants_memory};
 ghost use Rattle.vx_landing.specs.Standing.{IsWell, AwayIsWell, LentWhileOut};
 
 use crate::ceasing::come_home;
@@ -46,6 +46,7 @@ pub fn bring_home<P: Port>(
     ensures marked { books.new.run.short ≡ (wants_memory landing.done || books.old.run.short) }
     ensures well { OnOk result (IsWell books.old → IsWell books.new) }
     ensures reason { IfErr result (λ short. abandoned books.new.log ≡ false → LacksBirth books.new.log short) }
+    ensures task { is_some books.old.run.abandoned ≡ false → HasTask books.new.seats landing.instance landing.task }
 {
     let Landing {
         instance,

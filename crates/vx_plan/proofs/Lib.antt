@@ -6,3 +6,4 @@ pub mod Chains
 pub mod Search
 pub mod GraphTargets
 pub mod FirstPlan
+pub mod Kept

@@ -9,3 +9,5 @@ pub mod Accepted
 pub mod Numbers
 pub mod Ports
 pub mod First
+pub mod Kept
+pub mod Planned

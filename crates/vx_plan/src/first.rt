@@ -27,10 +27,7 @@ pub fn first_plan(alloc: Allocator) -> Result<Plan, WantOfMemory>
     components
         .push(first_sink(alloc)?)
         .map_err(|_| WantOfMemory)?;
-    Ok(Plan {
-        global: default_global(alloc)?,
-        components,
-    })
+    Plan::new(alloc, default_global(alloc)?, components)
 }
 
 /// Standard input, named `in`.

@@ -1,4 +1,5 @@
 ghost use Rattle.std.specs.Prelude.{◌≡◌, find};
+ghost use Rattle.std.specs.List.{position_or_len};
 ghost use Rattle.std.specs.Option.{option_copied};
 ghost use Rattle.vx_value.specs.Texts.{same_text, text_le};
 ghost use Rattle.vx_plan.specs.declared.component.Component.{Component};
@@ -39,4 +40,16 @@ pub(crate) fn named<'a>(components: &'a [Component], name: &str) -> Option<&'a C
             }
         }
     }
+}
+
+/// The place of the first component of a name, or the number of components.
+pub(crate) fn place_named(components: &[Component], name: &str) -> usize
+    ensures { result ≡ position_or_len (λ (c : Component). same_text c.name name.now) components.now }
+{
+    for (i, component) in components.iter().enumerate() {
+        if same_text(component.name.as_str(), name) {
+            return i;
+        }
+    }
+    components.len()
 }

@@ -7,29 +7,64 @@ ghost use Rattle.vx_plan.specs.Targets.{targets, acknowledged, leads as walks_le
 
 use crate::component::{Component, ComponentList};
 use crate::global::Global;
-use crate::names::named;
-use crate::targets::{numbers_of_names, readers};
+use crate::names::{named, place_named};
+use crate::targets::{TargetLists, all_readers, numbers_of_names};
 use crate::walk::leads;
 use std::alloc::Global as Allocator;
+use std::marker::Model;
 use vx_ends::PortSpec;
 use vx_value::{NumberList, TextList, WantOfMemory};
 
-/// A configuration that was accepted.
+/// A configuration that was accepted. Contracts see its options and its components.
+///
+/// It keeps the names of each port's readers, so that to look at them takes no memory.
 #[derive(Drop)]
 pub struct Plan {
     pub global: Global,
     pub components: ComponentList,
+    targets: TargetLists,
+    /// The targets of a port that isn't there.
+    nobody: TextList,
+}
+
+impl Model for Plan {
+    ghost use Rattle.std.specs.Prelude.{◌≡◌, []};
+    ghost use Rattle.vx_plan.specs.Planned.{Planned};
+
+    ghost Value = { Planned };
+
+    ghost use Rattle.vx_plan.specs.Kept.{all_readers};
+
+    ghost view = { λ p. record { global = p.global; components = p.components } };
+
+    ghost invariant = { λ p. (p.targets ≡ all_readers p.components) × (p.nobody ≡ []) };
 }
 
 impl Plan {
+    /// The plan of the options of a whole configuration and of its components.
+    pub fn new(
+        alloc: Allocator,
+        global: Global,
+        components: ComponentList,
+    ) -> Result<Self, WantOfMemory>
+        ensures { IfOk result (λ plan. plan ≡ record { global = global; components = components }) }
+    {
+        let targets = all_readers(alloc, components.as_slice())?;
+        Ok(Plan {
+            global,
+            components,
+            targets,
+            nobody: TextList::new(alloc),
+        })
+    }
+
     /// The same plan once more.
     pub fn copy(&self, alloc: Allocator) -> Result<Self, WantOfMemory>
         ensures { IfOk result (λ copy. copy ≡ self.now) }
     {
-        Ok(Plan {
-            global: self.global.copy(alloc)?,
-            components: copy_components(alloc, &self.components)?,
-        })
+        let global = self.global.copy(alloc)?;
+        let components = copy_components(alloc, &self.components)?;
+        Plan::new(alloc, global, components)
     }
 
     /// The component of a name; of several the first. `None` exactly where there is none.
@@ -41,16 +76,17 @@ impl Plan {
 
     /// The names of the components that read a port of a component, in byte order.
     ///
-    /// The list is empty where the component isn't in the plan, or doesn't have that port.
-    pub fn targets(&self, alloc: Allocator, name: &str, port: u32) -> Result<TextList, WantOfMemory>
-        ensures { IfOk result (λ names. names ≡ targets self.now name.now port) }
+    /// The list is empty where the component isn't in the plan, or doesn't have that port. It takes no memory.
+    pub fn targets(&self, name: &str, port: u32) -> &TextList
+        ensures { result.now ≡ targets self.now name.now port }
     {
-        match self.component(name) {
-            Some(component) if (port as usize) < component.ports() => {
-                let port = component.port_name(port as usize);
-                readers(alloc, self.components.as_slice(), name, port)
-            }
-            _ => Ok(TextList::new(alloc)),
+        let place = place_named(self.components.as_slice(), name);
+        let Some(lists) = self.targets.get(place) else {
+            return &self.nobody;
+        };
+        match lists.get(port as usize) {
+            Some(names) => names,
+            None => &self.nobody,
         }
     }
 
@@ -65,7 +101,7 @@ impl Plan {
     ) -> Result<NumberList, WantOfMemory>
         ensures { IfOk result (λ numbers. numbers ≡ reader_numbers self.now name.now port) }
     {
-        let names = self.targets(alloc, name, port)?;
+        let names = self.targets(name, port);
         numbers_of_names(alloc, self.components.as_slice(), names.as_slice())
     }
 

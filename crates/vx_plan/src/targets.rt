@@ -2,6 +2,7 @@ ghost use Rattle.std.specs.Prelude.{◌≡◌, ◌+◌, ◌++◌, ◌==◌, ℕ,
 ghost use Rattle.std.specs.List.{list_any};
 ghost use Rattle.vx_value.specs.Texts.{Word};
 ghost use Rattle.vx_plan.specs.declared.component.Component.{Component};
+ghost use Rattle.vx_plan.specs.Kept.{readers_of, all_readers};
 ghost use Rattle.vx_plan.specs.Numbers.{numbers_named, numbers_of_names};
 ghost use Rattle.vx_plan.specs.Targets.{names_reading, reads_by, in_order, enter};
 
@@ -9,7 +10,13 @@ use crate::component::Component;
 use crate::names::{same_text, text_le};
 use std::alloc::Global;
 use vx_graph::reads_port;
-use vx_value::{NumberList, Text, TextList, WantOfMemory};
+use vx_value::{ItemList, NumberList, Text, TextList, WantOfMemory};
+
+/// The names of a component's readers: a list for each of its ports.
+pub(crate) type PortLists = ItemList<TextList>;
+
+/// The names of some components' readers: lists for each component.
+pub(crate) type TargetLists = ItemList<PortLists>;
 
 /// Whether a component reads a port of another by one of its inputs.
 fn reads_by(reader: &Component, name: &str, port: &str, input: &Text) -> bool
@@ -31,7 +38,7 @@ pub(crate) fn any_reads(reader: &Component, name: &str, port: &str, inputs: &[Te
 }
 
 /// The names of the components that read a port of a component, in byte order.
-pub(crate) fn readers(
+fn readers(
     alloc: Global,
     components: &[Component],
     name: &str,
@@ -69,6 +76,38 @@ fn entered(alloc: Global, name: &Text, names: &[Text]) -> Result<TextList, WantO
         list.push(name.copy(alloc)?).map_err(|_| WantOfMemory)?;
     }
     Ok(list)
+}
+
+/// The names of the readers of each port of a component, in byte order.
+fn readers_of(
+    alloc: Global,
+    components: &[Component],
+    owner: &Component,
+) -> Result<PortLists, WantOfMemory>
+    ensures { IfOk result (λ lists. lists ≡ readers_of components.now owner.now) }
+{
+    let mut lists = PortLists::new(alloc);
+    for i in 0..owner.ports() {
+        let names = readers(alloc, components, owner.name.as_str(), owner.port_name(i))?;
+        lists.push(names).map_err(|_| WantOfMemory)?;
+    }
+    Ok(lists)
+}
+
+/// The names of the readers of each port of each component, in byte order.
+pub(crate) fn all_readers(
+    alloc: Global,
+    components: &[Component],
+) -> Result<TargetLists, WantOfMemory>
+    ensures { IfOk result (λ lists. lists ≡ all_readers components.now) }
+{
+    let mut lists = TargetLists::new(alloc);
+    for owner in components {
+        lists
+            .push(readers_of(alloc, components, owner)?)
+            .map_err(|_| WantOfMemory)?;
+    }
+    Ok(lists)
 }
 
 /// The numbers of some names, in their order: a component's number is its place in the plan.

@@ -292,5 +292,5 @@ pub(crate) fn plan_of(
     for part in all {
         push_component(alloc, &mut components, &global, *part)?;
     }
-    Ok(Plan { global, components })
+    Plan::new(alloc, global, components)
 }

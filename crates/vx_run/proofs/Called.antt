@@ -1,5 +1,5 @@
 -- How calls of a world add up.
-use Rattle.std.proofs.Common.{◌≡◌, ◌∙◌, ◌⊎◌, inl, inr, ℕ, zero, suc, ◌+◌, ◌<◌, List, [], ◌∷◌, ◌++◌, take, length, Option, Some, None, append_assoc, refl, sym, ap, subst, arith}
+use Rattle.std.proofs.Common.{◌≡◌, ◌∙◌, ◌⊎◌, inl, inr, ℕ, zero, suc, ◌+◌, List, [], ◌∷◌, ◌++◌, take, Option, Some, None, append_assoc, refl, sym, ap, subst, arith}
 use Rattle.std.specs.Prelude.{slice_get, Result, Ok, Err, OnErr}
 use Rattle.std.proofs.lemmas.List.{append-nil}
 use Rattle.vx_value.specs.Texts.{Word}
@@ -12,15 +12,14 @@ use Rattle.vx_plan.specs.declared.component.Component.{Component}
 use Rattle.vx_plan.specs.declared.plan.Plan.{Plan}
 use Rattle.vx_plan.specs.Ports.{port_of}
 use Rattle.vx_record.specs.Records.{Record}
-use Rattle.vx_record.specs.Installs.{in_force}
 use Rattle.vx_cli.specs.declared.fault.Fault.{Fault}
 use Rattle.vx_cli.specs.declared.fault.Fault.TheVariants.{Usage, ConfigRead, ConfigRefused, Numbers, SourceFailed, ConfirmFailed, PrintFailed, WantOfMemory}
 use Rattle.vx_cli.specs.Commands.{IsCommand}
 use Rattle.vx_cli.specs.declared.command.Command.TheVariants.{Run, Validate}
 use Rattle.vx_run.specs.Answers.{IsJudged, IsPlanAt, IsUnready}
-use Rattle.vx_run.specs.Calling.{HasAskedFirst, HasBegun, HasBegunFor, HasCalled, HasCalledFor, HasReadNamed, call_of, port_calls, run_calls}
+use Rattle.vx_run.specs.Calling.{HasAskedFirst, HasBegun, HasCalled, HasCalledFor, HasReadNamed, call_of, port_calls, run_calls}
 use Rattle.vx_hub.specs.declared.parts.Numbered.{Numbered}
-use Rattle.vx_run.specs.Running.{Began, IsInForce, NoneMissing}
+use Rattle.vx_run.specs.Running.{IsInForce, NoneMissing}
 use Rattle.vx_run.specs.Showing.{IsJudgedSo}
 use Rattle.vx_run.specs.Telling.{IsKept}
 
@@ -101,7 +100,7 @@ ports_cut old mid new cs i c at before begun =
     subst (λ (calls : List Call). HasBegun old new calls) (sym parts.all)
     (begun_more old new (port_calls (take i cs) ++ call_of (port_of c)) parts.rest (begun_behind old mid new (port_calls (take i cs)) (call_of (port_of c)) before begun))
 
--- what a file that gave no plan was asked, whatever it says
+-- what was asked for where nothing begins with a file, whatever it says
 pub read_for : (environment : List Variable) (texts : Option (List ConfigAt)) (file : Word) (old new : Option (List Call)) (fault : Fault) → Grows old new (Config file ∷ []) → HasCalledFor environment texts file old new fault
 read_for environment texts file old new Usage grew = grew
 read_for environment texts file old new (ConfigRead path) grew = grew
@@ -142,17 +141,17 @@ called_unready words environment texts file before now old new h WantOfMemory un
 
 -- a judgement read its file, whatever it says
 pub called_judged : (words : List Word) (environment : List Variable) (texts : Option (List ConfigAt)) (file : Word) (was is : ℕ) (same : Type 0) (shown_before shown_now : Option Word) (before now : ℕ)
-    (old new : Option (List Call)) (h : Record) (fault : Option Fault) → IsCommand words (Validate file) → IsJudgedSo environment texts file was is same shown_before shown_now before now fault →
+    (old new : Option (List Call)) (h : Record) (fault : Option Fault) → h ≡ [] → IsCommand words (Validate file) → IsJudgedSo environment texts file was is same shown_before shown_now before now fault →
     Grows old new (Config file ∷ []) → HasCalled words environment texts old new h fault
-called_judged words environment texts file was is same shown_before shown_now before now old new h None asked judged grew = inr (record { file = file; asked = asked; calls = grew })
-called_judged words environment texts file was is same shown_before shown_now before now old new h (Some PrintFailed) asked judged grew = record { file = file; asked = asked; calls = grew }
-called_judged words environment texts file was is same shown_before shown_now before now old new h (Some (ConfigRead path)) asked judged grew = record { file = file; asked = inr asked; calls = grew }
-called_judged words environment texts file was is same shown_before shown_now before now old new h (Some (ConfigRefused fault)) asked judged grew = record { file = file; asked = inr asked; calls = grew }
-called_judged words environment texts file was is same shown_before shown_now before now old new h (Some WantOfMemory) asked judged grew = inr (inl (record { file = file; asked = asked; calls = grew }))
-called_judged words environment texts file was is same shown_before shown_now before now old new h (Some Usage) asked judged grew = absurd judged.0
-called_judged words environment texts file was is same shown_before shown_now before now old new h (Some (Numbers next wanted)) asked judged grew = absurd judged.0
-called_judged words environment texts file was is same shown_before shown_now before now old new h (Some (SourceFailed name at)) asked judged grew = absurd judged.0
-called_judged words environment texts file was is same shown_before shown_now before now old new h (Some (ConfirmFailed name)) asked judged grew = absurd judged.0
+called_judged words environment texts file was is same shown_before shown_now before now old new h None unbegun asked judged grew = inr (record { unbegun = unbegun; file = file; asked = asked; calls = grew })
+called_judged words environment texts file was is same shown_before shown_now before now old new h (Some PrintFailed) unbegun asked judged grew = record { unbegun = unbegun; file = file; asked = asked; calls = grew }
+called_judged words environment texts file was is same shown_before shown_now before now old new h (Some (ConfigRead path)) unbegun asked judged grew = record { file = file; asked = inr asked; calls = grew }
+called_judged words environment texts file was is same shown_before shown_now before now old new h (Some (ConfigRefused fault)) unbegun asked judged grew = record { file = file; asked = inr asked; calls = grew }
+called_judged words environment texts file was is same shown_before shown_now before now old new h (Some WantOfMemory) unbegun asked judged grew = inr (inl (record { unbegun = unbegun; file = file; asked = asked; calls = grew }))
+called_judged words environment texts file was is same shown_before shown_now before now old new h (Some Usage) unbegun asked judged grew = absurd judged.0
+called_judged words environment texts file was is same shown_before shown_now before now old new h (Some (Numbers next wanted)) unbegun asked judged grew = absurd judged.0
+called_judged words environment texts file was is same shown_before shown_now before now old new h (Some (SourceFailed name at)) unbegun asked judged grew = absurd judged.0
+called_judged words environment texts file was is same shown_before shown_now before now old new h (Some (ConfirmFailed name)) unbegun asked judged grew = absurd judged.0
 
 -- where want of memory takes the place of another fault, less is said
 read_first : (words : List Word) (environment : List Variable) (texts : Option (List ConfigAt)) (old new : Option (List Call)) (h : Record) → h ≡ [] → HasReadNamed words old new → HasAskedFirst words environment texts old new h
@@ -160,13 +159,13 @@ read_first words environment texts old new h unbegun read = go read.asked
   where
     go : IsCommand words (Run read.file) ⊎ IsCommand words (Validate read.file) → HasAskedFirst words environment texts old new h
     go (inl run) = inr (inr (inl (record { unbegun = unbegun; file = read.file; asked = run; begun = inl read.calls })))
-    go (inr judge) = inr (inl (record { file = read.file; asked = judge; calls = read.calls }))
+    go (inr judge) = inr (inl (record { unbegun = unbegun; file = read.file; asked = judge; calls = read.calls }))
 
 pub called_first : {P : Type 0} (words : List Word) (environment : List Variable) (texts : Option (List ConfigAt)) (old new : Option (List Call)) (h : Record) (ports : List (Numbered P)) (fault : Option Fault) →
     NoneMissing words environment texts h ports fault → HasCalled words environment texts old new h fault → HasAskedFirst words environment texts old new h
 called_first words environment texts old new h ports None missing (inl all) = inr (inr (inr all))
 called_first words environment texts old new h ports None missing (inr read) = inr (inl read)
-called_first words environment texts old new h ports (Some Usage) missing called = inl called
+called_first words environment texts old new h ports (Some Usage) missing called = inl (called, missing.0)
 called_first words environment texts old new h ports (Some (ConfigRead path)) missing called = read_first words environment texts old new h missing.0 called
 called_first words environment texts old new h ports (Some (ConfigRefused fault)) missing called = read_first words environment texts old new h missing.0 called
 called_first words environment texts old new h ports (Some (Numbers next wanted)) missing called = inr (inr (inr called))

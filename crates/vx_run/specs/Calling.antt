@@ -44,7 +44,7 @@ abbrev pub HasBegunFor : List Variable → Option (List ConfigAt) → Word → O
 HasBegunFor environment texts file old new =
     Grows old new (Config file ∷ []) ⊎ ((plan : Plan) × (IsPlanAt environment texts file plan × HasBegun old new (run_calls file plan)))
 
--- what a file that gave no plan was asked
+-- what was asked for where nothing begins with a file
 abbrev pub HasCalledFor : List Variable → Option (List ConfigAt) → Word → Option (List Call) → Option (List Call) → Fault → Type 0
 HasCalledFor environment texts file old new WantOfMemory = HasBegunFor environment texts file old new
 HasCalledFor environment texts file old new fault = Grows old new (Config file ∷ [])
@@ -58,8 +58,9 @@ pub record HasCalledAll (words : List Word) (old new : Option (List Call)) (h : 
   pub installed : in_force h ≡ Some plan
   pub calls : Grows old new (run_calls file plan)
 
--- a judgement of the words' file read it, and asked for nothing else
-pub record HasRead (words : List Word) (old new : Option (List Call)) : Type 0 where
+-- a judgement of the words' file read it, and asked for nothing else, and nothing began
+pub record HasRead (words : List Word) (old new : Option (List Call)) (h : Record) : Type 0 where
+  pub unbegun : h ≡ []
   pub file : Word
   pub asked : IsCommand words (Validate file)
   pub calls : Grows old new (Config file ∷ [])
@@ -80,14 +81,14 @@ pub record HasBegunRun (words : List Word) (environment : List Variable) (texts 
 -- a beginning of what the words ask for: nothing; the file of a judgement; what a run that didn't begin asked; and all where one began
 abbrev pub HasAskedFirst : List Word → List Variable → Option (List ConfigAt) → Option (List Call) → Option (List Call) → Record → Type 0
 HasAskedFirst words environment texts old new h =
-    (new ≡ old) ⊎ (HasRead words old new ⊎ (HasBegunRun words environment texts old new h ⊎ HasCalledAll words old new h))
+    ((new ≡ old) × (h ≡ [])) ⊎ (HasRead words old new h ⊎ (HasBegunRun words environment texts old new h ⊎ HasCalledAll words old new h))
 
 -- what the world was asked for, by the answer of a run
 abbrev pub HasCalled : List Word → List Variable → Option (List ConfigAt) → Option (List Call) → Option (List Call) → Record → Option Fault → Type 0
-HasCalled words environment texts old new h None = HasCalledAll words old new h ⊎ HasRead words old new
+HasCalled words environment texts old new h None = HasCalledAll words old new h ⊎ HasRead words old new h
 HasCalled words environment texts old new h (Some Usage) = new ≡ old
 HasCalled words environment texts old new h (Some (ConfigRead path)) = HasReadNamed words old new
 HasCalled words environment texts old new h (Some (ConfigRefused fault)) = HasReadNamed words old new
-HasCalled words environment texts old new h (Some PrintFailed) = HasRead words old new
+HasCalled words environment texts old new h (Some PrintFailed) = HasRead words old new h
 HasCalled words environment texts old new h (Some WantOfMemory) = HasAskedFirst words environment texts old new h
 HasCalled words environment texts old new h fault = HasCalledAll words old new h

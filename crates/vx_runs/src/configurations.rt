@@ -124,7 +124,7 @@ fn has_codecs(rt: &impl Abort, plan: &Plan, limit: u32, decoding: Decoding, code
 
 /// Checks who reads the source.
 fn has_readers(rt: &impl Abort, alloc: Global, plan: &Plan, want: &str) -> Result<(), Fail> {
-    let readers = joined(alloc, &plan.targets(alloc, "in", 0)?)?;
+    let readers = joined(alloc, plan.targets("in", 0))?;
     assert_eq!(rt; readers.as_str(), want);
     Ok(())
 }

@@ -55,8 +55,9 @@ fn two_and_three(alloc: Global, plan: &Plan) -> Result<ComponentList, WantOfMemo
 
 #[test]
 fn each_class_has_its_own_count(rt: HostRuntime) -> Result<(), Fail> {
-    let mut plan = first_plan(rt.alloc())?;
-    plan.components = two_and_three(rt.alloc(), &plan)?;
+    let first = first_plan(rt.alloc())?;
+    let components = two_and_three(rt.alloc(), &first)?;
+    let plan = Plan::new(rt.alloc(), first.global, components)?;
     let text = valid_text(rt.alloc(), &plan)?;
     let counts = "valid: 2 sources, 0 transforms, 3 sinks\n";
     assert_eq!(rt; text.as_str(), counts);

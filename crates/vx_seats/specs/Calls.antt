@@ -1,5 +1,5 @@
 -- What the calls of the seats need and tell.
-use Rattle.std.specs.Prelude.{◌≡◌, ◌≢◌, ◌≤◌, ℕ, true, false, List, Option, Some, None, IfSome, IsSomeAnd, slice_get, take_while}
+use Rattle.std.specs.Prelude.{◌≡◌, ◌≢◌, ℕ, true, false, List, Option, Some, None, IfSome, IsSomeAnd, slice_get, take_while}
 use Rattle.vx_ends.specs.Told.{Told, SameBytes, CountsBy, nothing}
 use Rattle.vx_ends.specs.declared.position.Position.{Position}
 use Rattle.vx_record.specs.Records.{Record}

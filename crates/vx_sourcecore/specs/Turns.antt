@@ -85,7 +85,7 @@ pub record StartsAtMost (old new : Told) : Type 0 where
   pub first : started ≡ true → old.started ≡ false
   pub counts : CountsBy (record nothing { started = started }) old new
 
--- a turn gives and confirms nothing, brings nothing back, and no count falls
+-- a turn gives and confirms nothing, brings nothing back, and none of these counts falls
 pub record OnlyTakes (old new : Told) : Type 0 where
   pub given : new.given ≡ old.given
   pub confirmed : new.confirmed ≡ old.confirmed
@@ -103,7 +103,7 @@ pub record DidTake (old : Told) (turned : Turned) (new : Told) : Type 0 where
   pub shown : ShowsTurn old new turned
   pub over : LeavesNothing new turned
 
--- nothing was taken, given or confirmed, and no count fell
+-- nothing was taken, given or confirmed, and none of these counts fell
 pub record IsUnmoved (old new : Told) : Type 0 where
   pub taken : new.taken ≡ old.taken
   pub ended : new.ended ≡ old.ended

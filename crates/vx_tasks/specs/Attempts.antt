@@ -7,7 +7,7 @@ use Rattle.vx_ends.specs.declared.trouble.Reply.TheVariants.{Ok, Failed, Refused
 use Rattle.vx_ends.specs.declared.trouble.Reply.{Reply}
 use Rattle.vx_tasks.specs.declared.sending.Attempted.{Attempted}
 
--- an attempt takes and confirms nothing, and no count falls
+-- an attempt takes and confirms nothing, and none of these counts falls
 pub record OnlyGives (old new : Told) : Type 0 where
   pub taken : new.taken ≡ old.taken
   pub left : new.left ≡ old.left

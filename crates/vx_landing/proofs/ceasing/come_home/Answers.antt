@@ -1,11 +1,11 @@
-use Rattle.std.proofs.Common.{◌≡◌, ◌∙◌, true, false, ap}
+use Rattle.std.proofs.Common.{◌≡◌, ◌∙◌, true, false, ap, sym}
 use Rattle.std.specs.Prelude.{is_some}
 use Rattle.vx_record.specs.Abandoning.{abandoned}
 use Rattle.vx_record.specs.Makers.{IsFor}
 use Rattle.vx_record.proofs.Adding.{adds_both}
 use Rattle.vx_record.proofs.Ceasing.{unabandoned}
 use Rattle.vx_landing.proofs.Answering.{none_known, over_known}
-use Rattle.vx_landing.proofs.Seating.{each_flags, flags_home, flags_then}
+use Rattle.vx_landing.proofs.Seating.{each_flags, flags_home, flags_then, has_task}
 use Rattle.vx_landing.specs.Landings.{ComesBehind}
 use Rattle.vx_landing.proofs.ceasing.come_home.Goals as goal
 
@@ -48,3 +48,12 @@ returns-else-is_none-clause-noted g c going =
 pub returns-else-is_none-clause-behind : goal.returns-else-is_none-clause-behind
 returns-else-is_none-clause-behind g c =
     adds_both (ComesBehind c.args.i) c.args.books.now.log c.note_home-else-is_none.new.books.log c.cease.new.books.log c.note_home-else-is_none.ensures.behind c.cease.ensures.behind
+
+pub returns-then-is_none-clause-task : goal.returns-then-is_none-clause-task
+returns-then-is_none-clause-task g c going = has_task c.args.i c.args.task c.args.books.now.seats c.note_home.new.books.seats c.note_home.ensures.back
+
+pub returns-else-is_none-clause-task : goal.returns-else-is_none-clause-task
+returns-else-is_none-clause-task g c going =
+    let some : is_some c.args.books.now.run.abandoned ≡ true = c.if-is_none.ensures in
+    let no : true ≡ false = sym some ∙ going in
+    let contrary : ⊥ = cc in absurd contrary

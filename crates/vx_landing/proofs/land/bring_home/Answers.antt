@@ -1,4 +1,5 @@
 use Rattle.std.proofs.Common.{◌≡◌, ◌∙◌, ◌++◌, false, ap, subst}
+use Rattle.std.specs.Prelude.{is_some}
 use Rattle.vx_record.specs.Records.{Record}
 use Rattle.vx_record.specs.Additions.{OnlyAdds}
 use Rattle.vx_tasks.specs.Out.{confirm_entries}
@@ -8,6 +9,7 @@ use Rattle.vx_landing.specs.Landings.{ComesBehind, IsWellLanded, done_entries, t
 use Rattle.vx_landing.specs.Standing.{IsWell}
 use Rattle.vx_record.specs.Makers.{IsFor}
 use Rattle.vx_record.proofs.Adding.{adds_both, adds_none}
+use Rattle.vx_moves.specs.declared.run.Run.{Run}
 use Rattle.vx_landing.proofs.Returning.{out_now, confirmable, back_with}
 use Rattle.vx_landing.proofs.LandedBooks.{came_home, came_short, over_stays, well_behind, on_ok, on_err}
 use Rattle.vx_landing.proofs.land.bring_home.Goals as goal
@@ -86,3 +88,8 @@ returns-clause-noted g c =
     adds_both (ComesBehind i) (told_on landing d) c.note_done-landed.new.books.log c.come_home.new.books.log
     (subst (λ (h : Record). OnlyAdds (ComesBehind i) (done_entries h i landing.done ++ h) c.note_done-landed.new.books.log) same c.note_done-landed.ensures.noted)
     c.come_home.ensures.behind
+
+pub returns-clause-task : goal.returns-clause-task
+returns-clause-task g c going =
+    let cause_same = ap (λ (r : Run). is_some r.abandoned) (c.note_done-landed.ensures.landed.leaves.run) ∙ ap (λ (r : Run). is_some r.abandoned) c.note_confirmed.ensures.leaves.run ∙ ap (λ (r : Run). is_some r.abandoned) c.give_back.ensures.run in
+    c.come_home.ensures.task (cause_same ∙ going)

@@ -1,4 +1,4 @@
-use Rattle.std.proofs.Common.{Option, Some, sym, subst}
+use Rattle.std.proofs.Common.{Option, sym, subst}
 use Rattle.vx_cli.specs.declared.fault.Fault.{Fault}
 use Rattle.vx_run.specs.Calling.{HasCalled}
 use Rattle.vx_run.proofs.Called.{called_all, called_unready}

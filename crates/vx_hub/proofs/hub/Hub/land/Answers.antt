@@ -1,6 +1,7 @@
 use Rattle.std.proofs.Common.{◌≡◌, true, false}
 use Rattle.vx_record.specs.Abandoning.{abandoned}
 use Rattle.vx_record.specs.Makers.{IsFor}
+use Rattle.vx_landing.proofs.Answering.{going_known}
 use Rattle.vx_landing.proofs.LandedBooks.{goes_on_home, on_ok, over_stays, still_going}
 use Rattle.vx_hub.proofs.Landing.{hub_home}
 use Rattle.vx_hub.proofs.hub.Hub.land.Goals as goal
@@ -25,3 +26,9 @@ returns-in-Err-clause-sound g c =
     on_ok c.answer_of.result (abandoned new.log ≡ true) (abandoned old.log ≡ false → true ≡ c.args.self.now.fatal)
     (λ over going. let not = still_going old.log new.log (goes_on_home g.P.Port.told c.args.landing.instance old new c.requires.hub.stands c.bring_home.ensures.home) going in let no : ⊥ = cc in absurd no)
     c.answer_of.ensures.fine
+
+pub returns-in-Ok-clause-task : goal.returns-in-Ok-clause-task
+returns-in-Ok-clause-task g c going = c.bring_home.ensures.task (going_known g.P.Port.told c.args.self.now.books c.requires.hub.stands going)
+
+pub returns-in-Err-clause-task : goal.returns-in-Err-clause-task
+returns-in-Err-clause-task g c going = c.bring_home.ensures.task (going_known g.P.Port.told c.args.self.now.books c.requires.hub.stands going)
