@@ -11,6 +11,7 @@ pub mod Numbering
 pub mod SpentFrom
 pub mod Dropping
 pub mod Singles
+pub mod Judges
 pub mod EachMet
 pub mod Putting
 pub mod EachEntry

@@ -1,7 +1,8 @@
--- Each parcel has one copy, where nothing was answered.
+-- Each parcel has one copy, where nothing was answered: no other entry joins parcels.
 use Rattle.std.proofs.Common.{◌≡◌, ℕ, ◌+◌, Bool, true, false, List, [], ◌∷◌, ◌++◌, length, map, sym, refl, subst}
 use Rattle.std.specs.Prelude.{if◌then◌else◌, ◌==◌}
 use Rattle.vx_record.specs.declared.child.Child.{Child}
+use Rattle.vx_record.specs.declared.entry.Entry.{Entry}
 use Rattle.vx_record.specs.declared.entry.Entry.TheVariants.{Born, Split, Push, Take, Answer}
 use Rattle.vx_record.specs.Copies.{count, counting, children_of, next_copy}
 use Rattle.vx_record.specs.Places.{Place, Put, Kind, kind, same_place, all_puts, left, puts, one_each}
@@ -9,13 +10,13 @@ use Rattle.vx_record.specs.Places.Place.{Outputs, Waiting, Contents}
 use Rattle.vx_record.specs.Lists.{without, unless_empty, standing, stands, parcels_at}
 use Rattle.vx_record.specs.Sending.{IsOldest}
 use Rattle.vx_record.specs.Records.{Record}
-use Rattle.vx_record.specs.Moving.{IsConserved}
+use Rattle.vx_record.specs.Moving.{Conserves, IsConserved}
 use Rattle.vx_record.specs.Ceasing.{no_answer}
 use Rattle.vx_record.proofs.OnePlace.{conserved}
 use Rattle.vx_counts.specs.Spends.{IsOne, AllOnes}
 use Rattle.vx_counts.specs.Laws.{OneCopyEach}
 
-ones-append : (xs ys : List Put) → AllOnes xs → AllOnes ys → AllOnes (xs ++ ys)
+pub ones-append : (xs ys : List Put) → AllOnes xs → AllOnes ys → AllOnes (xs ++ ys)
 ones-append [] ys a b = b
 ones-append (x ∷ xs) ys a b = (a.0, ones-append xs ys a.1 b)
 
@@ -51,7 +52,7 @@ oldest-one : (copies : List ℕ) (ps : List (List ℕ)) → IsOldest copies ps �
 oldest-one copies [] oldest ones = absurd oldest
 oldest-one copies (p ∷ ps) oldest ones = subst IsOne (sym oldest) ones.0
 
-one-length : (copies : List ℕ) → IsOne copies → length copies ≡ 1
+pub one-length : (copies : List ℕ) → IsOne copies → length copies ≡ 1
 one-length [] one = absurd one
 one-length (c ∷ []) one = refl
 one-length (c ∷ d ∷ cs) one = absurd one
@@ -61,26 +62,29 @@ children-ones : (i next m : ℕ) (targets : List ℕ) → m ≡ 1 →
 children-ones i next m [] is = tt
 children-ones i next m (t ∷ rest) is = (subst (λ (n : ℕ). IsOne (counting next n)) (sym is) tt, children-ones i (next + m) m rest is)
 
+-- no entry but an answer joins parcels
+pub ones_on : (h : Record) (e : Entry) → Conserves h e → no_answer (e ∷ []) ≡ true → AllOnes (all_puts h) →
+    AllOnes (all_puts (e ∷ h))
+ones_on h (Born i b place copies events waits stream end) kept none before =
+    ones-append (all_puts h) (one_each (Outputs i) copies) before (one_each-ones (Outputs i) copies)
+ones_on h (Split i ports copies event children) kept none before =
+    let one = oldest-one copies (parcels_at (Outputs i) (stands h)) kept.oldest (standing-ones (left h) (all_puts h) (Outputs i) before) in
+    ones-append (all_puts h) (puts (Split i ports copies event children)) before
+    (subst (λ (cs : List Child). AllOnes (map (λ (child : Child). record { place = Waiting i child.target; copies = child.copies }) cs)) (sym kept.made.1)
+    (children-ones i (next_copy h) (length copies) kept.made.0 (one-length copies one)))
+ones_on h (Push i t s copies) kept none before =
+    let one = oldest-one copies (parcels_at (Waiting i t) (stands h)) kept (standing-ones (left h) (all_puts h) (Waiting i t) before) in
+    ones-append (all_puts h) (puts (Push i t s copies)) before (one, tt)
+ones_on h (Take i s copies) kept none before =
+    let one = oldest-one copies (parcels_at (Contents i s) (stands h)) kept (standing-ones (left h) (all_puts h) (Contents i s) before) in
+    ones-append (all_puts h) (puts (Take i s copies)) before (one, tt)
+ones_on h (Answer i outputs discarded keeps) kept none before = absurd (cc)
+ones_on h e kept none before = ones-append (all_puts h) [] before tt
+
 ones_kept : (h : Record) → IsConserved h → no_answer h ≡ true → AllOnes (all_puts h)
 ones_kept [] kept none = tt
-ones_kept (Born i b place copies events waits stream end ∷ h) kept none =
-    ones-append (all_puts h) (one_each (Outputs i) copies) (ones_kept h kept.1 none) (one_each-ones (Outputs i) copies)
-ones_kept (Split i ports copies event children ∷ h) kept none =
-    let before = ones_kept h kept.1 none in
-    let one = oldest-one copies (parcels_at (Outputs i) (stands h)) kept.0.oldest (standing-ones (left h) (all_puts h) (Outputs i) before) in
-    ones-append (all_puts h) (puts (Split i ports copies event children)) before
-    (subst (λ (cs : List Child). AllOnes (map (λ (child : Child). record { place = Waiting i child.target; copies = child.copies }) cs)) (sym kept.0.made.1)
-    (children-ones i (next_copy h) (length copies) kept.0.made.0 (one-length copies one)))
-ones_kept (Push i t s copies ∷ h) kept none =
-    let before = ones_kept h kept.1 none in
-    let one = oldest-one copies (parcels_at (Waiting i t) (stands h)) kept.0 (standing-ones (left h) (all_puts h) (Waiting i t) before) in
-    ones-append (all_puts h) (puts (Push i t s copies)) before (one, tt)
-ones_kept (Take i s copies ∷ h) kept none =
-    let before = ones_kept h kept.1 none in
-    let one = oldest-one copies (parcels_at (Contents i s) (stands h)) kept.0 (standing-ones (left h) (all_puts h) (Contents i s) before) in
-    ones-append (all_puts h) (puts (Take i s copies)) before (one, tt)
 ones_kept (Answer i outputs discarded keeps ∷ h) kept none = absurd (cc)
-ones_kept (e ∷ h) kept none = ones-append (all_puts h) [] (ones_kept h kept.1 none) tt
+ones_kept (e ∷ h) kept none = ones_on h e kept.0 refl (ones_kept h kept.1 none)
 
 pub ones : OneCopyEach
 ones h legal none = ones_kept h (conserved h legal) none

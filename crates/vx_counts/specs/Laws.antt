@@ -4,6 +4,7 @@ use Rattle.vx_ends.specs.declared.position.Position.{Position}
 use Rattle.vx_status.specs.declared.outcome.Outcome.{Outcome}
 use Rattle.vx_plan.specs.declared.class.Class.TheVariants.{Source, Transform, Sink}
 use Rattle.vx_record.specs.declared.tally.Tally.{Tally}
+use Rattle.vx_record.specs.declared.output.Output.{Output}
 use Rattle.vx_record.specs.declared.entry.Entry.{Entry}
 use Rattle.vx_record.specs.declared.entry.Entry.TheVariants.{Spent, Confirm}
 use Rattle.vx_record.specs.Records.{Record}
@@ -11,7 +12,9 @@ use Rattle.vx_record.specs.Copies.{count, joined, times_spent}
 use Rattle.vx_record.specs.Places.{Place, Put, all_puts, puts}
 use Rattle.vx_record.specs.Places.Place.{Held}
 use Rattle.vx_record.specs.Legal.{IsLegal}
+use Rattle.vx_record.specs.Answering.{MayAnswer}
 use Rattle.vx_record.specs.Ceasing.{no_answer}
+use Rattle.vx_record.specs.Judges.{OnlyJudges}
 use Rattle.vx_record.specs.Installs.{source_at, transform_at, sink_at}
 use Rattle.vx_record.specs.Confirms.{confirmed, last_of_each}
 use Rattle.vx_record.specs.Tallies.{tally, is_batch_of, is_first, any_copy}
@@ -95,3 +98,13 @@ AllMet = (h : Record) (kept : List Tally) → EachMeets h 0 kept → kept ≡ ta
 -- each parcel has one copy, where nothing joins parcels
 abbrev pub OneCopyEach : Type 0
 OneCopyEach = (h : Record) → IsLegal h → no_answer h ≡ true → AllOnes (all_puts h)
+
+-- nor do transforms that judge each event by itself
+abbrev pub JudgesOneCopyEach : Type 0
+JudgesOneCopyEach = (h : Record) → IsLegal h → OnlyJudges h → AllOnes (all_puts h)
+
+-- so what one of them discards counts once for each copy
+abbrev pub JudgeDrops : Type 0
+JudgeDrops =
+    (h : Record) (i : ℕ) (outputs : List Output) (discarded kept : List ℕ) → IsLegal h → OnlyJudges h →
+    MayAnswer h i outputs discarded kept → count_by (is_first h i) discarded ≡ length discarded

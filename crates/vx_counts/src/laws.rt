@@ -1,6 +1,6 @@
 //! The laws of kept counts. A law's function does nothing: what it ensures is proved.
 
-ghost use Rattle.vx_counts.specs.Laws.{OthersStay, EachCounted, CountedByOwn, LegalPlace, StandsPut, PutNow, PutStays, FirstOfTaken, UnspentNone, DroppedWhole, OneCopyEach, ConfirmsAll, OneOwner, SourceIs, TransformIs, SinkIs, AllMet};
+ghost use Rattle.vx_counts.specs.Laws.{OthersStay, EachCounted, CountedByOwn, LegalPlace, StandsPut, PutNow, PutStays, FirstOfTaken, UnspentNone, DroppedWhole, OneCopyEach, JudgesOneCopyEach, JudgeDrops, ConfirmsAll, OneOwner, SourceIs, TransformIs, SinkIs, AllMet};
 
 /// An entry leaves the counts of each instance that it doesn't count for; and it counts for an instance or leaves it be. One of
 /// another task counts only as a notice, or as a copy that was dropped as the newest.
@@ -19,16 +19,19 @@ pub fn places()
 {}
 
 /// Of a parcel that was taken the first copy comes first, and no other; of one of which no copy is spent, none was spent in any way.
-/// Where no transform answered each parcel has one copy.
+/// Where no transform answered, or each judges every event by itself, each parcel has one copy.
 pub fn firsts()
     ensures taken { FirstOfTaken }
     ensures unspent { UnspentNone }
     ensures ones { OneCopyEach }
+    ensures judged { JudgesOneCopyEach }
 {}
 
-/// What a transform discards counts once for each parcel that it took, where it discards whole parcels.
+/// What a transform discards counts once for each parcel that it took, where it discards whole parcels. Where each transform judges
+/// every event by itself, it counts once for each copy.
 pub fn discards()
-    ensures { DroppedWhole }
+    ensures whole { DroppedWhole }
+    ensures judged { JudgeDrops }
 {}
 
 /// A confirm names each stream that was confirmed before it.

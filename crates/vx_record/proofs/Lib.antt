@@ -40,6 +40,8 @@ pub mod Ticks
 pub mod Rules
 pub mod Answers
 pub mod Waits
+pub mod Judged
+pub mod Judges
 pub mod Mine
 pub mod OwnTurns
 pub mod OwnReads

@@ -26,7 +26,7 @@ use Rattle.vx_record.proofs.Mine.{others, ours}
 use Rattle.vx_record.proofs.Shifting.{entry_shifts, spent_none}
 
 -- LIVE AND TAKEN
-stands_live : (h : Record) (p : Place) (c : ℕ) → IsConserved h → 0 < count c (joined (parcels_at p (stands h))) → IsLive h c
+pub stands_live : (h : Record) (p : Place) (c : ℕ) → IsConserved h → 0 < count c (joined (parcels_at p (stands h))) → IsLive h c
 stands_live h p c kept l = hand_is_live h p (joined (parcels_at p (stands h))) kept (λ d k. k) c l
 
 live_before : (h : Record) (e : Entry) (c : ℕ) → IsLive (e ∷ h) c → c < next_copy h → IsLive h c

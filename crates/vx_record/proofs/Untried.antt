@@ -76,7 +76,7 @@ owed_spent (Attempt j copies bytes answer ∷ h) whole i c none some =
 owed_spent (e ∷ h) whole i c none some = owed_spent h whole i c none some
 
 -- what is spent stays so
-spent_on : (h : Record) (e : Entry) (c : ℕ) → 0 < times_spent h c → 0 < times_spent (e ∷ h) c
+pub spent_on : (h : Record) (e : Entry) (c : ℕ) → 0 < times_spent h c → 0 < times_spent (e ∷ h) c
 spent_on h e c some = let all = count-append c (all_of spends h) (spends e) in omega (arith, some, all)
 
 not_tried : (t b : Bool) (n : ℕ) → t ≡ false → 0 < n + (if t && b then 1 else 0) → 0 < n

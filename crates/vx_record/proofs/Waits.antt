@@ -47,7 +47,7 @@ tick_last (Answer j outputs discarded kept ∷ h) i legal t = go (j == i) (tick_
 tick_last (e ∷ h) i legal t = tick_last h i legal.1 t
 
 -- where none of some copies is unspent, each is spent
-all_spent : (h : Record) (copies : List ℕ) → unspent_of h copies ≡ false → (c : ℕ) → 0 < count c copies → 0 < times_spent h c
+pub all_spent : (h : Record) (copies : List ℕ) → unspent_of h copies ≡ false → (c : ℕ) → 0 < count c copies → 0 < times_spent h c
 all_spent h [] e c l = absurd (omega arith)
 all_spent h (d ∷ ds) e c l = go (times_spent h d == 0) refl (λ g m. all_spent h ds g c m) e
   where

@@ -46,3 +46,4 @@ pub mod ShiftLaws
 pub mod Additions
 pub mod Makers
 pub mod TaskLaws
+pub mod Judges

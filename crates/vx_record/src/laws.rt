@@ -2,6 +2,7 @@
 //! ensures is proved.
 
 ghost use Rattle.vx_record.specs.Laws.{OnePlace, PlacesMeant, LiveStands, LegalConserved, ConservedPlace, ConservedLive, LegalAccounted, AccountedOnce, AccountedLate, AccountedSo, AccountedTells, OneNotice, OneNoticeAtLast, NoEarlyNotice, NoticeAtOnce, NoSpentAfterNotice, NoticeTells, BeginningLegal, RunningStatus, DeliveredWhereGood, OneEvent, InputsParted, AnswerHolds, FlushEmpties, DiscardsGo, TickLast, PushesFirst, AttemptsWait, NumbersBounded, RoutingKept, NoLeaseAfterAbandon, PrefixGrows, LineGives, LineGivesNone, TextGives};
+ghost use Rattle.vx_record.specs.Judges.{HeldIsGiven, HeldIsAnswered, FilteredThere, MayAnswerNow};
 ghost use Rattle.vx_record.specs.Wirings.{WiringStays, StartedStays, ComponentOfFirst, TargetsOfFirst};
 ghost use Rattle.vx_record.specs.Growth.{TakenGrows, GivenGrows, ConfirmedGrows, EndedGrows, SourceRises, TransformRises, SinkRises, SpentRises, TallyStays};
 
@@ -58,6 +59,15 @@ pub fn answering()
     ensures empties { FlushEmpties }
     ensures gone { DiscardsGo }
     ensures last { TickLast }
+{}
+
+/// A transform that judges each event by itself holds what it took since its last answer, or what that discarded and isn't spent;
+/// and it may answer what it took as it judges.
+pub fn judging()
+    ensures given { HeldIsGiven }
+    ensures answered { HeldIsAnswered }
+    ensures filtered { FilteredThere }
+    ensures may { MayAnswerNow }
 {}
 
 /// A parcel enters the first stage that has room, and what failed is attempted again when its wait is over.

@@ -20,8 +20,8 @@ pub use entry::Entry;
 pub use finality::final_laws;
 pub use instance::{Instance, InstanceList, Start};
 pub use laws::{
-    accounted, answering, beginnings, conserved, counting, first_wiring, growth, line_events,
-    one_event, one_notice, one_place, routing_kept, running_status, waiting,
+    accounted, answering, beginnings, conserved, counting, first_wiring, growth, judging,
+    line_events, one_event, one_notice, one_place, routing_kept, running_status, waiting,
 };
 pub use output::{Output, OutputList};
 pub use row_laws::{attempt_laws, end_laws, lease_laws, plan_laws, source_laws, spend_laws};
