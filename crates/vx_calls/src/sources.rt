@@ -3,7 +3,7 @@
 use std::alloc::Global;
 use std::process::Abort;
 use std::test::Fail;
-use vx_ends::{ActList, MemoryPort, Step, StepList};
+use vx_ends::{ActList, MemoryPort, Port, Step, StepList};
 use vx_json::Decoding;
 use vx_sourcecore::{Cut, NewLines, SourceCore, Turned};
 use vx_value::{Bytes, Text, WantOfMemory};
@@ -95,4 +95,17 @@ fn a_source_turns(rt: HostRuntime) -> Result<(), Fail> {
     assert!(rt; matches!(core.turn(&mut port)?, Turned::Failed { at_start: false }));
     has_ended(&rt, core.turn(&mut port)?)?;
     has_ended_all(&rt, core.turn(&mut port)?)
+}
+
+#[test]
+fn a_port_that_may_not_be_there(rt: HostRuntime) -> Result<(), Fail> {
+    let alloc = rt.alloc();
+    let mut none: Option<MemoryPort> = None;
+    assert!(rt; none.start().is_err());
+    none.close();
+    let mut some = Some(port(alloc)?);
+    let mut core = SourceCore::new(alloc, 5, Decoding::Json, Text::copy_of(alloc, "file")?)?;
+    has_read(&rt, core.turn(&mut some)?)?;
+    some.close();
+    Ok(())
 }

@@ -5,3 +5,4 @@ pub mod Acts
 pub mod Playing
 pub mod Scripts
 pub mod Printing
+pub mod Silent

@@ -13,6 +13,7 @@ mod memory_clock;
 mod memory_port;
 mod memory_printer;
 mod memory_world;
+mod optional;
 mod port;
 mod port_spec;
 mod position;
