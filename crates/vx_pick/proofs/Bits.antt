@@ -1,6 +1,8 @@
 -- The bits of the ports whose conditions accept, port by port.
-use Rattle.std.proofs.Common.{◌≡◌, ℕ, suc, ◌+◌, ◌<◌, ◌^◌, Bool, true, false, List, [], ◌∷◌, ◌++◌, length, drop, refl, sym, ap, ◌∙◌, arith}
+use Rattle.std.proofs.Common.{◌≡◌, inl, inr, subst, ℕ, suc, ◌+◌, ◌<◌, ◌^◌, Bool, true, false, List, [], ◌∷◌, ◌++◌, length, drop, refl, sym, ap, ◌∙◌, arith}
 use Rattle.std.specs.Prelude.{slice_index_or, if◌then◌else◌}
+use Rattle.std.proofs.lemmas.Bool.{cases_eq}
+use Rattle.std.proofs.lemmas.Bool.Decides.{nat_tests}
 use Rattle.std.proofs.Math.ListN.{drop_of_length-le}
 use Rattle.std.proofs.Math.Nat.{two-pow-succ}
 use Rattle.std.proofs.lemmas.Nat.{pow_pos}
@@ -10,7 +12,7 @@ use Rattle.vx_condition.specs.Conditions.{Says}
 use Rattle.vx_condition.specs.Steps.{Test}
 use Rattle.vx_condition.specs.Picking.{accepting_ports, or_unmatched, route_ports}
 use Rattle.vx_record.specs.Transforms.{AllMean, port_bits}
-use Rattle.vx_pick.proofs.Saying.{one_answer, tested, length-tests}
+use Rattle.vx_pick.proofs.Saying.{IsMeant, all_meant, meant_by, one_answer, one_there, tested, length-tests}
 
 -- each bit is twice the one before
 pub next_bit : (n : ℕ) → 2 ^ (n + 1) ≡ 2 ^ n + 2 ^ n
@@ -20,6 +22,7 @@ next_bit n = let one : n + 1 ≡ suc n = omega arith in ap (λ (k : ℕ). 2 ^ k)
 pub record IsSoFar (texts : List Word) (e : Event) (i accepting : ℕ) : Type 0 where
   pub bits : (tests : List Test) → AllMean texts tests →
       accepting + port_bits (accepting_ports i (drop i tests) e) ≡ port_bits (accepting_ports 0 tests e)
+  pub meant : (k : ℕ) → k < i → (text : Word) → text ≡ slice_index_or texts k text → IsMeant text
 
 port_bits-part : (b : Bool) (i : ℕ) (ports : List ℕ) →
     port_bits ((if b then i ∷ [] else []) ++ ports) ≡ (if b then 2 ^ i else 0) + port_bits ports
@@ -54,6 +57,10 @@ so_far-more texts e i accepting next text holds so below is says more = record {
       let behind = ap (λ (n : ℕ). port_bits (accepting_ports (i + 1) (drop n tests) e)) one in
       moved_on holds accepting next (2 ^ i) (port_bits (accepting_ports (i + 1) (drop (i + 1) tests) e))
       (port_bits (accepting_ports 0 tests e)) more (together _ _ _ _ _ _ (so.bits tests mean) split behind);
+  meant = λ k before word there. elim (cases_eq k i) [
+    | inl same ↦ meant_by word e.fields holds (subst (λ (w : Word). Says w e.fields holds) (one_there texts i text word below is (subst (λ (n : ℕ). word ≡ slice_index_or texts n word) same there)) says)
+    | inr other ↦ so.meant k (grind (arith, nat_tests, other, before)) word there
+  ];
 }
 
 -- behind all conditions the bits are whole
@@ -79,3 +86,7 @@ route_ports-rerouted tests e n long none =
     let empty = port_bits-zero (accepting_ports 0 tests e) none in
     let named : port_bits (route_ports tests true e) ≡ 2 ^ length tests + 0 = ap (λ (ports : List ℕ). port_bits (or_unmatched true (length tests) ports)) empty in
     omega arith
+
+-- and each of them means something
+pub so_far-meant : (texts : List Word) (e : Event) (n accepting : ℕ) → IsSoFar texts e n accepting → n ≡ length texts → (tests : List Test) × AllMean texts tests
+so_far-meant texts e n accepting so is = all_meant texts (λ k below. so.meant k (omega (arith, is, below)))

@@ -1,2 +1,3 @@
 pub mod Saying
+pub mod Picking
 pub mod Bits

@@ -18,6 +18,24 @@ one_answer text fields a b s t =
     let trees = one_tree s.tree t.tree text s.condition.spelled t.condition.spelled in
     s.meant ∙ (ap (λ (tree : Disjunction). disjunction_holds tree fields) trees ∙ sym t.meant)
 
+-- a text is a condition: it has a test
+abbrev pub IsMeant : Word → Type 0
+IsMeant text = (test : Test) × Means text test
+
+-- the texts in one place are one
+pub one_there : (texts : List Word) (i : ℕ) (text word : Word) → i < length texts → text ≡ slice_index_or texts i text → word ≡ slice_index_or texts i word → text ≡ word
+one_there [] i text word below is there = absurd (omega arith)
+one_there (t ∷ texts) zero text word below is there = is ∙ sym there
+one_there (t ∷ texts) (suc i) text word below is there = one_there texts i text word (omega arith) is there
+
+-- so all of some are
+pub all_meant : (texts : List Word) → ((k : ℕ) → k < length texts → (text : Word) → text ≡ slice_index_or texts k text → IsMeant text) → (tests : List Test) × AllMean texts tests
+all_meant [] each = ([], tt)
+all_meant (text ∷ texts) each =
+    let here = each 0 (omega arith) text refl in
+    let rest = all_meant texts (λ k below word is. each (suc k) (omega arith) word is) in
+    (here.0 ∷ rest.0, (here.1, rest.1))
+
 -- the test that a condition means, in its place
 pub record Tested (text : Word) (tests : List Test) (i : ℕ) : Type 0 where
   pub test : Test
@@ -50,3 +68,7 @@ pub passing_bits : (text : Word) (event : Event) (test : Test) (earlier : List E
     ports ≡ port_bits (passing (filter_passes test) earlier event)
 passing_bits text event test earlier holds ports mean says is =
     is ∙ ap (λ (b : Bool). if b then 1 else 0) (one_answer text event.fields holds (test event) says (mean event)) ∙ bit_of (test event)
+
+-- what says something of an event means something
+pub meant_by : (text : Word) (fields : List NamedDatum) (holds : Bool) → Says text fields holds → IsMeant text
+meant_by text fields holds says = (λ e. disjunction_holds says.tree e.fields, λ e. record { tree = says.tree; condition = says.condition; meant = refl })

@@ -1,10 +1,11 @@
-ghost use Rattle.std.specs.Prelude.{◌≡◌, ◌↔◌, ℕ, Option, None, List, [], ◌∷◌, OnOk, OnErr, IfErr, IsOk};
+ghost use Rattle.std.specs.Prelude.{◌≡◌, ◌<◌, ◌^◌, ◌↔◌, ℕ, Option, None, List, [], ◌∷◌, OnOk, OnErr, IfOk, IfErr, IsOk};
 ghost use Rattle.vx_value.specs.declared.event.Event.{Event};
 ghost use Rattle.vx_condition.specs.Steps.{Test};
 ghost use Rattle.vx_condition.specs.Picking.{filter_passes};
-ghost use Rattle.vx_record.specs.Transforms.{Means, passing};
+ghost use Rattle.vx_record.specs.Transforms.{Means, passing, port_bits};
 ghost use Rattle.vx_transform.specs.Moves.{Moves};
 ghost use Rattle.vx_pick.specs.Answers.{answered_on};
+ghost use Rattle.vx_pick.specs.Picks.{AreMeant};
 
 use crate::answer::answer;
 use std::alloc::Global;
@@ -12,7 +13,7 @@ use std::marker::Model;
 use vx_condition::Condition;
 use vx_ledger::{Finalizer, Parcel};
 use vx_transform::{Back, Shelf, Transform};
-use vx_value::WantOfMemory;
+use vx_value::{Event, WantOfMemory};
 
 // The bit of the one port.
 const PASSED: u128 = 1;
@@ -37,6 +38,21 @@ impl Filter {
         ensures { result ≡ condition }
     {
         Filter { condition }
+    }
+
+    /// The bits of the ports on which an event is put out: that of port 0 where the condition holds of it, and elsewhere none.
+    pub fn ports_for(&mut self, alloc: Global, event: &Event) -> Result<u128, WantOfMemory>
+        ensures ports { IfOk result (λ ports. (test : Test) (earlier : List Event) → Means self.old test →
+            ports ≡ port_bits (passing (filter_passes test) earlier event.now)) }
+        ensures below { IfOk result (λ ports. ports < 2 ^ 1) }
+        ensures meant { OnOk result (AreMeant (self.old ∷ [])) }
+        ensures same { self.new ≡ self.old }
+    {
+        Ok(if self.condition.holds(alloc, event)? {
+            PASSED
+        } else {
+            0
+        })
     }
 }
 
@@ -66,8 +82,8 @@ impl Transform for Filter {
         ensures back { IfErr result (λ refused. refused.parcel ≡ parcel) }
         ensures shelf { OnErr result (shelf.new ≡ shelf.old) }
     {
-        match self.condition.holds(alloc, &parcel.event) {
-            Ok(holds) => answer(shelf, if holds { PASSED } else { 0 }, parcel),
+        match self.ports_for(alloc, &parcel.event) {
+            Ok(ports) => answer(shelf, ports, parcel),
             Err(WantOfMemory) => Err(Back { parcel }),
         }
     }

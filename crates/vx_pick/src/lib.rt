@@ -3,9 +3,11 @@
 
 mod answer;
 mod filter;
+mod picker;
 mod route;
 #[cfg(test)]
 mod tests;
 
 pub use filter::Filter;
+pub use picker::Picker;
 pub use route::Route;

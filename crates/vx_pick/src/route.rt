@@ -6,6 +6,8 @@ ghost use Rattle.vx_condition.specs.Picking.{accepting_ports, route_ports};
 ghost use Rattle.vx_record.specs.Transforms.{AllMean, port_bits};
 ghost use Rattle.vx_transform.specs.Moves.{Moves};
 ghost use Rattle.vx_pick.specs.Answers.{answered_on};
+ghost use Rattle.vx_pick.specs.Routes.{ways_ports};
+ghost use Rattle.vx_pick.specs.Picks.{AreMeant};
 
 use crate::answer::answer;
 use std::alloc::Global;
@@ -48,6 +50,18 @@ impl Route {
             reroute,
         }
     }
+
+    /// The bits of the ports on which an event is put out: those whose conditions hold of it. Where none holds, that of the last
+    /// port, or none, as the route was made.
+    pub fn ports_for(&mut self, alloc: Global, event: &Event) -> Result<u128, WantOfMemory>
+        ensures ports { IfOk result (λ ports. (tests : List Test) → AllMean self.old.conditions tests →
+            ports ≡ port_bits (route_ports tests self.old.reroute event.now)) }
+        ensures below { IfOk result (λ ports. ports < 2 ^ ways_ports self.old) }
+        ensures meant { OnOk result (AreMeant self.old.conditions) }
+        ensures same { self.new ≡ self.old }
+    {
+        ports(&mut self.conditions, self.reroute, alloc, event)
+    }
 }
 
 impl Transform for Route {
@@ -79,7 +93,7 @@ impl Transform for Route {
         ensures back { IfErr result (λ refused. refused.parcel ≡ parcel) }
         ensures shelf { OnErr result (shelf.new ≡ shelf.old) }
     {
-        match ports(&mut self.conditions, self.reroute, alloc, &parcel.event) {
+        match self.ports_for(alloc, &parcel.event) {
             Ok(ports) => answer(shelf, ports, parcel),
             Err(WantOfMemory) => Err(Back { parcel }),
         }
@@ -128,6 +142,7 @@ fn ports(
     ensures ports { IfOk result (λ ports. (tests : List Test) → AllMean conditions.old.items tests →
         ports ≡ port_bits (route_ports tests reroute event.now)) }
     ensures below { IfOk result (λ ports. ports < 2 ^ (length conditions.old.items + 1)) }
+    ensures meant { OnOk result (AreMeant conditions.old.items) }
     ensures same { conditions.new.items ≡ conditions.old.items }
 {
     let (accepting, behind) = accepting(conditions, alloc, event)?;
@@ -149,6 +164,7 @@ fn accepting(
         bits.0 ≡ port_bits (accepting_ports 0 tests event.now)) }
     ensures behind { IfOk result (λ bits. bits.1 ≡ 2 ^ length conditions.old.items) }
     ensures below { IfOk result (λ bits. bits.0 < bits.1) }
+    ensures meant { OnOk result (AreMeant conditions.old.items) }
     ensures same { conditions.new.items ≡ conditions.old.items }
 {
     let mut accepting: u128 = 0;

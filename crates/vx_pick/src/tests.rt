@@ -1,7 +1,7 @@
 //! Each public call once, of vx_transform and of this crate.
 ghost use Rattle.std.specs.Prelude.{◌≡◌, [], IfOk};
 
-use crate::{Filter, Route};
+use crate::{Filter, Picker, Route};
 use std::alloc::Global;
 use std::process::Abort;
 use std::test::Fail;
@@ -25,11 +25,17 @@ fn no_copies(rt: &impl Abort, alloc: Global) -> Result<Finalizers, Fail>
     Ok(copies)
 }
 
-// A parcel without copies, of an event with a message.
-fn bare(rt: &impl Abort, alloc: Global, message: &str) -> Result<Parcel, Fail> {
+// An event with a message.
+fn event(alloc: Global, message: &str) -> Result<Event, Fail> {
     let mut event = Event::new(alloc);
     let path = Path::read(alloc, ".message")?;
     event.put(&path, Value::Words(Text::copy_of(alloc, message)?))?;
+    Ok(event)
+}
+
+// A parcel without copies, of an event with a message.
+fn bare(rt: &impl Abort, alloc: Global, message: &str) -> Result<Parcel, Fail> {
+    let event = event(alloc, message)?;
     let finalizers = no_copies(rt, alloc)?;
     Ok(Parcel { event, finalizers })
 }
@@ -157,4 +163,27 @@ fn route_that_discards(rt: HostRuntime) -> Result<(), Fail> {
     let mut route = route(&rt, rt.alloc(), false)?;
     answers(&rt, rt.alloc(), &mut route, "y", Some(0b10))?;
     answers(&rt, rt.alloc(), &mut route, "z", None)
+}
+
+// The ports that a picker says for an event with a message.
+fn picked(
+    rt: &impl Abort,
+    alloc: Global,
+    picker: &mut Picker,
+    message: &str,
+    want: u128,
+) -> Result<(), Fail> {
+    let event = event(alloc, message)?;
+    assert_eq!(rt; picker.ports_for(alloc, &event)?, want);
+    Ok(())
+}
+
+#[test]
+fn pickers_by_one_condition_and_by_two(rt: HostRuntime) -> Result<(), Fail> {
+    let mut one = Picker::Filter(Filter::new(parse(rt.alloc(), ".message == \"k\"")?));
+    picked(&rt, rt.alloc(), &mut one, "k", 0b1)?;
+    picked(&rt, rt.alloc(), &mut one, "a", 0)?;
+    let mut two = Picker::Route(route(&rt, rt.alloc(), true)?);
+    picked(&rt, rt.alloc(), &mut two, "xy", 0b11)?;
+    picked(&rt, rt.alloc(), &mut two, "z", 0b100)
 }

@@ -4,7 +4,8 @@ use Rattle.std.proofs.lemmas.List.{set-get_or}
 use Rattle.vx_value.specs.Texts.{Word}
 use Rattle.vx_condition.specs.Conditions.{Says}
 use Rattle.vx_record.specs.Transforms.{AllMean}
-use Rattle.vx_pick.proofs.Bits.{next_bit, so_far-more, so_far-all}
+use Rattle.vx_pick.specs.Picks.{AreMeant}
+use Rattle.vx_pick.proofs.Bits.{next_bit, so_far-more, so_far-all, so_far-meant}
 use Rattle.vx_pick.proofs.route.accepting.Goals as goal
 use Rattle.vx_pick.proofs.route.accepting.Goals.{then-branch, else-branch}
 
@@ -43,3 +44,9 @@ returns-clause-accepting c = λ tests mean.
     so_far-all read.result.now c.args.event.now c.loop-condition.condition-index c.loop-condition.accepting c.loop-condition.invariant.3
     (omega (arith, c.loop-condition-test.false, c.loop-condition.auto.condition-index-end)) tests
     (subst (λ (words : List Word). AllMean words tests) (sym read.ensures.value) mean)
+
+pub returns-clause-meant : goal.returns-clause-meant
+returns-clause-meant c =
+    let read = c.deref_mut-condition-items in
+    subst AreMeant read.ensures.value (so_far-meant read.result.now c.args.event.now c.loop-condition.condition-index c.loop-condition.accepting c.loop-condition.invariant.3
+    (omega (arith, c.loop-condition-test.false, c.loop-condition.auto.condition-index-end)))
