@@ -1,4 +1,6 @@
 pub mod Written
+pub mod Losing
+pub mod Ports
 pub mod Steps
 pub mod Making
 pub mod Spending

@@ -8,13 +8,13 @@ use Rattle.vx_ledger.specs.declared.parcel.Parcel.{Parcel}
 use Rattle.vx_record.specs.Places.{Place, owner}
 use Rattle.vx_record.specs.Places.Place.{Outputs, Waiting, Contents, Held}
 use Rattle.vx_places.specs.declared.row.Row.{Row}
-use Rattle.vx_places.specs.Numbers.{for_target}
-use Rattle.vx_places.specs.Views.{row_at, stage_at, stage_items, held_items, here, here_if, Same}
+use Rattle.vx_places.specs.Numbers.{parcels_out, for_target}
+use Rattle.vx_places.specs.Views.{row_at, stage_at, stage_items, held_items, here, here_if, outputs_if, Same}
 use Rattle.vx_places.specs.Rooms.{stage_rooms, line_room, rooms_if, held_room_if, AddsRooms}
 use Rattle.vx_places.specs.Laws.{HeldSays}
 use Rattle.vx_places.specs.Looks.{AreBare}
 use Rattle.vx_places.specs.Calls.{AreEmpty, IsNew, IsRow, IsVacant, EachVacant, empty_stages}
-use Rattle.vx_places.proofs.Written.{one_some}
+use Rattle.vx_places.proofs.Written.{one_some, no_outputs}
 use Rattle.vx_places.proofs.Looking.{none_for}
 
 -- STAGES THAT ARE MADE
@@ -47,7 +47,7 @@ none_held room None is = absurd is
 none_held room (Some h) is = (ap Some is.0, ap Some is.1)
 
 nothing_here : (rooms : List ℕ) (room : ℕ) (row : Row) → IsNew rooms room row → (p : Place) → here p row ≡ Some []
-nothing_here rooms room row is (Outputs i) = ap Some is.outputs
+nothing_here rooms room row is (Outputs i) = ap (λ os. Some (parcels_out os)) is.outputs
 nothing_here rooms room row is (Waiting i t) = ap (λ cs. Some (for_target t cs)) is.waiting
 nothing_here rooms room row is (Contents i s) = ap (λ ss. Some (stage_items (stage_at ss s))) is.stages ∙ ap Some (no_items rooms s)
 nothing_here rooms room row is (Held i) = (none_held room row.held is.held).0
@@ -63,13 +63,13 @@ first_rows (r ∷ rows) row (suc i) l = first_rows rows row i (omega arith)
 
 module _ (rooms : List ℕ) (room : ℕ) (rows : List Row) (row : Row) (is : IsNew rooms room row) where
   pub added_same : Same rows (rows ++ row ∷ [])
-  added_same p = go rows (owner p)
+  added_same = record { here = λ p. go (here_if p) (nothing_here rooms room row is p) rows (owner p); outputs = go outputs_if is.outputs rows }
     where
-      go : (rs : List Row) (k : ℕ) → here_if p (row_at (rs ++ row ∷ []) k) ≡ here_if p (row_at rs k)
-      go [] zero = nothing_here rooms room row is p
-      go [] (suc k) = refl
-      go (r ∷ rs) zero = refl
-      go (r ∷ rs) (suc k) = go rs k
+      go : {X : Type 0} (F : Option Row → X) → F (Some row) ≡ F None → (rs : List Row) (k : ℕ) → F (row_at (rs ++ row ∷ []) k) ≡ F (row_at rs k)
+      go F none [] zero = none
+      go F none [] (suc k) = refl
+      go F none (r ∷ rs) zero = refl
+      go F none (r ∷ rs) (suc k) = go F none rs k
 
   pub added_row : IsRow (IsNew rooms room) (rows ++ row ∷ []) (length rows)
   added_row = rw (last_row rows row) is
@@ -106,7 +106,7 @@ empty_held (Some h) none = one_some h.items [] none
 
 vacant : (i : ℕ) (row : Row) → ((p : Place) → owner p ≡ i → here p row ≡ Some []) → IsVacant row
 vacant i row none = record {
-  outputs = one_some _ _ (none (Outputs i) refl);
+  outputs = no_outputs row.outputs.items (one_some _ _ (none (Outputs i) refl));
   waiting = none_for row.waiting.items (λ t. one_some _ _ (none (Waiting i t) refl));
   stages = recursion_from_All (λ (stage : Filled Parcel). stage.items ≡ []) row.stages.items
       (λ s d l. one_some _ _ (rw (slice_get-get_or row.stages.items s d l) at (none (Contents i s) refl)));

@@ -22,12 +22,13 @@ use Rattle.vx_record.proofs.Hands.{AreAt, others_stay}
 use Rattle.vx_record.proofs.OnePlace.{conserved}
 use Rattle.vx_record.proofs.Shifting.{stands_at}
 use Rattle.vx_places.specs.declared.row.Row.{Row}
-use Rattle.vx_places.specs.Numbers.{numbers, IsCopyIn}
-use Rattle.vx_places.specs.Views.{parcels_here, numbers_here, IsAmong, IsAt}
+use Rattle.vx_places.specs.Numbers.{numbers}
+use Rattle.vx_places.specs.Views.{parcels_here, numbers_here, IsAt}
 use Rattle.vx_places.specs.Holding.{Holds}
 use Rattle.vx_places.specs.Calls.{Loses, left_of}
 use Rattle.vx_places.specs.Laws.{SpentShifts}
 use Rattle.vx_places.proofs.Written.{each_place}
+use Rattle.vx_places.proofs.Losing.{among_before}
 use Rattle.vx_places.proofs.Steps.{came}
 
 -- LISTS
@@ -66,17 +67,6 @@ first_shrinks c xs rest full once =
         go false is = refl
 
 -- A COPY LEFT
-copy_before : (cs : List Copy) (copy c : Copy) → IsCopyIn cs c → IsCopyIn (cs ++ copy ∷ []) c
-copy_before [] copy c is = absurd is
-copy_before (d ∷ cs) copy c (inl here) = inl here
-copy_before (d ∷ cs) copy c (inr more) = inr (copy_before cs copy c more)
-
-among_before : (event : Event) (cs : List Copy) (copy : Copy) (rest : List Parcel) (ev : Event) (c : Copy) → IsAmong (left_of event cs rest) ev c →
-    IsAmong (record { event = event; finalizers = cs ++ copy ∷ [] } ∷ rest) ev c
-among_before event [] copy rest ev c is = inr is
-among_before event (d ∷ cs) copy rest ev c (inl here) = inl (here.0, copy_before (d ∷ cs) copy c here.1)
-among_before event (d ∷ cs) copy rest ev c (inr more) = inr more
-
 -- what stays of the parcels at a place stays of their numbers, or the place is lent
 mapped : (F : List (List ℕ) → List (List ℕ)) (o : Option (List Parcel)) (xs : List (List ℕ)) → IfSome o (λ ps. numbers ps ≡ xs) → F xs ≡ xs →
     option_map numbers o ≡ option_map F (option_map numbers o)
@@ -137,4 +127,5 @@ pub spent_shifts : SpentShifts
 spent_shifts h i outcome q copy old new own legal holds loses = record {
   each = each h i outcome q copy old new own legal holds loses;
   comes = λ p ev d now. inl (comes h i outcome q copy old new own legal holds loses p ev d now);
+  on = λ j ports d now. inl (loses.on j ports d now);
 }

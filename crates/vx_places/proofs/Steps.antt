@@ -1,6 +1,6 @@
 -- How a call changes the places, by the numbers of their parcels, and the places of a record with one entry more.
 use Rattle.std.proofs.Common.{◌≡◌, ℕ, Bool, true, false, List, [], ◌∷◌, ◌++◌, refl, sym, ap, ◌∙◌, arith, Option, Some, None, inl, inr, ◌<◌, IfSome}
-use Rattle.std.specs.Prelude.{◌≢◌, ◌==◌, ◌⊎◌, if◌then◌else◌, nat_lt}
+use Rattle.std.specs.Prelude.{◌==◌, ◌⊎◌, if◌then◌else◌, nat_lt}
 use Rattle.std.specs.Option.{option_map}
 use Rattle.std.proofs.lemmas.Bool.Decides.{nat_tests}
 use Rattle.std.proofs.lemmas.Iterator.Adapters.{option_map_id}
@@ -9,18 +9,19 @@ use Rattle.vx_value.specs.declared.event.Event.{Event}
 use Rattle.vx_ledger.specs.Copies.{Copy, numbers_of}
 use Rattle.vx_ledger.specs.declared.parcel.Parcel.{Parcel}
 use Rattle.vx_ledger.specs.declared.child.Child.{Child}
-use Rattle.vx_record.specs.declared.output.Output.{Output}
+use Rattle.vx_transform.specs.declared.output.Output.{Output}
+use Rattle.vx_record.specs.declared.output.Output.{Output as NotedOutput}
 use Rattle.vx_record.specs.declared.entry.Entry.{Entry}
 use Rattle.vx_record.specs.declared.entry.Entry.TheVariants.{Born, Split, Push, Take, Answer, Spent}
 use Rattle.vx_record.specs.Places.{Place, same_place, put_out}
 use Rattle.vx_record.specs.Places.Place.{Outputs, Waiting, Contents, Held}
-use Rattle.vx_record.specs.Lists.{and_rest, shrunk, is_child_of}
+use Rattle.vx_record.specs.Lists.{shrunk, is_child_of}
 use Rattle.vx_record.specs.Moving.{singles, children_for, parcels_of, IsStill}
 use Rattle.vx_record.specs.Shifts.{younger, shift, at}
 use Rattle.vx_record.specs.Records.{Record}
 use Rattle.vx_record.specs.Copies.{count, joined, next_copy}
 use Rattle.vx_record.specs.Batches.{parent, batch_of}
-use Rattle.vx_record.specs.Parcels.{event_of}
+use Rattle.vx_record.specs.Parcels.{event_of, ports_of}
 use Rattle.vx_record.specs.Legal.{IsLegal}
 use Rattle.vx_record.proofs.Changes.{same_place_self, same_place_is}
 use Rattle.vx_record.proofs.Answers.{count-shrunk}
@@ -31,12 +32,13 @@ use Rattle.vx_record.proofs.Live.{if_lt}
 use Rattle.vx_record.proofs.OnePlace.{conserved}
 use Rattle.vx_record.proofs.Shifting.{stands_at}
 use Rattle.vx_places.specs.declared.row.Row.{Row}
-use Rattle.vx_places.specs.Numbers.{numbers, parcels_in, for_target, noted, EachFilled, IsCopyIn}
-use Rattle.vx_places.specs.Views.{parcels_here, numbers_here, Others, IsAmong, IsAt, IsIn}
-use Rattle.vx_places.specs.Holding.{IsNoAnswer, WasSomewhere, IsKnown, Holds}
+use Rattle.vx_places.specs.Numbers.{numbers, parcels_in, parcels_out, for_target, noted, EachFilled}
+use Rattle.vx_places.specs.Views.{parcels_here, numbers_here, outputs_here, Others, SameOutputs, IsAmong, IsAt, IsIn, IsOnAmong, IsOn}
+use Rattle.vx_places.specs.Holding.{IsNoAnswer, WasSomewhere, IsKnown, PutsOn, Holds}
 use Rattle.vx_places.specs.Calls.{Takes, Puts, Waits, Moves, PutsOut, Divides}
 use Rattle.vx_places.specs.Laws.{HoldsStep, StillShifts, SameHolds, OldestThere, LentIs, LentComesBack, NoneHolds}
-use Rattle.vx_places.proofs.Written.{each_place, one_some}
+use Rattle.vx_places.proofs.Written.{each_place, each_outputs, one_some}
+use Rattle.vx_places.proofs.Ports.{on_at, copy_counts, on-append, and_filled, born_on, numbers_out, noted_on, ports_put, ports_stay}
 
 -- LISTS
 among-append : (a b : List Parcel) (event : Event) (copy : Copy) → IsAmong (a ++ b) event copy → IsAmong a event copy ⊎ IsAmong b event copy
@@ -49,10 +51,6 @@ both F G None = refl
 both F G (Some x) = refl
 
 -- the children for a target, by their numbers
-and_filled : (cs : List Copy) (rest : List (List ℕ)) → cs ≢ [] → numbers_of cs ∷ rest ≡ and_rest (numbers_of cs) rest
-and_filled [] rest filled = absurd (filled refl)
-and_filled (c ∷ cs) rest filled = refl
-
 numbers_for : (t : ℕ) (children : List Child) → EachFilled (parcels_in children) → numbers (for_target t children) ≡ children_for t (noted children)
 numbers_for t [] filled = refl
 numbers_for t (child ∷ rest) filled =
@@ -106,23 +104,26 @@ module _ {q : Place} {more : List Parcel} {old new : List Row} (puts : Puts q mo
   put_came = came q old new puts.was puts.now puts.others (λ e c. IsAmong more e c) (among-append puts.before more)
 
 -- WHAT IS PUT OUT, at a birth, or at an answer while what was held is lent
-module _ {i : ℕ} {parcels : List Parcel} {old new : List Row} (put : Puts (Outputs i) parcels old new) where
+module _ {i : ℕ} (outputs : List Output) {old new : List Row} (put : Puts (Outputs i) (parcels_out outputs) old new) (added : outputs_here new i ≡ outputs_here old i ++ outputs) where
+  abbrev parcels : List Parcel
+  parcels = parcels_out outputs
+
   out : (copies : List (List ℕ)) → numbers parcels ≡ copies → (p : Place) →
       numbers_here new p ≡ option_map (λ xs. if same_place (Outputs i) p then xs ++ copies else xs) (numbers_here old p)
   out copies same p = rw same at (put_made put p)
 
-  answered : (outputs : List Output) (discarded kept : List ℕ) → numbers parcels ≡ parcels_of outputs → parcels_here old (Held i) ≡ None →
-      (p : Place) → numbers_here new p ≡ option_map (shift (Answer i outputs discarded kept) p) (numbers_here old p)
-  answered outputs discarded kept same lent (Outputs j) = out (parcels_of outputs) same (Outputs j)
-  answered outputs discarded kept same lent (Held j) = go (i == j) refl
+  answered : (notes : List NotedOutput) (discarded kept : List ℕ) → numbers parcels ≡ parcels_of notes → parcels_here old (Held i) ≡ None →
+      (p : Place) → numbers_here new p ≡ option_map (shift (Answer i notes discarded kept) p) (numbers_here old p)
+  answered notes discarded kept same lent (Outputs j) = out (parcels_of notes) same (Outputs j)
+  answered notes discarded kept same lent (Held j) = go (i == j) refl
     where
-      go : (b : Bool) → (i == j) ≡ b → numbers_here new (Held j) ≡ option_map (λ xs. if b then shrunk (put_out outputs) xs else xs) (numbers_here old (Held j))
+      go : (b : Bool) → (i == j) ≡ b → numbers_here new (Held j) ≡ option_map (λ xs. if b then shrunk (put_out notes) xs else xs) (numbers_here old (Held j))
       go true is =
           let own : i ≡ j = grind (arith, nat_tests) in
           let none : parcels_here old (Held j) ≡ None = rw own at lent in
           rw (put.others (Held j) refl, none)
-      go false is = out (parcels_of outputs) same (Held j)
-  answered outputs discarded kept same lent p = out (parcels_of outputs) same p
+      go false is = out (parcels_of notes) same (Held j)
+  answered notes discarded kept same lent p = out (parcels_of notes) same p
 
   born : (b place : ℕ) (copies : List ℕ) (events : List Event) (waits : Bool) (stream end : ℕ) → numbers parcels ≡ singles copies →
       (p : Place) → numbers_here new p ≡ option_map (shift (Born i b place copies events waits stream end) p) (numbers_here old p)
@@ -133,13 +134,26 @@ module _ {i : ℕ} {parcels : List Parcel} {old new : List Row} (put : Puts (Out
       IsAt old p event copy ⊎ ((IsNoAnswer e × WasSomewhere old event copy) ⊎ IsAmong parcels event copy)
   out_comes e p event copy is = elim (put_came put p event copy is) [ inl before ↦ inl before | inr more ↦ inr (inr more) ]
 
-  pub births_put : PutsOut i parcels old new
+  out_on : (e : Entry) → ((ports : ℕ) (copy : Copy) → IsOnAmong outputs ports copy → PutsOn e ports copy.number) →
+      (j ports : ℕ) (copy : Copy) → IsOn new j ports copy → IsOn old j ports copy ⊎ PutsOn e ports copy.number
+  out_on e says = each_outputs (λ was now. (ports : ℕ) (copy : Copy) → IsOnAmong now ports copy → IsOnAmong was ports copy ⊎ PutsOn e ports copy.number)
+      (λ os ports copy on. inl on) i old new
+      (λ ports copy on. elim (on-append (outputs_here old i) outputs ports copy (rw added at on)) [ inl before ↦ inl before | inr more ↦ inr (says ports copy more) ])
+      put.outputs
+
+  pub births_put : PutsOut i outputs old new
   births_put = record {
     put = put;
-    born = λ b place copies events waits stream end same.
-        record { each = born b place copies events waits stream end same; comes = out_comes (Born i b place copies events waits stream end) };
-    answered = λ outputs discarded kept same lent.
-        record { each = answered outputs discarded kept same lent; comes = out_comes (Answer i outputs discarded kept) };
+    born = λ b place copies events waits stream end same on. record {
+      each = born b place copies events waits stream end same;
+      comes = out_comes (Born i b place copies events waits stream end);
+      on = out_on (Born i b place copies events waits stream end) (λ ports copy is. born_on outputs copies ports copy same on is);
+    };
+    answered = λ notes discarded kept are filled lent. record {
+      each = answered notes discarded kept (numbers_out outputs notes are filled) lent;
+      comes = out_comes (Answer i notes discarded kept);
+      on = out_on (Answer i notes discarded kept) (λ ports copy is. noted_on outputs notes ports copy are is);
+    };
   }
 
 -- A PARCEL THAT MOVES
@@ -157,9 +171,9 @@ module _ {from to : Place} {parcel : Parcel} {old mid new : List Row} (taken : T
       ∙ both (last_come to (numbers_of parcel.finalizers) p) (first_gone from p) (numbers_here old p)
 
   -- so it is where an entry that gives no copy another event says so
-  moves : (entry : List ℕ → Entry) → IsNoAnswer (entry (numbers_of parcel.finalizers)) →
+  moves : (entry : List ℕ → Entry) → IsNoAnswer (entry (numbers_of parcel.finalizers)) → ((j : ℕ) → same_place to (Outputs j) ≡ false) →
       ((p : Place) → numbers_here new p ≡ option_map (shift (entry (numbers_of parcel.finalizers)) p) (numbers_here old p)) → Moves entry from to old new
-  moves entry none each = record {
+  moves entry none apart each = record {
     parcel = parcel;
     mid = mid;
     taken = taken;
@@ -170,12 +184,13 @@ module _ {from to : Place} {parcel : Parcel} {old mid new : List Row} (taken : T
         | inl before ↦ inl (taken_came taken p event copy before)
         | inr more ↦ inr (inl (none, (from, taken_at taken event copy more)))
       ];
+      on = λ j ports copy is. inl (taken.on j ports copy (rw (put.outputs j (apart j)) at is));
     };
   }
 
 pub push_moves : {i t s : ℕ} {parcel : Parcel} {old mid new : List Row} → Takes (Waiting i t) parcel old mid → Puts (Contents t s) (parcel ∷ []) mid new →
     Moves (λ copies. Push i t s copies) (Waiting i t) (Contents t s) old new
-push_moves {i} {t} {s} {parcel} {old} {mid} {new} taken put = moves taken put (λ copies. Push i t s copies) tt each
+push_moves {i} {t} {s} {parcel} {old} {mid} {new} taken put = moves taken put (λ copies. Push i t s copies) tt (λ j. refl) each
   where
     each : (p : Place) → numbers_here new p ≡ option_map (shift (Push i t s (numbers_of parcel.finalizers)) p) (numbers_here old p)
     each (Waiting j u) = moved taken put (Waiting j u)
@@ -183,7 +198,7 @@ push_moves {i} {t} {s} {parcel} {old} {mid} {new} taken put = moves taken put (�
 
 pub take_moves : {i s : ℕ} {parcel : Parcel} {old mid new : List Row} → Takes (Contents i s) parcel old mid → Puts (Held i) (parcel ∷ []) mid new →
     Moves (λ copies. Take i s copies) (Contents i s) (Held i) old new
-take_moves {i} {s} {parcel} {old} {mid} {new} taken put = moves taken put (λ copies. Take i s copies) tt each
+take_moves {i} {s} {parcel} {old} {mid} {new} taken put = moves taken put (λ copies. Take i s copies) tt (λ j. refl) each
   where
     each : (p : Place) → numbers_here new p ≡ option_map (shift (Take i s (numbers_of parcel.finalizers)) p) (numbers_here old p)
     each (Held j) = moved taken put (Held j)
@@ -220,6 +235,7 @@ children_divide waits = record {
   split = λ old parcel ports event taken filled. record {
     each = divided taken waits ports event filled;
     comes = λ p ev copy is. elim (child_comes taken waits p ev copy is) [ inl before ↦ inl before | inr more ↦ inr (inr more) ];
+    on = λ j onto copy is. inl (taken.on j onto copy (rw (waits.outputs j) at is));
   };
 }
 
@@ -255,11 +271,6 @@ known_later h e event copy same is =
     }
 
 -- A COPY STANDS WHERE ITS PARCEL DOES
-copy_counts : (cs : List Copy) (copy : Copy) → IsCopyIn cs copy → 0 < count copy.number (numbers_of cs)
-copy_counts [] copy is = absurd is
-copy_counts (c ∷ cs) copy (inl same) = let e = ap (λ (x : Copy). x.number) same in grind (arith, nat_tests, e)
-copy_counts (c ∷ cs) copy (inr more) = let l = copy_counts cs copy more in omega (arith, l)
-
 pub among_counts : (ps : List Parcel) (event : Event) (copy : Copy) → IsAmong ps event copy → 0 < count copy.number (joined (numbers ps))
 among_counts [] event copy is = absurd is
 among_counts (p ∷ ps) event copy (inl here) =
@@ -275,10 +286,18 @@ in_counts (Some ps) there event copy is at = rw is at (among_counts ps event cop
 gone_none : (c : ℕ) (gone : List ℕ) (ps : List (List ℕ)) → 0 < count c (joined (shrunk gone ps)) → count c gone ≡ 0
 gone_none c gone ps l = let e = count-shrunk c gone ps in grind (arith, unless-some, e, l)
 
+-- what an answer puts out stood in the hold alone
+held_alone : (h : Record) (i : ℕ) (made : List NotedOutput) (discarded rest : List ℕ) → IsLegal (Answer i made discarded rest ∷ h) → (p : Place) → same_place p (Held i) ≡ false →
+    (c : ℕ) → 0 < count c (joined (at h p)) → count c (put_out made) ≡ 0
+held_alone h i made discarded rest legal p other c there =
+    let none = not_there h p (Held i) c (conserved h legal.1) other (rw (stands_at h p legal.1) there) in
+    let released = (conserved (Answer i made discarded rest ∷ h) legal).0 c in
+    omega (arith, none, released)
+
 -- ONE ENTRY MORE
 module _ (h : Record) (old new : List Row) (holds : Holds old h) where
-  -- what an answer puts out stood in no place but the hold, and is no more there
-  not_put_out : (i : ℕ) (made : List Output) (discarded rest : List ℕ) → IsLegal (Answer i made discarded rest ∷ h) →
+  -- and is no more there
+  not_put_out : (i : ℕ) (made : List NotedOutput) (discarded rest : List ℕ) → IsLegal (Answer i made discarded rest ∷ h) →
       ((p : Place) → IfSome (parcels_here new p) (λ ps. numbers ps ≡ at (Answer i made discarded rest ∷ h) p)) →
       (p : Place) (event : Event) (copy : Copy) → IsAt new p event copy → IsAt old p event copy → count copy.number (put_out made) ≡ 0
   not_put_out i made discarded rest legal stand p event copy now before = go (same_place p (Held i)) refl
@@ -291,17 +310,25 @@ module _ (h : Record) (old new : List Row) (holds : Holds old h) where
           let at_hold = rw (same_place_is p (Held i) e) at now in
           let l = in_counts (parcels_here new (Held i)) (shift (Answer i made discarded rest) (Held i) (at h (Held i))) event copy (stand (Held i)) at_hold in
           gone_none copy.number (put_out made) (at h (Held i)) (rw self at l)
-      go false e =
-          let there = in_counts (parcels_here old p) (at h p) event copy (holds.stand p) before in
-          let none = not_there h p (Held i) copy.number (conserved h legal.1) e (rw (stands_at h p legal.1) there) in
-          let released = (conserved (Answer i made discarded rest ∷ h) legal).0 copy.number in
-          omega (arith, none, released)
+      go false e = held_alone h i made discarded rest legal p e copy.number (in_counts (parcels_here old p) (at h p) event copy (holds.stand p) before)
 
   said_stays : (e : Entry) → IsLegal (e ∷ h) → ((p : Place) → IfSome (parcels_here new p) (λ ps. numbers ps ≡ at (e ∷ h) p)) →
       (p : Place) (event : Event) (copy : Copy) → IsAt new p event copy → IsAt old p event copy → event_of (e ∷ h) copy.number ≡ event_of h copy.number
   said_stays (Answer i made discarded rest) legal stand p event copy now before =
-      said_before (λ (output : Output). output.event) made copy.number (event_of h copy.number) (not_put_out i made discarded rest legal stand p event copy now before)
+      said_before (λ (output : NotedOutput). output.event) made copy.number (event_of h copy.number) (not_put_out i made discarded rest legal stand p event copy now before)
   said_stays e legal stand p event copy now before = event_stays h e copy.number tt (holds.known p event copy before).made
+
+  on_stays : (e : Entry) → IsLegal (e ∷ h) → (i ports : ℕ) (copy : Copy) → IsOn old i ports copy → ports_of (e ∷ h) copy.number ≡ ports
+  on_stays e legal i ports copy on = go e legal ∙ holds.on i ports copy on
+    where
+      stood : (event : Event) × IsAt old (Outputs i) event copy
+      stood = on_at old i ports copy on
+
+      go : (e : Entry) → IsLegal (e ∷ h) → ports_of (e ∷ h) copy.number ≡ ports_of h copy.number
+      go (Answer j made discarded rest) legal = said_before (λ (output : NotedOutput). output.ports) made copy.number (ports_of h copy.number)
+          (held_alone h j made discarded rest legal (Outputs i) refl copy.number
+          (in_counts (parcels_here old (Outputs i)) (at h (Outputs i)) stood.0 copy (holds.stand (Outputs i)) stood.1))
+      go e legal = ports_stay h e copy.number tt (holds.known (Outputs i) stood.0 copy stood.1).made
 
 pub holds_step : HoldsStep
 holds_step h e put old new legal shifts known holds = record {
@@ -314,6 +341,10 @@ holds_step h e put old new legal shifts known holds = record {
           known_later h e event copy (event_stays h e copy.number moved.0 was.made) was
       | inr fresh ↦ known event copy fresh
     ]
+  ];
+  on = λ i ports copy now. elim (shifts.on i ports copy now) [
+    | inl before ↦ on_stays h old new holds e legal i ports copy before
+    | inr out ↦ ports_put h e ports copy.number legal out
   ];
 }
   where
@@ -330,12 +361,13 @@ still_each (Spent i c outcome) rows p is = absurd is
 still_each e rows p is = sym (option_map_id (numbers_here rows p))
 
 pub still_shifts : StillShifts
-still_shifts e rows is = record { each = λ p. still_each e rows p is; comes = λ p event copy now. inl now }
+still_shifts e rows is = record { each = λ p. still_each e rows p is; comes = λ p event copy now. inl now; on = λ i ports copy now. inl now }
 
 pub same_holds : SameHolds
 same_holds h old new same holds = record {
-  stand = λ p. rw (same p) (holds.stand p);
-  known = λ p event copy now. holds.known p event copy (rw (same p) at now);
+  stand = λ p. rw (same.here p) (holds.stand p);
+  known = λ p event copy now. holds.known p event copy (rw (same.here p) at now);
+  on = λ i ports copy now. holds.on i ports copy (rw (same.outputs i) at now);
 }
 
 pub oldest_there : OldestThere
@@ -343,23 +375,24 @@ oldest_there h rows p parcel rest legal holds first = let is = rw first at (hold
 
 -- WHAT IS LENT
 -- where the hold alone has changed, and what stands there is the record's, all does
-hold_changed : (h : Record) (i : ℕ) (old new : List Row) → Others (Held i) old new → Holds old h → IfSome (parcels_here new (Held i)) (λ ps. numbers ps ≡ at h (Held i)) →
+hold_changed : (h : Record) (i : ℕ) (old new : List Row) → Others (Held i) old new → SameOutputs old new → Holds old h → IfSome (parcels_here new (Held i)) (λ ps. numbers ps ≡ at h (Held i)) →
     ((event : Event) (copy : Copy) → IsAt new (Held i) event copy → IsKnown h event copy) → Holds new h
-hold_changed h i old new others holds stand known = record {
+hold_changed h i old new others outputs holds stand known = record {
   stand = each_place (Held i) (λ p. IfSome (parcels_here new p) (λ ps. numbers ps ≡ at h p)) stand (λ p other. rw (others p other) (holds.stand p));
   known = each_place (Held i) (λ p. (event : Event) (copy : Copy) → IsAt new p event copy → IsKnown h event copy) known
       (λ p other event copy now. holds.known p event copy (rw (others p other) at now));
+  on = λ j ports copy now. holds.on j ports copy (rw (outputs j) at now);
 }
 
 pub lent_is : LentIs
 lent_is h i parcels old new lends holds = (
-  hold_changed h i old new lends.others holds (rw lends.now tt) (λ event copy now. absurd (rw lends.now at now)),
+  hold_changed h i old new lends.others lends.outputs holds (rw lends.now tt) (λ event copy now. absurd (rw lends.now at now)),
   (rw lends.was at (holds.stand (Held i)), λ event copy is. holds.known (Held i) event copy (rw lends.was is)),
 )
 
 pub lent_comes_back : LentComesBack
 lent_comes_back h i parcels old new lends is are holds =
-    hold_changed h i old new (λ p other. sym (lends.others p other)) holds (rw lends.was is) (λ event copy now. are event copy (rw lends.was at now))
+    hold_changed h i old new (λ p other. sym (lends.others p other)) (λ j. sym (lends.outputs j)) holds (rw lends.was is) (λ event copy now. are event copy (rw lends.was at now))
 
 pub none_holds : NoneHolds
-none_holds = record { stand = λ p. refl; known = λ p event copy now. absurd now }
+none_holds = record { stand = λ p. refl; known = λ p event copy now. absurd now; on = λ i ports copy now. absurd now }

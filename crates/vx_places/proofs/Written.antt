@@ -1,6 +1,6 @@
 -- What stands at each place, and which rooms there are, when one row is written.
 use Rattle.std.proofs.Common.{◌≡◌, ℕ, zero, suc, ◌<◌, Bool, true, false, List, [], ◌∷◌, ◌++◌, length, get_or, refl, sym, ap, ◌∙◌, arith, Option, Some, None, IfNone, subst}
-use Rattle.std.specs.Prelude.{slice_set, ◌==◌, IsSomeAnd, ◌↔◌, ◌≤◌, not}
+use Rattle.std.specs.Prelude.{slice_set, ◌==◌, IsNone, IsSomeAnd, ◌↔◌, ◌≤◌, not}
 use Rattle.std.specs.List.{slice_get}
 use Rattle.std.specs.Vec.{with_item}
 use Rattle.std.specs.Global.{Vec}
@@ -14,15 +14,16 @@ use Rattle.vx_value.specs.Filled.{Filled}
 use Rattle.vx_ledger.specs.Copies.{Copy}
 use Rattle.vx_ledger.specs.declared.parcel.Parcel.{Parcel}
 use Rattle.vx_ledger.specs.declared.child.Child.{Child}
+use Rattle.vx_transform.specs.declared.output.Output.{Output}
 use Rattle.vx_record.specs.Places.{Place, owner, same_place}
 use Rattle.vx_record.specs.Places.Place.{Outputs, Waiting, Contents, Held}
 use Rattle.vx_record.specs.Lists.{is_child_of}
 use Rattle.vx_record.proofs.Changes.{same_place_is}
 use Rattle.vx_places.specs.declared.row.Row.{Row}
-use Rattle.vx_places.specs.Numbers.{for_target}
-use Rattle.vx_places.specs.Views.{row_at, stage_at, stage_items, held_items, here, here_if, parcels_here, Others, Same}
+use Rattle.vx_places.specs.Numbers.{parcels_out, for_target}
+use Rattle.vx_places.specs.Views.{row_at, stage_at, stage_items, held_items, here, here_if, parcels_here, outputs_if, outputs_here, Others, Same, SameOutputs, KeepsPorts}
 use Rattle.vx_places.specs.Rooms.{stage_rooms, line_room, rooms_if, held_room_if, SameRooms, LendsRoom}
-use Rattle.vx_places.specs.Calls.{Takes, Puts, Waits, Lends, Loses, LosesCopy, IsRow}
+use Rattle.vx_places.specs.Calls.{Takes, TakesOutput, Puts, Waits, Lends, Loses, LosesCopy, IsRow}
 
 -- SMALL FACTS
 pub one_some : {X : Type 0} (x y : X) → Some x ≡ Some y → x ≡ y
@@ -31,6 +32,10 @@ one_some x y same = cc
 pub if_none : {X Q : Type 0} (r : Option X) → Q → IfNone r Q
 if_none None q = q
 if_none (Some x) q = tt
+
+pub if_none_of : {X Q : Type 0} (r : Option X) → (IsNone r → Q) → IfNone r Q
+if_none_of None f = f refl
+if_none_of (Some x) f = tt
 
 pub if_none_then : {X P Q : Type 0} (r : Option X) → (P → Q) → IfNone r P → IfNone r Q
 if_none_then None f p = f p
@@ -48,6 +53,15 @@ each_place q P at_it elsewhere p = go (same_place q p) refl
     go true e = subst P (same_place_is q p e) at_it
     go false e = elsewhere p e
 
+-- and what is so of the outputs of one instance, and of outputs that stay, is so of those of each
+pub each_outputs : (R : List Output → List Output → Type 0) → ((os : List Output) → R os os) → (i : ℕ) (old new : List Row) → R (outputs_here old i) (outputs_here new i) →
+    ((j : ℕ) → same_place (Outputs i) (Outputs j) ≡ false → outputs_here new j ≡ outputs_here old j) → (j : ℕ) → R (outputs_here old j) (outputs_here new j)
+each_outputs R still i old new at_it elsewhere j = go (i == j) refl
+  where
+    go : (b : Bool) → (i == j) ≡ b → R (outputs_here old j) (outputs_here new j)
+    go true is = let same : i ≡ j = grind (arith, nat_tests) in subst (λ k. R (outputs_here old k) (outputs_here new k)) same at_it
+    go false is = subst (λ os. R (outputs_here old j) os) (sym (elsewhere j is)) (still (outputs_here old j))
+
 -- what a test for a full or an empty list says where it is turned round
 pub not_full : (r : Bool) (n m : ℕ) → ((r ≡ true) ↔ (n ≡ m)) → n ≤ m → (not r ≡ true) ↔ (n < m)
 not_full r n m full within = grind (arith, full, within)
@@ -55,6 +69,14 @@ not_full r n m full within = grind (arith, full, within)
 pub not_empty : {X : Type 0} (r : Bool) (items : List X) → ((r ≡ true) ↔ (items ≡ [])) → (not r ≡ true) ↔ (0 < length items)
 not_empty r [] empty = grind (arith, empty)
 not_empty r (x ∷ xs) empty = grind (arith, empty)
+
+pub no_outputs : (os : List Output) → parcels_out os ≡ [] → os ≡ []
+no_outputs [] none = refl
+no_outputs (output ∷ os) none = cc
+
+-- outputs are none where their parcels are
+pub none_out : (r : Bool) (os : List Output) → ((r ≡ true) ↔ (os ≡ [])) → (r ≡ true) ↔ (parcels_out os ≡ [])
+none_out r os empty = (λ is. ap parcels_out (empty.0 is), λ none. empty.1 (no_outputs os none))
 
 -- AN ITEM THAT IS READ OR WRITTEN
 -- `row_at` and `stage_at` compute as std's `slice_get` does, so what is said of that serves both
@@ -92,33 +114,39 @@ pub said_still : {X : Type 0} (F : X → Type 0) (xs : List X) (i : ℕ) (x new 
 said_still F xs i x new at j is same = subst (λ (T : Type 0). T) (sym (kept_but (λ o. IsSomeAnd o F) xs i x new at j (λ _. same))) is
 
 -- ONE PLACE
--- a place had this and has that now, and every other has what it had
+-- a place had this and has that now, and every other has what it had, on the same ports
 pub record Changes (q : Place) (a b : Option (List Parcel)) (old new : List Row) : Type 0 where
   pub was : parcels_here old q ≡ a
   pub now : parcels_here new q ≡ b
   pub others : Others q old new
+  pub outputs : (i : ℕ) → same_place q (Outputs i) ≡ false → outputs_here new i ≡ outputs_here old i
 
 -- what a call says of it: a parcel was taken, parcels were put, a copy was lost, all were lent
 module _ {q : Place} {a b : Option (List Parcel)} {old new : List Row} (c : Changes q a b old new) where
   pub back : Changes q b a new old
-  back = record { was = c.now; now = c.was; others = λ p other. sym (c.others p other) }
+  back = record { was = c.now; now = c.was; others = λ p other. sym (c.others p other); outputs = λ j other. sym (c.outputs j other) }
 
-  pub unchanged : a ≡ b → Same old new
-  unchanged same = each_place q (λ p. parcels_here new p ≡ parcels_here old p) (c.now ∙ sym same ∙ sym c.was) c.others
+  pub unchanged : a ≡ b → SameOutputs old new → Same old new
+  unchanged same outputs =
+      record { here = each_place q (λ p. parcels_here new p ≡ parcels_here old p) (c.now ∙ sym same ∙ sym c.was) c.others; outputs = outputs }
 
-  pub takes : (parcel : Parcel) (rest : List Parcel) → a ≡ Some (parcel ∷ rest) → b ≡ Some rest → Takes q parcel old new
-  takes parcel rest was now = record { rest = rest; was = c.was ∙ was; now = c.now ∙ now; others = c.others }
+  -- where it is not a place of outputs, those stay
+  pub keeps : ((j : ℕ) → same_place q (Outputs j) ≡ false) → KeepsPorts old new
+  keeps apart j ports copy on = rw (c.outputs j (apart j)) at on
+
+  pub takes : (parcel : Parcel) (rest : List Parcel) → a ≡ Some (parcel ∷ rest) → b ≡ Some rest → KeepsPorts old new → Takes q parcel old new
+  takes parcel rest was now on = record { rest = rest; was = c.was ∙ was; now = c.now ∙ now; others = c.others; on = on }
 
   pub puts : (before more : List Parcel) → a ≡ Some before → b ≡ Some (before ++ more) → Puts q more old new
-  puts before more was now = record { before = before; was = c.was ∙ was; now = c.now ∙ now; others = c.others }
+  puts before more was now = record { before = before; was = c.was ∙ was; now = c.now ∙ now; others = c.others; outputs = c.outputs }
 
-  pub loses : (copy : Copy) (before after : List Parcel) → a ≡ Some before → b ≡ Some after → LosesCopy copy before after → Loses q copy old new
-  loses copy before after was now less =
-      record { before = before; after = after; was = c.was ∙ was; now = c.now ∙ now; loses = less; others = c.others }
+  pub loses : (copy : Copy) (before after : List Parcel) → a ≡ Some before → b ≡ Some after → LosesCopy copy before after → KeepsPorts old new → Loses q copy old new
+  loses copy before after was now less on =
+      record { before = before; after = after; was = c.was ∙ was; now = c.now ∙ now; loses = less; others = c.others; on = on }
 
 pub lends : {i : ℕ} {a b : Option (List Parcel)} {old new : List Row} → Changes (Held i) a b old new →
     (parcels : List Parcel) → a ≡ Some parcels → b ≡ None → Lends i parcels old new
-lends c parcels was now = record { was = c.was ∙ was; now = c.now ∙ now; others = c.others }
+lends c parcels was now = record { was = c.was ∙ was; now = c.now ∙ now; others = c.others; outputs = λ j. c.outputs j refl }
 
 pub same_rooms_then : (old mid new : List Row) → SameRooms old mid → SameRooms mid new → SameRooms old new
 same_rooms_then old mid new first then i = ((then i).0 ∙ (first i).0, (then i).1 ∙ (first i).1)
@@ -135,23 +163,53 @@ module _ (rows : List Row) (i : ℕ) (row : Row) (l : i < length rows) (at : row
   pub written_at : (new : Row) (p : Place) → owner p ≡ i → parcels_here (slice_set rows i new) p ≡ here p new
   written_at new p own = ap (λ k. here_if p (row_at (slice_set rows i new) k)) own ∙ ap (here_if p) (written rows i new l)
 
+  pub outputs_but : (new : Row) (j : ℕ) → (j ≡ i → new.outputs.items ≡ row.outputs.items) → outputs_here (slice_set rows i new) j ≡ outputs_here rows j
+  outputs_but new j same = kept_but outputs_if rows i row new at j same
+
   changes : (new : Row) (q : Place) → owner q ≡ i → ((p : Place) → owner p ≡ i → same_place q p ≡ false → here p new ≡ here p row) →
-      Changes q (here q row) (here q new) rows (slice_set rows i new)
-  changes new q own but = record {
+      (same_place q (Outputs i) ≡ false → new.outputs.items ≡ row.outputs.items) → Changes q (here q row) (here q new) rows (slice_set rows i new)
+  changes new q own but still = record {
     was = read_at q own;
     now = written_at new q own;
     others = λ p other. places_but new p (λ mine. but p mine other);
+    outputs = λ j other. outputs_but new j (λ mine. still (rw mine at other));
   }
 
-  pub outputs_written : (o : Filled Parcel) → Changes (Outputs i) (Some row.outputs.items) (Some o.items) rows (slice_set rows i (record row { outputs = o }))
-  outputs_written o = changes (record row { outputs = o }) (Outputs i) refl but
+  pub outputs_written : (o : Filled Output) →
+      Changes (Outputs i) (Some (parcels_out row.outputs.items)) (Some (parcels_out o.items)) rows (slice_set rows i (record row { outputs = o }))
+  outputs_written o = changes (record row { outputs = o }) (Outputs i) refl but (λ other. absurd (grind (arith, nat_tests, other)))
     where
       but : (p : Place) → owner p ≡ i → same_place (Outputs i) p ≡ false → here p (record row { outputs = o }) ≡ here p row
       but (Outputs j) own other = absurd (grind (arith, nat_tests, own, other))
       but p own other = refl
 
+  -- the outputs that were there, and those that are
+  pub outputs_were : outputs_here rows i ≡ row.outputs.items
+  outputs_were = ap outputs_if (read rows i row l at)
+
+  pub outputs_are : (new : Row) → outputs_here (slice_set rows i new) i ≡ new.outputs.items
+  outputs_are new = ap outputs_if (written rows i new l)
+
+  pub outputs_related : (R : List Output → List Output → Type 0) → ((os : List Output) → R os os) → (o : Filled Output) → R row.outputs.items o.items → (j : ℕ) →
+      R (outputs_here rows j) (outputs_here (slice_set rows i (record row { outputs = o })) j)
+  outputs_related R still o are = each_outputs R still i rows (slice_set rows i (record row { outputs = o }))
+      (rw (outputs_were, outputs_are (record row { outputs = o })) are) (outputs_written o).outputs
+
+  -- the oldest is taken, or put back
+  pub output_taken : (output : Output) (o : Filled Output) → row.outputs.items ≡ output ∷ o.items → TakesOutput i output rows (slice_set rows i (record row { outputs = o }))
+  output_taken output o is = record {
+    oldest = outputs_were ∙ is ∙ ap (λ (os : List Output). output ∷ os) (sym (outputs_are (record row { outputs = o })));
+    others = λ j apart. outputs_but (record row { outputs = o }) j (λ same. absurd (apart same));
+  }
+
+  pub output_back : (output : Output) (o : Filled Output) → o.items ≡ output ∷ row.outputs.items → TakesOutput i output (slice_set rows i (record row { outputs = o })) rows
+  output_back output o is = record {
+    oldest = outputs_are (record row { outputs = o }) ∙ is ∙ ap (λ (os : List Output). output ∷ os) (sym outputs_were);
+    others = λ j apart. sym (outputs_but (record row { outputs = o }) j (λ same. absurd (apart same)));
+  }
+
   pub held_written : (o : Option (Filled Parcel)) → Changes (Held i) (held_items row.held) (held_items o) rows (slice_set rows i (record row { held = o }))
-  held_written o = changes (record row { held = o }) (Held i) refl but
+  held_written o = changes (record row { held = o }) (Held i) refl but (λ _. refl)
     where
       but : (p : Place) → owner p ≡ i → same_place (Held i) p ≡ false → here p (record row { held = o }) ≡ here p row
       but (Held j) own other = absurd (grind (arith, nat_tests, own, other))
@@ -161,21 +219,25 @@ module _ (rows : List Row) (i : ℕ) (row : Row) (l : i < length rows) (at : row
   module _ (new : Row) (outputs : new.outputs ≡ row.outputs) (stages : new.stages ≡ row.stages) (held : new.held ≡ row.held) where
     but_waiting : (Q : Place → Type 0) → ((j t : ℕ) → j ≡ i → Q (Waiting j t) → for_target t new.waiting.items ≡ for_target t row.waiting.items) →
         (p : Place) → owner p ≡ i → Q p → here p new ≡ here p row
-    but_waiting Q same (Outputs j) own q = ap (λ (o : Filled Parcel). Some o.items) outputs
+    but_waiting Q same (Outputs j) own q = ap (λ (o : Filled Output). Some (parcels_out o.items)) outputs
     but_waiting Q same (Waiting j t) own q = ap Some (same j t own q)
     but_waiting Q same (Contents j s) own q = ap (λ (v : Vec (Filled Parcel)). Some (stage_items (stage_at v.items s))) stages
     but_waiting Q same (Held j) own q = ap held_items held
 
+    still : new.outputs.items ≡ row.outputs.items
+    still = ap (λ (o : Filled Output). o.items) outputs
+
     pub waiting_written : (t : ℕ) → ((u : ℕ) → (t == u) ≡ false → for_target u new.waiting.items ≡ for_target u row.waiting.items) →
         Changes (Waiting i t) (Some (for_target t row.waiting.items)) (Some (for_target t new.waiting.items)) rows (slice_set rows i new)
     waiting_written t same = changes new (Waiting i t) refl
-        (but_waiting (λ p. same_place (Waiting i t) p ≡ false) (λ j u own other. same u (grind (arith, nat_tests, own, other))))
+        (but_waiting (λ p. same_place (Waiting i t) p ≡ false) (λ j u own other. same u (grind (arith, nat_tests, own, other)))) (λ _. still)
 
     pub children_wait : (children : List Child) → row.waiting.items ≡ [] → new.waiting.items ≡ children → Waits i children rows (slice_set rows i new)
     children_wait children none now = record {
       was = λ t. read_at (Waiting i t) refl ∙ ap (λ cs. Some (for_target t cs)) none;
       now = λ t. written_at new (Waiting i t) refl ∙ ap (λ cs. Some (for_target t cs)) now;
       others = λ p other. places_but new p (λ own. but_waiting (λ q. is_child_of i q ≡ false) (λ j t mine apart. absurd (grind (arith, nat_tests, mine, apart))) p own other);
+      outputs = λ j. outputs_but new j (λ _. still);
     }
 
   -- a stage of which something is said is there, and it is so of the one that is read
@@ -196,6 +258,7 @@ module _ (rows : List Row) (i : ℕ) (row : Row) (l : i < length rows) (at : row
       was = change.was ∙ ap (λ o. Some (stage_items o)) (read row.stages.items s stage within got);
       now = change.now ∙ ap (λ o. Some (stage_items o)) (written row.stages.items s new within);
       others = change.others;
+      outputs = change.outputs;
     }
       where
         but : (p : Place) → owner p ≡ i → same_place (Contents i s) p ≡ false → here p with_stage ≡ here p row
@@ -204,7 +267,7 @@ module _ (rows : List Row) (i : ℕ) (row : Row) (l : i < length rows) (at : row
         but p own other = refl
 
         change : Changes (Contents i s) (here (Contents i s) row) (here (Contents i s) with_stage) rows (slice_set rows i with_stage)
-        change = changes with_stage (Contents i s) refl but
+        change = changes with_stage (Contents i s) refl but (λ _. refl)
 
     -- or nothing is
     pub stage_still : new ≡ stage → slice_set rows i with_stage ≡ rows

@@ -1,20 +1,21 @@
 -- What each call does to the parcels at the places.
-use Rattle.std.specs.Prelude.{◌≡◌, ◌≢◌, ◌<◌, ◌≤◌, ◌+◌, ℕ, zero, suc, Bool, false, List, [], ◌∷◌, ◌++◌, Some, None, IsSome, IsSomeAnd, length}
+use Rattle.std.specs.Prelude.{◌≡◌, ◌≢◌, ◌<◌, ◌≤◌, ◌+◌, ℕ, zero, suc, Bool, false, List, [], ◌∷◌, ◌++◌, Option, Some, None, IsSome, IsSomeAnd, length}
 use Rattle.vx_value.specs.Filled.{Filled}
 use Rattle.vx_value.specs.declared.event.Event.{Event}
 use Rattle.vx_ledger.specs.Copies.{Copy, numbers_of}
 use Rattle.vx_ledger.specs.declared.parcel.Parcel.{Parcel}
 use Rattle.vx_ledger.specs.declared.child.Child.{Child}
-use Rattle.vx_record.specs.declared.output.Output.{Output}
+use Rattle.vx_transform.specs.declared.output.Output.{Output}
+use Rattle.vx_record.specs.declared.output.Output.{Output as NotedOutput}
 use Rattle.vx_record.specs.declared.entry.Entry.{Entry}
 use Rattle.vx_record.specs.declared.entry.Entry.TheVariants.{Born, Split, Answer}
-use Rattle.vx_record.specs.Moving.{singles, parcels_of}
-use Rattle.vx_record.specs.Places.{Place}
+use Rattle.vx_record.specs.Moving.{singles}
+use Rattle.vx_record.specs.Places.{Place, same_place}
 use Rattle.vx_record.specs.Places.Place.{Outputs, Waiting, Held}
 use Rattle.vx_record.specs.Lists.{is_child_of}
 use Rattle.vx_places.specs.declared.row.Row.{Row}
-use Rattle.vx_places.specs.Numbers.{for_target, numbers, noted, parcels_in, EachFilled}
-use Rattle.vx_places.specs.Views.{row_at, stage_at, parcels_here, Others}
+use Rattle.vx_places.specs.Numbers.{for_target, numbers, noted, parcels_in, parcels_out, AreNoted, AreOn, EachFilled}
+use Rattle.vx_places.specs.Views.{row_at, stage_at, parcels_here, outputs_here, Others, SameOutputs, KeepsPorts}
 use Rattle.vx_places.specs.Rooms.{held_room}
 use Rattle.vx_places.specs.Holding.{Shifts}
 
@@ -24,6 +25,12 @@ pub record Takes (q : Place) (parcel : Parcel) (old new : List Row) : Type 0 whe
   pub was : parcels_here old q ≡ Some (parcel ∷ rest)
   pub now : parcels_here new q ≡ Some rest
   pub others : Others q old new
+  pub on : KeepsPorts old new
+
+-- the oldest output of an instance is taken from it, with its ports, and every other has the outputs that it had
+pub record TakesOutput (i : ℕ) (output : Output) (old new : List Row) : Type 0 where
+  pub oldest : outputs_here old i ≡ output ∷ outputs_here new i
+  pub others : (j : ℕ) → j ≢ i → outputs_here new j ≡ outputs_here old j
 
 -- parcels are put behind those of a place
 pub record Puts (q : Place) (more : List Parcel) (old new : List Row) : Type 0 where
@@ -31,18 +38,21 @@ pub record Puts (q : Place) (more : List Parcel) (old new : List Row) : Type 0 w
   pub was : parcels_here old q ≡ Some before
   pub now : parcels_here new q ≡ Some (before ++ more)
   pub others : Others q old new
+  pub outputs : (i : ℕ) → same_place q (Outputs i) ≡ false → outputs_here new i ≡ outputs_here old i
 
 -- the children of an instance of which none waited wait
 pub record Waits (i : ℕ) (children : List Child) (old new : List Row) : Type 0 where
   pub was : (t : ℕ) → parcels_here old (Waiting i t) ≡ Some []
   pub now : (t : ℕ) → parcels_here new (Waiting i t) ≡ Some (for_target t children)
   pub others : (p : Place) → is_child_of i p ≡ false → parcels_here new p ≡ parcels_here old p
+  pub outputs : SameOutputs old new
 
 -- the parcels that an instance holds are lent
 pub record Lends (i : ℕ) (parcels : List Parcel) (old new : List Row) : Type 0 where
   pub was : parcels_here old (Held i) ≡ Some parcels
   pub now : parcels_here new (Held i) ≡ None
   pub others : Others (Held i) old new
+  pub outputs : SameOutputs old new
 
 -- a parcel without its last copy, before others; nothing of it where that was its only one
 abbrev pub left_of : Event → List Copy → List Parcel → List Parcel
@@ -65,6 +75,18 @@ pub record Loses (q : Place) (copy : Copy) (old new : List Row) : Type 0 where
   pub now : parcels_here new q ≡ Some after
   pub loses : LosesCopy copy before after
   pub others : Others q old new
+  pub on : KeepsPorts old new
+
+-- what is left of a parcel; none where it has no copy
+abbrev pub unless_bare : Event → List Copy → Option Parcel
+unless_bare event [] = None
+unless_bare event (c ∷ cs) = Some (record { event = event; finalizers = c ∷ cs })
+
+-- a parcel loses its last copy, and this is left of it
+pub record LosesLast (copy : Copy) (parcel : Parcel) (rest : Option Parcel) : Type 0 where
+  pub left : List Copy
+  pub was : parcel.finalizers ≡ left ++ copy ∷ []
+  pub now : rest ≡ unless_bare parcel.event left
 
 -- there is no parcel of which a copy could be lost, or the oldest has none
 abbrev pub NothingToLose : List Parcel → Type 0
@@ -83,13 +105,16 @@ pub record Moves (entry : List ℕ → Entry) (from to : Place) (old new : List 
   pub put : Puts to (parcel ∷ []) mid new
   pub shifts : Shifts (entry (numbers_of parcel.finalizers)) [] old new
 
--- parcels are put out: those of a batch, or those of an answer while what was held is lent, which then comes back without them
-pub record PutsOut (i : ℕ) (parcels : List Parcel) (old new : List Row) : Type 0 where
-  pub put : Puts (Outputs i) parcels old new
-  pub born : (b place : ℕ) (copies : List ℕ) (events : List Event) (waits : Bool) (stream end : ℕ) → numbers parcels ≡ singles copies →
-      Shifts (Born i b place copies events waits stream end) parcels old new
-  pub answered : (outputs : List Output) (discarded kept : List ℕ) → numbers parcels ≡ parcels_of outputs → parcels_here old (Held i) ≡ None →
-      Shifts (Answer i outputs discarded kept) parcels old new
+-- outputs are put out: those of a batch, all on port 0 alone, or those of an answer while what was held is lent, which then comes
+-- back without them
+pub record PutsOut (i : ℕ) (outputs : List Output) (old new : List Row) : Type 0 where
+  pub put : Puts (Outputs i) (parcels_out outputs) old new
+  pub born : (b place : ℕ) (copies : List ℕ) (events : List Event) (waits : Bool) (stream end : ℕ) →
+      numbers (parcels_out outputs) ≡ singles copies → AreOn 1 outputs →
+      Shifts (Born i b place copies events waits stream end) (parcels_out outputs) old new
+  pub answered : (notes : List NotedOutput) (discarded kept : List ℕ) → AreNoted outputs notes →
+      EachFilled (parcels_out outputs) → parcels_here old (Held i) ≡ None →
+      Shifts (Answer i notes discarded kept) (parcels_out outputs) old new
 
 -- what an instance's oldest output was split into waits
 pub record Divides (i : ℕ) (children : List Child) (mid new : List Row) : Type 0 where

@@ -1,15 +1,17 @@
 -- What holds of the places of a record.
-use Rattle.std.specs.Prelude.{◌≡◌, ◌<◌, ◌↔◌, ℕ, true, List, [], ◌∷◌, length, map, Option, Some, None}
+use Rattle.std.specs.Prelude.{◌≡◌, ◌≢◌, ◌<◌, ◌↔◌, ℕ, true, List, [], ◌∷◌, length, map, Option, Some, None}
 use Rattle.vx_plan.specs.declared.stage.Stage.{Stage}
 use Rattle.vx_status.specs.declared.outcome.Outcome.{Outcome}
 use Rattle.vx_ledger.specs.Copies.{Copy, numbers_of}
 use Rattle.vx_ledger.specs.declared.parcel.Parcel.{Parcel}
+use Rattle.vx_transform.specs.declared.output.Output.{Output}
 use Rattle.vx_record.specs.declared.entry.Entry.{Entry}
 use Rattle.vx_record.specs.declared.entry.Entry.TheVariants.{Spent}
 use Rattle.vx_record.specs.Records.{Record}
 use Rattle.vx_record.specs.Copies.{count, joined, IsLive}
 use Rattle.vx_record.specs.Places.{Place, owner}
-use Rattle.vx_record.specs.Places.Place.{Held}
+use Rattle.vx_record.specs.Parcels.{parcel_ports}
+use Rattle.vx_record.specs.Places.Place.{Outputs, Held}
 use Rattle.vx_record.specs.Lists.{stands, parcels_at, outputs, waiting, contents, held, all_waiting, buffered, is_bare, places}
 use Rattle.vx_record.specs.Moving.{IsStill}
 use Rattle.vx_record.specs.Routing.{is_sent}
@@ -19,10 +21,10 @@ use Rattle.vx_record.specs.Shifts.{at}
 use Rattle.vx_record.specs.Legal.{IsLegal}
 use Rattle.vx_places.specs.declared.row.Row.{Row}
 use Rattle.vx_places.specs.Numbers.{numbers, EachFilled}
-use Rattle.vx_places.specs.Views.{Same, parcels_here}
+use Rattle.vx_places.specs.Views.{Same, parcels_here, outputs_here}
 use Rattle.vx_places.specs.Rooms.{rooms_at}
 use Rattle.vx_places.specs.Holding.{Holds, Shifts, AreKnown}
-use Rattle.vx_places.specs.Calls.{Lends, Loses, IsThere, IsKept, IsLent, NoneWaits, HasSome}
+use Rattle.vx_places.specs.Calls.{Takes, TakesOutput, Lends, Loses, IsThere, IsKept, IsLent, NoneWaits, HasSome}
 use Rattle.vx_places.specs.Looks.{HasOutput, HasWaiting, HasSent, HasEmptyBuffer, HoldsMany, IsBare, IsFirstRoom, IsFirstFilled}
 
 -- places that are a record's are those of the record with one entry more, where they shift as that entry says, and it knows what is
@@ -45,6 +47,19 @@ abbrev pub OldestThere : Type 0
 OldestThere =
     (h : Record) (rows : List Row) (p : Place) (parcel : Parcel) (rest : List Parcel) → IsLegal h → Holds rows h →
     parcels_here rows p ≡ Some (parcel ∷ rest) → IsOldest (numbers_of parcel.finalizers) (parcels_at p (stands h))
+
+-- the oldest output of an instance is on the ports on which the record has it put out
+abbrev pub PortsThere : Type 0
+PortsThere =
+    (h : Record) (rows : List Row) (i : ℕ) (output : Output) (rest : List Output) → Holds rows h →
+    outputs_here rows i ≡ output ∷ rest → output.parcel.finalizers ≢ [] →
+    parcel_ports h (numbers_of output.parcel.finalizers) ≡ output.ports
+
+-- an output that is taken and put back leaves the places as they were
+abbrev pub BackSame : Type 0
+BackSame =
+    (i : ℕ) (output : Output) (old mid new : List Row) → Takes (Outputs i) output.parcel old mid → TakesOutput i output old mid →
+    Takes (Outputs i) output.parcel new mid → TakesOutput i output new mid → Same old new
 
 -- where the last copy of a place's oldest parcel is gone, the places shift as the spend of that copy
 abbrev pub SpentShifts : Type 0

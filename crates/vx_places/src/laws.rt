@@ -1,9 +1,10 @@
 //! What holds of the places beside their calls. The functions do nothing: what they ensure is proved.
 
-ghost use Rattle.vx_places.specs.Laws.{HoldsStep, StillShifts, SpentShifts, SameHolds, OldestThere, LentIs, LentComesBack, NoneHolds, HeldSays, OutputIs, NoneWaitsIs, AwaitsIs, SentIs, SomeIs, BufferIs, HoldsIs, BareIs, FirstRoomIs, FirstFilledIs, FilledThere, LentFilled, StandsThere};
+ghost use Rattle.vx_places.specs.Laws.{HoldsStep, StillShifts, SpentShifts, SameHolds, BackSame, OldestThere, PortsThere, LentIs, LentComesBack, NoneHolds, HeldSays, OutputIs, NoneWaitsIs, AwaitsIs, SentIs, SomeIs, BufferIs, HoldsIs, BareIs, FirstRoomIs, FirstFilledIs, FilledThere, LentFilled, StandsThere};
 
 /// Places that are a record's stay so with each entry as which they shift, of whatever kind; an entry that moves nothing shifts
-/// nothing, and where a copy is gone they shift as its spend. What stands first at a place is the record's oldest there. What is
+/// nothing, and where a copy is gone they shift as its spend. What stands first at a place is the record's oldest there, and an
+/// output is on the ports on which the record has it put out; one that is taken and put back leaves the places as they were. What is
 /// lent is what the record has there, and what it has there later may come back. No parcel at a place is empty, and each copy at one
 /// is live and stands at the place's owner.
 pub fn places_laws()
@@ -11,7 +12,9 @@ pub fn places_laws()
     ensures still { StillShifts }
     ensures spent { SpentShifts }
     ensures same { SameHolds }
+    ensures put_back { BackSame }
     ensures oldest { OldestThere }
+    ensures ports { PortsThere }
     ensures lent { LentIs }
     ensures back { LentComesBack }
     ensures none { NoneHolds }

@@ -3,7 +3,7 @@ ghost use Rattle.vx_record.specs.declared.entry.Entry.TheVariants.{Push, Take};
 ghost use Rattle.vx_record.specs.Places.Place.{Outputs, Waiting, Contents, Held};
 ghost use Rattle.vx_places.specs.Views.{Same, parcels_here};
 ghost use Rattle.vx_places.specs.Rooms.{SameRooms, LendsRoom, AddsRooms};
-ghost use Rattle.vx_places.specs.Calls.{Takes, Lends, Loses, IsRow, IsNew, Moves, PutsOut, Divides, IsThere, HasOutputRoom, HasOutputRoomFor, NoneWaits, IsOldestFor, HasRoom, HasSome, IsKept, IsLent, HasHeldRoom, NothingToSpend};
+ghost use Rattle.vx_places.specs.Calls.{Takes, TakesOutput, Lends, Loses, IsRow, IsNew, Moves, PutsOut, Divides, IsThere, HasOutputRoom, HasOutputRoomFor, NoneWaits, IsOldestFor, HasRoom, HasSome, IsKept, IsLent, HasHeldRoom, NothingToSpend};
 ghost use Rattle.vx_places.specs.Looks.{HasOutput, HasWaiting, HasSent, HasEmptyBuffer, ManyWait, HoldsMany, IsHeldFull, IsBare, IsFirstRoom, IsFirstFilled, AreBare};
 
 use crate::line::Line;
@@ -12,12 +12,14 @@ use crate::{looks, rows};
 use std::alloc::Global;
 use std::marker::Model;
 use vx_ledger::{ChildList, Finalizer, Parcel};
+use vx_transform::Output;
 use vx_value::{ItemList, WantOfMemory};
 
 /// Where the parcels of all instances stand. It can't be dropped, and so no parcel is lost.
 ///
 /// Contracts see what stands at each place, the oldest first. `Holds` says that this is what a record has there: what a call
-/// ensures is that the places shift as the entry with which it is noted.
+/// ensures is that the places shift as the entry with which it is noted. An output stands there with the ports on which it was put
+/// out.
 pub struct Places {
     rows: Vec<Row>,
 }
@@ -205,21 +207,22 @@ impl Places {
         rows::reserve_outputs(&mut self.rows, instance as usize, n)
     }
 
-    /// Puts parcels out behind those that the instance put out, for which there is room. It takes no memory.
-    pub fn put_out(&mut self, instance: u32, parcels: ItemList<Parcel>)
+    /// Adds outputs behind those of an instance, for which there is room. It takes no memory.
+    pub fn put_out(&mut self, instance: u32, outputs: ItemList<Output>)
         requires there { IsThere self.old instance }
-        requires room { HasOutputRoomFor self.old instance (length parcels) }
-        ensures puts { PutsOut instance parcels self.old self.new }
+        requires room { HasOutputRoomFor self.old instance (length outputs) }
+        ensures puts { PutsOut instance outputs self.old self.new }
         ensures size { length self.new ≡ length self.old }
         ensures rooms { SameRooms self.old self.new }
     {
-        rows::append_outputs(&mut self.rows, instance as usize, parcels);
+        rows::append_outputs(&mut self.rows, instance as usize, outputs);
     }
 
     /// Takes the oldest output of an instance, to split it. `None` where there is none.
-    pub fn take_output(&mut self, instance: u32) -> Option<Parcel>
+    pub fn take_output(&mut self, instance: u32) -> Option<Output>
         requires { IsThere self.old instance }
-        ensures takes { IfSome result (λ parcel. Takes (Outputs instance) parcel self.old self.new) }
+        ensures takes { IfSome result (λ output. Takes (Outputs instance) output.parcel self.old self.new) }
+        ensures output { IfSome result (λ output. TakesOutput instance output self.old self.new) }
         ensures room { IfSome result (λ _. HasOutputRoom self.new instance) }
         ensures size { length self.new ≡ length self.old }
         ensures rooms { SameRooms self.old self.new }
@@ -230,14 +233,15 @@ impl Places {
     }
 
     /// Puts an output back that was taken and not split. It takes no memory.
-    pub fn put_output_back(&mut self, instance: u32, parcel: Parcel)
+    pub fn put_output_back(&mut self, instance: u32, output: Output)
         requires there { IsThere self.old instance }
         requires room { HasOutputRoom self.old instance }
-        ensures takes { Takes (Outputs instance) parcel self.new self.old }
+        ensures takes { Takes (Outputs instance) output.parcel self.new self.old }
+        ensures output { TakesOutput instance output self.new self.old }
         ensures size { length self.new ≡ length self.old }
         ensures rooms { SameRooms self.old self.new }
     {
-        rows::unpop_output(&mut self.rows, instance as usize, parcel);
+        rows::unpop_output(&mut self.rows, instance as usize, output);
     }
 
     /// Lets the children of an output that was taken wait for their targets, where none waits. It takes no memory.

@@ -1,17 +1,19 @@
-ghost use Rattle.std.specs.Prelude.{◌≡◌, ◌==◌, ◌<◌, ℕ, false, [], length, IfOk, IfSome, IfNone, remove, slice_index_or};
-ghost use Rattle.vx_places.specs.Numbers.{for_target};
-ghost use Rattle.vx_places.specs.Calls.{LosesCopy, NothingToLose, NoneBefore, IsNew, IsVacant, AreEmpty, empty_stages, left_of};
+ghost use Rattle.std.specs.Prelude.{◌≡◌, ◌==◌, ◌<◌, ℕ, false, [], length, IfOk, IfErr, IfSome, IfNone, remove, slice_index_or};
+ghost use Rattle.vx_places.specs.Numbers.{for_target, parcels_out};
+ghost use Rattle.vx_places.specs.Views.{KeepsOn};
+ghost use Rattle.vx_places.specs.Calls.{LosesCopy, LosesLast, NothingToLose, NoneBefore, IsNew, IsVacant, AreEmpty, empty_stages, unless_bare};
 
 use crate::line::Line;
 use std::alloc::Global;
 use std::collections::VecDeque;
 use vx_ledger::{Child, Finalizer, Finalizers, Parcel};
+use vx_transform::Output;
 use vx_value::{Event, WantOfMemory};
 
 /// The parcels of an instance.
 pub struct Row {
     /// What it put out, the oldest first.
-    pub outputs: Line<Parcel>,
+    pub outputs: Line<Output>,
     /// Its children that wait for a target, in the order in which their split made them.
     pub waiting: VecDeque<Child>,
     /// Its buffer, stage by stage.
@@ -67,19 +69,34 @@ pub(crate) fn make_row(alloc: Global, rooms: &[usize], held: usize) -> Result<Ro
     }
 }
 
-// Puts what is left of the oldest parcel back, and ends it where nothing is left.
-fn put_rest(line: &mut Line<Parcel>, event: Event, left: Finalizers)
-    requires { length line.old.items < line.old.room }
-    ensures rest { line.new.items ≡ left_of event left line.old.items }
-    ensures room { line.new.room ≡ line.old.room }
+// What is left of a parcel. Where that is nothing, it is ended.
+fn rest_of(event: Event, left: Finalizers) -> Option<Parcel>
+    ensures { result ≡ unless_bare event left }
 {
     if left.is_empty() {
         left.end();
+        None
     } else {
-        line.put_back(Parcel {
+        Some(Parcel {
             event,
             finalizers: left,
-        });
+        })
+    }
+}
+
+// Takes the last copy of a parcel, and gives what is left of it, which is nothing where that was its only one. A parcel without a
+// copy comes back.
+fn take_last(parcel: Parcel) -> Result<(Finalizer, Option<Parcel>), Parcel>
+    ensures loses { IfOk result (λ taken. LosesLast taken.0 parcel taken.1) }
+    ensures bare { IfErr result (λ back. (back ≡ parcel) × (parcel.finalizers ≡ [])) }
+{
+    let Parcel {
+        event,
+        mut finalizers,
+    } = parcel;
+    match finalizers.pop() {
+        None => Err(Parcel { event, finalizers }),
+        Some(copy) => Ok((copy, rest_of(event, finalizers))),
     }
 }
 
@@ -91,18 +108,41 @@ pub(crate) fn take_copy(line: &mut Line<Parcel>) -> Option<Finalizer>
     ensures none { IfNone result (line.new ≡ line.old) }
     ensures empty { IfNone result (NothingToLose line.old.items) }
 {
-    let Parcel {
-        event,
-        mut finalizers,
-    } = line.pop()?;
-    match finalizers.pop() {
-        None => {
-            line.put_back(Parcel { event, finalizers });
+    match take_last(line.pop()?) {
+        Ok((copy, left)) => match left {
+            Some(parcel) => {
+                line.put_back(parcel);
+                Some(copy)
+            }
+            None => Some(copy),
+        },
+        Err(parcel) => {
+            line.put_back(parcel);
             None
         }
-        Some(copy) => {
-            put_rest(line, event, finalizers);
-            Some(copy)
+    }
+}
+
+// The same of the oldest output. What is left of it stays on its ports.
+pub(crate) fn take_output_copy(line: &mut Line<Output>) -> Option<Finalizer>
+    ensures loses { IfSome result (λ copy. LosesCopy copy (parcels_out line.old.items) (parcels_out line.new.items)) }
+    ensures on { KeepsOn line.old.items line.new.items }
+    ensures room { line.new.room ≡ line.old.room }
+    ensures none { IfNone result (line.new ≡ line.old) }
+    ensures empty { IfNone result (NothingToLose (parcels_out line.old.items)) }
+{
+    let Output { ports, parcel } = line.pop()?;
+    match take_last(parcel) {
+        Ok((copy, left)) => match left {
+            Some(parcel) => {
+                line.put_back(Output { ports, parcel });
+                Some(copy)
+            }
+            None => Some(copy),
+        },
+        Err(parcel) => {
+            line.put_back(Output { ports, parcel });
+            None
         }
     }
 }

@@ -1,15 +1,17 @@
 // The places, one function for each way in which a parcel moves.
-ghost use Rattle.std.specs.Prelude.{◌≡◌, ◌<◌, ℕ, [], ◌∷◌, length, OnOk, OnErr, IfSome, IfNone, Some};
+ghost use Rattle.std.specs.Prelude.{◌≡◌, ◌<◌, ℕ, [], ◌∷◌, ◌++◌, length, OnOk, OnErr, IfSome, IfNone, Some};
 ghost use Rattle.vx_record.specs.Places.Place.{Outputs, Waiting, Contents, Held};
-ghost use Rattle.vx_places.specs.Views.{Same, parcels_here};
+ghost use Rattle.vx_places.specs.Numbers.{parcels_out};
+ghost use Rattle.vx_places.specs.Views.{Same, parcels_here, outputs_here};
 ghost use Rattle.vx_places.specs.Rooms.{SameRooms, LendsRoom};
-ghost use Rattle.vx_places.specs.Calls.{Takes, Puts, Loses, Waits, Lends, HasOutputRoom, HasOutputRoomFor, NoneWaits, IsOldestFor, HasRoom, HasSome, IsKept, IsLent, HasHeldRoom, NothingToSpend, EachVacant};
+ghost use Rattle.vx_places.specs.Calls.{Takes, TakesOutput, Puts, Loses, Waits, Lends, HasOutputRoom, HasOutputRoomFor, NoneWaits, IsOldestFor, HasRoom, HasSome, IsKept, IsLent, HasHeldRoom, NothingToSpend, EachVacant};
 
 use crate::line::Line;
 use crate::row::{self, Row};
 use std::collections::VecDeque;
 use std::mem;
 use vx_ledger::{Child, ChildList, Finalizer, Parcel};
+use vx_transform::Output;
 use vx_value::{ItemList, WantOfMemory};
 
 // Makes room for so many outputs more of an instance.
@@ -24,11 +26,12 @@ pub(crate) fn reserve_outputs(rows: &mut Vec<Row>, i: usize, n: usize) -> Result
     rows[i].outputs.reserve(n)
 }
 
-// Puts parcels behind the outputs of an instance.
-pub(crate) fn append_outputs(rows: &mut Vec<Row>, i: usize, more: ItemList<Parcel>)
+// Puts outputs behind those of an instance.
+pub(crate) fn append_outputs(rows: &mut Vec<Row>, i: usize, more: ItemList<Output>)
     requires within { i < length rows.old.items }
     requires room { HasOutputRoomFor rows.old.items i (length more) }
-    ensures puts { Puts (Outputs i) more rows.old.items rows.new.items }
+    ensures puts { Puts (Outputs i) (parcels_out more) rows.old.items rows.new.items }
+    ensures added { outputs_here rows.new.items i ≡ outputs_here rows.old.items i ++ more }
     ensures size { length rows.new.items ≡ length rows.old.items }
     ensures rooms { SameRooms rows.old.items rows.new.items }
 {
@@ -36,9 +39,10 @@ pub(crate) fn append_outputs(rows: &mut Vec<Row>, i: usize, more: ItemList<Parce
 }
 
 // Takes the oldest output of an instance.
-pub(crate) fn pop_output(rows: &mut Vec<Row>, i: usize) -> Option<Parcel>
+pub(crate) fn pop_output(rows: &mut Vec<Row>, i: usize) -> Option<Output>
     requires { i < length rows.old.items }
-    ensures takes { IfSome result (λ parcel. Takes (Outputs i) parcel rows.old.items rows.new.items) }
+    ensures takes { IfSome result (λ output. Takes (Outputs i) output.parcel rows.old.items rows.new.items) }
+    ensures output { IfSome result (λ output. TakesOutput i output rows.old.items rows.new.items) }
     ensures room { IfSome result (λ _. HasOutputRoom rows.new.items i) }
     ensures size { length rows.new.items ≡ length rows.old.items }
     ensures rooms { SameRooms rows.old.items rows.new.items }
@@ -48,15 +52,16 @@ pub(crate) fn pop_output(rows: &mut Vec<Row>, i: usize) -> Option<Parcel>
     rows[i].outputs.pop()
 }
 
-// Puts a parcel before the outputs of an instance, as where it was taken and not used.
-pub(crate) fn unpop_output(rows: &mut Vec<Row>, i: usize, parcel: Parcel)
+// Puts an output before those of an instance, as where it was taken and not used.
+pub(crate) fn unpop_output(rows: &mut Vec<Row>, i: usize, output: Output)
     requires within { i < length rows.old.items }
     requires room { HasOutputRoom rows.old.items i }
-    ensures takes { Takes (Outputs i) parcel rows.new.items rows.old.items }
+    ensures takes { Takes (Outputs i) output.parcel rows.new.items rows.old.items }
+    ensures output { TakesOutput i output rows.new.items rows.old.items }
     ensures size { length rows.new.items ≡ length rows.old.items }
     ensures rooms { SameRooms rows.old.items rows.new.items }
 {
-    rows[i].outputs.put_back(parcel);
+    rows[i].outputs.put_back(output);
 }
 
 // Lets children wait at an instance at which none waits.
@@ -167,7 +172,7 @@ pub(crate) fn spend_output(rows: &mut Vec<Row>, i: usize) -> Option<Finalizer>
     ensures none { IfNone result (rows.new.items ≡ rows.old.items) }
     ensures empty { IfNone result (NothingToSpend (Outputs i) rows.old.items) }
 {
-    row::take_copy(&mut rows[i].outputs)
+    row::take_output_copy(&mut rows[i].outputs)
 }
 
 // Takes the last copy of the oldest parcel that an instance holds.

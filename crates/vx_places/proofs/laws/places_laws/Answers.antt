@@ -1,4 +1,5 @@
 use Rattle.vx_places.proofs.Making.{held_says}
+use Rattle.vx_places.proofs.Ports.{ports_there, back_same}
 use Rattle.vx_places.proofs.Spending.{spent_shifts}
 use Rattle.vx_places.proofs.Steps.{holds_step, still_shifts, same_holds, oldest_there, lent_is, lent_comes_back, none_holds}
 use Rattle.vx_places.proofs.Recorded.{filled_there, lent_filled, stands_there}
@@ -10,7 +11,9 @@ returns c = record {
   still = still_shifts;
   spent = spent_shifts;
   same = same_holds;
+  put_back = back_same;
   oldest = oldest_there;
+  ports = ports_there;
   lent = lent_is;
   back = lent_comes_back;
   none = none_holds;

@@ -1,5 +1,5 @@
 use Rattle.std.proofs.Common.{arith, refl, ap, Some, length}
-use Rattle.vx_places.proofs.Written.{stage_of, stage_written, takes, stage_room_kept}
+use Rattle.vx_places.proofs.Written.{stage_of, stage_written, takes, keeps, stage_room_kept}
 use Rattle.vx_places.proofs.rows.pop_stage.Goals as goal
 
 pub index_mut-requires-2 : goal.index_mut-requires-2
@@ -14,7 +14,8 @@ unreachable-requires c =
 pub returns-clause-takes : goal.returns-clause-takes
 returns-clause-takes c =
     let l = (stage_of c.args.rows.now.items c.args.i _ c.requires.within c.index_mut.ensures.value _ c.args.s c.requires.some).0 in
-    takes (stage_written _ _ _ c.requires.within c.index_mut.ensures.value c.args.s _ _ l c.index_mut-2.ensures.value) _ _ (ap Some c.in-Some.ensures.some) refl
+    let change = stage_written _ _ _ c.requires.within c.index_mut.ensures.value c.args.s _ _ l c.index_mut-2.ensures.value in
+    takes change _ _ (ap Some c.in-Some.ensures.some) refl (keeps change (λ j. refl))
 
 pub returns-clause-rooms : goal.returns-clause-rooms
 returns-clause-rooms c = search stage_room_kept

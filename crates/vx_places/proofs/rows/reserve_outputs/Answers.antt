@@ -1,10 +1,12 @@
-use Rattle.std.proofs.Common.{sym, ap, length, arith, Some}
+use Rattle.std.proofs.Common.{◌≡◌, sym, ap, refl, length, arith, Some}
 use Rattle.std.proofs.lemmas.Result.{on_ok_weaker}
-use Rattle.vx_places.proofs.Written.{gets, outputs_written, unchanged, rooms_kept}
+use Rattle.vx_places.specs.Numbers.{parcels_out}
+use Rattle.vx_places.proofs.Written.{gets, outputs_written, outputs_related, unchanged, rooms_kept}
 use Rattle.vx_places.proofs.rows.reserve_outputs.Goals as goal
 
 pub returns-clause-same : goal.returns-clause-same
-returns-clause-same c = unchanged (outputs_written _ _ _ c.requires c.index_mut.ensures.value _) (ap Some (sym c.reserve.ensures.items))
+returns-clause-same c = unchanged (outputs_written _ _ _ c.requires c.index_mut.ensures.value _) (ap (λ os. Some (parcels_out os)) (sym c.reserve.ensures.items))
+    (outputs_related _ _ _ c.requires c.index_mut.ensures.value (λ was now. now ≡ was) (λ os. refl) _ c.reserve.ensures.items)
 
 pub returns-clause-room : goal.returns-clause-room
 returns-clause-room c = on_ok_weaker c.reserve.result

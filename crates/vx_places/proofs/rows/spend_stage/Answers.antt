@@ -1,7 +1,7 @@
 use Rattle.std.proofs.Common.{arith, ap, length, ◌<◌, refl, sym, ◌∙◌}
 use Rattle.std.proofs.lemmas.Option.{IfSome_then, slice_get_past}
 use Rattle.vx_record.specs.Places.Place.{Contents}
-use Rattle.vx_places.proofs.Written.{if_none_then, one_some, read, read_at, stage_written, stage_still, loses, stage_room_kept}
+use Rattle.vx_places.proofs.Written.{if_none_then, one_some, read, read_at, stage_written, stage_still, loses, keeps, stage_room_kept}
 use Rattle.vx_places.proofs.rows.spend_stage.Goals as goal
 
 -- both rows that were read are one, so the stage is in the one that is written
@@ -14,7 +14,8 @@ within c =
 
 pub returns-then-s-len-clause-loses : goal.returns-then-s-len-clause-loses
 returns-then-s-len-clause-loses c = IfSome_then c.take_copy.result c.take_copy.ensures.loses (λ copy less.
-    loses (stage_written _ _ _ c.requires c.index_mut.ensures.value c.args.s _ _ (within c) c.index_mut-then-s-len.ensures.value) copy _ _ refl refl less)
+    let change = stage_written _ _ _ c.requires c.index_mut.ensures.value c.args.s _ _ (within c) c.index_mut-then-s-len.ensures.value in
+    loses change copy _ _ refl refl less (keeps change (λ j. refl)))
 
 pub returns-then-s-len-clause-none : goal.returns-then-s-len-clause-none
 returns-then-s-len-clause-none c = if_none_then c.take_copy.result
