@@ -42,6 +42,7 @@ reads_unended h i worker job.Confirm legal out idle given is = cc
 reads_unended h i worker job.Collect legal out idle given is = cc
 reads_unended h i worker job.Attempt legal out idle given is = cc
 reads_unended h i worker job.Close legal out idle given is = cc
+reads_unended h i worker job.Judge legal out idle given is = cc
 
 -- a confirm ends no stream
 ended_behind : (h : Record) (i : ℕ) (confirmed : Option Confirmed) → ended_streams (confirm_entries i confirmed ++ h) i ≡ ended_streams h i
@@ -63,11 +64,17 @@ fit_of : (told : Told) (h : Record) (i : ℕ) (was now : Role) (d : Done) → is
 fit_of told h i was now (done.Read turned) fit keeps acted = acted.fit
 fit_of told h i (role.Source core) (role.Source next) d fit keeps acted = refl
 fit_of told h i (role.Sink codec) (role.Sink next) d fit keeps acted = refl
+fit_of told h i (role.Transform picker) (role.Transform _) d fit keeps acted = refl
 fit_of told h i role.Unfit now d fit keeps acted = cc
 fit_of told h i (role.Source core) role.Unfit d fit keeps acted = absurd keeps
 fit_of told h i (role.Source core) (role.Sink next) d fit keeps acted = absurd keeps
 fit_of told h i (role.Sink codec) (role.Source next) d fit keeps acted = absurd keeps
+fit_of told h i (role.Source core) (role.Transform _) d fit keeps acted = absurd keeps
+fit_of told h i (role.Sink codec) (role.Transform _) d fit keeps acted = absurd keeps
 fit_of told h i (role.Sink codec) role.Unfit d fit keeps acted = absurd keeps
+fit_of told h i (role.Transform picker) (role.Source _) d fit keeps acted = absurd keeps
+fit_of told h i (role.Transform picker) (role.Sink _) d fit keeps acted = absurd keeps
+fit_of told h i (role.Transform picker) role.Unfit d fit keeps acted = absurd keeps
 
 module _ {P : Type 0} (told_by : P → Told) (h : Record) (work : Work P) (legal : IsLegal h) (left : HasLeft told_by h work) where
   -- what was confirmed, and then done

@@ -1,14 +1,14 @@
 -- A task that is out is kept by whatever spares it.
 use Rattle.std.proofs.Common.{◌≡◌, ℕ, Bool, true, false, List, [], ◌∷◌, ◌++◌, Option, Some, None, refl, sym, ap, ◌∙◌, subst}
-use Rattle.std.specs.Prelude.{◌&&◌, IsSomeAnd, map, nat_lt, if◌then◌else◌}
+use Rattle.std.specs.Prelude.{◌≢◌, ◌&&◌, IsSomeAnd, map, nat_lt, if◌then◌else◌}
 use Rattle.std.specs.List.{list_any}
 use Rattle.vx_value.specs.declared.event.Event.{Event}
 use Rattle.vx_ends.specs.Told.{Told}
 use Rattle.vx_ends.specs.declared.position.Position.{Position}
 use Rattle.vx_ledger.specs.declared.parcel.Parcel.{Parcel}
 use Rattle.vx_plan.specs.declared.component.Component.{Component}
-use Rattle.vx_plan.specs.Components.{is_source}
-use Rattle.vx_plan.specs.Options.{encoding}
+use Rattle.vx_plan.specs.Components.{is_source, is_transform}
+use Rattle.vx_plan.specs.Options.{conditions_of, encoding}
 use Rattle.vx_record.specs.declared.entry.Entry.{Entry}
 use Rattle.vx_record.specs.declared.entry.Entry.TheVariants as entry
 use Rattle.vx_record.specs.Records.{Record, capped}
@@ -22,7 +22,8 @@ use Rattle.vx_record.specs.Encoding.{given, bytes_for, encoded}
 use Rattle.vx_record.specs.Reads.{bytes_taken}
 use Rattle.vx_record.specs.Sourcing.{failed_starts}
 use Rattle.vx_record.specs.Confirms.{due, is_confirm_due}
-use Rattle.vx_record.specs.Owing.{is_done}
+use Rattle.vx_record.specs.Owing.{took_since, owes_discards, is_done}
+use Rattle.vx_record.specs.Transforms.{Rule, judges, RunsBy, port_bits}
 use Rattle.vx_record.specs.Ready.{can_read}
 use Rattle.vx_record.specs.Tasks.{is_of, mine, out_to}
 use Rattle.vx_record.specs.Makers.{Spares}
@@ -31,9 +32,12 @@ use Rattle.vx_record.proofs.OwnTurns.{worker_own, moment_own, closed_own}
 use Rattle.vx_record.proofs.OwnLeases.{turned_own, tried_own, confirmed_own, lease_stays}
 use Rattle.vx_record.proofs.OwnConfirms.{given_own}
 use Rattle.vx_record.proofs.OwnReads.{bytes_own, starts_own}
+use Rattle.vx_record.proofs.OwnAnswers.{took_own}
+use Rattle.vx_record.proofs.Adding.{carry_legal}
 use Rattle.vx_record.proofs.TasksOut.{spared_stays}
 use Rattle.vx_sourcecore.specs.declared.source.Turned.{Turned}
 use Rattle.vx_sourcecore.specs.declared.source.Turned.TheVariants as turned
+use Rattle.vx_pick.specs.Picks.{Picks, AreMeant}
 use Rattle.vx_sourcecore.proofs.Keeping.{component_kept, abreast_kept, turned_kept}
 use Rattle.vx_places.specs.Numbers.{numbers}
 use Rattle.vx_tasks.specs.declared.confirming.Confirmed.{Confirmed}
@@ -45,11 +49,12 @@ use Rattle.vx_tasks.specs.declared.work.Job.{Job}
 use Rattle.vx_tasks.specs.declared.work.Job.TheVariants as job
 use Rattle.vx_tasks.specs.Telling.{IsTold, GoesBeyond}
 use Rattle.vx_tasks.specs.Home.{HasCome}
-use Rattle.vx_tasks.specs.Out.{IsIdle, IsHeld, MayAttemptNow, MayReadNow, MayCloseNow, IsGiven, AreDue, turn_entry, deeds, confirm_entries, IsConfirmedSo, TellsDone, HasRoleTurned, HasActed}
+use Rattle.vx_tasks.specs.Out.{IsIdle, IsHeld, MayAttemptNow, MayReadNow, MayCloseNow, MayJudgeNow, IsGiven, AreJudged, AreDue, turn_entry, deeds, confirm_entries, IsConfirmedSo, TellsDone, HasRoleTurned, HasActed}
 use Rattle.vx_tasks.specs.Laws.{LeftKept, DoneKept}
 use Rattle.vx_tasks.proofs.Staying.{stays, runs, told_same, held_stays}
 use Rattle.vx_tasks.proofs.Closing.{told_by, attempt_stays}
 use Rattle.vx_tasks.proofs.Writing.{events_said}
+use Rattle.vx_tasks.proofs.Discarding.{discards_later}
 
 -- RECORDS WITH THE SAME ENTRIES OF A TASK
 -- entries in front of both
@@ -71,6 +76,7 @@ deeds_same : (old new : Record) (i : ℕ) (parcels : List Parcel) (d : Done) →
 deeds_same old new i parcels done.Nothing same = refl
 deeds_same old new i parcels (done.Read turned) same = ap (λ (e : Entry). e ∷ []) (turn_same old new i turned same)
 deeds_same old new i parcels (done.Attempted all sent answer) same = refl
+deeds_same old new i parcels (done.Judged ports) same = refl
 deeds_same old new i parcels done.Closed same = refl
 deeds_same old new i parcels done.Short same = refl
 deeds_same old new i parcels done.Starved same = refl
@@ -91,6 +97,7 @@ deeds_run : (h : Record) (i : ℕ) (parcels : List Parcel) (d : Done) → compon
 deeds_run h i parcels done.Nothing = refl
 deeds_run h i parcels (done.Read turned) = turn_runs h i turned
 deeds_run h i parcels (done.Attempted all sent answer) = refl
+deeds_run h i parcels (done.Judged ports) = refl
 deeds_run h i parcels done.Closed = refl
 deeds_run h i parcels done.Short = refl
 deeds_run h i parcels done.Starved = refl
@@ -112,6 +119,7 @@ module _ (told : Told) (old new : Record) (i : ℕ) (same : mine new i ≡ mine 
   tells_same parcels done.Nothing is = deeds_told parcels done.Nothing is
   tells_same parcels (done.Read turned) is = deeds_told parcels (done.Read turned) is
   tells_same parcels (done.Attempted all sent answer) is = deeds_told parcels (done.Attempted all sent answer) is
+  tells_same parcels (done.Judged ports) is = deeds_told parcels (done.Judged ports) is
   tells_same parcels done.Closed is = deeds_told parcels done.Closed is
   tells_same parcels done.Short is = deeds_told parcels done.Short is
   tells_same parcels done.Starved is = told_same (record told { given = None }) old new i same run is
@@ -155,6 +163,7 @@ module _ (old new : Record) (i worker : ℕ) (legal : IsLegal old) (adds : OnlyA
   come_kept : (r : Role) → HasCome old i r → HasCome new i r
   come_kept (role.Source core) is = abreast_kept old new i core adds is
   come_kept (role.Sink codec) is = subst (λ (o : Option Component). IsSomeAnd o (λ (c : Component). encoding c.settings ≡ Some codec)) (sym run) is
+  come_kept (role.Transform picker) is = subst (λ (o : Option Component). IsSomeAnd o (λ (c : Component). Picks c.settings picker)) (sym run) is
   come_kept role.Unfit is = tt
 
   due_kept : (positions : Option (List Position)) → AreDue old i positions → AreDue new i positions
@@ -177,12 +186,23 @@ module _ (old new : Record) (i worker : ℕ) (legal : IsLegal old) (adds : OnlyA
   attempt_kept : MayAttemptNow old i → MayAttemptNow new i
   attempt_kept may = attempt_stays old new i same run adds legal may
 
+  settled_kept : owes_discards old i ≡ false → owes_discards new i ≡ false
+  settled_kept = carry_legal (Spares i) (λ h. owes_discards h i ≡ false) (λ h e follows spares was. discards_later h e i spares was) old new adds legal
+
+  judge_kept : MayJudgeNow old i → MayJudgeNow new i
+  judge_kept may = record {
+    transform = told_by false is_transform new old i run ∙ may.transform;
+    took = stays took_since took_own old new i same ∙ may.took;
+    settled = settled_kept may.settled;
+  }
+
   given_kept : (wanted : Job) → IsGiven old i wanted → IsGiven new i wanted
   given_kept job.Read is = read_kept is
   given_kept job.Confirm is = tt
   given_kept job.Collect is = tt
   given_kept job.Attempt is = attempt_kept is
   given_kept job.Close is = close_kept is
+  given_kept job.Judge is = judge_kept is
 
   undue_kept : is_confirm_due (at_lease old i) i ≡ false → is_confirm_due (at_lease new i) i ≡ false
   undue_kept is = subst (λ (h : Record). is_confirm_due h i ≡ false) (sym lease) is
@@ -191,12 +211,14 @@ module _ (old new : Record) (i worker : ℕ) (legal : IsLegal old) (adds : OnlyA
   so_kept done.Nothing None is = undue_kept is
   so_kept (done.Read turned) None is = undue_kept is
   so_kept (done.Attempted all sent answer) None is = undue_kept is
+  so_kept (done.Judged ports) None is = undue_kept is
   so_kept done.Closed None is = undue_kept is
   so_kept done.Short None is = tt
   so_kept done.Starved None is = undue_kept is
   so_kept done.Nothing (Some c) is = due_kept (Some c.positions) is
   so_kept (done.Read turned) (Some c) is = due_kept (Some c.positions) is
   so_kept (done.Attempted all sent answer) (Some c) is = due_kept (Some c.positions) is
+  so_kept (done.Judged ports) (Some c) is = due_kept (Some c.positions) is
   so_kept done.Closed (Some c) is = due_kept (Some c.positions) is
   so_kept done.Short (Some c) is = due_kept (Some c.positions) is
   so_kept done.Starved (Some c) is = due_kept (Some c.positions) is
@@ -205,6 +227,7 @@ module _ (old new : Record) (i worker : ℕ) (legal : IsLegal old) (adds : OnlyA
   turned_role_kept : (r : Role) (turned : Turned) → HasRoleTurned old i r turned → HasRoleTurned new i r turned
   turned_role_kept (role.Source core) turned is = turned_kept old new i core turned adds is
   turned_role_kept (role.Sink codec) turned is = is
+  turned_role_kept (role.Transform picker) turned is = is
   turned_role_kept role.Unfit turned is = tt
 
   encoded_kept : (parcels : List Parcel) → IsHeld old i parcels → IsHeld new i parcels → encoded new i (at new (Held i)) ≡ encoded old i (at old (Held i))
@@ -213,6 +236,23 @@ module _ (old new : Record) (i worker : ℕ) (legal : IsLegal old) (adds : OnlyA
       ∙ told_by [] (λ (c : Component). bytes_for c.settings (map (parcel_event new) (numbers parcels))) new old i run
       ∙ ap (λ (events : List Event). elim (component_of old i) [ None ↦ [] | Some c ↦ bytes_for c.settings events ]) (events_said new parcels is.known is.filled ∙ sym (events_said old parcels was.known was.filled))
       ∙ ap (encoded old i) was.held
+
+  -- the events of what it holds, and the rule by which it picks
+  held_events : (h : Record) (parcels : List Parcel) → IsHeld h i parcels → map (parcel_event h) (at h (Held i)) ≡ map (λ (p : Parcel). p.event) parcels
+  held_events h parcels held = ap (map (parcel_event h)) (sym held.held) ∙ events_said h parcels held.known held.filled
+
+  rule_kept : (rule : Rule) → RunsBy new i rule → RunsBy old i rule
+  rule_kept rule by = record { component = by.component; runs = sym run ∙ by.runs; transform = by.transform; tests = by.tests; mean = by.mean; ruled = by.ruled }
+
+  judged_kept : (parcels : List Parcel) (ports : List ℕ) → IsHeld old i parcels → IsHeld new i parcels → AreJudged old i ports → AreJudged new i ports
+  judged_kept parcels ports was now are = λ judge earlier by.
+      are judge earlier (rule_kept (judges judge) by)
+      ∙ ap (map (λ (event : Event). port_bits (judge earlier event))) (held_events old parcels was ∙ sym (held_events new parcels now))
+
+  meant_kept : (parcels : List Parcel) → IsHeld old i parcels → IsHeld new i parcels → (at old (Held i) ≢ [] → IsSomeAnd (component_of old i) (λ (c : Component). AreMeant (conditions_of c.settings))) →
+      at new (Held i) ≢ [] → IsSomeAnd (component_of new i) (λ (c : Component). AreMeant (conditions_of c.settings))
+  meant_kept parcels was now meant some =
+      subst (λ (o : Option Component). IsSomeAnd o (λ (c : Component). AreMeant (conditions_of c.settings))) (sym run) (meant (λ none. some (sym now.held ∙ was.held ∙ none)))
 
   acted_kept : (told : Told) (r : Role) (parcels : List Parcel) (d : Done) → IsHeld old i parcels → IsHeld new i parcels → HasActed told old i r d → HasActed told new i r d
   acted_kept told r parcels done.Nothing was now is = come_kept r is
@@ -224,6 +264,7 @@ module _ (old new : Record) (i worker : ℕ) (legal : IsLegal old) (adds : OnlyA
     within = is.within;
     ok = is.ok;
   }
+  acted_kept told r parcels (done.Judged ports) was now is = record { may = judge_kept is.may; come = come_kept r is.come; judged = judged_kept parcels ports was now is.judged; meant = meant_kept parcels was now is.meant }
   acted_kept told r parcels done.Closed was now is = record { may = close_kept is.may; come = come_kept r is.come; shut = is.shut }
   acted_kept told r parcels done.Short was now is = come_kept r is
   acted_kept told r parcels done.Starved was now is = record {

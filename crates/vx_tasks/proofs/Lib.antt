@@ -6,3 +6,9 @@ pub mod Doing
 pub mod Staying
 pub mod Closing
 pub mod Kept
+pub mod Discarding
+pub mod Judging
+pub mod Dividing
+pub mod Judges
+pub mod Given
+pub mod Answering

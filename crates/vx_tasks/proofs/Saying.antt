@@ -11,6 +11,7 @@ use Rattle.vx_ends.specs.declared.trouble.Reply.TheVariants as reply
 use Rattle.vx_plan.specs.declared.component.Component.{Component}
 use Rattle.vx_record.specs.declared.entry.Entry.{Entry}
 use Rattle.vx_record.specs.declared.entry.Entry.TheVariants as entry
+use Rattle.vx_record.specs.declared.output.Output.{Output}
 use Rattle.vx_record.specs.declared.taken.Taken.{Taken}
 use Rattle.vx_record.specs.declared.taken.Taken.TheVariants as taken
 use Rattle.vx_record.specs.Records.{Record, capped}
@@ -281,6 +282,32 @@ attempt_told old new h i copies bytes started answer only grew counts = told_sai
     replied reply.Ok = record { faults = by_test i false; refusals = by_test i false; idles = refl; finishes = by_test i true; confirms = refl }
     replied reply.Failed = record { faults = by_test i true; refusals = by_test i false; idles = refl; finishes = by_test i false; confirms = refl }
     replied reply.Refused = record { faults = by_test i false; refusals = by_test i true; idles = refl; finishes = by_test i false; confirms = refl }
+
+-- a port of which an answer tells nothing
+none_counted : (exact : Bool) (n : ℕ) → Counts exact n n false
+none_counted exact n = record { later = omega arith; rose = λ is. cc; exactly = λ on. refl }
+
+pub answer_told : (told : Told) (h : Record) (i : ℕ) (outputs : List Output) (discarded kept : List ℕ) → IsTold told h i → IsTold told (entry.Answer i outputs discarded kept ∷ h) i
+answer_told told h i outputs discarded kept is = told_said (entry.Answer i outputs discarded kept) h i told told (record {
+  taken = λ s. same_grows (told.taken s) (told.taken s) refl;
+  given = same_grows told.given told.given refl;
+  confirmed = same_grows told.confirmed told.confirmed refl;
+  spec = refl;
+  runs = refl;
+  ended = sym (append-nil told.ended);
+  over = λ before now. before now;
+  what = nothing;
+  tells = record { faults = refl; refusals = refl; idles = refl; finishes = refl; confirms = refl };
+  counts = record {
+    faults = none_counted told.exact told.faults;
+    refusals = none_counted told.exact told.refusals;
+    idles = none_counted told.exact told.idles;
+    starts = none_counted told.exact told.starts;
+    finishes = none_counted told.exact told.finishes;
+    confirms = none_counted told.exact told.confirms;
+    exact = refl;
+  };
+}) is
 
 -- a port that no entry tells of
 pub quiet : (started : Bool) → IsQuiet (record nothing { started = started })

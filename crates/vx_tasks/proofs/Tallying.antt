@@ -174,6 +174,7 @@ shows_behind old mid new (done.Read (turned.Failed at_start)) fell more same sho
 shows_behind old mid new (done.Attempted all sent reply.Ok) fell more same shown = (rose_later old.finishes mid.finishes new.finishes fell.finishes more.finishes shown.0, shown.1)
 shows_behind old mid new (done.Attempted all sent reply.Failed) fell more same shown = (rose_later old.faults mid.faults new.faults fell.faults more.faults shown.0, shown.1)
 shows_behind old mid new (done.Attempted all sent reply.Refused) fell more same shown = (rose_later old.refusals mid.refusals new.refusals fell.refusals more.refusals shown.0, shown.1)
+shows_behind old mid new (done.Judged ports) fell more same shown = shown ∙ same
 shows_behind old mid new done.Closed fell more same shown = shown
 shows_behind old mid new done.Short fell more same shown = tt
 shows_behind old mid new done.Starved fell more same shown = shown

@@ -12,18 +12,25 @@ use Rattle.vx_tasks.specs.declared.work.Job.{Job}
 use Rattle.vx_tasks.specs.declared.work.Job.TheVariants as job
 use Rattle.vx_tasks.specs.Attempts.{RepliesBy}
 
--- what was done is the job: a source reads, a sink writes, and each closes. Nothing is done only where there is nothing to do, or
--- another could. Memory can be wanting only for a read or an attempt
+-- what was done is the job: a source reads, a sink writes, a transform judges, and each closes. Nothing is done only where there is
+-- nothing to do, or another could. Memory can be wanting only for a read, an attempt or a judgement
 abbrev pub DoesJob : Job → Role → Done → Type 0
 DoesJob job.Read (role.Source core) (done.Read turned) = Unit {0}
 DoesJob job.Read (role.Source core) done.Short = Unit {0}
 DoesJob job.Read (role.Sink codec) done.Nothing = Unit {0}
+DoesJob job.Read (role.Transform picker) done.Nothing = Unit {0}
 DoesJob job.Read role.Unfit done.Nothing = Unit {0}
 DoesJob job.Attempt (role.Sink codec) (done.Attempted all sent answer) = Unit {0}
 DoesJob job.Attempt (role.Sink codec) done.Short = Unit {0}
 DoesJob job.Attempt (role.Sink codec) done.Starved = Unit {0}
 DoesJob job.Attempt (role.Source core) done.Nothing = Unit {0}
+DoesJob job.Attempt (role.Transform picker) done.Nothing = Unit {0}
 DoesJob job.Attempt role.Unfit done.Nothing = Unit {0}
+DoesJob job.Judge (role.Transform picker) (done.Judged ports) = Unit {0}
+DoesJob job.Judge (role.Transform picker) done.Short = Unit {0}
+DoesJob job.Judge (role.Source core) done.Nothing = Unit {0}
+DoesJob job.Judge (role.Sink codec) done.Nothing = Unit {0}
+DoesJob job.Judge role.Unfit done.Nothing = Unit {0}
 DoesJob job.Close does done.Closed = Unit {0}
 DoesJob job.Confirm does done.Nothing = Unit {0}
 DoesJob job.Collect does done.Nothing = Unit {0}
@@ -33,15 +40,17 @@ DoesJob wanted does other = ⊥
 abbrev pub LacksConfirm : Option (List Position) → Option Confirmed → Done → Type 0
 LacksConfirm positions confirmed outcome = IsSome positions × IsNone confirmed × (outcome ≡ done.Short)
 
--- who reads goes on reading, and who writes by a codec goes on writing by it; only a read can leave a source of no use
+-- who reads goes on reading, who writes by a codec goes on writing by it, and who picks goes on picking so; only a read can leave a
+-- source of no use
 abbrev pub KeepsRole : Role → Role → Done → Type 0
 KeepsRole (role.Source core) (role.Source next) outcome = Unit {0}
 KeepsRole (role.Source core) role.Unfit (done.Read turned) = Unit {0}
 KeepsRole (role.Sink codec) (role.Sink next) outcome = next ≡ codec
+KeepsRole (role.Transform picker) (role.Transform next) outcome = next ≡ picker
 KeepsRole role.Unfit role.Unfit outcome = Unit {0}
 KeepsRole was now outcome = ⊥
 
--- no count of a port fell
+-- none of these counts of a port fell
 pub record NoneFell (old new : Told) : Type 0 where
   pub faults : old.faults ≤ new.faults
   pub refusals : old.refusals ≤ new.refusals
@@ -49,12 +58,12 @@ pub record NoneFell (old new : Told) : Type 0 where
   pub finishes : old.finishes ≤ new.finishes
   pub confirms : old.confirms ≤ new.confirms
 
--- a port wasn't started
+-- a port wasn't started, as far as its count tells
 pub record StartsNone (old new : Told) : Type 0 where
   pub starts : Counts old.exact old.starts new.starts false
   pub exact : new.exact ≡ old.exact
 
--- a port was started at most once, and not where it was started
+-- a port was started at most once, and not where it was started, as far as its count tells
 pub record StartsOnce (old new : Told) : Type 0 where
   pub started : Bool
   pub first : started ≡ true → old.started ≡ false
@@ -67,6 +76,7 @@ abbrev pub ShowsDone : Told → Told → Done → Type 0
 ShowsDone old new done.Nothing = new.started ≡ old.started
 ShowsDone old new (done.Read turned) = ShowsTurn old new turned
 ShowsDone old new (done.Attempted all sent answer) = RepliesBy old new answer
+ShowsDone old new (done.Judged ports) = new.started ≡ old.started
 ShowsDone old new done.Closed = new.started ≡ false
 ShowsDone old new done.Short = Unit {0}
 ShowsDone old new done.Starved = new.started ≡ false

@@ -1,4 +1,5 @@
 pub mod Telling
+pub mod Judging
 pub mod Home
 pub mod Out
 pub mod Attempts

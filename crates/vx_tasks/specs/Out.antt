@@ -1,7 +1,8 @@
 -- What is known of a task that is out, said of the record and the instance alone.
-use Rattle.std.specs.Prelude.{◌≡◌, ℕ, ◌⊎◌, ◌≤◌, ◌++◌, ◌&&◌, ◌||◌, nat_lt, is_some, is_none, Bool, true, false, List, [], ◌∷◌, length, take, Option, Some, None, IfSome, if◌then◌else◌}
+use Rattle.std.specs.Prelude.{◌≡◌, ◌≢◌, IsSomeAnd, ℕ, ◌⊎◌, ◌≤◌, ◌++◌, ◌&&◌, ◌||◌, nat_lt, is_some, is_none, Bool, true, false, List, [], ◌∷◌, length, take, map, Option, Some, None, IfSome, if◌then◌else◌}
 use Rattle.std.specs.List.{list_any}
 use Rattle.vx_value.specs.Texts.{Word}
+use Rattle.vx_value.specs.declared.event.Event.{Event}
 use Rattle.vx_ends.specs.Told.{Told}
 use Rattle.vx_ends.specs.declared.position.Position.{Position}
 use Rattle.vx_ends.specs.declared.trouble.Reply.{Reply}
@@ -13,16 +14,21 @@ use Rattle.vx_record.specs.Records.{Record, capped}
 use Rattle.vx_record.specs.Copies.{joined}
 use Rattle.vx_record.specs.Tasks.{out_to}
 use Rattle.vx_record.specs.Turns.{at_lease, lease_now, since_lease, is_turn_of, is_attempt_of, is_confirm_of}
-use Rattle.vx_record.specs.Installs.{source_at, sink_at, is_closed}
+use Rattle.vx_plan.specs.declared.component.Component.{Component}
+use Rattle.vx_plan.specs.Options.{conditions_of}
+use Rattle.vx_record.specs.Installs.{component_of, source_at, transform_at, sink_at, is_closed}
 use Rattle.vx_record.specs.Confirms.{due, is_confirm_due}
 use Rattle.vx_record.specs.Reads.{bytes_taken}
 use Rattle.vx_record.specs.Sourcing.{failed_starts}
 use Rattle.vx_record.specs.SinkBatches.{is_full_batch, is_timed_out, is_last_batch, was_attempted, is_batch_closed, retry_from}
 use Rattle.vx_record.specs.Encoding.{given, encoded}
-use Rattle.vx_record.specs.Owing.{is_done}
+use Rattle.vx_record.specs.Owing.{took_since, owes_discards, is_done}
+use Rattle.vx_record.specs.Parcels.{parcel_event}
+use Rattle.vx_record.specs.Transforms.{Judge, judges, RunsBy, port_bits}
 use Rattle.vx_record.specs.Ready.{can_read}
 use Rattle.vx_record.specs.Places.Place.{Held}
 use Rattle.vx_record.specs.Shifts.{at}
+use Rattle.vx_pick.specs.Picks.{AreMeant}
 use Rattle.vx_sourcecore.specs.declared.source.Turned.{Turned}
 use Rattle.vx_sourcecore.specs.declared.source.Turned.TheVariants as turned
 use Rattle.vx_sourcecore.specs.Turns.{Reading, reading_of, cut_of, IsInRoom}
@@ -40,6 +46,7 @@ use Rattle.vx_tasks.specs.declared.work.Job.TheVariants as job
 use Rattle.vx_tasks.specs.declared.work.Work.{Work}
 use Rattle.vx_tasks.specs.Telling.{IsTold, IsToldButGiven, GoesBeyond}
 use Rattle.vx_tasks.specs.Home.{HasCome, IsAtHome}
+use Rattle.vx_tasks.specs.Judging.{put_out_on, refused_on}
 
 -- since it was leased an instance took no turn, made no attempt and confirmed nothing, and its port isn't closed for good
 pub record IsIdle (h : Record) (i : ℕ) : Type 0 where
@@ -84,6 +91,12 @@ pub record MayCloseNow (h : Record) (i : ℕ) : Type 0 where
   pub over : is_done (at_lease h i) i ≡ true
   pub confirmed : is_confirm_due (at_lease h i) i ≡ false
 
+-- a transform that took something since its last answer, of which all that it discarded is spent
+pub record MayJudgeNow (h : Record) (i : ℕ) : Type 0 where
+  pub transform : transform_at h i ≡ true
+  pub took : took_since h i ≡ true
+  pub settled : owes_discards h i ≡ false
+
 -- what a job rests on
 abbrev pub IsGiven : Record → ℕ → Job → Type 0
 IsGiven h i job.Read = MayReadNow h i
@@ -91,6 +104,7 @@ IsGiven h i job.Confirm = Unit {0}
 IsGiven h i job.Collect = Unit {0}
 IsGiven h i job.Attempt = MayAttemptNow h i
 IsGiven h i job.Close = MayCloseNow h i
+IsGiven h i job.Judge = MayJudgeNow h i
 
 -- positions that are to be confirmed are those that were due when the instance was leased, and where there are none, none was due
 abbrev pub AreDue : Record → ℕ → Option (List Position) → Type 0
@@ -101,6 +115,7 @@ AreDue h i (Some positions) = (source_at h i ≡ true) × ((is_confirm_due (at_l
 abbrev pub is_unfit : Role → Bool
 is_unfit (role.Source core) = false
 is_unfit (role.Sink codec) = false
+is_unfit (role.Transform picker) = false
 is_unfit role.Unfit = true
 
 -- a task as it left
@@ -127,11 +142,12 @@ turn_entry h i (turned.Lines stream n room cut) = read_entry i (reading_of (turn
 turn_entry h i (turned.StreamEnded stream cut) = read_entry i (reading_of (turned.StreamEnded stream cut))
 turn_entry h i (turned.AllEnded stream cut) = read_entry i (reading_of (turned.AllEnded stream cut))
 
--- the entries that tell what went through the port: a turn, or an attempt with the parcels that the instance holds
+-- the entries that tell what was done: a turn, an attempt with the parcels that the instance holds, or an answer to these
 abbrev pub deeds : Record → ℕ → List Parcel → Done → List Entry
 deeds h i parcels done.Nothing = []
 deeds h i parcels (done.Read turned) = turn_entry h i turned ∷ []
 deeds h i parcels (done.Attempted all sent answer) = entry.Attempt i (joined (numbers parcels)) (take sent all.value) answer ∷ []
+deeds h i parcels (done.Judged ports) = entry.Answer i (put_out_on ports parcels) (refused_on ports parcels) [] ∷ []
 deeds h i parcels done.Closed = []
 deeds h i parcels done.Short = []
 deeds h i parcels done.Starved = []
@@ -165,6 +181,7 @@ leaves_unfit other = false
 abbrev pub HasRoleTurned : Record → ℕ → Role → Turned → Type 0
 HasRoleTurned h i (role.Source core) turned = HasTurned h i core turned
 HasRoleTurned h i (role.Sink codec) turned = ⊥
+HasRoleTurned h i (role.Transform picker) turned = ⊥
 HasRoleTurned h i role.Unfit turned = Unit {0}
 
 -- a turn of a source that could be read when it was leased; the source is of no use any more exactly where what it read wasn't cut
@@ -198,11 +215,25 @@ pub record HasClosed (told : Told) (h : Record) (i : ℕ) (worker_role : Role) :
   pub come : HasCome h i worker_role
   pub shut : told.started ≡ false
 
+-- each parcel that the instance holds is put out on the ports in its place, which are those that its component says of the event
+abbrev pub AreJudged : Record → ℕ → List ℕ → Type 0
+AreJudged h i ports =
+    (judge : Judge) (earlier : List Event) → RunsBy h i (judges judge) →
+    ports ≡ map (λ (event : Event). port_bits (judge earlier event)) (map (parcel_event h) (at h (Held i)))
+
+-- all that an instance holds was judged, and if that is anything the conditions of its component mean something
+pub record HasJudged (h : Record) (i : ℕ) (worker_role : Role) (ports : List ℕ) : Type 0 where
+  pub may : MayJudgeNow h i
+  pub come : HasCome h i worker_role
+  pub judged : AreJudged h i ports
+  pub meant : at h (Held i) ≢ [] → IsSomeAnd (component_of h i) (λ (c : Component). AreMeant (conditions_of c.settings))
+
 -- what was done
 abbrev pub HasActed : Told → Record → ℕ → Role → Done → Type 0
 HasActed told h i worker_role done.Nothing = HasCome h i worker_role
 HasActed told h i worker_role (done.Read turned) = HasRead h i worker_role turned
 HasActed told h i worker_role (done.Attempted all sent answer) = HasAttempted h i worker_role all.value sent answer
+HasActed told h i worker_role (done.Judged ports) = HasJudged h i worker_role ports
 HasActed told h i worker_role done.Closed = HasClosed told h i worker_role
 HasActed told h i worker_role done.Short = HasCome h i worker_role
 HasActed told h i worker_role done.Starved = HasStarved told h i worker_role

@@ -5,7 +5,10 @@ use vx_ends::Reply;
 use vx_ledger::Parcel;
 use vx_places::Line;
 use vx_sourcecore::Turned;
-use vx_value::Bytes;
+use vx_value::{Bytes, ItemList};
+
+/// Sets of ports, each as a number with their bits.
+pub type PortsList = ItemList<u128>;
 
 /// What the port did in a call of `work`, beside the confirm.
 #[derive(Drop)]
@@ -20,9 +23,13 @@ pub enum Done {
         sent: u64,
         reply: Reply,
     },
+    /// A transform judged what it holds, each parcel by its event: the bits of the ports on which it is put out, in order, 0 where it
+    /// is discarded.
+    Judged(PortsList),
     /// The port is closed.
     Closed,
-    /// No memory was found to confirm, to read or to write, and nothing was confirmed, taken or given for want of it.
+    /// No memory was found to confirm, to read, to write or to judge, and nothing was confirmed, taken, given or put out for want of
+    /// it.
     Short,
     /// No memory was found in the midst of an attempt. The port was given the first bytes of it, at least one, which no entry tells,
     /// and is closed.

@@ -9,7 +9,7 @@ mod task;
 mod work;
 
 pub use confirming::Confirmed;
-pub use landing::{Done, Landing};
+pub use landing::{Done, Landing, PortsList};
 pub use laws::task_laws;
 pub use task::{Role, Task};
 pub use work::{Job, Work};

@@ -1,4 +1,5 @@
 use vx_json::Codec;
+use vx_pick::Picker;
 use vx_sourcecore::SourceCore;
 
 /// What an instance does with its port.
@@ -8,6 +9,8 @@ pub enum Role {
     Source(SourceCore),
     /// Writes what it holds by a codec.
     Sink(Codec),
+    /// Judges what it holds, event by event. It needs no port.
+    Transform(Picker),
     /// Nothing any more: memory was wanting while it cut what it had read.
     Unfit,
 }

@@ -1,4 +1,4 @@
-ghost use Rattle.std.specs.Prelude.{◌≡◌, ◌⊎◌, ℕ, List, IfOk, false};
+ghost use Rattle.std.specs.Prelude.{◌≡◌, ◌⊎◌, ◌<◌, ℕ, List, length, IfOk, OnOk, false};
 ghost use Rattle.vx_record.specs.Records.{Record};
 ghost use Rattle.vx_record.specs.Legal.{IsLegal};
 ghost use Rattle.vx_ledger.specs.declared.parcel.Parcel.{Parcel};
@@ -6,14 +6,18 @@ ghost use Rattle.vx_sourcecore.specs.declared.source.SourceCore.{SourceCore};
 ghost use Rattle.vx_sourcecore.specs.Abreast.{HasTurned};
 ghost use Rattle.vx_tasks.specs.Telling.{IsTold};
 ghost use Rattle.vx_tasks.specs.Out.{HasLeft, HasDone, TellsDone, HasActed, HasRoleTurned, is_unfit, lacks_cut};
-ghost use Rattle.vx_tasks.specs.Doing.{MayAct, written};
+ghost use Rattle.vx_ends.specs.Told.{Told};
+ghost use Rattle.vx_plan.specs.declared.settings.Settings.{Settings};
+ghost use Rattle.vx_plan.specs.Options.{conditions_of};
+ghost use Rattle.vx_pick.specs.Picks.{Picks, AreMeant};
+ghost use Rattle.vx_tasks.specs.Doing.{MayAct, written, events_in, AllPicked};
 ghost use Rattle.vx_tasks.specs.Jobs.{DoesJob, LacksConfirm, KeepsRole, NoneFell, ShowsDone, StartsNone, StartsOnce};
 ghost use Rattle.vx_tasks.specs.declared.landing.Done.{Done};
 ghost use Rattle.vx_tasks.specs.declared.task.Role.{Role};
 ghost use Rattle.vx_tasks.specs.declared.work.Job.{Job};
 
 use crate::confirming::confirm;
-use crate::landing::{Done, Landing};
+use crate::landing::{Done, Landing, PortsList};
 use crate::sending::attempt;
 use crate::task::{Role, Task};
 use std::alloc::Global;
@@ -21,6 +25,7 @@ use std::snapshot::Snapshot;
 use vx_ends::{Clock, Port, PositionList};
 use vx_json::{Codec, encode_event};
 use vx_ledger::Parcel;
+use vx_pick::Picker;
 use vx_places::Line;
 use vx_sourcecore::{SourceCore, Turned};
 use vx_value::{Bytes, WantOfMemory};
@@ -36,6 +41,8 @@ pub enum Job {
     Collect,
     /// Write its sink batch.
     Attempt,
+    /// Judge what it holds.
+    Judge,
     /// Close its port.
     Close,
 }
@@ -122,6 +129,7 @@ fn act<P: Port>(alloc: Global, job: Job, port: &mut P, role: Role, held: &Line<P
             role: Role::Sink(codec),
             done: send(alloc, port, codec, held),
         },
+        (Job::Judge, Role::Transform(picker)) => judge(alloc, picker, held),
         (Job::Close, role) => Deed {
             role,
             done: close(port),
@@ -131,6 +139,47 @@ fn act<P: Port>(alloc: Global, job: Job, port: &mut P, role: Role, held: &Line<P
             done: Done::Nothing,
         },
     }
+}
+
+/// Judges what a transform holds. Where no memory was found nothing is judged.
+fn judge(alloc: Global, picker: Picker, held: &Line<Parcel>) -> Deed
+    ensures told { (told : Told) (h : Record) (i : ℕ) → IsTold told h i → TellsDone told h i held.now.items result.done }
+    ensures acted { (told : Told) (h : Record) (i : ℕ) → MayAct told h i (Role.Transform picker) held.now.items Job.Judge → HasActed told h i result.role result.done }
+    ensures does { DoesJob Job.Judge (Role.Transform picker) result.done }
+    ensures keeps { KeepsRole (Role.Transform picker) result.role result.done }
+    ensures shows { (told : Told) → ShowsDone told told result.done }
+{
+    let mut picker = picker;
+    let done = match judge_all(alloc, &mut picker, held) {
+        Ok(ports) => Done::Judged(ports),
+        Err(WantOfMemory) => Done::Short,
+    };
+    Deed {
+        role: Role::Transform(picker),
+        done,
+    }
+}
+
+/// The ports on which each of some parcels is put out, in order, by their events.
+fn judge_all(
+    alloc: Global,
+    picker: &mut Picker,
+    parcels: &Line<Parcel>,
+) -> Result<PortsList, WantOfMemory>
+    ensures ports { IfOk result (λ ports. (settings : Settings) → Picks settings picker.old → AllPicked settings (events_in parcels.now.items) ports) }
+    ensures meant { OnOk result ((settings : Settings) → Picks settings picker.old → 0 < length parcels.now.items → AreMeant (conditions_of settings)) }
+    ensures same { picker.new ≡ picker.old }
+{
+    let mut ports = PortsList::new(alloc);
+    for i in 0..parcels.len() {
+        if let Some(parcel) = parcels.get(i) {
+            let on = picker.ports_for(alloc, &parcel.event)?;
+            let Ok(()) = ports.push(on) else {
+                return Err(WantOfMemory);
+            };
+        }
+    }
+    Ok(ports)
 }
 
 /// Takes from a source's port. Where no memory was found to cut what was taken, the source is of no use any more.
