@@ -1,14 +1,16 @@
 -- What a hub is made from, before and when its ports are there.
-use Rattle.std.specs.Prelude.{◌≡◌, ℕ, ◌<◌, ◌≤◌, List, [], ◌∷◌, length, map, Some, IfSome, IsSomeAnd, slice_get, vec_capacity}
+use Rattle.std.specs.Prelude.{◌≡◌, ℕ, ◌<◌, ◌≤◌, List, [], length, map, Some, IfSome, IsSomeAnd, slice_get, vec_capacity}
 use Rattle.vx_plan.specs.declared.component.Component.{Component}
 use Rattle.vx_plan.specs.declared.plan.Plan.{Plan}
 use Rattle.vx_plan.specs.declared.settings.Settings.{Settings}
 use Rattle.vx_plan.specs.declared.stage.Stage.{Stage}
-use Rattle.vx_plan.specs.Components.{stages, longest_line, batch_max_events}
+use Rattle.vx_plan.specs.Components.{port_names, stages, longest_line, batch_max_events}
 use Rattle.vx_plan.specs.Numbers.{reader_numbers}
 use Rattle.vx_plan.specs.Options.{decoding, encoding, type_name}
 use Rattle.vx_plan.specs.Targets.{acknowledged}
+use Rattle.vx_record.specs.Copies.{counting}
 use Rattle.vx_record.specs.Places.{Place}
+use Rattle.vx_pick.specs.Picks.{Picks}
 use Rattle.vx_sourcecore.specs.declared.source.SourceCore.{SourceCore}
 use Rattle.vx_sourcecore.specs.Sources.{IsFresh}
 use Rattle.vx_counts.specs.Meets.{Meets}
@@ -17,7 +19,7 @@ use Rattle.vx_places.specs.declared.row.Row.{Row}
 use Rattle.vx_places.specs.Rooms.{rooms_at, held_room}
 use Rattle.vx_places.specs.Views.{parcels_here}
 use Rattle.vx_tasks.specs.declared.task.Role.{Role}
-use Rattle.vx_tasks.specs.declared.task.Role.TheVariants.{Source, Sink, Unfit}
+use Rattle.vx_tasks.specs.declared.task.Role.TheVariants.{Source, Sink, Transform, Unfit}
 use Rattle.vx_seats.specs.declared.seat.Seat.{Seat}
 use Rattle.vx_seats.specs.Beginning.{AreNew, HasBorneNone}
 use Rattle.vx_seats.specs.Knowing.{IsFittedTo}
@@ -27,7 +29,7 @@ use Rattle.vx_hub.specs.declared.parts.Named.{Named}
 -- a seat begins for a component of a plan, but for its task
 pub record IsBegun {P : Type 0} (plan : Plan) (seat : Seat P) (c : Component) : Type 0 where
   pub fitted : IsFittedTo seat c
-  pub outlet : seat.outlet ≡ reader_numbers plan c.name 0 ∷ []
+  pub outlet : seat.outlet ≡ map (reader_numbers plan c.name) (counting 0 (length (port_names c)))
   pub facts : AreNew seat.facts
   pub progress : HasBorneNone seat.progress (acknowledged plan c.name)
   pub counts : (i : ℕ) → Meets i [] seat.counts.tally
@@ -37,10 +39,11 @@ pub record IsSourceFor (settings : Settings) (core : SourceCore) : Type 0 where
   pub fresh : IsFresh (longest_line settings) core.decoding (type_name settings) core
   pub decoding_is : decoding settings ≡ Some core.decoding
 
--- a sink begins with the codec by which it writes
+-- a sink begins with the codec by which it writes, and a transform picks by its settings
 abbrev pub IsRoleFor : Role → Component → Type 0
 IsRoleFor (Source core) c = IsSourceFor c.settings core
 IsRoleFor (Sink codec) c = encoding c.settings ≡ Some codec
+IsRoleFor (Transform picker) c = Picks c.settings picker
 IsRoleFor Unfit c = ⊥
 
 -- each of some is for the component in its place

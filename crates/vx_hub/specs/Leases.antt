@@ -8,7 +8,7 @@ use Rattle.vx_record.specs.Places.Place.{Held}
 use Rattle.vx_places.specs.Views.{parcels_here}
 use Rattle.vx_tasks.specs.declared.work.Job.TheVariants as job
 use Rattle.vx_tasks.specs.declared.work.Work.{Work}
-use Rattle.vx_tasks.specs.Out.{MayReadNow, MayCloseNow, IsGiven, HasLeft}
+use Rattle.vx_tasks.specs.Out.{MayReadNow, MayCloseNow, MayJudgeNow, IsGiven, HasLeft}
 use Rattle.vx_moves.specs.Leaving.{Leaves}
 use Rattle.vx_moves.specs.Rooms.{IsHandOf}
 use Rattle.vx_moves.specs.Stands.{Stands}
@@ -21,7 +21,8 @@ use Rattle.vx_moves.specs.declared.books.Books.{Books}
 use Rattle.vx_ready.specs.Asking.{IsServed, IsSettled, IsOpen}
 use Rattle.vx_ready.specs.Jobs.{IsJob, IsLeasable}
 use Rattle.vx_tasks.specs.declared.work.Job.{Job}
-use Rattle.vx_hub.specs.Standing.{IsWell, LentWhileOut}
+use Rattle.vx_landing.specs.Landings.{HasTask}
+use Rattle.vx_hub.specs.Standing.{IsWell, LentWhileOut, OthersKeep}
 use Rattle.vx_hub.specs.Collecting.{IsCollecting, IsTakeOf}
 
 -- an instance may be leased at a moment, and has this to do
@@ -55,6 +56,7 @@ takes_first job.Confirm = false
 takes_first job.Collect = true
 takes_first job.Attempt = true
 takes_first job.Close = false
+takes_first job.Judge = false
 
 -- what a job rests on as soon as its instance was leased
 abbrev pub MayGather : {P : Type 0} → Books P → ℕ → ℕ → Job → Type 0
@@ -63,6 +65,7 @@ MayGather books i now job.Confirm = Unit {0}
 MayGather books i now job.Collect = IsCollecting books i now 0
 MayGather books i now job.Attempt = IsCollecting books i now 0
 MayGather books i now job.Close = MayCloseNow books.log i
+MayGather books i now job.Judge = MayJudgeNow books.log i
 
 -- what there was to take was taken, and the job is what is to be done then
 pub record HasGathered {P : Type 0} (told_by : P → Told) (i : ℕ) (old new : Books P) (job : Job) : Type 0 where
@@ -92,3 +95,5 @@ pub record HasHandedOut {P : Type 0} (told_by : P → Told) (i worker now : ℕ)
   pub only : OnlyAdds (IsBy worker) old.log new.log
   pub noted : HasLeased i worker now old.log new.log
   pub latest : new.run.latest ≡ now
+  pub had : HasTask old.seats work.instance work.task
+  pub others : OthersKeep work.instance old.seats new.seats

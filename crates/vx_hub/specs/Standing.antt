@@ -1,10 +1,11 @@
 -- What a hub stands for.
-use Rattle.std.specs.Prelude.{◌≡◌, ◌≤◌, false, [], length, IsSome, vec_capacity}
+use Rattle.std.specs.Prelude.{◌≡◌, ◌≢◌, ◌≤◌, ℕ, false, List, [], length, IsSome, IfSome, IsSomeAnd, slice_get, vec_capacity}
 use Rattle.vx_ends.specs.Told.{Told}
 use Rattle.vx_record.specs.Additions.{OnlyAdds}
 use Rattle.vx_record.specs.Installs.{in_force, started}
 use Rattle.vx_record.specs.Legal.{IsLegal}
 use Rattle.vx_record.specs.Records.{Record}
+use Rattle.vx_seats.specs.declared.seat.Seat.{Seat}
 use Rattle.vx_moves.specs.Stands.{Stands}
 use Rattle.vx_ready.specs.Asking.{IsServed}
 use Rattle.vx_hub.specs.declared.hub.Hub.{Hub}
@@ -21,6 +22,14 @@ pub record IsHub {P : Type 0} (told_by : P → Told) (hub : Hub P) : Type 0 wher
   pub away : AwayIsWell hub.books
   pub berths : length hub.books.seats ≤ vec_capacity hub.ports
   pub none : hub.ports.items ≡ []
+
+-- a seat has the task that it had, or still none
+abbrev pub SameTask : {P : Type 0} → Seat P → Seat P → Type 0
+SameTask was is = is.task ≡ was.task
+
+-- so has each but that of one instance
+abbrev pub OthersKeep : {P : Type 0} → ℕ → List (Seat P) → List (Seat P) → Type 0
+OthersKeep i old new = (j : ℕ) → j ≢ i → IfSome (slice_get new j) (λ is. IsSomeAnd (slice_get old j) (λ was. SameTask was is))
 
 -- some entries were added to a record, of any kind
 abbrev pub GoesOn : Record → Record → Type 0

@@ -1,7 +1,8 @@
 // What each instance begins with, but for its port.
-ghost use Rattle.std.specs.Prelude.{◌≡◌, ◌∷◌, ◌*◌, [], true, None, length, IfOk};
+ghost use Rattle.std.specs.Prelude.{◌≡◌, ◌∷◌, [], ◌<◌, ◌*◌, ◌^◌, true, None, length, map, All, IfOk};
 ghost use Rattle.vx_plan.specs.Numbers.{reader_numbers};
-ghost use Rattle.vx_plan.specs.Components.{sink_stages, batch_max_events, batch_timeout};
+ghost use Rattle.vx_record.specs.Copies.{counting};
+ghost use Rattle.vx_plan.specs.Components.{port_names, sink_stages, batch_max_events, batch_timeout};
 ghost use Rattle.vx_plan.specs.Options.{has_device, encoding};
 ghost use Rattle.vx_seats.specs.Beginning.{AreNew};
 ghost use Rattle.vx_seats.specs.Knowing.{batching_of};
@@ -17,7 +18,7 @@ use vx_plan::{Class, Component, Plan, Settings, StageList};
 use vx_seats::{Batching, Facts, Progress, Seat};
 use vx_sourcecore::{Prefix, SourceCore};
 use vx_tasks::Role;
-use vx_value::{Text, WantOfMemory};
+use vx_value::{NumberList, Text, WantOfMemory};
 
 /// The greatest number that an instance may have.
 const MOST_INSTANCES: u64 = 0xffff_ffff;
@@ -82,12 +83,27 @@ fn first_facts() -> Facts
     }
 }
 
-/// The outlet of a component, which has one port: the numbers of the instances that read it are the places of their components in
-/// the plan.
+/// The outlet of a component: for each of its ports, in order, the instances that read it.
 fn make_outlet(alloc: Global, plan: &Plan, component: &Component) -> Result<Outlet, WantOfMemory>
-    ensures { IfOk result (λ outlet. outlet ≡ reader_numbers plan.now component.now.name 0 ∷ []) }
+    ensures { IfOk result (λ outlet. outlet ≡ map (reader_numbers plan.now component.now.name) (counting 0 (length (port_names component.now)))) }
 {
-    let readers = plan.readers(alloc, component.name.as_str(), 0)?;
+    let Ok(ports) = u32::try_from(component.ports()) else {
+        return Err(WantOfMemory);
+    };
+    let mut outlet = Outlet::new(alloc, ports)?;
+    for port in 0..ports {
+        let readers = readers(alloc, plan, &component.name, port)?;
+        outlet.rewire(port, readers);
+    }
+    Ok(outlet)
+}
+
+/// The numbers of the instances that read a port of a component, which are the places of their components in the plan.
+fn readers(alloc: Global, plan: &Plan, name: &Text, port: u32) -> Result<NumberList, WantOfMemory>
+    ensures readers { IfOk result (λ readers. readers ≡ reader_numbers plan.now name.now port) }
+    ensures few { IfOk result (λ readers. All (λ t. t < 2 ^ 32) readers) }
+{
+    let readers = plan.readers(alloc, name.as_str(), port)?;
     if readers
         .as_slice()
         .iter()
@@ -95,9 +111,7 @@ fn make_outlet(alloc: Global, plan: &Plan, component: &Component) -> Result<Outl
     {
         return Err(WantOfMemory);
     }
-    let mut outlet = Outlet::new(alloc, 1)?;
-    outlet.rewire(0, readers);
-    Ok(outlet)
+    Ok(readers)
 }
 
 /// How a component collects, if it is a sink.

@@ -8,7 +8,8 @@ ghost use Rattle.vx_record.specs.Ending.{MayRetire, HasReason};
 ghost use Rattle.vx_record.specs.Turns.{is_out};
 ghost use Rattle.vx_moves.specs.Stands.{Stands};
 ghost use Rattle.vx_ready.specs.Asking.{IsServed};
-ghost use Rattle.vx_hub.specs.Standing.{IsHub, IsWell};
+ghost use Rattle.vx_seats.specs.Staying.{EachSeat};
+ghost use Rattle.vx_hub.specs.Standing.{IsHub, IsWell, SameTask};
 ghost use Rattle.vx_hub.specs.Ending.{IsOver, NoneRetires, IsClosing, GivesUp, AreGivenUp, ClosesDown, GivesUpAt, GivesUpBelow};
 
 use crate::hub::Hub;
@@ -47,6 +48,7 @@ impl<P: Port> Hub<P> {
         ensures noted { IfSome result (λ i. self.new.books.log ≡ Retired i ∷ self.old.books.log) }
         ensures none { (self.old.fatal ≡ false) ⊎ (abandoned self.old.books.log ≡ true) → IfNone result (NoneRetires self.old.books.log) }
         ensures run { self.new.books.run ≡ self.old.books.run }
+        ensures tasks { EachSeat SameTask self.old.books.seats self.new.books.seats }
         ensures rest { self.new ≡ record self.old { books = self.new.books } }
         ensures unchanged { IfNone result (self.new ≡ self.old) }
     {

@@ -9,7 +9,8 @@ ghost use Rattle.vx_moves.specs.Stands.{Stands};
 ghost use Rattle.vx_tasks.specs.Out.{HasLeft};
 ghost use Rattle.vx_ready.specs.Asking.{IsServed};
 ghost use Rattle.vx_hub.specs.Leases.{HasLeased, IsReadyFor, NoneHasWork, NoSinkFound, takes_first as takes_first_by, MayGather, HasGathered, HasHandedOut};
-ghost use Rattle.vx_hub.specs.Standing.{IsHub, IsWell, LentWhileOut};
+ghost use Rattle.vx_landing.specs.Landings.{HasTask};
+ghost use Rattle.vx_hub.specs.Standing.{IsHub, IsWell, LentWhileOut, OthersKeep};
 
 use crate::collecting::{collect, decide};
 use crate::hub::Hub;
@@ -35,6 +36,8 @@ impl<P: Port> Hub<P> {
         ensures only { OnlyAdds (IsBy worker) self.old.books.log self.new.books.log }
         ensures noted { IfSome result (λ work. HasLeased work.instance worker (max now self.old.books.run.latest) self.old.books.log self.new.books.log) }
         ensures latest { IfSome result (λ work. self.new.books.run.latest ≡ max now self.old.books.run.latest) }
+        ensures had { IfSome result (λ work. HasTask self.old.books.seats work.instance work.task) }
+        ensures others { IfSome result (λ work. OthersKeep work.instance self.old.books.seats self.new.books.seats) }
         ensures sound { self.old.fatal ≡ true → result ≡ None }
         ensures rest { self.new ≡ record self.old { books = self.new.books } }
         ensures first { IfSome result (λ work. sink_at self.old.books.log work.instance ≡ false → NoSinkFound self.old.books (max now self.old.books.run.latest) (length self.old.books.seats)) }

@@ -9,7 +9,8 @@ ghost use Rattle.vx_places.specs.Looks.{HasOutput, IsFirstRoom};
 ghost use Rattle.vx_moves.specs.Stands.{Stands};
 ghost use Rattle.vx_hub.specs.Failures.{HasReason, fatal_of};
 ghost use Rattle.vx_hub.specs.Pushing.{IsMoveOf, HasMoved, HaveEntered, Grew, CanPass, CanMove, NoneMovesBelow, NoneMoves};
-ghost use Rattle.vx_hub.specs.Standing.{IsHub};
+ghost use Rattle.vx_seats.specs.Staying.{EachSeat};
+ghost use Rattle.vx_hub.specs.Standing.{IsHub, SameTask};
 
 use crate::dropping::drops_newest;
 use crate::fatal::Fatal;
@@ -70,6 +71,7 @@ impl<P: Port> Hub<P> {
         ensures sound { OnOk result (self.new.fatal ≡ self.old.fatal) }
         ensures short { self.new.books.run.short ≡ self.old.books.run.short }
         ensures latest { self.new.books.run.latest ≡ self.old.books.run.latest }
+        ensures tasks { EachSeat SameTask self.old.books.seats self.new.books.seats }
         ensures reason { IfErr result (HasReason self.new.books.log) }
         ensures entered { IfOk result (λ n. HaveEntered n self.old.books.log self.new.books.log) }
         ensures moves { OnOk result (abandoned self.old.books.log ≡ false → is_out self.old.books.log instance ≡ false → CanMove self.old.books instance → Grew self.old.books.log self.new.books.log) }

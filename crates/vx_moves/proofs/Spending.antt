@@ -1,12 +1,12 @@
--- What a spend leaves, of whatever place.
-use Rattle.std.proofs.Common.{◌≡◌, ◌∙◌, ℕ, ◌+◌, ◌<◌, Bool, true, false, List, [], ◌∷◌, ◌++◌, Option, Some, IfSome, IsSome, length, refl, sym, ap, subst, inl, inr, arith}
-use Rattle.std.specs.Prelude.{◌==◌, if◌then◌else◌}
+-- What a spend needs and leaves, of whatever place, and what many do.
+use Rattle.std.proofs.Common.{◌≡◌, ◌∙◌, ℕ, ◌+◌, ◌<◌, Bool, true, false, List, [], ◌∷◌, ◌++◌, Option, Some, None, length, refl, sym, ap, inl, inr, arith}
+use Rattle.std.specs.Prelude.{◌==◌, if◌then◌else◌, not, IsSomeAnd}
 use Rattle.std.proofs.lemmas.Bool.Decides.{nat_tests}
-use Rattle.std.proofs.lemmas.List.{append-nil}
+use Rattle.std.proofs.lemmas.List.{append-nil, map-append, length-append}
 use Rattle.vx_ends.specs.Told.{Told}
 use Rattle.vx_value.specs.declared.event.Event.{Event}
 use Rattle.vx_status.specs.declared.outcome.Outcome.{Outcome}
-use Rattle.vx_status.specs.declared.outcome.Outcome.TheVariants.{Abandoned}
+use Rattle.vx_status.specs.declared.outcome.Outcome.TheVariants.{NewestDropped, NoConsumer, Abandoned}
 use Rattle.vx_status.specs.declared.batch_status.BatchStatus.{BatchStatus}
 use Rattle.vx_ledger.specs.Copies.{Copy, numbers_of}
 use Rattle.vx_ledger.specs.Ledger.{Ledger}
@@ -14,256 +14,304 @@ use Rattle.vx_ledger.specs.declared.parcel.Parcel.{Parcel}
 use Rattle.vx_record.specs.declared.entry.Entry.{Entry}
 use Rattle.vx_record.specs.declared.entry.Entry.TheVariants.{Spent, Notice}
 use Rattle.vx_record.specs.Records.{Record}
-use Rattle.vx_record.specs.Abandoning.{abandoned}
+use Rattle.vx_record.specs.Abandoning.{abandoned, gives_up}
 use Rattle.vx_record.specs.Additions.{OnlyAdds}
+use Rattle.vx_record.specs.Ceasing.{no_answer}
 use Rattle.vx_record.specs.Copies.{all_of, count, joined, next_copy, spends, times_spent, IsLive}
 use Rattle.vx_record.specs.Legal.{IsLegal, Follows}
-use Rattle.vx_record.specs.Lists.{shrunk, stands, parcels_at}
-use Rattle.vx_record.specs.Places.{Place, owner, same_place}
-use Rattle.vx_record.specs.Places.Place.{Held}
+use Rattle.vx_record.specs.Lists.{contents, outputs, shrunk, waiting}
+use Rattle.vx_record.specs.Places.{Place, Put, owner, same_place}
+use Rattle.vx_record.specs.Places.Place.{Outputs, Waiting, Contents, Held}
 use Rattle.vx_record.specs.Shifts.{at}
-use Rattle.vx_record.specs.Spending.{oldest}
+use Rattle.vx_record.specs.Spending.{oldest, HasCause}
+use Rattle.vx_record.specs.Tallies.{any_copy, is_first, is_newest, is_unread}
 use Rattle.vx_record.specs.Turns.{is_out}
-use Rattle.vx_record.proofs.Changes.{same_place_is}
+use Rattle.vx_record.proofs.Adding.{adds_both, adds_none, adds_one}
 use Rattle.vx_record.proofs.Counts.{count-append}
-use Rattle.vx_record.proofs.Hands.{AreAt, others_stay}
+use Rattle.vx_record.proofs.Hands.{AreAt, not_there, others_stay}
 use Rattle.vx_record.proofs.OnePlace.{conserved}
 use Rattle.vx_record.proofs.Shifting.{stands_at}
 use Rattle.vx_balance.specs.Owned.{IsOfBatch}
-use Rattle.vx_balance.specs.Live.{sum_below}
-use Rattle.vx_balance.proofs.Sums.{sum_point, sum_same}
+use Rattle.vx_balance.proofs.Sums.{sum_point}
+use Rattle.vx_counts.specs.Spends.{StandsAt, WasPutIn, IsOne, AllOnes}
+use Rattle.vx_counts.proofs.Dropping.{first_of_taken}
+use Rattle.vx_counts.proofs.Passing.{unspent_none}
+use Rattle.vx_counts.proofs.Singles.{ones}
+use Rattle.vx_counts.proofs.SpentFrom.{legal_place, stands_put}
 use Rattle.vx_places.specs.declared.row.Row.{Row}
-use Rattle.vx_places.specs.Calls.{IsThere, Loses, left_of}
+use Rattle.vx_places.specs.Calls.{IsOldestFor, NoneBefore, HasSome, Loses, NothingToLose, NothingToSpend, left_of}
 use Rattle.vx_places.specs.Holding.{Holds}
-use Rattle.vx_places.specs.Numbers.{numbers, IsCopyIn}
+use Rattle.vx_places.specs.Looks.{IsFirstFilled}
+use Rattle.vx_places.specs.Numbers.{numbers, for_target, IsCopyIn}
 use Rattle.vx_places.specs.Rooms.{SameRooms}
-use Rattle.vx_places.specs.Views.{parcels_here, IsIn}
-use Rattle.vx_places.proofs.Recorded.{stands_there}
+use Rattle.vx_places.specs.Views.{parcels_here, row_at, here_if}
+use Rattle.vx_places.proofs.Looking.{oldest_for, some_for}
+use Rattle.vx_places.proofs.Recorded.{filled_there, some_is, stands_there}
 use Rattle.vx_places.proofs.Spending.{spent_shifts}
-use Rattle.vx_places.proofs.Steps.{holds_step}
+use Rattle.vx_places.proofs.Steps.{still_shifts}
+use Rattle.vx_places.proofs.Written.{each_place}
 use Rattle.vx_seats.specs.declared.seat.Seat.{Seat}
+use Rattle.vx_seats.specs.Knowing.{Knows}
 use Rattle.vx_seats.specs.Staying.{EachSeat, Stays}
+use Rattle.vx_seats.proofs.Aside.{given_up_known}
 use Rattle.vx_moves.specs.declared.books.Books.{Books}
-use Rattle.vx_moves.specs.Spends.{IsSpendOf, MaySpendFrom, IsNotedAs, IsSettled, HasSpent, unspent}
-use Rattle.vx_moves.specs.Rooms.{AreRooms}
-use Rattle.vx_moves.specs.Stands.{Stands, IsRun, KeptAtHome}
-use Rattle.vx_moves.proofs.Stepping.{follows, holds_rests, kept_rests, run_rests, rooms_rest, all_same}
+use Rattle.vx_moves.specs.Spends.{IsSpendOf, MaySpendAll, MaySpendFrom, IsNotedAs, IsSettled, HasSpent, OnlySpends, unspent}
+use Rattle.vx_moves.specs.Stands.{Stands}
+use Rattle.vx_moves.proofs.Leaving.{rooms_both, each_both}
+use Rattle.vx_moves.proofs.Stepping.{Rests, follows, moved, none_put}
+
+-- NOTHING TO SPEND
+-- no parcel at a place of a legal record is empty
+none_here : (h : Record) (rows : List Row) (p : Place) → IsLegal h → Holds rows h → NothingToSpend p rows → parcels_here rows p ≡ Some []
+none_here h rows p legal holds none = go (parcels_here rows p) refl none
+  where
+    go : (o : Option (List Parcel)) → parcels_here rows p ≡ o → IsSomeAnd o NothingToLose → o ≡ Some []
+    go None is none = absurd none
+    go (Some []) is none = refl
+    go (Some (parcel ∷ rest)) is none = absurd ((filled_there h rows p (parcel ∷ rest) legal holds is).0 none)
+
+pub seen_none : (h : Record) (rows : List Row) (p : Place) → Holds rows h → parcels_here rows p ≡ Some [] → at h p ≡ []
+seen_none h rows p holds is = sym (rw is at (holds.stand p))
+
+pub nothing_there : (h : Record) (rows : List Row) (p : Place) → IsLegal h → Holds rows h → NothingToSpend p rows → at h p ≡ []
+nothing_there h rows p legal holds none = seen_none h rows p holds (none_here h rows p legal holds none)
+
+pub waits_some : (h : Record) (rows : List Row) (i t k : ℕ) → IsLegal h → Holds rows h → IsOldestFor rows i t k → NothingToSpend (Waiting i t) rows → ⊥
+waits_some h rows i t k legal holds oldest none = go (row_at rows i) oldest (none_here h rows (Waiting i t) legal holds none)
+  where
+    go : (o : Option Row) → IsSomeAnd o (λ row. NoneBefore t k row.waiting.items) → here_if (Waiting i t) o ≡ Some [] → ⊥
+    go None first is = first
+    go (Some row) first is =
+        let some = some_for t k row.waiting.items (oldest_for t k row.waiting.items first) in
+        let none : for_target t row.waiting.items ≡ [] = cc in
+        absurd (omega (arith, rw none at some))
+
+pub stage_some : (h : Record) (rows : List Row) (i s : ℕ) → IsLegal h → Holds rows h → HasSome rows i s → NothingToSpend (Contents i s) rows → ⊥
+stage_some h rows i s legal holds some none =
+    let l = (some_is h rows i s legal holds).0 some in
+    let gone = ap length (stands_at h (Contents i s) legal ∙ nothing_there h rows (Contents i s) legal holds none) in
+    absurd (omega (arith, l, gone))
+
+pub none_filled_there : (h : Record) (rows : List Row) (i : ℕ) → IsLegal h → Holds rows h → IsFirstFilled rows i None → (s : ℕ) → at h (Contents i s) ≡ []
+none_filled_there h rows i legal holds none s = sym (stands_at h (Contents i s) legal) ∙ go (contents h i s) (some_is h rows i s legal holds).1
+  where
+    go : (ps : List (List ℕ)) → (0 < length ps → HasSome rows i s) → ps ≡ []
+    go [] some = refl
+    go (p ∷ ps) some = absurd (none s (some (omega arith)))
 
 -- COPIES
 copy_last : (cs : List Copy) (copy : Copy) → IsCopyIn (cs ++ copy ∷ []) copy
 copy_last [] copy = inl refl
 copy_last (c ∷ cs) copy = inr (copy_last cs copy)
 
-last_counts : (cs : List Copy) (copy : Copy) → 0 < count copy.number (numbers_of (cs ++ copy ∷ []))
-last_counts [] copy = grind (arith, nat_tests)
-last_counts (c ∷ cs) copy = let l = last_counts cs copy in omega (arith, l)
+left_joined : (event : Event) (cs : List Copy) (rest : List Parcel) → joined (numbers (left_of event cs rest)) ≡ numbers_of cs ++ joined (numbers rest)
+left_joined event [] rest = refl
+left_joined event (c ∷ cs) rest = refl
 
-one_more : (cs : List Copy) (copy : Copy) (rest : List ℕ) → length (numbers_of (cs ++ copy ∷ []) ++ rest) ≡ length (numbers_of cs ++ rest) + 1
-one_more [] copy rest = omega arith
-one_more (c ∷ cs) copy rest = let l = one_more cs copy rest in omega (arith, l)
-
-one_fewer : (event : Event) (cs : List Copy) (copy : Copy) (rest : List Parcel) → length (joined (numbers (left_of event cs rest))) + 1 ≡ length (numbers_of (cs ++ copy ∷ []) ++ joined (numbers rest))
-one_fewer event [] copy rest = sym (one_more [] copy (joined (numbers rest)))
-one_fewer event (c ∷ cs) copy rest = sym (one_more (c ∷ cs) copy (joined (numbers rest)))
-
-one_lost : (c : ℕ) (cs : List Copy) (copy : Copy) (rest : List ℕ) → count c (numbers_of cs ++ rest) + count c (copy.number ∷ []) ≡ count c (numbers_of (cs ++ copy ∷ []) ++ rest)
-one_lost c [] copy rest = omega arith
-one_lost c (d ∷ cs) copy rest = let l = one_lost c cs copy rest in omega (arith, l)
-
-copy_lost : (c : ℕ) (event : Event) (cs : List Copy) (copy : Copy) (rest : List Parcel) → count c (joined (numbers (left_of event cs rest))) + count c (copy.number ∷ []) ≡ count c (numbers_of (cs ++ copy ∷ []) ++ joined (numbers rest))
-copy_lost c event [] copy rest = one_lost c [] copy (joined (numbers rest))
-copy_lost c event (d ∷ cs) copy rest = one_lost c (d ∷ cs) copy (joined (numbers rest))
-
--- HOW MANY ARE LEFT
-tests_fall : (t u : ℕ) → t ≡ 0 → u ≡ 1 → (if u == 0 then 1 else 0) + 1 ≡ (if t == 0 then 1 else 0)
-tests_fall t u none one = grind (arith, nat_tests, none, one)
-
-spent_falls : (h : Record) (i c : ℕ) (outcome : Outcome) → IsLive h c → unspent (Spent i c outcome ∷ h) + 1 ≡ unspent h
-spent_falls h i c outcome live =
-    let same : next_copy h + 0 ≡ next_copy h = omega arith in
-    let here = count-append c (all_of spends h) (c ∷ []) in
-    let one : count c (c ∷ []) ≡ 1 = grind (arith, nat_tests) in
-    subst (λ (n : ℕ). sum_below (λ d. if times_spent (Spent i c outcome ∷ h) d == 0 then 1 else 0) n + 1 ≡ unspent h) (sym same)
-    (sum_point (λ d. if times_spent (Spent i c outcome ∷ h) d == 0 then 1 else 0) (λ d. if times_spent h d == 0 then 1 else 0) c 1 (next_copy h) live.0
-    (tests_fall (times_spent h c) (times_spent (Spent i c outcome ∷ h) c) live.2 (let none = live.2 in omega (arith, here, one, none)))
-    (λ d other. ap (λ (n : ℕ). if n == 0 then 1 else 0) (others d other)))
-  where
-    others : (d : ℕ) → (c ≡ d → ⊥) → times_spent (Spent i c outcome ∷ h) d ≡ times_spent h d
-    others d other =
-        let more = count-append d (all_of spends h) (c ∷ []) in
-        let none : count d (c ∷ []) ≡ 0 = grind (arith, nat_tests, other) in
-        omega (arith, more, none)
-
-notice_keeps : (h : Record) (b : ℕ) (status : BatchStatus) → unspent (Notice b status ∷ h) ≡ unspent h
-notice_keeps h b status =
-    let same : next_copy h + 0 ≡ next_copy h = omega arith in
-    subst (λ (n : ℕ). sum_below (λ d. if times_spent (Notice b status ∷ h) d == 0 then 1 else 0) n ≡ unspent h) (sym same)
-    (sum_same (λ d. if times_spent (Notice b status ∷ h) d == 0 then 1 else 0) (λ d. if times_spent h d == 0 then 1 else 0) (next_copy h)
-    (λ d below. ap (λ (ns : List ℕ). if count d ns == 0 then 1 else 0) (append-nil (all_of spends h))))
+oldest_there : (c : ℕ) (ps : List (List ℕ)) → 0 < count c (oldest ps) → 0 < count c (joined ps)
+oldest_there c [] l = l
+oldest_there c (p ∷ ps) l = omega (arith, count-append c p (joined ps))
 
 only_one : (c d : ℕ) → 0 < count d (c ∷ []) → c ≡ d
 only_one c d l = grind (arith, nat_tests, l)
 
--- what can be seen is kept
-pub kept_some : (rows : List Row) (p : Place) (parcels : List Parcel) → parcels_here rows p ≡ Some parcels → IsSome (parcels_here rows p)
-kept_some rows p parcels is = subst IsSome (sym is) refl
+-- how many are left
+spent_falls : (h : Record) (i c : ℕ) (outcome : Outcome) → IsLive h c → unspent (Spent i c outcome ∷ h) + 1 ≡ unspent h
+spent_falls h i c outcome live =
+    let same : next_copy h + 0 ≡ next_copy h = omega arith in
+    let more : (d : ℕ) → times_spent (Spent i c outcome ∷ h) d ≡ times_spent h d + count d (c ∷ []) = λ d. count-append d (all_of spends h) (c ∷ []) in
+    rw same
+    (sum_point (λ d. if times_spent (Spent i c outcome ∷ h) d == 0 then 1 else 0) (λ d. if times_spent h d == 0 then 1 else 0) c 1 (next_copy h) live.0
+    (rw (more c) (grind (arith, nat_tests, live.2)))
+    (λ d other. rw (more d) (grind (arith, nat_tests, other))))
 
--- an instance that has a seat has a row
-pub seats_rows : {P : Type 0} (told_by : P → Told) (books : Books P) (i : ℕ) → Stands told_by books → i < length books.seats → IsThere books.places i
-seats_rows told_by books i stands l = let size = stands.size in omega (arith, size, l)
+notice_keeps : (h : Record) (b : ℕ) (status : BatchStatus) → unspent (Notice b status ∷ h) ≡ unspent h
+notice_keeps h b status = let same : next_copy h + 0 ≡ next_copy h = omega arith in simp (same, append-nil)
 
--- what stands at an instance at home may be given up, where the run is
+-- WHERE COPIES STAND: without answers each parcel has one, which comes first in it
+one_among : (before : List Put) (put : Put) (after : List Put) → AllOnes (before ++ put ∷ after) → IsOne put.copies
+one_among [] put after all = all.0
+one_among (x ∷ xs) put after all = one_among xs put after all.1
+
+alone : (c : ℕ) (copies : List ℕ) → IsOne copies → 0 < count c copies → copies ≡ c ∷ []
+alone c [] one l = absurd one
+alone c (d ∷ []) one l = ap (λ n. n ∷ []) (only_one d c l)
+alone c (d ∷ x ∷ xs) one l = absurd one
+
+-- a copy that stands somewhere was put there alone
+pub put_alone : (h : Record) (p : Place) (c : ℕ) → IsLegal h → no_answer h ≡ true → 0 < count c (joined (at h p)) → WasPutIn h p (c ∷ []) c
+put_alone h p c legal plain l =
+    let put = stands_put h p c (rw (stands_at h p legal) l) in
+    let all = rw put.1.put.2 at (ones h legal plain) in
+    rw (alone c put.0 (one_among put.1.put.0 (record { place = p; copies = put.0 }) put.1.put.1 all) put.1.has) at put.1
+
+-- and it comes first in what an instance took
+pub comes_first : (h : Record) (i c : ℕ) → IsLegal h → no_answer h ≡ true → 0 < count c (joined (at h (Held i))) → true ≡ is_first h i c
+comes_first h i c legal plain l = sym (first_of_taken h i c [] legal (put_alone h (Held i) c legal plain l).put).0
+
+-- of a copy that isn't spent none was spent so or so
+pub none_before : (h : Record) (test : Outcome → Bool) (c : ℕ) → times_spent h c ≡ 0 → true ≡ not (any_copy test h (c ∷ []))
+none_before h test c unspent = sym (ap not (unspent_none h test (c ∷ []) (λ d l. rw (← (only_one c d l)) unspent)))
+
+-- it stands at no other place
+elsewhere : (h : Record) (p q : Place) (c : ℕ) → IsLegal h → same_place p q ≡ false → 0 < count c (joined (at h p)) → StandsAt h q c → ⊥
+elsewhere h p q c legal apart l other = absurd (omega (arith, other, not_there h p q c (conserved h legal) apart (rw (stands_at h p legal) l)))
+
+-- so what is held is neither dropped as the newest nor unread
+pub held_so : (h : Record) (i c : ℕ) (outcome : Outcome) → IsLegal (Spent i c outcome ∷ h) → 0 < count c (joined (at h (Held i))) →
+    (is_newest outcome ≡ false) × (is_unread outcome ≡ false)
+held_so h i c NewestDropped legal l =
+    let place = legal_place h i c NewestDropped legal in absurd (elsewhere h (Held i) (Waiting i place.0) c legal.1 refl l place.1)
+held_so h i c NoConsumer legal l = absurd (elsewhere h (Held i) (Outputs i) c legal.1 refl l (legal_place h i c NoConsumer legal))
+held_so h i c other legal l = (refl, refl)
+
+-- A SPEND, AND PERHAPS A NOTICE
+-- what the spend leaves and the notice keeps
+behind : {e : Entry} {h log : Record} (F : Record → Type 0) → F (e ∷ h) → ((b : ℕ) (status : BatchStatus) → F (Notice b status ∷ e ∷ h)) → IsNotedAs e h log → F log
+behind F spent noticed (inl is) = rw is spent
+behind F spent noticed (inr more) = rw more.1.1 (noticed more.0 more.1.0)
+
+-- the last copy of the oldest parcel at a place, which is gone from it, may be spent
+pub record IsSpendable (h : Record) (p : Place) (outcome : Outcome) (copy : Copy) : Type 0 where
+  pub among : 0 < count copy.number (oldest (at h p))
+  pub there : 0 < count copy.number (joined (at h p))
+  pub of_batch : IsOfBatch h copy
+  pub live : IsLive h copy.number
+  pub follows : Follows h (Spent (owner p) copy.number outcome)
+  pub legal : IsLegal (Spent (owner p) copy.number outcome ∷ h)
+
+module _ {P : Type 0} {told_by : P → Told} {old : Books P} {p : Place} {outcome : Outcome} {copy : Copy} {rows : List Row} (stood : Stands told_by old)
+    (may : MaySpendFrom old.log p outcome) (loses : Loses p copy old.places rows) where
+  had : (numbers_of loses.loses.left ++ copy.number ∷ []) ∷ numbers loses.loses.rest ≡ at old.log p
+  had =
+      sym (ap (λ ns. ns ∷ numbers loses.loses.rest) (map-append (λ (c : Copy). c.number) loses.loses.left (copy ∷ [])))
+      ∙ rw (loses.was, loses.loses.was) at (stood.places.stand p)
+
+  pub spendable : IsSpendable old.log p outcome copy
+  spendable =
+      let among : 0 < count copy.number (oldest (at old.log p)) = rw (← had) (grind (arith, nat_tests, count-append)) in
+      let there = oldest_there copy.number (at old.log p) among in
+      let known = stood.places.known p loses.loses.event copy (rw (loses.was, loses.loses.was) (inl (refl, copy_last loses.loses.left copy))) in
+      let live = stands_there old.log copy.number p stood.legal there in
+      let follow = follows (Spent (owner p) copy.number outcome) old.balance old.log stood.balance
+      (record { live = live.0; here = live.1; cause = may.cause copy.number among }) (may.left copy.number) in
+      record { among = among; there = there; of_batch = assumption known; live = live.0; follows = follow; legal = (follow, stood.legal) }
+
+  others_now : (q : Place) → same_place p q ≡ false → at (Spent (owner p) copy.number outcome ∷ old.log) q ≡ at old.log q
+  others_now q other = go (owner p == owner q)
+    where
+      are_at : AreAt old.log p (copy.number ∷ [])
+      are_at d l = rw (stands_at old.log p stood.legal) (rw (only_one copy.number d l) at spendable.there)
+
+      go : (b : Bool) → (if b then shrunk (copy.number ∷ []) (at old.log q) else at old.log q) ≡ at old.log q
+      go true = rw (← (stands_at old.log q stood.legal)) (others_stay old.log p q (copy.number ∷ []) (conserved old.log stood.legal) are_at other)
+      go false = refl
+
+  -- the law of spends: where such a copy is gone, and its spend is settled, the books stand
+  pub spent_step : {log : Record} {account : Ledger} {seats : List (Seat P)} → IsSettled told_by (Spent (owner p) copy.number outcome) old.log log account seats →
+      length rows ≡ length old.places → SameRooms old.places rows → length seats ≡ length old.seats → EachSeat Stays old.seats seats →
+      HasSpent told_by p outcome old (record old { places = rows; seats = seats; balance = account; log = log })
+  spent_step {log} settled many same size stay =
+      let h = old.log in
+      let e = Spent (owner p) copy.number outcome in
+      let kind = IsSpendOf (owner p) outcome in
+      let is = spendable in
+      let shifts = spent_shifts h (owner p) outcome p copy old.places rows refl is.legal stood.places loses in
+      let spent : Rests rows old.run (e ∷ h) = moved (assumption) is.legal shifts (none_put (e ∷ h)) same (assumption stood) in
+      let rests : Rests rows old.run log = behind (λ k. IsLegal k → Rests rows old.run k) (λ _. spent)
+      (λ b status legal. moved (assumption) legal (still_shifts (Notice b status) rows tt) (none_put (Notice b status ∷ e ∷ h)) (assumption) spent)
+      settled.noted settled.legal in
+      let one : OnlyAdds kind h (e ∷ h) = adds_one kind h h (e ∷ h) e (adds_none kind h h refl) is.follows (refl, refl) refl in
+      let fell = spent_falls h (owner p) copy.number outcome is.live in
+      let now : joined (at log p) ≡ numbers_of loses.loses.left ++ joined (numbers loses.loses.rest) =
+      ap joined (sym (rw (loses.now, loses.loses.now) at (rests.places.stand p))) ∙ left_joined loses.loses.event loses.loses.left loses.loses.rest in
+      record {
+        copy = copy.number;
+        was = is.among;
+        noted = settled.noted;
+        only = behind (λ k. IsLegal k → OnlyAdds kind h k) (λ _. one)
+            (λ b status legal. adds_one kind h (e ∷ h) (Notice b status ∷ e ∷ h) (Notice b status) one legal.0 tt refl) settled.noted settled.legal;
+        stands = assumption (settled, rests, many ∙ stood.size ∙ sym size);
+        lost = λ c. rw (now, ← had) (omega (arith, count-append));
+        fewer = rw (now, ← had) (omega (arith, length-append {A = ℕ}));
+        left = behind (λ k. unspent k + 1 ≡ unspent h) fell (λ b status. omega (arith, fell, notice_keeps (e ∷ h) b status)) settled.noted;
+        others = λ q other. behind (λ k. at k q ≡ at h q) (others_now q other) (λ b status. others_now q other) settled.noted;
+        leaves = record { seats = stay; rooms = same; run = refl };
+        size = size;
+      }
+
+-- WHERE THE RUN IS GIVEN UP
+-- what stands at an instance at home may be given up
 pub may_give_up : (h : Record) (p : Place) → abandoned h ≡ true → is_out h (owner p) ≡ false → MaySpendFrom h p Abandoned
 may_give_up h p over home = record { cause = λ c among. (over, home); left = λ c given. refl }
 
--- the last copy of the oldest parcel at a place is gone from it, and may be spent so
-pub record IsGone {P : Type 0} (told_by : P → Told) (old : Books P) (p : Place) (outcome : Outcome) (copy : Copy) (rows : List Row) : Type 0 where
-  pub stands : Stands told_by old
-  pub may : MaySpendFrom old.log p outcome
-  pub loses : Loses p copy old.places rows
+pub may_give_up_held : (h : Record) (i : ℕ) → abandoned h ≡ true → is_out h i ≡ false → MaySpendAll h (Held i) Abandoned
+may_give_up_held h i over home = record { cause = λ c among. (over, home); left = λ c given. refl }
 
-pub gone : {P : Type 0} (told_by : P → Told) {old : Books P} {p : Place} {outcome : Outcome} {copy : Copy} {rows : List Row} → Stands told_by old → MaySpendFrom old.log p outcome →
-    Loses p copy old.places rows → IsGone told_by old p outcome copy rows
-gone told_by stands may loses = record { stands = stands; may = may; loses = loses }
+-- and the seats know of it, where it isn't held
+pub given_up : {P : Type 0} {told_by : P → Told} {h : Record} {p : Place} {copy : Copy} {seats : List (Seat P)} → IsSpendable h p Abandoned copy →
+    same_place p (Held (owner p)) ≡ false → Knows told_by seats h → Knows told_by seats (Spent (owner p) copy.number Abandoned ∷ h)
+given_up {told_by = told_by} {h = h} {p = p} {copy = copy} {seats = seats} is apart =
+    let there = rw (← (stands_at h p is.legal.1)) at is.there in
+    let unheld = rw (stands_at h (Held (owner p)) is.legal.1) at (not_there h p (Held (owner p)) copy.number (conserved h is.legal.1) apart there) in
+    given_up_known told_by h (owner p) copy.number seats unheld is.legal
 
-module _ {P : Type 0} {told_by : P → Told} {old : Books P} {p : Place} {outcome : Outcome} {copy : Copy} {rows : List Row} (is_gone : IsGone told_by old p outcome copy rows) where
-  abbrev stands_old : Stands told_by old
-  stands_old = is_gone.stands
+-- MANY SPENDS
+-- what is held keeps its cause
+cause_kept : {copy : ℕ} {h log : Record} (i c : ℕ) (outcome : Outcome) → IsLegal h → 0 < count c (joined (at h (Held i))) → IsNotedAs (Spent i copy outcome) h log →
+    HasCause h i c outcome → HasCause log i c outcome
+cause_kept {h = h} i c NewestDropped legal here noted cause =
+    absurd (elsewhere h (Held i) (Waiting i cause.0) c legal refl here (oldest_there c (waiting h i cause.0) cause.1.next))
+cause_kept {h = h} i c NoConsumer legal here noted cause = absurd (elsewhere h (Held i) (Outputs i) c legal refl here (oldest_there c (outputs h i) cause.next))
+cause_kept i c outcome legal here noted cause = behind (λ k. HasCause k i c outcome) (assumption cause) (λ b status. assumption cause) noted
 
-  abbrev loses : Loses p copy old.places rows
-  loses = is_gone.loses
+pub may_spend_one : (h : Record) (p : Place) (outcome : Outcome) → MaySpendAll h p outcome → MaySpendFrom h p outcome
+may_spend_one h p outcome may = record { cause = λ c among. may.cause c (oldest_there c (at h p) among); left = may.left }
 
-  abbrev h : Record
-  h = old.log
+pub may_spend_more : {P : Type 0} {told_by : P → Told} {old new : Books P} (i : ℕ) (outcome : Outcome) → IsLegal old.log → MaySpendAll old.log (Held i) outcome →
+    HasSpent told_by (Held i) outcome old new → MaySpendAll new.log (Held i) outcome
+may_spend_more {old = old} i outcome legal may spent = record {
+  cause = λ c l.
+      let before : 0 < count c (joined (at old.log (Held i))) = omega (arith, l, spent.lost c) in
+      cause_kept i c outcome legal before spent.noted (may.cause c before);
+  left = λ c. behind (λ k. abandoned k ≡ true → gives_up outcome ≡ true) (may.left c) (λ b status. may.left c) spent.noted;
+}
 
-  abbrev e : Entry
-  e = Spent (owner p) copy.number outcome
+module _ {P : Type 0} {told_by : P → Told} {old mid new : Books P} where
+  pub spends_both : {i : ℕ} {outcome : Outcome} → OnlySpends told_by i outcome old mid → OnlySpends told_by i outcome mid new → OnlySpends told_by i outcome old new
+  spends_both {i} {outcome} first second = record {
+    only = adds_both (IsSpendOf i outcome) old.log mid.log new.log first.only second.only;
+    stands = second.stands;
+    empty = λ q none. second.empty q (first.empty q none);
+    others = λ q other. second.others q other ∙ first.others q other;
+    leaves = record {
+      seats = each_both old.seats mid.seats new.seats first.leaves.seats second.leaves.seats;
+      rooms = rooms_both old.places mid.places new.places first.leaves.rooms second.leaves.rooms;
+      run = second.leaves.run ∙ first.leaves.run;
+    };
+    size = second.size ∙ first.size;
+  }
 
-  -- WHAT STOOD THERE
-  abbrev parcel : Parcel
-  parcel = record { event = loses.loses.event; finalizers = loses.loses.left ++ copy ∷ [] }
+  -- one more
+  pub spends_more : (p : Place) {outcome : Outcome} → OnlySpends told_by (owner p) outcome old mid → HasSpent told_by p outcome mid new →
+      OnlySpends told_by (owner p) outcome old new
+  spends_more p before spent =
+      let empty = each_place p (λ q. at mid.log q ≡ [] → at new.log q ≡ []) (λ none. absurd (omega (arith, rw none at spent.was)))
+      (λ q other none. spent.others q other ∙ none) in
+      let others = each_place p (λ q. (owner q ≡ owner p → ⊥) → at new.log q ≡ at mid.log q) (λ apart. absurd (apart refl)) (λ q other _. spent.others q other) in
+      spends_both before (assumption (empty, others, spent))
 
-  had : parcels_here old.places p ≡ Some (parcel ∷ loses.loses.rest)
-  had = loses.was ∙ ap Some loses.loses.was
+-- while the copies of an instance of a run that was given up are spent one after the other
+pub record GivesUp {P : Type 0} (told_by : P → Told) (i : ℕ) (old now : Books P) : Type 0 where
+  pub spent : OnlySpends told_by i Abandoned old now
+  pub over : abandoned now.log ≡ true
+  pub home : is_out now.log i ≡ false
 
-  first : numbers_of parcel.finalizers ∷ numbers loses.loses.rest ≡ at h p
-  first = subst (λ (o : Option (List Parcel)). IfSome o (λ ps. numbers ps ≡ at h p)) had (stands_old.places.stand p)
-
-  pub among : 0 < count copy.number (oldest (at h p))
-  among = subst (λ (ps : List (List ℕ)). 0 < count copy.number (oldest ps)) first (last_counts loses.loses.left copy)
-
-  pub there : 0 < count copy.number (joined (at h p))
-  there =
-      let l = last_counts loses.loses.left copy in
-      let all = count-append copy.number (numbers_of parcel.finalizers) (joined (numbers loses.loses.rest)) in
-      subst (λ (ps : List (List ℕ)). 0 < count copy.number (joined ps)) first (omega (arith, l, all))
-
-  pub of_batch : IsOfBatch h copy
-  of_batch =
-      let is = stands_old.places.known p parcel.event copy (subst (λ (o : Option (List Parcel)). IsIn o parcel.event copy) (sym had) (inl (refl, copy_last loses.loses.left copy))) in
-      record { made = is.made; batch = is.batch; place = is.place }
-
-  -- THE SPEND IS LEGAL
-  pub allowed : Follows h e
-  allowed =
-      let live = stands_there h copy.number p stands_old.legal there in
-      follows e old.balance h stands_old.balance (record { live = live.0; here = live.1; cause = is_gone.may.cause copy.number among }) (is_gone.may.left copy.number)
-
-  pub legal : IsLegal (e ∷ h)
-  legal = (allowed, stands_old.legal)
-
-  -- WHAT IT LEAVES
-  held_now : Holds rows (e ∷ h)
-  held_now = holds_step h e [] old.places rows legal (spent_shifts h (owner p) outcome p copy old.places rows refl legal stands_old.places loses) (λ event copy none. absurd none) stands_old.places
-
-  kept_now : KeptAtHome rows h
-  kept_now j home = go (same_place p (Held j)) refl
-    where
-      go : (b : Bool) → same_place p (Held j) ≡ b → IsSome (parcels_here rows (Held j))
-      go true is = subst (λ (q : Place). IsSome (parcels_here rows q)) (same_place_is p (Held j) is) (kept_some rows p loses.after loses.now)
-      go false is = subst IsSome (sym (loses.others (Held j) is)) (stands_old.kept j home)
-
-  others_now : (q : Place) → same_place p q ≡ false → at (e ∷ h) q ≡ at h q
-  others_now q other = go (owner p == owner q)
-    where
-      are_at : AreAt h p (copy.number ∷ [])
-      are_at d l =
-          subst (λ (n : ℕ). 0 < count n (joined (parcels_at p (stands h)))) (only_one copy.number d l)
-          (subst (λ (ps : List (List ℕ)). 0 < count copy.number (joined ps)) (sym (stands_at h p stands_old.legal)) there)
-
-      go : (b : Bool) → (if b then shrunk (copy.number ∷ []) (at h q) else at h q) ≡ at h q
-      go true =
-          subst (λ (ps : List (List ℕ)). shrunk (copy.number ∷ []) ps ≡ ps) (stands_at h q stands_old.legal)
-          (others_stay h p q (copy.number ∷ []) (conserved h stands_old.legal) are_at other)
-      go false = refl
-
-  module _ {log : Record} {account : Ledger} {seats : List (Seat P)} (settled : IsSettled told_by e h log account seats) where
-    -- what a spend leaves and a notice keeps
-    behind : (F : Record → Type 0) → F (e ∷ h) → ((b : ℕ) (status : BatchStatus) → IsLegal (Notice b status ∷ e ∷ h) → F (e ∷ h) → F (Notice b status ∷ e ∷ h)) → F log
-    behind F base step = go settled.noted
-      where
-        go : IsNotedAs e h log → F log
-        go (inl is) = subst F (sym is) base
-        go (inr more) = subst F (sym more.1.1) (step more.0 more.1.0 (subst IsLegal more.1.1 settled.legal) base)
-
-    holds_after : Holds rows log
-    holds_after = behind (Holds rows) held_now (λ b status ok holds. holds_rests (Notice b status) rows (e ∷ h) tt ok holds)
-
-    run_after : IsRun old.run log
-    run_after = behind (IsRun old.run) (run_rests e old.run h tt stands_old.run) (λ b status ok run. run_rests (Notice b status) old.run (e ∷ h) tt run)
-
-    kept_after : KeptAtHome rows log
-    kept_after = behind (KeptAtHome rows) (kept_rests e rows h tt kept_now) (λ b status ok kept. kept_rests (Notice b status) rows (e ∷ h) tt kept)
-
-    others_after : (q : Place) → same_place p q ≡ false → at log q ≡ at h q
-    others_after = behind (λ (l : Record). (q : Place) → same_place p q ≡ false → at l q ≡ at h q) others_now (λ b status ok same. same)
-
-    only_after : OnlyAdds (IsSpendOf (owner p) outcome) h log
-    only_after =
-        behind (OnlyAdds (IsSpendOf (owner p) outcome) h) (record { added = e ∷ []; is = refl; each = (record { follows = allowed; kind = (refl, refl) }, tt) })
-        (λ b status ok one. record { added = Notice b status ∷ e ∷ []; is = refl; each = (record { follows = ok.0; kind = tt }, (record { follows = allowed; kind = (refl, refl) }, tt)) })
-
-    left_after : unspent log + 1 ≡ unspent h
-    left_after =
-        behind (λ (l : Record). unspent l + 1 ≡ unspent h) (spent_falls h (owner p) copy.number outcome allowed.row.live)
-        (λ b status ok fell. let same = notice_keeps (e ∷ h) b status in omega (arith, fell, same))
-
-    now_is : numbers (left_of loses.loses.event loses.loses.left loses.loses.rest) ≡ at log p
-    now_is = subst (λ (o : Option (List Parcel)). IfSome o (λ ps. numbers ps ≡ at log p)) (loses.now ∙ ap Some loses.loses.now) (holds_after.stand p)
-
-    fewer_now : length (joined (at log p)) + 1 ≡ length (joined (at h p))
-    fewer_now =
-        ap (λ (ps : List (List ℕ)). length (joined ps) + 1) (sym now_is)
-        ∙ (one_fewer loses.loses.event loses.loses.left copy loses.loses.rest ∙ ap (λ (ps : List (List ℕ)). length (joined ps)) first)
-
-    lost_now : (c : ℕ) → count c (joined (at log p)) + count c (copy.number ∷ []) ≡ count c (joined (at h p))
-    lost_now c =
-        ap (λ (ps : List (List ℕ)). count c (joined ps) + count c (copy.number ∷ [])) (sym now_is)
-        ∙ (copy_lost c loses.loses.event loses.loses.left copy loses.loses.rest ∙ ap (λ (ps : List (List ℕ)). count c (joined ps)) first)
-
-    -- the law of spends: where a copy is gone from its place, and its spend is settled, the books stand
-    pub spent_step : length rows ≡ length old.places → SameRooms old.places rows → length seats ≡ length old.seats → EachSeat Stays old.seats seats →
-        HasSpent told_by p outcome old (record old { places = rows; seats = seats; balance = account; log = log })
-    spent_step many same size stay = record {
-      copy = copy.number;
-      was = among;
-      noted = settled.noted;
-      only = only_after;
-      stands = record {
-        legal = settled.legal;
-        places = holds_after;
-        seats = settled.knows;
-        balance = settled.balances;
-        run = run_after;
-        size = many ∙ (stands_old.size ∙ sym size);
-        kept = kept_after;
-        rooms = behind (λ (l : Record). AreRooms rows l) (rooms_rest e h old.places rows tt same stands_old.rooms)
-            (λ b status ok was. rooms_rest (Notice b status) (e ∷ h) rows rows tt (all_same rows) was);
-      };
-      lost = lost_now;
-      fewer = fewer_now;
-      left = left_after;
-      others = others_after;
-      leaves = record { seats = stay; rooms = same; run = refl };
-      size = size;
-    }
+pub gives_up_more : {P : Type 0} {told_by : P → Told} {old mid new : Books P} (p : Place) → GivesUp told_by (owner p) old mid →
+    HasSpent told_by p Abandoned mid new →
+    GivesUp told_by (owner p) old new
+gives_up_more p was one = record {
+  spent = spends_more p was.spent one;
+  over = behind (λ k. abandoned k ≡ true) was.over (λ b status. was.over) one.noted;
+  home = behind (λ k. is_out k (owner p) ≡ false) was.home (λ b status. was.home) one.noted;
+}

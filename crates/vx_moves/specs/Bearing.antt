@@ -4,7 +4,7 @@ use Rattle.vx_ends.specs.Told.{Told}
 use Rattle.vx_ends.specs.declared.position.Position.{Position}
 use Rattle.vx_value.specs.declared.event.Event.{Event}
 use Rattle.vx_ledger.specs.Copies.{Copy}
-use Rattle.vx_ledger.specs.declared.parcel.Parcel.{Parcel}
+use Rattle.vx_transform.specs.declared.output.Output.{Output}
 use Rattle.vx_ledger.specs.declared.short.Short.{Short}
 use Rattle.vx_ledger.specs.declared.short.Short.TheVariants.{Numbers, WantOfMemory}
 use Rattle.vx_record.specs.declared.entry.Entry.TheVariants.{Born}
@@ -15,11 +15,11 @@ use Rattle.vx_record.specs.Sourcing.{yield, must_wait}
 use Rattle.vx_moves.specs.Stands.{Steps}
 use Rattle.vx_moves.specs.declared.books.Books.{Books}
 
--- each event with its copies, in order
-abbrev pub paired : List Event → List (List Copy) → List Parcel
+-- each event with its copies, in order, put out on the first port
+abbrev pub paired : List Event → List (List Copy) → List Output
 paired [] lists = []
 paired events [] = []
-paired (event ∷ events) (copies ∷ lists) = record { event = event; finalizers = copies } ∷ paired events lists
+paired (event ∷ events) (copies ∷ lists) = record { ports = 1; parcel = record { event = event; finalizers = copies } } ∷ paired events lists
 
 -- the newest entry is a Read of the instance that yields these events, some but not too many, and their position
 pub record MayBearNow (h : Record) (i : ℕ) (position : Position) (events : List Event) : Type 0 where

@@ -8,19 +8,25 @@ use Rattle.vx_record.specs.declared.child.Child.{Child}
 use Rattle.vx_record.specs.declared.entry.Entry.TheVariants.{Split}
 use Rattle.vx_record.specs.Records.{Record}
 use Rattle.vx_record.specs.Copies.{next_copy}
-use Rattle.vx_record.specs.Ceasing.{readers_at}
+use Rattle.vx_record.specs.Ceasing.{readers_on}
+use Rattle.vx_record.specs.Parcels.{parcel_ports, port_list}
 use Rattle.vx_record.specs.Places.Place.{Outputs}
 use Rattle.vx_record.specs.Shifts.{at}
 use Rattle.vx_record.specs.Spending.{oldest}
 use Rattle.vx_moves.specs.Stands.{Steps}
 use Rattle.vx_moves.specs.declared.books.Books.{Books}
 
--- the oldest output, which was put out on the first port, was replaced by a child for each reader
+-- the instances that read the ports on which an instance's oldest output was put out
+abbrev pub oldest_readers : Record → ℕ → List ℕ
+oldest_readers h i = readers_on h i (port_list (parcel_ports h (oldest (at h (Outputs i)))))
+
+-- the oldest output was replaced by a child for each of them
 pub record HasSplit {P : Type 0} (told_by : P → Told) (i : ℕ) (old new : Books P) : Type 0 where
+  pub ports : ℕ
   pub event : Event
   pub children : List Child
-  pub steps : Steps told_by (Split i 1 (oldest (at old.log (Outputs i))) event children) old new
+  pub steps : Steps told_by (Split i ports (oldest (at old.log (Outputs i))) event children) old new
 
 -- it wasn't, for want of the numbers of its children, or of memory
 abbrev pub IsSplitShort : Record → ℕ → Short → Type 0
-IsSplitShort h i = IsShort (next_copy h) (length (readers_at h i) * length (oldest (at h (Outputs i))))
+IsSplitShort h i = IsShort (next_copy h) (length (oldest_readers h i) * length (oldest (at h (Outputs i))))

@@ -1,23 +1,26 @@
-ghost use Rattle.std.specs.Prelude.{◌≡◌, ◌<◌, [], length, true, false, Ok, IfErr};
+ghost use Rattle.std.specs.Prelude.{◌≡◌, ◌<◌, ◌^◌, ◌∷◌, [], length, true, false, Ok, IfErr};
+ghost use Rattle.vx_ledger.specs.Copies.{numbers_of};
+ghost use Rattle.vx_record.specs.declared.entry.Entry.TheVariants.{Split};
 ghost use Rattle.vx_record.specs.Abandoning.{abandoned};
-ghost use Rattle.vx_record.specs.Ceasing.{readers_at};
+ghost use Rattle.vx_places.specs.Numbers.{noted};
 ghost use Rattle.vx_record.specs.Turns.{is_out};
 ghost use Rattle.vx_places.specs.Calls.{NoneWaits};
 ghost use Rattle.vx_places.specs.Looks.{HasOutput};
 ghost use Rattle.vx_moves.specs.Leaving.{Leaves};
-ghost use Rattle.vx_moves.specs.Splitting.{HasSplit, IsSplitShort};
+ghost use Rattle.vx_moves.specs.Splitting.{HasSplit, IsSplitShort, oldest_readers};
 ghost use Rattle.vx_moves.specs.Stands.{Stands};
 
 use crate::books::Books;
 use std::snapshot::Snapshot;
 use vx_ends::Port;
-use vx_ledger::{RouteRefused, Routed, Short};
-
-/// The set of ports that has the first port alone: each parcel is put out there while no transform answers.
-const FIRST_PORT: u128 = 1;
+use vx_history::History;
+use vx_ledger::{ChildList, Parcel, RouteRefused, Routed, Short};
+use vx_record::Entry;
+use vx_transform::Output;
 
 impl<P: Port> Books<P> {
-    /// Replaces the oldest output of an instance at home, of which no child waits, by a child for each instance that reads it.
+    /// Replaces the oldest output of an instance at home, of which no child waits, by a child for each instance that reads a port on
+    /// which it was put out.
     /// Whether there is one; where there is none, nothing has changed in the record.
     ///
     /// `Numbers` comes exactly where the children's numbers would pass 2^63, and before memory is asked for. After a refusal
@@ -32,30 +35,52 @@ impl<P: Port> Books<P> {
         ensures stands { Stands P.told self.new }
         ensures leaves { Leaves self.old self.new }
         ensures split { result ≡ Ok true → HasSplit P.told i self.old self.new }
-        ensures unread { result ≡ Ok false → readers_at self.old.log i ≡ [] }
+        ensures unread { result ≡ Ok false → oldest_readers self.old.log i ≡ [] }
         ensures short { IfErr result (IsSplitShort self.old.log i) }
         ensures unchanged { (result ≡ Ok true → ⊥) → self.new.log ≡ self.old.log }
         ensures size { length self.new.seats ≡ length self.old.seats }
     {
-        let Some(parcel) = self.places.take_output(i) else {
+        let Some(Output { ports, parcel }) = self.places.take_output(i) else {
             unreachable!();
         };
+        let ports = bounded(ports);
         let was = Snapshot::of(&parcel);
         let outlet = &self.seats.get(i).outlet;
-        match self.balance.route(outlet, FIRST_PORT, parcel) {
+        match self.balance.route(outlet, ports, parcel) {
             Ok(Routed::Children(children)) => {
-                self.log.note(&(i, &was, &children));
+                note_split(&mut self.log, i, ports, &was, &children);
                 self.places.put_children(i, children);
                 Ok(true)
             }
             Ok(Routed::NoConsumer(parcel)) => {
-                self.places.put_output_back(i, parcel);
+                self.places.put_output_back(i, Output { ports, parcel });
                 Ok(false)
             }
             Err(RouteRefused { cause, parcel }) => {
-                self.places.put_output_back(i, parcel);
+                self.places.put_output_back(i, Output { ports, parcel });
                 Err(cause)
             }
         }
     }
+}
+
+/// Notes that a parcel was split into children for the readers of its ports.
+fn note_split(
+    log: &mut History<Entry>,
+    i: u32,
+    ports: u128,
+    was: &Snapshot<Parcel>,
+    children: &ChildList,
+)
+    ensures { log.new ≡ Split i ports (numbers_of was.now.value.finalizers) was.now.value.event (noted children.now) ∷ log.old }
+{
+    log.note(&(i, ports, was, children));
+}
+
+/// The same set of ports: it has none from 128 on.
+fn bounded(ports: u128) -> u128
+    ensures same { result ≡ ports }
+    ensures below { result < 2 ^ 128 }
+{
+    ports
 }

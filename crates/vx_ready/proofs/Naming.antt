@@ -1,7 +1,8 @@
 -- Which instances name which, and what is ending.
-use Rattle.std.proofs.Common.{◌≡◌, ◌∙◌, ℕ, zero, suc, ◌<◌, Bool, true, false, ◌&&◌, ◌||◌, List, [], ◌∷◌, length, Option, Some, None, refl, sym, ap, arith}
-use Rattle.std.specs.Prelude.{◌↔◌, not, slice_get, if◌then◌else◌}
-use Rattle.std.proofs.lemmas.List.{append-nil}
+use Rattle.std.proofs.Common.{◌≡◌, ◌∙◌, inl, inr, ℕ, zero, suc, ◌+◌, ◌-◌, ◌<◌, ◌≤◌, Bool, true, false, ◌&&◌, ◌||◌, List, [], ◌∷◌, ◌++◌, length, Option, Some, None, refl, sym, ap, arith}
+use Rattle.std.specs.Prelude.{◌↔◌, map, not, slice_get, if◌then◌else◌}
+use Rattle.std.proofs.lemmas.Bool.{cases_eq, or_from, or_left, or_right}
+use Rattle.std.proofs.lemmas.Bool.Decides.{nat_tests}
 use Rattle.std.proofs.lemmas.Bool.{not-true as is_not}
 use Rattle.vx_ends.specs.Told.{Told}
 use Rattle.vx_value.specs.Texts.{Word, is_empty}
@@ -9,24 +10,25 @@ use Rattle.vx_plan.specs.declared.class.Class.{Class}
 use Rattle.vx_plan.specs.declared.class.Class.TheVariants.{Source, Transform, Sink}
 use Rattle.vx_plan.specs.declared.component.Component.{Component}
 use Rattle.vx_plan.specs.declared.settings.Settings.{Settings}
-use Rattle.vx_plan.specs.Components.{is_source, is_transform, port_names}
+use Rattle.vx_plan.specs.Components.{component_named, is_source, is_transform, port_names}
 use Rattle.vx_plan.specs.Options.{has_device, transform_ports}
 use Rattle.vx_record.specs.Records.{Record}
-use Rattle.vx_record.specs.Ceasing.{readers_at}
-use Rattle.vx_record.specs.Copies.{contains, counting}
-use Rattle.vx_record.specs.Installs.{told, source_at, device_at, is_marked, transform_at}
+use Rattle.vx_record.specs.Copies.{contains, count, counting, joined}
+use Rattle.vx_record.specs.Installs.{Wiring, wiring, wired, told, source_at, device_at, is_marked, transform_at}
 use Rattle.vx_record.specs.Lists.{waiting}
-use Rattle.vx_record.specs.Routing.{drains, is_dry, all_dry, is_sent, outlets, routes, all_ports, is_named, is_ending}
+use Rattle.vx_record.specs.Routing.{wired_targets, drains, is_dry, all_dry, is_sent, routes, all_ports, is_named, is_ending}
 use Rattle.vx_record.proofs.Ceasing.{unmarked}
+use Rattle.vx_record.proofs.Counts.{count-append}
 use Rattle.vx_record.proofs.Wired.{component_in_place}
 use Rattle.vx_record.proofs.Promises.{and_left, and_right}
 use Rattle.vx_places.specs.Looks.{HasWaiting}
 use Rattle.vx_places.proofs.Recorded.{awaits_is}
 use Rattle.vx_seats.specs.declared.seat.Seat.{Seat}
+use Rattle.vx_seats.specs.Knowing.{outlets_at, wired_outlets}
 use Rattle.vx_moves.specs.declared.books.Books.{Books}
 use Rattle.vx_moves.specs.Stands.{Stands}
-use Rattle.vx_ready.specs.Asking.{source_class, goes_to, is_ported, all_ported, IsServed}
-use Rattle.vx_ready.proofs.Counting.{any_contains}
+use Rattle.vx_ready.specs.Asking.{is_among, goes_on, goes_to, is_ported, all_ported, IsServed}
+use Rattle.vx_ready.proofs.Counting.{any_contains, counted}
 use Rattle.vx_ready.proofs.Knowing.{Runs, undraining, known, runs, seat_there}
 use Rattle.vx_ready.proofs.Testing.{same_tests}
 
@@ -35,23 +37,66 @@ ported_at [] k c all at = cc
 ported_at (d ∷ rest) zero c all at = let same : d ≡ c = cc in ap is_ported (sym same) ∙ and_left (is_ported d) (all_ported rest) all
 ported_at (d ∷ rest) (suc k) c all at = ported_at rest k c (and_right (is_ported d) (all_ported rest) all) at
 
--- the names of the ports that a component of some class has
-abbrev names_as : Class → Settings → List Word
-names_as class settings = elim class [ Source ↦ [] ∷ [] | Transform ↦ transform_ports settings | Sink ↦ [] ]
+-- TARGETS
+or_contains : (xs ys : List ℕ) (i : ℕ) → (contains xs i || contains ys i) ≡ contains (xs ++ ys) i
+or_contains xs ys i = let all : count i (xs ++ ys) ≡ count i xs + count i ys = count-append i xs ys in grind (arith, nat_tests)
 
-ports_so : (h : Record) (j : ℕ) (class : Class) → (runs : Runs h j class) → all_ports h j ≡ counting 0 (length (names_as class runs.component.settings))
-ports_so h j class runs =
-    ap (λ (o : Option Component). elim o [ None ↦ [] | Some c ↦ counting 0 (length (port_names c)) ]) runs.there
-    ∙ ap (λ (x : Class). counting 0 (length (names_as x runs.component.settings))) (sym runs.class_is)
+-- an instance is among the targets of some ports where it is among all of these
+any_joined : (lists : List (List ℕ)) (i : ℕ) → goes_to i lists ≡ contains (joined lists) i
+any_joined [] i = refl
+any_joined (targets ∷ rest) i =
+    ap (λ (b : Bool). b || goes_to i rest) (any_contains targets i) ∙ ap (λ (b : Bool). contains targets i || b) (any_joined rest i) ∙ or_contains targets (joined rest) i
 
--- whom a source sends to
-sent_to : (h : Record) (j i : ℕ) (over named : Bool) → named ≡ contains (readers_at h j) i → (true && not over && named) ≡ contains (if over then [] else readers_at h j) i
-sent_to h j i true named same = refl
-sent_to h j i false named same = same
+none_joined : (ports : List ℕ) (i : ℕ) → contains (joined (map (λ port. []) ports)) i ≡ false
+none_joined [] i = refl
+none_joined (port ∷ ports) i = none_joined ports i
+
+-- the readers of an instance's ports
+outlets_are : (h : Record) (j : ℕ) → outlets_at h j ≡ map (λ port. wired [] (wired_targets port) h j) (all_ports h j)
+outlets_are h j = go (wiring h j)
+  where
+    go : (o : Option Wiring) → (elim o as (λ _. List (List ℕ)) [ None ↦ [] | Some w ↦ wired_outlets w ])
+        ≡ map (λ port. elim o as (λ _. List ℕ) [ None ↦ [] | Some w ↦ wired_targets port w ])
+        (elim (elim o as (λ _. Option Component) [ None ↦ None | Some w ↦ component_named w.plan w.name ]) as (λ _. List ℕ) [ None ↦ [] | Some c ↦ counting 0 (length (port_names c)) ])
+    go None = refl
+    go (Some w) = refl
+
+-- it sends to these, unless it is over
+sent_to : (h : Record) (j i : ℕ) (over : Bool) (outlet : List (List ℕ)) → outlet ≡ outlets_at h j →
+    (not over && goes_to i outlet) ≡ contains (joined (map (λ port. if over then [] else wired [] (wired_targets port) h j) (all_ports h j))) i
+sent_to h j i true outlet same = sym (none_joined (all_ports h j) i)
+sent_to h j i false outlet same = any_joined outlet i ∙ ap (λ (ts : List (List ℕ)). contains (joined ts) i) (same ∙ outlets_are h j)
+
+-- port by port
+pub none_further : (i n : ℕ) (outlet : List (List ℕ)) (b : Bool) → b ≡ goes_on i n outlet → b ≡ false → ((k : ℕ) → k < n → goes_on i k outlet ≡ false) → (k : ℕ) → k < n + 1 → goes_on i k outlet ≡ false
+none_further i n outlet b is off below k l = elim (cases_eq k n) [
+  | inl same ↦ ap (λ m. goes_on i m outlet) same ∙ sym is ∙ off
+  | inr other ↦ below k (omega (arith, l, other))
+]
+
+pub none_on : (i n : ℕ) (outlet : List (List ℕ)) → length outlet ≤ n → ((k : ℕ) → k < n → goes_on i k outlet ≡ false) → goes_to i outlet ≡ false
+none_on i n [] few none = refl
+none_on i n (targets ∷ rest) few none =
+    or_from (is_among i targets) (goes_to i rest) (none 0 (omega (arith, few))) (none_on i (n - 1) rest (omega (arith, few)) (λ k l. none (suc k) (omega (arith, l, few))))
+
+pub one_on : (i port : ℕ) (outlet : List (List ℕ)) → goes_on i port outlet ≡ true → goes_to i outlet ≡ true
+one_on i port [] on = cc
+one_on i zero (targets ∷ rest) on = or_left (is_among i targets) (goes_to i rest) on
+one_on i (suc port) (targets ∷ rest) on = or_right (is_among i targets) (goes_to i rest) (one_on i port rest on)
 
 filled_tests : {X : Type 0} (xs : List X) → (not (is_empty xs) ≡ true) ↔ (0 < length xs)
 filled_tests [] = (λ e. cc, λ l. absurd (omega (arith, l)))
 filled_tests (x ∷ xs) = (λ e. omega arith, λ l. refl)
+
+length_map : {X Y : Type 0} (f : X → Y) (xs : List X) → length (map f xs) ≡ length xs
+length_map f [] = refl
+length_map f (x ∷ xs) = ap suc (length_map f xs)
+
+plain_ports : (class : Class) (settings : Settings) → (elim class as (λ _. Bool) [ Source ↦ false | Transform ↦ true | Sink ↦ false ]) ≡ false →
+    length (elim class as (λ _. List Word) [ Source ↦ [] ∷ [] | Transform ↦ transform_ports settings | Sink ↦ [] ]) ≤ 65
+plain_ports Source settings plain = omega arith
+plain_ports Transform settings plain = cc
+plain_ports Sink settings plain = omega arith
 
 module _ {P : Type 0} (told_by : P → Told) (books : Books P) (stands : Stands told_by books) (served : IsServed books) (j : ℕ) (seat : Seat P) (at : slice_get books.seats j ≡ Some seat) where
   ported : is_ported (runs told_by books stands j seat at).component ≡ true
@@ -81,29 +126,27 @@ module _ {P : Type 0} (told_by : P → Told) (books : Books P) (stands : Stands 
       let contrary : true ≡ false = sym yes ∙ no in
       cc
 
-  targets_are : (i : ℕ) → goes_to i seat.outlet ≡ contains (readers_at books.log j) i
-  targets_are i = ap (goes_to i) (known told_by books stands j seat at).fitted.outlet ∙ any_contains (readers_at books.log j) i
+  -- the ports of an instance are few, as long as it is no transform
+  pub few_ports : length seat.outlet ≤ 65
+  few_ports =
+      let run = runs told_by books stands j seat at in
+      let all : all_ports books.log j ≡ counting 0 (length (port_names run.component)) =
+      ap (λ (o : Option Component). elim o [ None ↦ [] | Some c ↦ counting 0 (length (port_names c)) ]) run.there in
+      let many : length seat.outlet ≡ length (port_names run.component) =
+      ap length ((known told_by books stands j seat at).fitted.outlet ∙ outlets_are books.log j) ∙ length_map (λ port. wired [] (wired_targets port) books.log j) (all_ports books.log j)
+      ∙ ap length all ∙ counted 0 (length (port_names run.component)) in
+      let no = is_not (is_transform run.component) (and_right (has_device run.component.settings) (not (is_transform run.component)) ported) in
+      let one = plain_ports run.component.class run.component.settings no in
+      omega (arith, many, one)
 
-  pub sends_is : (i : ℕ) → (source_class seat.class && not (is_dry books.log j && is_sent books.log j) && goes_to i seat.outlet) ≡ contains (routes books.log j (all_ports books.log j)) i
-  sends_is i = go seat.class refl (runs told_by books stands j seat at)
-    where
-      h : Record
-      h = books.log
-
-      go : (class : Class) → seat.class ≡ class → Runs h j class → (source_class class && not (is_dry h j && is_sent h j) && goes_to i seat.outlet) ≡ contains (routes h j (all_ports h j)) i
-      go Source is run =
-          sent_to h j i (is_dry h j && is_sent h j) (goes_to i seat.outlet) (targets_are i)
-          ∙ sym (ap (λ (ps : List ℕ). contains (routes h j ps) i) (ports_so h j Source run) ∙ ap (λ (ts : List ℕ). contains ts i) (append-nil (outlets h j 0)))
-      go Transform is run = absurd (untransformed is)
-      go Sink is run = sym (ap (λ (ps : List ℕ). contains (routes h j ps) i) (ports_so h j Sink run))
+  pub sends_is : (i : ℕ) → (not (is_dry books.log j && is_sent books.log j) && goes_to i seat.outlet) ≡ contains (routes books.log j (all_ports books.log j)) i
+  sends_is i = sent_to books.log j i (is_dry books.log j && is_sent books.log j) seat.outlet (known told_by books stands j seat at).fitted.outlet
 
 -- what two tests of an instance give, and a third
-pub of_three : (h : Record) (j : ℕ) (class : Class) (dry sent over source open_at named result : Bool) → dry ≡ is_dry h j → sent ≡ is_sent h j → over ≡ (dry && sent) → source ≡ source_class class → open_at ≡ (source && not over) →
-    result ≡ (open_at && named) → result ≡ (source_class class && not (is_dry h j && is_sent h j) && named)
-of_three h j class dry sent over source open_at named result dry_is sent_is over_is source_is open_is result_is =
-    let over_so : over ≡ (is_dry h j && is_sent h j) = over_is ∙ ap (λ b. b && sent) dry_is ∙ ap (λ b. is_dry h j && b) sent_is in
-    let open_so : open_at ≡ (source_class class && not (is_dry h j && is_sent h j)) = open_is ∙ ap (λ b. b && not over) source_is ∙ ap (λ b. source_class class && not b) over_so in
-    result_is ∙ ap (λ b. b && named) open_so
+pub of_two : (h : Record) (j : ℕ) (dry sent over named result : Bool) → dry ≡ is_dry h j → sent ≡ is_sent h j → over ≡ (dry && sent) → result ≡ (not over && named) →
+    result ≡ (not (is_dry h j && is_sent h j) && named)
+of_two h j dry sent over named result dry_is sent_is over_is result_is =
+    result_is ∙ ap (λ b. not b && named) (over_is ∙ ap (λ b. b && sent) dry_is ∙ ap (λ b. is_dry h j && b) sent_is)
 
 -- whether a child waits
 pub waits_is : {P : Type 0} (told_by : P → Told) (books : Books P) (j i : ℕ) (waits : Bool) → Stands told_by books → (waits ≡ true) ↔ HasWaiting books.places j i → waits ≡ not (is_empty (waiting books.log j i))

@@ -51,6 +51,7 @@ source_job_ready h i now job.Read is = first_on (can_read h i now || is_confirm_
 source_job_ready h i now job.Confirm is = first_on (can_read h i now || is_confirm_due h i) (is_close_due h i) (second_on (can_read h i now) (is_confirm_due h i) is)
 source_job_ready h i now job.Collect is = absurd is
 source_job_ready h i now job.Attempt is = absurd is
+source_job_ready h i now job.Judge is = absurd is
 source_job_ready h i now job.Close is = second_on (can_read h i now || is_confirm_due h i) (is_close_due h i) is
 
 sink_job_ready : (h : Record) (i now : ℕ) (work : Job) → IsSinkJob h i now work → is_sink_ready h i now ≡ true
@@ -58,6 +59,7 @@ sink_job_ready h i now job.Read is = absurd is
 sink_job_ready h i now job.Confirm is = absurd is
 sink_job_ready h i now job.Collect is = first_on (is_attempt_due h i now || can_take h i now) (is_close_due h i) (second_on (is_attempt_due h i now) (can_take h i now) is)
 sink_job_ready h i now job.Attempt is = first_on (is_attempt_due h i now || can_take h i now) (is_close_due h i) (first_on (is_attempt_due h i now) (can_take h i now) is)
+sink_job_ready h i now job.Judge is = absurd is
 sink_job_ready h i now job.Close is = second_on (is_attempt_due h i now || can_take h i now) (is_close_due h i) is
 
 module _ {P : Type 0} (told_by : P → Told) (books : Books P) (stands : Stands told_by books) (served : IsServed books) (i : ℕ) (seat : Seat P) (there : slice_get books.seats i ≡ Some seat) (settled : IsSettled books i) (open_at : IsOpen books i) where

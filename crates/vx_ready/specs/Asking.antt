@@ -1,5 +1,5 @@
 -- What the looks need of the books.
-use Rattle.std.specs.Prelude.{◌≡◌, ℕ, ◌<◌, ◌^◌, ◌==◌, Bool, true, false, ◌&&◌, not, List, [], ◌∷◌, length, None, IsSome, IsSomeAnd, slice_get}
+use Rattle.std.specs.Prelude.{◌≡◌, ℕ, ◌<◌, ◌^◌, ◌==◌, Bool, true, false, ◌&&◌, not, List, [], ◌∷◌, length, Some, None, IsSome, IsSomeAnd, slice_get}
 use Rattle.std.specs.List.{list_any}
 use Rattle.vx_plan.specs.declared.class.Class.{Class}
 use Rattle.vx_plan.specs.declared.class.Class.TheVariants.{Source, Transform, Sink}
@@ -17,14 +17,17 @@ source_class class = elim class [ Source ↦ true | Transform ↦ false | Sink �
 abbrev pub sink_class : Class → Bool
 sink_class class = elim class [ Source ↦ false | Transform ↦ false | Sink ↦ true ]
 
--- the targets of the first of some ports
-abbrev pub first_of : List (List ℕ) → List ℕ
-first_of [] = []
-first_of (targets ∷ rest) = targets
+-- whether an instance is among some targets
+abbrev pub is_among : ℕ → List ℕ → Bool
+is_among i targets = list_any (λ target. target == i) targets
 
--- whether an instance is among the targets of the first of some ports
+-- whether it is among those of a port
+abbrev pub goes_on : ℕ → ℕ → List (List ℕ) → Bool
+goes_on i port ports = elim (slice_get ports port) [ None ↦ false | Some targets ↦ is_among i targets ]
+
+-- whether it is among those of any of some ports
 abbrev pub goes_to : ℕ → List (List ℕ) → Bool
-goes_to i ports = list_any (λ target. target == i) (first_of ports)
+goes_to i ports = list_any (is_among i) ports
 
 -- whether a component works with a port, and is no transform
 abbrev pub is_ported : Component → Bool

@@ -11,7 +11,7 @@ use Rattle.vx_moves.specs.declared.books.Books.{Books}
 use Rattle.vx_moves.specs.Leasing.{IsFitAt}
 use Rattle.vx_seats.specs.declared.facts.Batching.{Batching}
 use Rattle.vx_tasks.specs.declared.work.Job.{Job}
-use Rattle.vx_tasks.specs.declared.work.Job.TheVariants.{Read, Confirm, Collect, Attempt, Close}
+use Rattle.vx_tasks.specs.declared.work.Job.TheVariants.{Read, Confirm, Collect, Attempt, Judge, Close}
 
 -- all that a lease at a moment needs
 pub record IsLeasable {P : Type 0} (books : Books P) (i now : ℕ) : Type 0 where
@@ -31,6 +31,7 @@ IsSourceJob h i now Read = can_read h i now ≡ true
 IsSourceJob h i now Confirm = is_confirm_due h i ≡ true
 IsSourceJob h i now Collect = ⊥
 IsSourceJob h i now Attempt = ⊥
+IsSourceJob h i now Judge = ⊥
 IsSourceJob h i now Close = is_close_due h i ≡ true
 
 -- a sink has this to do at a moment
@@ -39,6 +40,7 @@ IsSinkJob h i now Read = ⊥
 IsSinkJob h i now Confirm = ⊥
 IsSinkJob h i now Collect = can_take h i now ≡ true
 IsSinkJob h i now Attempt = is_attempt_due h i now ≡ true
+IsSinkJob h i now Judge = ⊥
 IsSinkJob h i now Close = is_close_due h i ≡ true
 
 -- an instance has this to do at a moment

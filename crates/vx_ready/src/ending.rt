@@ -1,17 +1,18 @@
 // Whether anything can still come to an instance.
-ghost use Rattle.std.specs.Prelude.{◌≡◌, ◌<◌, ◌&&◌, length, not};
+ghost use Rattle.std.specs.Prelude.{◌≡◌, ◌<◌, ◌≤◌, ◌&&◌, length, not};
 ghost use Rattle.vx_record.specs.Copies.{contains};
 ghost use Rattle.vx_record.specs.Installs.{source_at, is_retired};
 ghost use Rattle.vx_record.specs.Lists.{waiting};
 ghost use Rattle.vx_record.specs.Routing.{is_dry as is_dry_at, all_dry, all_ports, routes, names as names_at, is_named as is_named_at, is_ending as is_ending_at};
 ghost use Rattle.vx_value.specs.Texts.{is_empty};
 ghost use Rattle.vx_moves.specs.Stands.{Stands};
-ghost use Rattle.vx_ready.specs.Asking.{IsServed, goes_to};
+ghost use Rattle.vx_ready.specs.Asking.{IsServed, goes_on, goes_to, is_among as is_among_by};
 
 use crate::sources::{both, is_dry, is_sent, is_source};
 use vx_ends::Port;
 use vx_ledger::Outlet;
 use vx_moves::Books;
+use vx_value::NumberList;
 
 /// Whether an instance is a sink that nothing more can reach: every source is dry, and no instance that hasn't ended sends to it or
 /// has a child that waits for it.
@@ -103,16 +104,38 @@ fn sends<P: Port>(books: &Books<P>, j: u32, i: u32) -> bool
     ensures { result ≡ contains (routes books.now.log j (all_ports books.now.log j)) i }
 {
     let over = both(is_dry(books, j), is_sent(books, j));
-    let open = both(is_source(books, j), !over);
-    both(open, is_target(&books.seats.get(j).outlet, i))
+    both(!over, is_target(&books.seats.get(j).outlet, i))
 }
 
-/// Whether an instance is among the targets of the first port.
+/// How many ports an instance may have.
+const MOST_PORTS: u32 = 65;
+
+/// Whether an instance is among the targets of one of some ports.
 fn is_target(outlet: &Outlet, i: u32) -> bool
+    requires few { length outlet.now ≤ 65 }
     ensures { result ≡ goes_to i outlet.now }
 {
-    match outlet.port_targets(0) {
-        Some(targets) => targets.as_slice().iter().any(|target| *target == i as u64),
+    for port in 0..MOST_PORTS {
+        if is_target_of(outlet, port, i) {
+            return true;
+        }
+    }
+    false
+}
+
+/// Whether it is among those of one.
+fn is_target_of(outlet: &Outlet, port: u32, i: u32) -> bool
+    ensures { result ≡ goes_on i port outlet.now }
+{
+    match outlet.port_targets(port) {
+        Some(targets) => is_among(targets, i),
         None => false,
     }
+}
+
+/// Whether an instance is among some targets.
+fn is_among(targets: &NumberList, i: u32) -> bool
+    ensures { result ≡ is_among_by i targets.now }
+{
+    targets.as_slice().iter().any(|target| *target == i as u64)
 }

@@ -88,6 +88,7 @@ done_on : (i : ℕ) (was : Done) (h : Record) → IsLegal (done_entries h i was 
 done_on i done.Nothing h legal = adds_none IsTimeless h h refl
 done_on i (done.Read took) h legal = one_on IsTimeless h (turn_entry h i took) legal (turn_timeless h i took)
 done_on i (done.Attempted all sent answer) h legal = one_on IsTimeless h _ legal tt
+done_on i (done.Judged ports) h legal = one_on IsTimeless h _ legal tt
 done_on i done.Closed h legal = one_on IsTimeless h (entry.Closed i) legal tt
 done_on i done.Short h legal = adds_none IsTimeless h h refl
 done_on i done.Starved h legal = adds_none IsTimeless h h refl

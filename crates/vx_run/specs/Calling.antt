@@ -65,7 +65,7 @@ pub record HasRead (words : List Word) (old new : Option (List Call)) (h : Recor
   pub asked : IsCommand words (Validate file)
   pub calls : Grows old new (Config file ∷ [])
 
--- the same of a run or a judgement
+-- the file of a run or of a judgement was read, and nothing else was asked for
 pub record HasReadNamed (words : List Word) (old new : Option (List Call)) : Type 0 where
   pub file : Word
   pub asked : NamesFile words file

@@ -1,18 +1,21 @@
 -- What is known of seats as they begin.
 use Rattle.std.proofs.Common.{◌≡◌, ◌≢◌, ◌∙◌, ℕ, zero, suc, ◌+◌, Bool, true, false, List, [], ◌∷◌, Option, Some, None, IfSome, IfNone, length, refl, sym, ap, slice_get}
-use Rattle.std.specs.Prelude.{IsSomeAnd}
+use Rattle.std.specs.Prelude.{map, IsSomeAnd}
 use Rattle.std.proofs.lemmas.Bool.{and_right}
 use Rattle.vx_value.specs.Texts.{Word}
 use Rattle.vx_ends.specs.Told.{Told}
 use Rattle.vx_plan.specs.declared.plan.Plan.{Plan}
 use Rattle.vx_plan.specs.declared.component.Component.{Component}
 use Rattle.vx_plan.specs.Accepted.{IsPlan}
+use Rattle.vx_plan.specs.Components.{component_named, port_names}
+use Rattle.vx_plan.specs.Numbers.{reader_numbers}
 use Rattle.vx_plan.specs.Targets.{acknowledged}
 use Rattle.vx_record.specs.declared.entry.Entry.TheVariants.{Install}
 use Rattle.vx_record.specs.Copies.{counting}
 use Rattle.vx_record.specs.Starting.{first_instances}
 use Rattle.vx_record.specs.Wirings.{begun}
-use Rattle.vx_record.specs.Installs.{Wiring, transform_at}
+use Rattle.vx_record.specs.Installs.{Wiring, wiring, transform_at}
+use Rattle.vx_record.specs.Routing.{wired_targets}
 use Rattle.vx_record.specs.Sourcing.{must_wait}
 use Rattle.vx_record.proofs.FirstWiring.{started_stays, targets_of_first, wiring_of_first}
 use Rattle.vx_record.proofs.Wired.{begun_legal, component_there}
@@ -22,12 +25,16 @@ use Rattle.vx_tasks.specs.declared.task.Task.{Task}
 use Rattle.vx_tasks.specs.Home.{IsAtHome}
 use Rattle.vx_seats.specs.declared.facts.Facts.{Facts}
 use Rattle.vx_seats.specs.declared.seat.Seat.{Seat}
-use Rattle.vx_seats.specs.Knowing.{HasHome, IsKnown, Knows, judged_by}
+use Rattle.vx_seats.specs.Knowing.{HasHome, IsKnown, Knows, judged_by, outlets_at, wired_outlets}
 use Rattle.vx_seats.specs.Beginning.{AreNew, IsFresh, AreFresh}
 
 length_counting : (from n : ℕ) → length (counting from n) ≡ n
 length_counting from zero = refl
 length_counting from (suc n) = ap suc (length_counting (from + 1) n)
+
+map_same : {X Y : Type 0} (f g : X → Y) → ((x : X) → f x ≡ g x) → (xs : List X) → map f xs ≡ map g xs
+map_same f g same [] = refl
+map_same f g same (x ∷ xs) = rw (same x, map_same f g same xs) refl
 
 module _ {P : Type 0} (told_by : P → Told) (plan : Plan) (once : Bool) (now : ℕ) (accepted : IsPlan plan) where
   -- each task is at home: nothing is owed, and nothing was to be confirmed
@@ -47,6 +54,19 @@ module _ {P : Type 0} (told_by : P → Told) (plan : Plan) (once : Bool) (now : 
   away_fresh None F A some = absurd some
   away_fresh (Some task) F A some = tt
 
+  -- so are the readers of each port
+  outlets_of_first : (i : ℕ) (c : Component) → slice_get plan.components i ≡ Some c → outlets_at (begun plan once now) i ≡ map (reader_numbers plan c.name) (counting 0 (length (port_names c)))
+  outlets_of_first i c at =
+      go (wiring (begun plan once now) i) (component_there (begun plan once now) plan i c (begun_legal plan once now accepted) refl at) (λ port. targets_of_first plan once now i port c at)
+    where
+      go : (o : Option Wiring) → (elim o as (λ _. Option Component) [ None ↦ None | Some w ↦ component_named w.plan w.name ]) ≡ Some c →
+          ((port : ℕ) → (elim o as (λ _. List ℕ) [ None ↦ [] | Some w ↦ wired_targets port w ]) ≡ reader_numbers plan c.name port) →
+          (elim o as (λ _. List (List ℕ)) [ None ↦ [] | Some w ↦ wired_outlets w ]) ≡ map (reader_numbers plan c.name) (counting 0 (length (port_names c)))
+      go None runs read = cc
+      go (Some w) runs read =
+          ap (λ (o : Option Component). map (λ port. wired_targets port w) (elim o as (λ _. List ℕ) [ None ↦ [] | Some d ↦ counting 0 (length (port_names d)) ])) runs
+          ∙ map_same (λ port. wired_targets port w) (reader_numbers plan c.name) read (counting 0 (length (port_names c)))
+
   -- whether batches must wait is known by the record of the install alone
   fresh_known : (i : ℕ) (seat : Seat P) (c : Component) → slice_get plan.components i ≡ Some c → IsFresh told_by plan i seat c →
       IsKnown told_by seat (begun plan once now) i
@@ -57,7 +77,7 @@ module _ {P : Type 0} (told_by : P → Told) (plan : Plan) (once : Bool) (now : 
       record {
         fitted = record {
           component = rw (component_there (begun plan once now) plan i c (begun_legal plan once now accepted) refl at) fresh.fitted;
-          outlet = fresh.outlet ∙ ap (λ (targets : List ℕ). targets ∷ []) (sym (targets_of_first plan once now i 0 c at));
+          outlet = fresh.outlet ∙ sym (outlets_of_first i c at);
         };
         facts = assumption fresh.facts;
         progress = record { unnoticed = fresh.progress.unnoticed; waits = fresh.progress.waits_are ∙ sym waits; prefix = fresh.progress.prefix (judged_by (begun plan once now)) };

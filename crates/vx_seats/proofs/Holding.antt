@@ -11,6 +11,7 @@ use Rattle.vx_status.specs.declared.outcome.Outcome.{Outcome}
 use Rattle.vx_status.specs.declared.outcome.Outcome.TheVariants.{Delivered, Filtered, NewestDropped, NoConsumer, Attempts, Abandoned, Refusal}
 use Rattle.vx_plan.specs.Components.{is_sink}
 use Rattle.vx_plan.specs.declared.class.Class.TheVariants.{Sink}
+use Rattle.vx_record.specs.declared.output.Output.{Output}
 use Rattle.vx_record.specs.declared.entry.Entry.{Entry}
 use Rattle.vx_record.specs.declared.entry.Entry.TheVariants.{Install, Take, Answer, Attempt, Spent, Abandon}
 use Rattle.vx_record.specs.Records.{Record}
@@ -86,6 +87,12 @@ since_far since h e i none is was = λ sink.
     rw (held_apart e i (at h (Held i)) is)
     (since_by h (e ∷ h) i since (at h (Held i)) (cause_earlier h e) (λ c untried. sym (stays (λ h i. attempts_with h i c) (attempts_own c) h e i is) ∙ untried)
     (λ c. stays (λ h i. taken_at h i c) (taken_own c) h e i is) (was (sym (told_on false is_sink h e i none) ∙ sink)))
+
+-- and an answer, since no sink gives one
+pub since_answered : (since : ℕ) (h : Record) (i : ℕ) (outputs : List Output) (discarded kept : List ℕ) → IsLegal (Answer i outputs discarded kept ∷ h) →
+    HasSince (Answer i outputs discarded kept ∷ h) i since
+since_answered since h i outputs discarded kept legal = λ sink.
+    absurd (false≢true (sym (unanswering h i i outputs discarded kept legal (sink_untransforming h i sink)) ∙ itself i))
 
 -- WHAT STANDS THERE
 held_full : (h : Record) (i : ℕ) → IsLegal h → NoneEmpty (at h (Held i))

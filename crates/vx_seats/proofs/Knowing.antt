@@ -18,7 +18,6 @@ use Rattle.vx_record.specs.Turns.{is_out}
 use Rattle.vx_record.specs.Reads.{all_ended}
 use Rattle.vx_record.specs.Installs.{Wiring, component_of, is_closed, is_retired, started, wiring}
 use Rattle.vx_record.specs.Ceasing.{lost_at}
-use Rattle.vx_record.specs.Routing.{wired_targets}
 use Rattle.vx_record.specs.Sourcing.{failed_starts}
 use Rattle.vx_record.specs.Confirms.{is_unconfirmed, last_confirm, due}
 use Rattle.vx_record.proofs.OwnTurns.{out_own, closed_own, retired_own}
@@ -36,7 +35,7 @@ use Rattle.vx_tasks.specs.Home.{HasCome}
 use Rattle.vx_seats.specs.declared.facts.Facts.{Facts}
 use Rattle.vx_seats.specs.declared.progress.Progress.{Progress}
 use Rattle.vx_seats.specs.declared.seat.Seat.{Seat}
-use Rattle.vx_seats.specs.Knowing.{IsFitted, IsFittedTo, HasFacts, HasProgress, IsAtHomeBut, HasHome, IsKnown, Knows, asked}
+use Rattle.vx_seats.specs.Knowing.{wired_outlets, IsFitted, IsFittedTo, HasFacts, HasProgress, IsAtHomeBut, HasHome, IsKnown, Knows, asked}
 use Rattle.vx_seats.proofs.Staying.{each_set, size_set, there}
 use Rattle.vx_seats.proofs.Telling.{InstallsNothing, IsMute, stays, wiring_on, told_on, told_far, come_far, told_mute, come_mute}
 use Rattle.vx_seats.proofs.Owing.{OwesNoMore, owes_far, owes_still}
@@ -100,7 +99,7 @@ module _ {P : Type 0} where
   fitted_by {was} {f} {p} {c} {task} {h} {k} {i} same fit = record {
     component = subst (λ (o : Option Wiring). IsSomeAnd (elim o [ None ↦ None | Some w ↦ component_named w.plan w.name ]) (IsFittedTo (record was { facts = f; progress = p; counts = c; task = task })))
         (sym same) (fits was f p c task (component_of h i) fit.component);
-    outlet = fit.outlet ∙ ap (λ (o : Option Wiring). elim o as (λ _. List ℕ) [ None ↦ [] | Some w ↦ wired_targets 0 w ] ∷ []) (sym same);
+    outlet = fit.outlet ∙ ap (λ (o : Option Wiring). elim o as (λ _. List (List ℕ)) [ None ↦ [] | Some w ↦ wired_outlets w ]) (sym same);
   }
 
 -- TASKS AT HOME

@@ -15,9 +15,10 @@ use Rattle.vx_plan.specs.declared.component.Component.{Component}
 use Rattle.vx_status.specs.declared.batch_status.BatchStatus.{BatchStatus}
 use Rattle.vx_status.specs.declared.outcome.Outcome.{Outcome}
 use Rattle.vx_status.specs.declared.outcome.Outcome.TheVariants.{NewestDropped}
+use Rattle.vx_record.specs.declared.output.Output.{Output}
 use Rattle.vx_record.specs.declared.taken.Taken.{Taken}
 use Rattle.vx_record.specs.declared.entry.Entry.{Entry}
-use Rattle.vx_record.specs.declared.entry.Entry.TheVariants.{Lease, Home, Read, Idle, SourceLost, Born, Take, Attempt, Spent, Notice, Confirm, Closed, Retired}
+use Rattle.vx_record.specs.declared.entry.Entry.TheVariants.{Lease, Home, Read, Idle, SourceLost, Born, Take, Answer, Attempt, Spent, Notice, Confirm, Closed, Retired}
 use Rattle.vx_record.specs.declared.tally.Tally.{Tally}
 use Rattle.vx_record.specs.Records.{Record, capped}
 use Rattle.vx_record.specs.Legal.{IsLegal}
@@ -49,10 +50,10 @@ use Rattle.vx_seats.specs.declared.seat.Seat.{Seat}
 use Rattle.vx_seats.specs.Knowing.{HasProgress, HasHome, IsAtHomeBut, IsFitted, IsFittedTo, IsKnown, Knows, asked, count_unnoticed, judged_by}
 use Rattle.vx_seats.specs.Calls.{CountsAt, HasTaskBack, IsAskedOf, IsBack, IsClosedBy, IsSettledAt, IsShutAt, Leaves, Shuts, TaskShuts}
 use Rattle.vx_seats.specs.Staying.{IsShut, OneSeat}
-use Rattle.vx_seats.proofs.Holding.{since_calm, since_spent, since_took}
+use Rattle.vx_seats.proofs.Holding.{since_answered, since_calm, since_spent, since_took}
 use Rattle.vx_seats.proofs.Knowing.{CountsOwn, apart_of, but_by, counts_on, facts_far, fitted_by, home_far, keeps, known_far, known_was, knows_next, leaves_far, out_known, own_steps, still_known}
 use Rattle.vx_seats.proofs.Owing.{owes_still}
-use Rattle.vx_seats.proofs.Progressing.{asked_due, births_apart, count_born, count_noticed, count_on, due_unnoticed, going_on, may_new, progress_on, tells, unborn_unnoticed, unnoticed_few}
+use Rattle.vx_seats.proofs.Progressing.{asked_due, asked_unported, births_apart, count_born, count_noticed, count_on, due_unnoticed, going_on, may_new, progress_on, tells, unborn_unnoticed, unnoticed_few}
 use Rattle.vx_seats.proofs.Staying.{there, writes, written}
 use Rattle.vx_seats.proofs.Telling.{told_mute, come_mute}
 
@@ -224,6 +225,12 @@ module _ {P : Type 0} {told_by : P → Told} (i : ℕ) {items now : List (Seat P
       out_known h (Attempt i copies gave reply) i tt refl legal.0.row.out (search (since_calm was.facts.since h (Attempt i copies gave reply) i tt k.facts.since))
       (progress_on was.progress h (Attempt i copies gave reply) i tt k.progress) (λ known. counted legal (k.counts known)) k)
 
+  pub answered_knows : {new : Tally} (h : Record) (outputs : List Output) (discarded kept : List ℕ) → Counted i h (Answer i outputs discarded kept) was.counts.tally new →
+      Leads told_by now (seated items i was was.facts was.progress (record { tally = new })) h (Answer i outputs discarded kept)
+  answered_knows h outputs discarded kept counted = own_steps i view l read (Answer i outputs discarded kept) (tt, λ j. refl, λ k j. tt, λ no. no) (λ legal k.
+      out_known h (Answer i outputs discarded kept) i tt refl legal.0.row.out (search (since_answered was.facts.since h i outputs discarded kept legal))
+      (progress_on was.progress h (Answer i outputs discarded kept) i tt k.progress) (λ known. counted legal (k.counts known)) k)
+
   pub confirmed_knows : {new : Tally} {positions : List Position} {made : Bool} (h : Record) → Counted i h (Confirm i positions made) was.counts.tally new →
       Leads told_by now (seated items i was (record was.facts { confirm_failed = not made }) was.progress (record { tally = new })) h (Confirm i positions made)
   confirmed_knows {new} {positions} {made} h counted = own_steps i view l read (Confirm i positions made) (tt, λ j. refl, λ k j. tt, λ no. no) (λ legal k.
@@ -257,11 +264,15 @@ module _ {P : Type 0} {told_by : P → Told} (i : ℕ) {items now : List (Seat P
 
   -- and what it takes along is due
   pub left_due : {is : Seat P} {task : Task P} {positions : Option (List Position)} → Leaves was is task positions → (h : Record) (worker moment polls : ℕ) →
-      IsSettledAt now i → device_at h i ≡ true →
+      IsSettledAt now i → (source_at h i ≡ true → device_at h i ≡ true) →
       Knows told_by now h → IsLegal (Lease i worker moment polls ∷ h) → AreDue (Lease i worker moment polls ∷ h) i positions
-  left_due {positions = positions} leaves h worker moment polls settled device knows legal =
-      let told = (left_home leaves h knows).answered device (rw (there i view l read) at settled) (going_on h legal.0.still) in
-      asked_due h i legal.1 told positions worker moment polls device (leaves.asked.due (judged_by h) (births h i) (asked h i) (known_was i view l read knows).progress.prefix)
+  left_due {positions = positions} leaves h worker moment polls settled only knows legal =
+      let ask = leaves.asked.due (judged_by h) (births h i) (asked h i) (known_was i view l read knows).progress.prefix in
+      elim (cases_Bool (device_at h i)) [
+        | inl device ↦
+            asked_due h i legal.1 ((left_home leaves h knows).answered device (rw (there i view l read) at settled) (going_on h legal.0.still)) positions worker moment polls device ask
+        | inr off ↦ asked_unported h i legal.1 positions worker moment polls off only ask
+      ]
 
   pub back_knows : (task : Task P) (h : Record) → HasTaskBack told_by now h i task → Leads told_by now (slice_set items i (record was { task = Some task })) h (Home i)
   back_knows task h there_is = own_steps i view l read (Home i) (tt, λ j. refl, λ k j. tt, λ no. no) (λ legal k.

@@ -13,7 +13,7 @@ use Rattle.vx_record.proofs.Mine.{others}
 use Rattle.vx_record.proofs.Senders.{same_told}
 use Rattle.vx_sourcecore.proofs.Keeping.{abreast_kept, abreast_under}
 use Rattle.vx_tasks.specs.declared.task.Role.{Role}
-use Rattle.vx_tasks.specs.declared.task.Role.TheVariants.{Source, Sink, Unfit}
+use Rattle.vx_tasks.specs.declared.task.Role.TheVariants.{Source, Sink, Transform, Unfit}
 use Rattle.vx_tasks.specs.Telling.{IsTold}
 use Rattle.vx_tasks.specs.Home.{HasCome}
 use Rattle.vx_tasks.proofs.Staying.{told_same}
@@ -60,6 +60,8 @@ come_far (Source core) h e i legal none is come =
     abreast_kept h (e ∷ h) i core (record { added = e ∷ []; is = refl; each = (record { follows = legal.0; kind = is }, tt) }) come
 come_far (Sink codec) h (Install version plan once instances now) i legal none is come = absurd none
 come_far (Sink codec) h e i legal none is come = come
+come_far (Transform picker) h (Install version plan once instances now) i legal none is come = absurd none
+come_far (Transform picker) h e i legal none is come = come
 come_far Unfit h e i legal none is come = tt
 
 -- MUTE ENTRIES
@@ -77,4 +79,6 @@ come_mute (Source core) h (Install version plan once instances now) i mute come 
 come_mute (Source core) h e i mute come = abreast_under h e i core (search) come
 come_mute (Sink codec) h (Install version plan once instances now) i mute come = absurd mute
 come_mute (Sink codec) h e i mute come = come
+come_mute (Transform picker) h (Install version plan once instances now) i mute come = absurd mute
+come_mute (Transform picker) h e i mute come = come
 come_mute Unfit h e i mute come = tt

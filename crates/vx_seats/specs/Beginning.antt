@@ -1,9 +1,11 @@
 -- Seats as they begin.
-use Rattle.std.specs.Prelude.{◌≡◌, ◌≢◌, ℕ, Bool, false, List, [], ◌∷◌, length, None, IfSome, IsSomeAnd, slice_get}
+use Rattle.std.specs.Prelude.{◌≡◌, ◌≢◌, ℕ, Bool, false, List, [], length, map, None, IfSome, IsSomeAnd, slice_get}
 use Rattle.vx_ends.specs.Told.{Told}
 use Rattle.vx_plan.specs.declared.plan.Plan.{Plan}
 use Rattle.vx_plan.specs.declared.component.Component.{Component}
+use Rattle.vx_plan.specs.Components.{port_names}
 use Rattle.vx_plan.specs.Numbers.{reader_numbers}
+use Rattle.vx_record.specs.Copies.{counting}
 use Rattle.vx_plan.specs.Targets.{acknowledged}
 use Rattle.vx_record.specs.Wirings.{begun}
 use Rattle.vx_counts.specs.Meets.{Meets}
@@ -37,7 +39,7 @@ pub record HasBorneNone (p : Progress) (waits : Bool) : Type 0 where
 -- work
 pub record IsFresh {P : Type 0} (told_by : P → Told) (plan : Plan) (i : ℕ) (seat : Seat P) (c : Component) : Type 0 where
   pub fitted : IsFittedTo seat c
-  pub outlet : seat.outlet ≡ reader_numbers plan c.name 0 ∷ []
+  pub outlet : seat.outlet ≡ map (reader_numbers plan c.name) (counting 0 (length (port_names c)))
   pub facts : AreNew seat.facts
   pub progress : HasBorneNone seat.progress (acknowledged plan c.name)
   pub counts : Meets i [] seat.counts.tally

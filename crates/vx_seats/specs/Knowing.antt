@@ -1,15 +1,17 @@
 -- When what is known of the instances is what a record has of them.
-use Rattle.std.specs.Prelude.{◌≡◌, ◌≢◌, ℕ, ◌+◌, ◌||◌, ◌&&◌, not, Bool, true, false, List, [], ◌∷◌, length, Option, Some, None, IfSome, IfNone, IsSomeAnd, slice_get, if◌then◌else◌}
+use Rattle.std.specs.Prelude.{◌≡◌, ◌≢◌, ℕ, ◌+◌, ◌||◌, ◌&&◌, not, Bool, true, false, List, [], ◌∷◌, length, map, Option, Some, None, IfSome, IfNone, IsSomeAnd, slice_get, if◌then◌else◌}
 use Rattle.vx_ends.specs.Told.{Told}
 use Rattle.vx_ends.specs.declared.position.Position.{Position}
 use Rattle.vx_plan.specs.declared.component.Component.{Component}
 use Rattle.vx_plan.specs.Components.{batch_max_events, batch_timeout}
-use Rattle.vx_plan.specs.Components.{is_sink}
+use Rattle.vx_plan.specs.Components.{component_named, is_sink, port_names}
 use Rattle.vx_record.specs.Records.{Record}
-use Rattle.vx_record.specs.Installs.{component_of, device_at, sink_at, started, is_closed, is_retired}
+use Rattle.vx_record.specs.Routing.{wired_targets}
+use Rattle.vx_record.specs.Copies.{counting}
+use Rattle.vx_record.specs.Installs.{Wiring, wired, component_of, device_at, sink_at, started, is_closed, is_retired}
 use Rattle.vx_record.specs.Turns.{is_out, at_lease}
 use Rattle.vx_record.specs.Reads.{all_ended}
-use Rattle.vx_record.specs.Ceasing.{lost_at, readers_at, cause_of}
+use Rattle.vx_record.specs.Ceasing.{lost_at, cause_of}
 use Rattle.vx_record.specs.Sourcing.{failed_starts, must_wait}
 use Rattle.vx_record.specs.Confirms.{Birth, births, is_noticed, was_delivered, is_unconfirmed, last_confirm, due}
 use Rattle.vx_record.specs.Owing.{owes}
@@ -39,10 +41,18 @@ pub record IsFittedTo {P : Type 0} (seat : Seat P) (c : Component) : Type 0 wher
   pub class : seat.class ≡ c.class
   pub batching : seat.batching ≡ batching_of c
 
--- for that of its instance, and it sends to the readers of that
+-- the instances that read each port of a wired one, in the order of the ports
+abbrev pub wired_outlets : Wiring → List (List ℕ)
+wired_outlets w = map (λ port. wired_targets port w) (elim (component_named w.plan w.name) [ None ↦ [] | Some c ↦ counting 0 (length (port_names c)) ])
+
+-- those of an instance
+abbrev pub outlets_at : Record → ℕ → List (List ℕ)
+outlets_at = wired [] wired_outlets
+
+-- for that of its instance, and it sends to the readers of each port of that
 pub record IsFitted {P : Type 0} (seat : Seat P) (h : Record) (i : ℕ) : Type 0 where
   pub component : IsSomeAnd (component_of h i) (IsFittedTo seat)
-  pub outlet : seat.outlet ≡ readers_at h i ∷ []
+  pub outlet : seat.outlet ≡ outlets_at h i
 
 -- the moment that is kept is that of the take of the oldest parcel that the instance holds, until that one is attempted or the
 -- run is given up

@@ -16,7 +16,7 @@ pub struct Seat<P> {
     /// The name of its component.
     pub name: Text,
     pub class: Class,
-    /// The instances that read each of its ports, in byte order of their components' names. Today each instance has one port.
+    /// The instances that read each of its ports, in the order of the ports, and in byte order of their components' names.
     pub outlet: Outlet,
     /// How it collects, if it is a sink.
     pub batching: Option<Batching>,

@@ -1,4 +1,4 @@
-ghost use Rattle.std.specs.Prelude.{◌≡◌, ◌<◌, ◌+◌, ◌⊎◌, ◌||◌, ◌&&◌, not, if◌then◌else◌, ℕ, Bool, true, false, List, [], ◌∷◌, length, IfOk, IfSome, IfNone, IsSome, Some, None, is_some, slice_get};
+ghost use Rattle.std.specs.Prelude.{◌≡◌, ◌<◌, ◌+◌, ◌⊎◌, ◌||◌, ◌&&◌, not, if◌then◌else◌, ℕ, Bool, true, false, List, [], ◌∷◌, length, IfOk, IfSome, IfNone, IsSome, Some, None, is_some, slice_get, count_by};
 ghost use Rattle.vx_ends.specs.declared.trouble.Reply.{Reply};
 ghost use Rattle.vx_value.specs.Texts.{Word, is_empty};
 ghost use Rattle.vx_record.specs.Records.{Record, capped};
@@ -13,6 +13,7 @@ ghost use Rattle.vx_plan.specs.declared.class.Class.TheVariants.{Sink};
 ghost use Rattle.vx_status.specs.declared.outcome.Outcome.TheVariants.{NewestDropped, NoConsumer};
 ghost use Rattle.vx_counts.specs.Classes.{class_at, IsGiver};
 ghost use Rattle.vx_counts.specs.Spends.{WasPutIn};
+ghost use Rattle.vx_record.specs.declared.output.Output.{Output};
 ghost use Rattle.vx_record.specs.declared.taken.Taken.{Taken};
 ghost use Rattle.vx_ends.specs.declared.position.Position.{Position};
 ghost use Rattle.vx_value.specs.declared.event.Event.{Event};
@@ -20,7 +21,7 @@ ghost use Rattle.vx_record.specs.declared.entry.Entry.TheVariants as Entry;
 ghost use Rattle.vx_counts.specs.Meets.{Meets};
 ghost use Rattle.vx_sourcecore.specs.NewLines.{AreNew};
 ghost use Rattle.vx_tasks.specs.Out.{AreDue};
-ghost use Rattle.vx_record.specs.declared.entry.Entry.TheVariants.{Lease, Home, Read, Idle, SourceLost, Born, Take, Attempt, Spent, Confirm, Closed, Retired};
+ghost use Rattle.vx_record.specs.declared.entry.Entry.TheVariants.{Lease, Home, Read, Idle, SourceLost, Born, Take, Answer, Attempt, Spent, Confirm, Closed, Retired};
 ghost use Rattle.vx_plan.specs.declared.plan.Plan.{Plan};
 ghost use Rattle.vx_plan.specs.Accepted.{IsPlan};
 ghost use Rattle.vx_record.specs.Wirings.{begun};
@@ -91,7 +92,7 @@ impl<P: Port> Seats<P> {
         ensures size { length self.new ≡ length self.old }
         ensures left { IfSome result (λ r. OneSeat (IsLeft r.0) i self.old self.new) }
         ensures home { IfSome result (λ r. (h : Record) → Knows P.told self.old h → HadHome P.told self.old h i r.0) }
-        ensures due { IfSome result (λ r. (h : Record) → (worker now polls : ℕ) → IsSettledAt self.old i → device_at h i ≡ true → Knows P.told self.old h →
+        ensures due { IfSome result (λ r. (h : Record) → (worker now polls : ℕ) → IsSettledAt self.old i → (source_at h i ≡ true → device_at h i ≡ true) → Knows P.told self.old h →
             IsLegal (Lease i worker now polls ∷ h) → AreDue (Lease i worker now polls ∷ h) i r.1) }
         ensures knows { IfSome result (λ r. (h : Record) → (worker now polls : ℕ) → Knows P.told self.old h → IsLegal (Lease i worker now polls ∷ h) →
             Knows P.told self.new (Lease i worker now polls ∷ h)) }
@@ -245,7 +246,18 @@ impl<P: Port> Seats<P> {
         seat.facts.since = since_after(seat.facts.since, now, first);
     }
 
-    /// A copy was spent that an instance held, as answered or given up. `first` says that it came first in the parcel that was taken:
+    /// A transform answered: it put out so many parcels, each once whatever its ports, and discarded so many of those that it took.
+    pub fn answered(&mut self, i: u32, sent: u64, dropped: u64)
+        requires { i < length self.old }
+        ensures size { length self.new ≡ length self.old }
+        ensures stays { EachSeat Stays self.old self.new }
+        ensures knows { (h : Record) → (outputs : List Output) → (discarded kept : List ℕ) → sent ≡ capped (length outputs) → dropped ≡ capped (count_by (is_first h i) discarded) →
+            Knows P.told self.old h → IsLegal (Answer i outputs discarded kept ∷ h) → Knows P.told self.new (Answer i outputs discarded kept ∷ h) }
+    {
+        self.seats[i as usize].counts.answered(sent, dropped);
+    }
+
+    /// A copy was spent that an instance held, as answered, discarded or given up. `first` says that it came first in the parcel that was taken:
     /// its other copies don't count.
     pub fn spent(&mut self, i: u32, outcome: Outcome, first: bool)
         requires { i < length self.old }

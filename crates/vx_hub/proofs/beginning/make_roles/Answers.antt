@@ -8,15 +8,16 @@ use Rattle.vx_hub.proofs.beginning.make_roles.Goals as goal
 pub make_role-requires : goal.make_role-requires
 make_role-requires c =
     let same = c.as_slice-component-items.ensures ∙ ap (λ (p : Plan). p.components) c.plan.view_is in
-    device_in c.as_slice-component-items.result.now c.loop-component.component-index c.component-item.result (ap all_ported same ∙ c.requires) c.loop-component-test.true c.component-item.is
+    device_in c.as_slice-component-items.result.now c.loop-component.component-index c.component-item.result
+    (ap all_ported same ∙ c.requires) c.loop-component-test.true c.component-item.is
 
 pub loop-component-preserved : goal.loop-component-preserved
 loop-component-preserved c =
     let v = c.loop-component.invariant in
     let same = c.as_slice-component-items.ensures ∙ ap (λ (p : Plan). p.components) c.plan.view_is in
     record {
-      begun = for_next IsRoleFor c.args.plan.now.components c.as_slice-component-items.result.now same c.loop-component.roles.items c.push_reserved.new.self.items c.in_ok-role.role c.component-item.result
-          c.loop-component.component-index c.push_reserved.ensures.items v.begun v.size c.loop-component-test.true c.component-item.is c.in_ok-role.ensures;
+      begun = for_next IsRoleFor c.loop-component.roles.items c.in_ok-role.role same c.push_reserved.ensures.items
+          v.begun v.size c.loop-component-test.true c.component-item.is c.in_ok-role.ensures;
       size = omega (arith, v.size, c.push_reserved.ensures.len);
       room = omega (arith, v.room, c.push_reserved.ensures.capacity);
     }

@@ -9,8 +9,8 @@ loop-component-preserved g c =
     let v = c.loop-component.invariant in
     let same = c.as_slice-component-items.ensures ∙ ap (λ (p : Plan). p.components) c.plan.view_is in
     record {
-      begun = for_next (IsBegun c.args.plan.now) c.args.plan.now.components c.as_slice-component-items.result.now same c.loop-component.seats.items c.push_reserved.new.self.items c.in_ok-seat.seat c.component-item.result
-          c.loop-component.component-index c.push_reserved.ensures.items v.begun v.size c.loop-component-test.true c.component-item.is c.in_ok-seat.ensures;
+      begun = for_next (IsBegun c.args.plan.now) c.loop-component.seats.items c.in_ok-seat.seat same
+          c.push_reserved.ensures.items v.begun v.size c.loop-component-test.true c.component-item.is c.in_ok-seat.ensures;
       size = omega (arith, v.size, c.push_reserved.ensures.len);
       room = omega (arith, v.room, c.push_reserved.ensures.capacity);
     }

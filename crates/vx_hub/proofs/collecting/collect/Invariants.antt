@@ -1,4 +1,4 @@
-use Rattle.vx_hub.proofs.Takes.{HasCollected}
+use Rattle.vx_hub.proofs.Leases.{HasCollected}
 use Rattle.vx_hub.proofs.collecting.collect.Given as goal
 
 abbrev pub invariant-loop-taken : goal.invariant-loop-taken

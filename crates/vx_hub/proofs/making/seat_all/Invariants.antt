@@ -9,7 +9,7 @@ invariant-loop-port g l = record {
   size : length l.seats.items ≡ length l.fn.seats.items;
   within : length l.ports.items ≤ length l.fn.seats.items;
   ports : SameBelow (length l.ports.items) l.ports.items l.fn.ports.items;
-  roles : SameBelow (length l.ports.items) l.roles.items l.fn.roles.items;
+  roles : SameBelow (length l.roles.items) l.roles.items l.fn.roles.items;
   seats : SameBelow (length l.ports.items) l.seats.items l.fn.seats.items;
   seated : AreSeatedFrom (length l.ports.items) l.fn.seats.items l.fn.roles.items l.fn.ports.items l.seats.items;
 }

@@ -1,8 +1,13 @@
-use Rattle.vx_hub.proofs.Moving.{goes_on, goes_on_not}
+use Rattle.std.proofs.Common.{◌∙◌, ap}
+use Rattle.std.specs.Prelude.{not}
+use Rattle.vx_record.proofs.Ceasing.{unabandoned}
+use Rattle.vx_landing.proofs.Answering.{none_known, over_known}
 use Rattle.vx_hub.proofs.pushing.is_free.Goals as goal
 
 pub returns-then-is_none-clause-going : goal.returns-then-is_none-clause-going
-returns-then-is_none-clause-going g c some = goes_on g.P.Port.told c.args.books.now c.requires.stands c.is_none.result c.is_none.ensures c.if-is_none.true
+returns-then-is_none-clause-going g c some =
+    unabandoned c.args.books.now.log (none_known g.P.Port.told c.args.books.now c.requires.stands (c.is_none.ensures ∙ ap not c.if-is_none.true))
 
 pub returns-else-is_none-clause-none : goal.returns-else-is_none-clause-none
-returns-else-is_none-clause-none g c over going home = goes_on_not g.P.Port.told c.args.books.now c.requires.stands c.is_none.result c.is_none.ensures over going
+returns-else-is_none-clause-none g c over going home = let given =
+    over_known g.P.Port.told c.args.books.now c.requires.stands (c.is_none.ensures ∙ ap not over) in cc

@@ -1,4 +1,4 @@
-use Rattle.vx_hub.proofs.Readying.{NoneBelow}
+use Rattle.vx_hub.proofs.Leases.{NoneBelow}
 use Rattle.vx_hub.proofs.ready.ready_any.Given as goal
 
 abbrev pub invariant-loop-i : goal.invariant-loop-i

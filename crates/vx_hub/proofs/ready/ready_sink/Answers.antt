@@ -1,9 +1,12 @@
-use Rattle.std.proofs.Common.{arith}
-use Rattle.vx_hub.proofs.Readying.{no_further, no_sink}
+use borrow.Author.Count.{below_more}
+use Rattle.std.proofs.Common.{◌≡◌, true, arith}
+use Rattle.vx_record.specs.Installs.{sink_at}
+use Rattle.vx_hub.specs.Leases.{NoneFoundAt}
 use Rattle.vx_hub.proofs.ready.ready_sink.Goals as goal
 
 pub returns-clause-none : goal.returns-clause-none
-returns-clause-none g c = no_sink c.args.books.now c.args.now c.loop-i.i (omega arith) c.loop-i.invariant
+returns-clause-none g c i within = c.loop-i.invariant i (omega (arith, within))
 
 pub loop-i-preserved : goal.loop-i-preserved
-loop-i-preserved g c = no_further c.args.books.now c.args.now c.loop-i.i c.in_default.ensures.none c.loop-i.invariant
+loop-i-preserved g c = below_more (λ k. sink_at c.args.books.now.log k ≡ true → NoneFoundAt c.args.books.now
+    c.args.now k) c.loop-i.i c.loop-i.invariant c.in_default.ensures.none

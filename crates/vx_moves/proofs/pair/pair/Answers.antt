@@ -1,8 +1,18 @@
-use Rattle.std.proofs.Common.{◌∷◌, [], ap, arith, length}
-use Rattle.std.proofs.lemmas.List.{length-append}
+use Rattle.std.proofs.Common.{◌≡◌, ◌∙◌, List, [], ◌∷◌, ◌++◌, ap, arith, length, refl}
+use Rattle.std.proofs.lemmas.List.{append_assoc, length-append, reverse-append}
+use Rattle.vx_value.specs.declared.event.Event.{Event}
+use Rattle.vx_ledger.specs.Copies.{Copy}
+use Rattle.vx_transform.specs.declared.output.Output.{Output}
 use Rattle.vx_moves.specs.Bearing.{paired}
-use Rattle.vx_moves.proofs.Pairing.{paired_on}
 use Rattle.vx_moves.proofs.pair.pair.Goals as goal
+
+-- the last event goes with the last copies
+paired_last : (events : List Event) (lists : List (List Copy)) (event : Event) (copies : List Copy) → length events ≡ length lists →
+    paired (events ++ event ∷ []) (lists ++ copies ∷ []) ≡ paired events lists ++ record { ports = 1; parcel = record { event = event; finalizers = copies } } ∷ []
+paired_last [] [] event copies same = refl
+paired_last (e ∷ es) (l ∷ ls) event copies same = ap (λ (ps : List Output). record { ports = 1; parcel = record { event = e; finalizers = l } } ∷ ps)
+    (paired_last es ls event copies (omega (arith, same)))
+paired_last events lists event copies same = absurd (omega (arith, same))
 
 pub loop-event-preserved : goal.loop-event-preserved
 loop-event-preserved c =
@@ -10,17 +20,13 @@ loop-event-preserved c =
     let last = c.in-Some.ensures.some in
     let last_copies = c.in-Some-pop.ensures.some in
     let pushed = c.push_reserved.ensures.items in
-    let first = ap length last in
-    let second = ap length last_copies in
-    let third = ap length pushed in
-    let ends = length-append c.pop.new.self (c.in-Some.event ∷ []) in
-    let ends_copies = length-append c.pop-in-Some.new.self (c.in-Some-pop.finalizers ∷ []) in
-    let ends_pushed = length-append c.loop-event.parcels.items (record { event = c.in-Some.event; finalizers = c.in-Some-pop.finalizers } ∷ []) in
-    let room = inv.room in
-    let each = inv.each in
-    let capacity = c.push_reserved.ensures.capacity in record {
-      pairs = paired_on c.loop-event.events c.pop.new.self c.loop-event.copies c.pop-in-Some.new.self c.in-Some.event c.in-Some-pop.finalizers c.loop-event.parcels.items c.push_reserved.new.self.items
-          (paired c.args.events c.args.copies) last last_copies each pushed inv.pairs;
-      each = omega (arith, first, second, ends, ends_copies, each);
-      room = omega (arith, first, third, ends, ends_pushed, room, capacity);
+    let events = ap length last ∙ length-append c.pop.new.self (c.in-Some.event ∷ []) in
+    let copies = ap length last_copies ∙ length-append c.pop-in-Some.new.self (c.in-Some-pop.finalizers ∷ []) in
+    let parcels = ap length pushed ∙ length-append c.loop-event.outputs.items (record { ports = 1; parcel = record { event = c.in-Some.event; finalizers = c.in-Some-pop.finalizers } } ∷ []) in
+    let each : length c.pop.new.self ≡ length c.pop-in-Some.new.self = omega (arith, events, copies, inv.each) in
+    record {
+      pairs = rw (pushed, reverse-append)
+          (rw (last, last_copies, paired_last c.pop.new.self c.pop-in-Some.new.self c.in-Some.event c.in-Some-pop.finalizers each, append_assoc) at inv.pairs);
+      each = each;
+      room = omega (arith, events, parcels, inv.room, c.push_reserved.ensures.capacity);
     }

@@ -1,23 +1,23 @@
-use Rattle.vx_hub.proofs.Remaining.{bare_all, home_all, ended_all, ports_closed, ports_told, ports_told_but}
-use Rattle.vx_hub.proofs.Begun.{ported_served}
+use Rattle.vx_hub.proofs.Remaining.{bare_all, home_all, ended_all, ports_say}
 use Rattle.vx_hub.proofs.hub.Hub.end.Goals as goal
 
 pub end-requires : goal.end-requires
-end-requires g c = bare_all g.P.Port.told c.args.self.books c.requires.hub.stands c.requires.hub.served c.requires.over
+end-requires g c = let hub = c.requires.hub in bare_all hub.stands hub.served c.requires.over
 
 pub ports_of-requires-clause-home : goal.ports_of-requires-clause-home
-ports_of-requires-clause-home g c = home_all g.P.Port.told c.args.self.books c.requires.hub.stands c.requires.hub.served c.requires.over
+ports_of-requires-clause-home g c = let hub = c.requires.hub in home_all hub.stands hub.served c.requires.over
 
 pub returns-clause-ended : goal.returns-clause-ended
-returns-clause-ended g c = ended_all g.P.Port.told c.args.self.books c.requires.hub.stands c.requires.hub.served c.requires.over (ported_served g.P.Port.told c.args.self.books c.requires.hub.stands c.requires.hub.served)
+returns-clause-ended g c = let hub = c.requires.hub in ended_all hub.stands hub.served c.requires.over
 
 pub returns-clause-closed : goal.returns-clause-closed
-returns-clause-closed g c = ports_closed g.P.Port.told c.args.self.books c.requires.hub.stands c.requires.hub.served c.requires.over c.ports_of.result c.ports_of.ensures.ports
+returns-clause-closed g c = let hub = c.requires.hub in let of = c.ports_of.ensures in
+    (ports_say hub.stands hub.served c.requires.over hub.fed c.ports_of.result of.numbers of.ports).0
 
 pub returns-clause-told : goal.returns-clause-told
-returns-clause-told g c sound =
-    ports_told g.P.Port.told c.args.self.books c.requires.hub.stands c.requires.hub.served c.requires.over c.requires.hub.fed sound c.ports_of.result c.ports_of.ensures.numbers c.ports_of.ensures.ports
+returns-clause-told g c = let hub = c.requires.hub in let of = c.ports_of.ensures in
+    (ports_say hub.stands hub.served c.requires.over hub.fed c.ports_of.result of.numbers of.ports).1
 
 pub returns-clause-told_but : goal.returns-clause-told_but
-returns-clause-told_but g c =
-    ports_told_but g.P.Port.told c.args.self.books c.requires.hub.stands c.requires.hub.served c.requires.over c.ports_of.result c.ports_of.ensures.numbers c.ports_of.ensures.ports
+returns-clause-told_but g c = let hub = c.requires.hub in let of = c.ports_of.ensures in
+    (ports_say hub.stands hub.served c.requires.over hub.fed c.ports_of.result of.numbers of.ports).2

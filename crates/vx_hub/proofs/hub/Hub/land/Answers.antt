@@ -3,28 +3,27 @@ use Rattle.vx_record.specs.Abandoning.{abandoned}
 use Rattle.vx_record.specs.Makers.{IsFor}
 use Rattle.vx_landing.proofs.Answering.{going_known}
 use Rattle.vx_landing.proofs.LandedBooks.{goes_on_home, on_ok, over_stays, still_going}
-use Rattle.vx_hub.proofs.Landing.{hub_home}
+use Rattle.vx_hub.proofs.Resting.{hub_home}
 use Rattle.vx_hub.proofs.hub.Hub.land.Goals as goal
 
 pub returns-in-Ok-clause-hub : goal.returns-in-Ok-clause-hub
-returns-in-Ok-clause-hub g c =
-    let d = c.args.self.now in
-    hub_home g.P.Port.told c.args.landing.instance d c.bring_home.new.books d.fatal c.requires.hub c.bring_home.ensures.home (λ sound. c.in-Ok.ensures.well (c.requires.hub.well sound))
+returns-in-Ok-clause-hub g c = hub_home c.requires.hub c.bring_home.ensures.home (λ sound. c.in-Ok.ensures.well (c.requires.hub.well sound))
 
 pub returns-in-Err-clause-hub : goal.returns-in-Err-clause-hub
-returns-in-Err-clause-hub g c =
-    hub_home g.P.Port.told c.args.landing.instance c.args.self.now c.bring_home.new.books true c.requires.hub c.bring_home.ensures.home (λ sound. cc)
+returns-in-Err-clause-hub g c = hub_home c.requires.hub c.bring_home.ensures.home (λ sound. cc)
 
 pub returns-in-Err-clause-over : goal.returns-in-Err-clause-over
 returns-in-Err-clause-over g c over =
-    c.answer_of.ensures.over (over_stays (IsFor c.args.landing.instance) c.args.self.now.books.log c.bring_home.new.books.log c.bring_home.ensures.home.only over)
+    c.answer_of.ensures.over (over_stays
+    (IsFor c.args.landing.instance) c.args.self.now.books.log c.bring_home.new.books.log c.bring_home.ensures.home.only over)
 
 pub returns-in-Err-clause-sound : goal.returns-in-Err-clause-sound
 returns-in-Err-clause-sound g c =
     let old = c.args.self.now.books in
     let new = c.bring_home.new.books in
     on_ok c.answer_of.result (abandoned new.log ≡ true) (abandoned old.log ≡ false → true ≡ c.args.self.now.fatal)
-    (λ over going. let not = still_going old.log new.log (goes_on_home g.P.Port.told c.args.landing.instance old new c.requires.hub.stands c.bring_home.ensures.home) going in let no : ⊥ = cc in absurd no)
+    (λ over going. let not = still_going old.log new.log
+    (goes_on_home g.P.Port.told c.args.landing.instance old new c.requires.hub.stands c.bring_home.ensures.home) going in let no : ⊥ = cc in absurd no)
     c.answer_of.ensures.fine
 
 pub returns-in-Ok-clause-task : goal.returns-in-Ok-clause-task

@@ -1,12 +1,11 @@
-use Rattle.std.proofs.Common.{true}
-use Rattle.vx_hub.proofs.Moving.{moved_rests}
-use Rattle.vx_hub.proofs.Resting.{hub_rests}
+use Rattle.vx_hub.proofs.Moving.{moves_keep}
+use Rattle.vx_hub.proofs.Resting.{hub_rests, leaves_rest}
 use Rattle.vx_hub.proofs.hub.Hub.push_pending.Goals as goal
 
 pub returns-in-Ok-clause-hub : goal.returns-in-Ok-clause-hub
-returns-in-Ok-clause-hub g c =
-    hub_rests g.P.Port.told c.args.self.now c.push_steps.new.books c.args.self.now.fatal c.requires.hub c.push_steps.ensures.moved.stands (moved_rests g.P.Port.told c.args.instance c.args.self.now.books c.push_steps.new.books c.push_steps.ensures.moved) (λ fine. fine)
+returns-in-Ok-clause-hub g c = let m = c.push_steps.ensures.moved in
+    hub_rests c.requires.hub m.stands (leaves_rest m.leaves m.size (moves_keep m).out) (λ fine. fine)
 
 pub returns-in-Err-clause-hub : goal.returns-in-Err-clause-hub
-returns-in-Err-clause-hub g c =
-    hub_rests g.P.Port.told c.args.self.now c.push_steps.new.books true c.requires.hub c.push_steps.ensures.moved.stands (moved_rests g.P.Port.told c.args.instance c.args.self.now.books c.push_steps.new.books c.push_steps.ensures.moved) (λ fine. cc)
+returns-in-Err-clause-hub g c = let m = c.push_steps.ensures.moved in
+    hub_rests c.requires.hub m.stands (leaves_rest m.leaves m.size (moves_keep m).out) (λ fine. cc)

@@ -1,7 +1,9 @@
-use Rattle.vx_hub.proofs.Resting.{hub_rests, retired_rests}
+use Rattle.std.proofs.Common.{ap}
+use Rattle.vx_record.specs.Records.{Record}
+use Rattle.vx_record.specs.Turns.{is_out}
+use Rattle.vx_hub.proofs.Resting.{hub_rests, leaves_rest}
 use Rattle.vx_hub.proofs.hub.Hub.retire.Goals as goal
 
 pub returns-clause-hub : goal.returns-clause-hub
-returns-clause-hub g c =
-    hub_rests g.P.Port.told c.args.self.now c.retire.new.self c.args.self.now.fatal c.requires.hub c.retire.ensures.steps.stands
-    (retired_rests g.P.Port.told c.in_ok-i.i c.args.self.now.books c.retire.new.self c.retire.ensures.steps c.retire.ensures.leaves) (λ sound. sound)
+returns-clause-hub g c = let steps = c.retire.ensures.steps in
+    hub_rests c.requires.hub steps.stands (leaves_rest c.retire.ensures.leaves steps.size (λ j. ap (λ (h : Record). is_out h j) steps.noted)) (λ sound. sound)

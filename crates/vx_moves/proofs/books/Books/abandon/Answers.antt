@@ -1,9 +1,18 @@
-use Rattle.vx_moves.proofs.Abandoning.{abandon_step}
-use Rattle.vx_moves.proofs.Stepping.{all_same}
+use Rattle.std.proofs.Common.{refl}
+use Rattle.vx_record.specs.declared.entry.Entry.TheVariants.{Abandon}
+use Rattle.vx_balance.proofs.Steps.{aside_kept}
+use Rattle.vx_seats.proofs.Aside.{aside_known}
+use Rattle.vx_moves.proofs.Stepping.{never_both, still, step}
 use Rattle.vx_moves.proofs.books.Books.abandon.Goals as goal
 
 pub returns-clause-steps : goal.returns-clause-steps
-returns-clause-steps g c = abandon_step g.P.Port.told c.args.cause c.args.self.now c.note.new.self c.requires.stands c.requires.may c.note.ensures
-
-pub returns-clause-rooms : goal.returns-clause-rooms
-returns-clause-rooms g c = all_same c.args.self.now.places
+returns-clause-steps g c =
+    let d = c.args.self.now in
+    let s = c.requires.stands in
+    let e = Abandon c.args.cause in
+    step s c.requires.may (never_both c.requires.may.first) c.note.ensures (λ legal. record {
+      places = still e d.places d.log tt legal s.places;
+      run = record { installed = s.run.installed; cause = refl; later = s.run.later; plain = s.run.plain; returned = s.run.returned };
+      kept = s.kept;
+      rooms = assumption s.rooms;
+    }) (λ legal. aside_known g.P.Port.told e d.log d.seats tt legal s.seats) (λ _. aside_kept d.balance d.log e tt s.balance) refl refl

@@ -1,8 +1,16 @@
-use Rattle.vx_moves.proofs.Lending.{back_stands}
+use Rattle.std.proofs.Common.{refl, sym}
+use Rattle.vx_places.proofs.Steps.{lent_comes_back}
+use Rattle.vx_moves.proofs.Moving.{hand_stands}
 use Rattle.vx_moves.proofs.books.Books.give_back.Goals as goal
 
 pub returns-clause-stands : goal.returns-clause-stands
 returns-clause-stands g c =
-    let d = c.args.self.now in
-    back_stands g.P.Port.told c.args.i c.args.held.room c.args.held.items d c.give_back.new.self c.requires.stands c.requires.held c.requires.room c.give_back.ensures.lends c.give_back.ensures.rooms
+    let s = c.requires.stands in
+    let lends = c.give_back.ensures.lends in
+    let rooms = c.give_back.ensures.rooms in
+    let held = c.requires.held in
+    hand_stands c.args.i s (lent_comes_back c.args.self.now.log c.args.i c.args.held.items c.args.self.now.places c.give_back.new.self lends
+    held.held held.known s.places)
+    (λ p other. sym (lends.others p other)) (λ _. rw lends.was refl) (λ j. sym (rooms.stages j)) (λ j other. sym (rooms.others j other))
+    (rw rooms.was c.requires.room)
     c.give_back.ensures.size

@@ -1,5 +1,5 @@
 use Rattle.vx_moves.specs.Spends.{unspent}
-use Rattle.vx_moves.proofs.Looping.{GivesUp}
+use Rattle.vx_moves.proofs.Spending.{GivesUp}
 use Rattle.vx_moves.proofs.books.Books.give_up_children.Given as goal
 
 abbrev pub invariant-loop : goal.invariant-loop

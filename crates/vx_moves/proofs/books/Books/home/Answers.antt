@@ -1,13 +1,23 @@
 use Rattle.std.proofs.Common.{refl}
-use Rattle.vx_moves.proofs.Stepping.{home_step, all_same}
+use Rattle.vx_record.specs.declared.entry.Entry.TheVariants.{Home}
+use Rattle.vx_balance.proofs.Steps.{aside_kept}
+use Rattle.vx_moves.proofs.Stepping.{home_kept, still, step}
 use Rattle.vx_moves.proofs.books.Books.home.Goals as goal
 
-pub returns : goal.returns
-returns g c =
-    let d = c.args.self.now in record {
-      steps = home_step g.P.Port.told c.args.i d c.arrive.new.self c.note.new.self c.requires.stands (record { out = c.requires.out }) c.requires.left c.note.ensures
-          (c.arrive.ensures.knows d.log c.requires.back c.requires.stands.seats) c.arrive.ensures.size c.requires.kept c.requires.returned;
-      back = c.arrive.ensures.back;
-      rooms = all_same d.places;
-      run = refl;
-    }
+pub returns-clause-steps : goal.returns-clause-steps
+returns-clause-steps g c =
+    let d = c.args.self.now in
+    let s = c.requires.stands in
+    let e = Home c.args.i in
+    step s (record { out = c.requires.out }) c.requires.left c.note.ensures (λ legal. record {
+      places = still e d.places d.log tt legal s.places;
+      run = record {
+        installed = s.run.installed;
+        cause = s.run.cause;
+        later = s.run.later;
+        plain = s.run.plain;
+        returned = λ fed. (c.requires.returned fed, s.run.returned fed);
+      };
+      kept = home_kept d.places d.log c.args.i s.kept c.requires.kept;
+      rooms = assumption s.rooms;
+    }) (c.arrive.ensures.knows d.log c.requires.back s.seats) (λ _. aside_kept d.balance d.log e tt s.balance) refl c.arrive.ensures.size

@@ -1,19 +1,77 @@
-use Rattle.std.proofs.Common.{refl}
-use Rattle.vx_moves.proofs.Stepping.{lease_step, all_same}
-use Rattle.vx_moves.proofs.Leasing.{lent_by, has_task}
+use Rattle.std.proofs.Common.{◌≡◌, ◌<◌, ◌∷◌, ℕ, zero, suc, true, false, List, [], Option, Some, None, IfSome, IsSome, length, arith, refl}
+use Rattle.std.specs.Prelude.{slice_get}
+use Rattle.vx_ends.specs.Told.{Told}
+use Rattle.vx_record.specs.declared.entry.Entry.TheVariants.{Lease}
+use Rattle.vx_record.specs.Records.{Record}
+use Rattle.vx_record.specs.Turns.{is_out}
+use Rattle.vx_balance.proofs.Steps.{aside_kept}
+use Rattle.vx_tasks.specs.declared.task.Task.{Task}
+use Rattle.vx_tasks.specs.Home.{IsAtHome}
+use Rattle.vx_seats.specs.declared.seat.Seat.{Seat}
+use Rattle.vx_seats.specs.Knowing.{HasHome, IsKnown}
+use Rattle.vx_seats.proofs.Telling.{told_mute, come_mute}
+use Rattle.vx_moves.specs.Stands.{Steps}
+use Rattle.vx_moves.proofs.Stepping.{lease_kept, lease_later, never_both, still, step}
 use Rattle.vx_moves.proofs.books.Books.lease.Goals as goal
+
+there : {X : Type 0} (xs : List X) (i : ℕ) → i < length xs → IsSome (slice_get xs i)
+there [] i within = absurd (omega arith)
+there (x ∷ xs) zero within = refl
+there (x ∷ xs) (suc i) within = there xs i (omega arith)
+
+-- what was at home is as the record has it, where the port never gave more; behind the lease too
+lent_home : {P : Type 0} (told_by : P → Told) (o : Option (Seat P)) (h : Record) (i worker now : ℕ) (task : Task P) → IsSome o →
+    IfSome o (λ seat. HasHome told_by seat.facts h i task) →
+    IfSome o (λ seat. seat.facts.starved ≡ false) → IsAtHome told_by (Lease i worker now 0 ∷ h) i task
+lent_home told_by None h i worker now task some had fed = absurd cc
+lent_home told_by (Some seat) h i worker now task some had fed =
+    let home = rw fed at had.task_is in
+    record { told = told_mute (told_by task.port) h (Lease i worker now 0) i tt home.told; come = come_mute task.role h (Lease i worker now 0) i tt home.come }
+
+-- who isn't out is at home
+nobody : {P : Type 0} (told_by : P → Told) (o : Option (Seat P)) (h : Record) (i : ℕ) → IsSome o →
+    IfSome o (λ seat. IsKnown told_by seat h i) → IfSome o (λ seat. seat.task ≡ None) →
+    is_out h i ≡ true
+nobody told_by None h i some known none = cc
+nobody told_by (Some seat) h i some known none = rw none at known.away
 
 pub returns : goal.returns
 returns g c =
     let d = c.args.self.now in
     let s = c.requires.stands in
+    let run = s.run in
     let gave = c.in-Some.ensures in
-    let steps = lease_step g.P.Port.told c.args.i c.args.worker c.args.now d c.leave.new.self c.note.new.self s c.requires.may c.requires.going c.requires.latest c.note.ensures
-    (gave.knows d.log c.args.worker c.args.now 0 s.seats) c.leave.ensures.size in
+    let i = c.args.i in
+    let worker = c.args.worker in
+    let now = c.args.now in
+    let new = record d { seats = c.leave.new.self; run = record d.run { latest = now }; log = c.note.new.self } in
+    let steps : Steps g.P.Port.told (Lease i worker now 0) d new = step s c.requires.may (never_both c.requires.going) c.note.ensures (λ legal. record {
+      places = still (Lease i worker now 0) d.places d.log tt legal s.places;
+      run = record {
+        installed = run.installed;
+        cause = run.cause;
+        later = λ other. lease_later d.log i worker now d.run.latest other (run.later other) c.requires.latest;
+        plain = run.plain;
+        returned = run.returned;
+      };
+      kept = lease_kept d.places d.log i worker now s.kept;
+      rooms = assumption s.rooms;
+    }) (gave.knows d.log worker now 0 s.seats) (λ _. aside_kept d.balance d.log (Lease i worker now 0) tt s.balance) refl c.leave.ensures.size in
     record {
-      lent = lent_by g.P.Port.told c.args.i c.args.worker c.args.now c.in-Some.task c.in-Some.positions d _ s c.requires.within c.requires.fit c.requires.device steps (gave.home d.log s.seats)
-          (λ settled device legal. gave.due d.log c.args.worker c.args.now 0 settled device s.seats legal) gave.left (all_same d.places) refl;
+      lent = record {
+        steps = steps;
+        home = rw c.note.ensures (lent_home g.P.Port.told (slice_get d.seats i) d.log i worker now c.in-Some.task
+            (there d.seats i c.requires.within) (gave.home d.log s.seats) c.requires.fit.fed);
+        due = rw c.note.ensures (gave.due d.log worker now 0 c.requires.fit.settled (λ _. c.requires.device) s.seats (steps.follows, s.legal));
+        seats = gave.left;
+        rooms = λ j. (refl, refl);
+        run = refl;
+      };
     }
 
 pub unreachable-requires : goal.unreachable-requires
-unreachable-requires g c = has_task g.P.Port.told c.args.self.now c.args.i c.requires.stands c.requires.within c.requires.may.home c.in_default.ensures.nobody
+unreachable-requires g c =
+    let d = c.args.self.now in
+    let seats = c.requires.stands.seats in
+    never_both c.requires.may.home
+    (nobody g.P.Port.told (slice_get d.seats c.args.i) d.log c.args.i (there d.seats c.args.i c.requires.within) (seats.each c.args.i) c.in_default.ensures.nobody)

@@ -1,18 +1,24 @@
-use Rattle.std.proofs.Common.{subst, sym, ◌<◌}
-use Rattle.vx_moves.proofs.Moving.{seen_kept}
-use Rattle.vx_moves.proofs.Lending.{lent_stands, lent_held}
+use Rattle.vx_places.proofs.Steps.{lent_is}
+use Rattle.vx_places.proofs.Recorded.{lent_filled}
+use Rattle.vx_moves.proofs.Stepping.{never_both}
+use Rattle.vx_moves.proofs.Moving.{hand_stands, seen_kept}
 use Rattle.vx_moves.proofs.books.Books.lend.Goals as goal
 
 pub lend-requires-clause-kept : goal.lend-requires-clause-kept
-lend-requires-clause-kept g c =
-    let d = c.args.self.now in
-    seen_kept d.places c.args.i (subst (λ n. c.args.i < n) (sym c.requires.stands.size) c.requires.within) c.requires.kept
+lend-requires-clause-kept g c = seen_kept c.args.self.now.places c.args.i (rw c.requires.stands.size c.requires.within) c.requires.kept
 
 pub returns-clause-stands : goal.returns-clause-stands
 returns-clause-stands g c =
-    let d = c.args.self.now in
-    lent_stands g.P.Port.told c.args.i c.lend.result.room c.lend.result.items d c.lend.new.self c.requires.stands c.requires.out c.lend.ensures.lends c.lend.ensures.rooms c.lend.ensures.size
+    let s = c.requires.stands in
+    let lends = c.lend.ensures.lends in
+    let rooms = c.lend.ensures.rooms in
+    hand_stands c.args.i s (lent_is c.args.self.now.log c.args.i c.lend.result.items c.args.self.now.places c.lend.new.self lends s.places).0 lends.others
+    (λ home. never_both home c.requires.out) rooms.stages rooms.others (rw rooms.now tt) c.lend.ensures.size
 
 pub returns-clause-held : goal.returns-clause-held
 returns-clause-held g c =
-    let d = c.args.self.now in lent_held g.P.Port.told c.args.i c.lend.result.items d c.lend.new.self c.requires.stands c.lend.ensures.lends
+    let h = c.args.self.now.log in
+    let s = c.requires.stands in
+    let lends = c.lend.ensures.lends in
+    let is = (lent_is h c.args.i c.lend.result.items c.args.self.now.places c.lend.new.self lends s.places).1 in
+    record { held = is.0; known = is.1; filled = lent_filled h c.args.i c.lend.result.items c.args.self.now.places c.lend.new.self s.legal lends s.places }

@@ -1,12 +1,19 @@
-use Rattle.vx_moves.proofs.Pushing.{push_step}
-use Rattle.std.proofs.Common.{refl}
+use Rattle.std.proofs.Common.{Some, refl}
+use Rattle.vx_places.proofs.Firsts.{first_room_is}
+use Rattle.vx_seats.proofs.Aside.{aside_known}
 use Rattle.vx_moves.proofs.Leaving.{each_stays}
+use Rattle.vx_moves.proofs.Stepping.{never_both}
+use Rattle.vx_moves.proofs.Moving.{moves_step}
 use Rattle.vx_moves.proofs.books.Books.push.Goals as goal
 
-pub returns : goal.returns
-returns g c =
-    let d = c.args.self.now in record {
-      steps = push_step g.P.Port.told c.args.i c.args.target c.args.stage d c.push.new.self c.note.new.self c.requires.stands c.requires.going c.requires.home c.requires.room c.push.ensures.moves c.push.ensures.size
-          c.push.ensures.rooms c.note.ensures;
-      leaves = record { seats = each_stays d.seats; rooms = c.push.ensures.rooms; run = refl };
-    }
+pub returns-clause-steps : goal.returns-clause-steps
+returns-clause-steps g c =
+    let d = c.args.self.now in
+    let s = c.requires.stands in
+    let room = first_room_is d.log d.places c.args.target (Some c.args.stage) s.legal s.places (s.rooms.stages c.args.target) c.requires.room in
+    moves_step s c.push.ensures.moves (assumption) tt (λ oldest. record { home = c.requires.home; oldest = oldest; room = room })
+    (never_both c.requires.going) c.note.ensures
+    (λ legal. aside_known g.P.Port.told _ d.log d.seats tt legal s.seats) c.push.ensures.size refl c.push.ensures.rooms
+
+pub returns-clause-leaves : goal.returns-clause-leaves
+returns-clause-leaves g c = record { seats = each_stays c.args.self.now.seats; rooms = c.push.ensures.rooms; run = refl }

@@ -1,12 +1,8 @@
 use Rattle.std.proofs.Common.{refl}
-use Rattle.vx_record.specs.declared.entry.Entry.TheVariants.{Retired}
-use Rattle.vx_moves.proofs.Stepping.{plain_step, all_same}
+use Rattle.vx_moves.proofs.Stepping.{plain_step}
 use Rattle.vx_moves.proofs.books.Books.retire.Goals as goal
 
-pub returns : goal.returns
-returns g c =
-    let d = c.args.self.now in record {
-      steps = plain_step g.P.Port.told (Retired c.args.i) d c.retired.new.self c.note.new.self (record { still = tt; aside = tt; part = tt }) c.requires.stands c.requires.may (λ _. refl) c.note.ensures
-          (c.retired.ensures.knows d.log c.requires.stands.seats) c.retired.ensures.size;
-      leaves = record { seats = c.retired.ensures.stays; rooms = all_same d.places; run = refl };
-    }
+pub returns-clause-steps : goal.returns-clause-steps
+returns-clause-steps g c =
+    let s = c.requires.stands in
+    plain_step s (assumption) c.requires.may (λ _. refl) c.note.ensures (c.retired.ensures.knows c.args.self.now.log s.seats) c.retired.ensures.size

@@ -1,94 +1,66 @@
-use Rattle.std.proofs.Common.{◌≡◌, ◌∙◌, ◌∷◌, ◌<◌, refl, ap, subst, sym}
-use Rattle.vx_ledger.specs.Copies.{numbers_of}
-use Rattle.vx_ledger.specs.Routing.{targets_of}
+use Rattle.std.proofs.Common.{◌≡◌, ◌∙◌, ℕ, refl, sym, ap}
 use Rattle.vx_ledger.specs.declared.parcel.Parcel.{Parcel}
-use Rattle.vx_balance.specs.Promises.{Routes}
-use Rattle.vx_record.specs.declared.entry.Entry.TheVariants.{Split}
-use Rattle.vx_record.specs.Places.Place.{Outputs}
-use Rattle.vx_places.specs.Calls.{Takes}
-use Rattle.vx_places.specs.Numbers.{noted}
-use Rattle.vx_moves.proofs.Splitting.{first_held, still_none, have_children, had_targets, have_parcel, targets_are, put_back_stands, split_step, split_short, has_split}
-use Rattle.vx_moves.proofs.Leaving.{each_stays, rooms_both}
+use Rattle.vx_record.specs.Ceasing.{readers_on}
+use Rattle.vx_record.specs.Parcels.{port_list}
+use Rattle.vx_transform.specs.declared.output.Output.{Output}
+use Rattle.vx_record.specs.Places.Place.{Outputs, Waiting}
+use Rattle.vx_places.proofs.Looking.{none_waits_for, none_waits_for_all}
+use Rattle.vx_moves.proofs.Leaving.{rooms_both}
+use Rattle.vx_moves.proofs.Moving.{first_held, put_back_stands, read_so, split_short, split_step, targets_are}
 use Rattle.vx_moves.proofs.books.Books.split.Goals as goal
 
+-- an output that is put together again
+abbrev out_of : ℕ → Parcel → Output
+out_of ports parcel = record { ports = ports; parcel = parcel }
+
+put_same : {ports again : ℕ} {parcel back : Parcel} → back ≡ parcel → again ≡ ports → out_of again back ≡ out_of ports parcel
+put_same same on = cc
+
 pub route-requires : goal.route-requires
-route-requires g c =
-    let d = c.args.self.now in
-    let taken = c.in-Some.ensures.takes in
-    first_held d.log d.places (Outputs c.args.i) c.in-Some.parcel taken.rest c.requires.stands.places taken.was d.balance c.requires.stands.legal c.requires.stands.balance
+route-requires g c = first_held c.requires.stands (Outputs c.args.i) c.in-Some.ensures.takes.was
 
 pub put_children-requires-clause-none : goal.put_children-requires-clause-none
 put_children-requires-clause-none g c =
-    let d = c.args.self.now in
-    still_none c.args.i c.in-Some.parcel d.places c.take_output.new.self
-    (subst (λ n. c.args.i < n) (sym (c.take_output.ensures.size ∙ c.requires.stands.size)) c.requires.within) c.requires.none_waits c.in-Some.ensures.takes
+    none_waits_for_all c.take_output.new.self c.args.i (rw (c.take_output.ensures.size, c.requires.stands.size) c.requires.within)
+    (λ t. c.in-Some.ensures.takes.others (Waiting c.args.i t) refl ∙ none_waits_for c.args.self.now.places c.args.i t c.requires.none_waits)
 
 pub returns-in-Ok-Children-clause-split : goal.returns-in-Ok-Children-clause-split
 returns-in-Ok-Children-clause-split g c _ =
     let d = c.args.self.now in
-    let parcel = c.in-Some.parcel in
-    let children = c.in-Ok-Children.children in
-    let targets = targets_of 1 c.get.result.now.outlet in
-    let taken = c.in-Some.ensures.takes in
-    has_split g.P.Port.told c.args.i parcel children d _ c.take_output.new.self c.requires.stands taken
-    (split_step g.P.Port.told c.args.i parcel targets children d c.take_output.new.self c.put_children.new.self c.route.new.self c.note.new.self c.requires.stands c.requires.going c.requires.home
-    (subst (λ n. c.args.i < n) (sym c.requires.stands.size) c.requires.within) c.requires.none_waits taken
-    (have_children c.in-Ok-Children.field-0 children (λ cs. Routes targets parcel cs d.balance c.route.new.self) c.in-Ok-Children.field-0-is c.in-Ok-Children.ensures.routes)
-    (targets_are g.P.Port.told d.seats d.log c.args.i c.get.result.now c.requires.stands.seats c.get.ensures)
-    (had_targets c.in-Ok-Children.field-0 children targets c.in-Ok-Children.field-0-is c.in-Ok-Children.ensures.no_consumer)
-    c.put_children.ensures.divides (c.put_children.ensures.size ∙ c.take_output.ensures.size)
-    (λ k. ((c.put_children.ensures.rooms k).0 ∙ (c.take_output.ensures.rooms k).0, (c.put_children.ensures.rooms k).1 ∙ (c.take_output.ensures.rooms k).1))
-    (c.note.ensures ∙ ap (λ (p : Parcel). Split c.args.i 1 (numbers_of p.finalizers) p.event (noted children) ∷ d.log) c.of-was.ensures))
+    let s = c.requires.stands in
+    let readers = targets_are g.P.Port.told d.seats d.log c.args.i c.get.result.now s.seats c.get.ensures c.bounded-ports.result c.bounded-ports.ensures.below ∙ (ap (λ p. readers_on d.log c.args.i (port_list p)) c.bounded-ports.ensures.same ∙ read_so s c.in-Some.ensures.takes c.in-Some.ensures.output) in
+    let routes = rw (c.in-Ok-Children.field-0-is, readers) at c.in-Ok-Children.ensures.routes in
+    let some = rw (c.in-Ok-Children.field-0-is, readers) at c.in-Ok-Children.ensures.no_consumer.1 in
+    split_step s c.in-Some.ensures.takes c.in-Some.ensures.output c.requires.going c.requires.home (rw s.size c.requires.within) c.requires.none_waits routes some
+    c.put_children.ensures.divides
+    (c.put_children.ensures.size ∙ c.take_output.ensures.size)
+    (rooms_both d.places c.take_output.new.self c.put_children.new.self c.take_output.ensures.rooms c.put_children.ensures.rooms)
+    (rw (c.of-was.ensures, c.bounded-ports.ensures.same) at c.note_split.ensures)
 
 pub returns-in-Ok-Children-clause-stands : goal.returns-in-Ok-Children-clause-stands
 returns-in-Ok-Children-clause-stands g c = (returns-in-Ok-Children-clause-split g c refl).steps.stands
 
 pub returns-in-Ok-NoConsumer-clause-stands : goal.returns-in-Ok-NoConsumer-clause-stands
 returns-in-Ok-NoConsumer-clause-stands g c =
-    let d = c.args.self.now in
-    let parcel = c.in-Some.parcel in
-    let whole : c.in-Ok-NoConsumer.parcel ≡ parcel = have_parcel c.in-Ok-NoConsumer.field-0 c.in-Ok-NoConsumer.parcel (λ p. p ≡ parcel) c.in-Ok-NoConsumer.field-0-is c.in-Ok-NoConsumer.ensures.whole in
-    put_back_stands g.P.Port.told c.args.i parcel d c.take_output.new.self c.put_output_back.new.self c.route.new.self c.requires.stands c.in-Some.ensures.takes
-    (subst (λ (p : Parcel). Takes (Outputs c.args.i) p c.put_output_back.new.self c.take_output.new.self) whole c.put_output_back.ensures.takes)
-    (have_parcel c.in-Ok-NoConsumer.field-0 c.in-Ok-NoConsumer.parcel (λ _. c.route.new.self ≡ d.balance) c.in-Ok-NoConsumer.field-0-is c.in-Ok-NoConsumer.ensures.unmoved)
-    (c.put_output_back.ensures.size ∙ c.take_output.ensures.size)
-    (λ k. ((c.put_output_back.ensures.rooms k).0 ∙ (c.take_output.ensures.rooms k).0, (c.put_output_back.ensures.rooms k).1 ∙ (c.take_output.ensures.rooms k).1))
+    put_back_stands c.requires.stands c.in-Some.ensures.takes c.in-Some.ensures.output c.put_output_back.ensures.takes c.put_output_back.ensures.output (put_same (rw c.in-Ok-NoConsumer.field-0-is at c.in-Ok-NoConsumer.ensures.whole) c.bounded-ports.ensures.same)
+    (rw c.in-Ok-NoConsumer.field-0-is at c.in-Ok-NoConsumer.ensures.unmoved) (c.put_output_back.ensures.size ∙ c.take_output.ensures.size)
+    (rooms_both c.args.self.now.places c.take_output.new.self c.put_output_back.new.self c.take_output.ensures.rooms c.put_output_back.ensures.rooms)
 
 pub returns-clause-stands : goal.returns-clause-stands
 returns-clause-stands g c =
-    let d = c.args.self.now in
-    put_back_stands g.P.Port.told c.args.i c.in-Some.parcel d c.take_output.new.self c.put_output_back-in-Err.new.self c.route.new.self c.requires.stands c.in-Some.ensures.takes
-    (subst (λ (p : Parcel). Takes (Outputs c.args.i) p c.put_output_back-in-Err.new.self c.take_output.new.self) c.in-Err.ensures.back c.put_output_back-in-Err.ensures.takes)
-    c.in-Err.ensures.unchanged
+    put_back_stands c.requires.stands c.in-Some.ensures.takes c.in-Some.ensures.output c.put_output_back-in-Err.ensures.takes c.put_output_back-in-Err.ensures.output (put_same c.in-Err.ensures.back c.bounded-ports.ensures.same) c.in-Err.ensures.unchanged
     (c.put_output_back-in-Err.ensures.size ∙ c.take_output.ensures.size)
-    (λ k. ((c.put_output_back-in-Err.ensures.rooms k).0 ∙ (c.take_output.ensures.rooms k).0, (c.put_output_back-in-Err.ensures.rooms k).1 ∙ (c.take_output.ensures.rooms k).1))
+    (rooms_both c.args.self.now.places c.take_output.new.self c.put_output_back-in-Err.new.self c.take_output.ensures.rooms c.put_output_back-in-Err.ensures.rooms)
 
 pub returns-clause-short : goal.returns-clause-short
 returns-clause-short g c =
     let d = c.args.self.now in
-    split_short g.P.Port.told c.args.i c.in-Some.parcel (targets_of 1 c.get.result.now.outlet) c.in-Err.field-0.cause d c.take_output.new.self c.requires.stands c.in-Some.ensures.takes
-    (targets_are g.P.Port.told d.seats d.log c.args.i c.get.result.now c.requires.stands.seats c.get.ensures) c.in-Err.ensures.cause
+    let readers = targets_are g.P.Port.told d.seats d.log c.args.i c.get.result.now c.requires.stands.seats c.get.ensures c.bounded-ports.result c.bounded-ports.ensures.below ∙ (ap (λ p. readers_on d.log c.args.i (port_list p)) c.bounded-ports.ensures.same ∙ read_so c.requires.stands c.in-Some.ensures.takes c.in-Some.ensures.output) in
+    split_short c.requires.stands c.in-Some.ensures.takes c.in-Some.ensures.output c.in-Err.field-0.cause (rw readers at c.in-Err.ensures.cause)
 
-pub returns-in-Ok-Children-clause-leaves : goal.returns-in-Ok-Children-clause-leaves
-returns-in-Ok-Children-clause-leaves g c =
-    let d = c.args.self.now in record {
-      seats = each_stays d.seats;
-      rooms = rooms_both d.places c.take_output.new.self c.put_children.new.self c.take_output.ensures.rooms c.put_children.ensures.rooms;
-      run = refl;
-    }
-
-pub returns-in-Ok-NoConsumer-clause-leaves : goal.returns-in-Ok-NoConsumer-clause-leaves
-returns-in-Ok-NoConsumer-clause-leaves g c =
-    let d = c.args.self.now in record {
-      seats = each_stays d.seats;
-      rooms = rooms_both d.places c.take_output.new.self c.put_output_back.new.self c.take_output.ensures.rooms c.put_output_back.ensures.rooms;
-      run = refl;
-    }
-
-pub returns-clause-leaves : goal.returns-clause-leaves
-returns-clause-leaves g c =
-    let d = c.args.self.now in record {
-      seats = each_stays d.seats;
-      rooms = rooms_both d.places c.take_output.new.self c.put_output_back-in-Err.new.self c.take_output.ensures.rooms c.put_output_back-in-Err.ensures.rooms;
-      run = refl;
-    }
+pub returns-in-Ok-NoConsumer-clause-unread : goal.returns-in-Ok-NoConsumer-clause-unread
+returns-in-Ok-NoConsumer-clause-unread g c _ =
+    let d = c.args.self.now in
+    let s = c.requires.stands in
+    let readers = targets_are g.P.Port.told d.seats d.log c.args.i c.get.result.now s.seats c.get.ensures c.bounded-ports.result c.bounded-ports.ensures.below ∙ (ap (λ p. readers_on d.log c.args.i (port_list p)) c.bounded-ports.ensures.same ∙ read_so s c.in-Some.ensures.takes c.in-Some.ensures.output) in
+    sym readers ∙ (rw c.in-Ok-NoConsumer.field-0-is at c.in-Ok-NoConsumer.ensures.no_consumer).0 tt

@@ -1,15 +1,21 @@
-use Rattle.vx_moves.proofs.Moving.{none_held}
-use Rattle.vx_moves.proofs.Taking.{take_step}
-use Rattle.std.proofs.Common.{refl}
+use Rattle.std.proofs.Common.{◌∙◌, Some, length, ap}
+use Rattle.std.proofs.lemmas.List.{length-map}
+use Rattle.vx_plan.specs.declared.stage.Stage.{Stage}
+use Rattle.vx_record.specs.Stages.{stages_of}
+use Rattle.vx_places.proofs.Firsts.{first_filled_is}
+use Rattle.vx_moves.proofs.Stepping.{never_both}
+use Rattle.vx_moves.proofs.Moving.{moves_step, none_held, unfull}
 use Rattle.vx_moves.proofs.books.Books.take.Goals as goal
 
 pub returns-clause-steps : goal.returns-clause-steps
 returns-clause-steps g c =
     let d = c.args.self.now in
-    take_step g.P.Port.told c.args.i c.args.stage d c.take.new.self c.took.new.self c.note.new.self c.requires.stands c.requires.may c.requires.first c.requires.room
-    c.take.ensures.moves c.take.ensures.size c.take.ensures.rooms
-    (λ copies. c.took.ensures.knows d.log c.args.stage copies (none_held d.log d.places c.args.i _ c.requires.stands.places c.holds-first.ensures.held) c.requires.moment c.requires.stands.seats)
-    c.took.ensures.size c.note.ensures
-
-pub returns-clause-leaves : goal.returns-clause-leaves
-returns-clause-leaves g c = record { seats = c.took.ensures.stays; rooms = c.take.ensures.rooms; run = refl }
+    let s = c.requires.stands in
+    let i = c.args.i in
+    let as_many = ap length (s.rooms.stages i) ∙ length-map (stages_of d.log i) (λ (stage : Stage). stage.max_events) in
+    let first = first_filled_is d.log d.places i (Some c.args.stage) s.legal s.places as_many c.requires.first in
+    let room = unfull d.log d.places i s.legal s.places s.rooms c.requires.room in
+    moves_step s c.take.ensures.moves (assumption) tt (λ oldest. assumption (first, room, c.requires.may)) (never_both c.requires.may.going) c.note.ensures
+    (c.took.ensures.knows d.log c.args.stage _ (none_held d.log d.places i _ s.places c.holds-first.ensures.held) c.requires.moment s.seats)
+    c.take.ensures.size c.took.ensures.size
+    c.take.ensures.rooms

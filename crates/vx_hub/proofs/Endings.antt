@@ -1,0 +1,278 @@
+-- What giving a run up leaves, which instances may end, and what is told of them.
+use borrow.Author.Count.{below_more}
+use Rattle.std.proofs.Common.{◌≡◌, ◌∙◌, ◌↔◌, ℕ, ◌+◌, ◌<◌, ◌⊎◌, inl, inr, Bool, true, false, List, [], ◌∷◌, Option, Some, None, IfSome, IfNone, IsSome, length, refl, sym, ap, subst, arith}
+use Rattle.std.specs.Prelude.{◌==◌, not, is_some, IsSomeAnd, slice_get}
+use Rattle.std.proofs.lemmas.Bool.{cases_eq, eqb-true, or_cases, or_left, or_right}
+use Rattle.std.proofs.lemmas.Bool.Decides.{nat_tests}
+use Rattle.vx_ends.specs.Told.{Told}
+use Rattle.vx_status.specs.declared.outcome.Outcome.{Outcome}
+use Rattle.vx_status.specs.declared.outcome.Outcome.TheVariants.{Abandoned}
+use Rattle.vx_ledger.specs.Ledger.{Ledger, AreKept, live_count}
+use Rattle.vx_ledger.specs.declared.open_batch.OpenBatch.{OpenBatch}
+use Rattle.vx_record.specs.declared.abandon_cause.AbandonCause.{AbandonCause}
+use Rattle.vx_record.specs.declared.abandon_cause.AbandonCause.TheVariants.{WantOfMemory}
+use Rattle.vx_record.specs.declared.entry.Entry.{Entry}
+use Rattle.vx_record.specs.declared.entry.Entry.TheVariants.{Install, Lease, Home, Spent, Notice, Closed, Retired, Abandon}
+use Rattle.vx_record.specs.Records.{Record}
+use Rattle.vx_record.specs.Abandoning.{abandoned}
+use Rattle.vx_record.specs.Additions.{OnlyAdds}
+use Rattle.vx_record.specs.Ceasing.{cause_of}
+use Rattle.vx_record.specs.Copies.{IsLive, next_copy}
+use Rattle.vx_record.specs.Ending.{MayClose, MayRetire}
+use Rattle.vx_record.specs.Installs.{component_of, device_at, is_closed, is_retired}
+use Rattle.vx_record.specs.Legal.{Follows, IsLegal}
+use Rattle.vx_record.specs.Lists.{is_bare}
+use Rattle.vx_record.specs.Owing.{is_done}
+use Rattle.vx_record.specs.Places.{Place, owner}
+use Rattle.vx_record.specs.Shifts.{at}
+use Rattle.vx_record.specs.Turns.{is_out}
+use Rattle.vx_record.proofs.Adding.{adds_both, adds_narrower, adds_wider, carry}
+use Rattle.vx_record.proofs.Bare.{retired_bare}
+use Rattle.vx_record.proofs.Ceasing.{unabandoned}
+use Rattle.vx_counts.proofs.Once.{itself}
+use Rattle.vx_balance.specs.Balances.{Balances}
+use Rattle.vx_balance.specs.Live.{live_in, live_copies}
+use Rattle.vx_balance.proofs.Settling.{settled_closes}
+use Rattle.vx_balance.proofs.Sums.{sum_some}
+use Rattle.vx_places.specs.Looks.{IsBare}
+use Rattle.vx_places.specs.Rooms.{SameRooms}
+use Rattle.vx_places.proofs.Recorded.{bare_is_bare}
+use Rattle.vx_tasks.specs.declared.task.Task.{Task}
+use Rattle.vx_seats.specs.declared.seat.Seat.{Seat}
+use Rattle.vx_seats.specs.Knowing.{HasHome, IsKnown}
+use Rattle.vx_seats.specs.Staying.{EachSeat, OneSeat, SameFlags, IsShut}
+use Rattle.vx_moves.specs.declared.books.Books.{Books}
+use Rattle.vx_moves.specs.Leaving.{Leaves}
+use Rattle.vx_moves.specs.Spends.{IsSpendOf, OnlySpends}
+use Rattle.vx_moves.specs.Stands.{Stands, Steps}
+use Rattle.vx_moves.proofs.Moving.{seen_kept}
+use Rattle.vx_ready.specs.Asking.{IsServed, IsSettled}
+use Rattle.vx_ready.proofs.Done.{device_there}
+use Rattle.vx_ready.proofs.Knowing.{known, runs}
+use Rattle.vx_landing.proofs.Answering.{none_known, over_known}
+use Rattle.vx_landing.proofs.LandedBooks.{over_stays}
+use Rattle.vx_hub.specs.Ending.{GivesUpOf, GivesUp, IsGivenUp, Rests, IsClosing, ClosesDown, GivesUpAt, GivesUpBelow}
+use Rattle.vx_hub.specs.Standing.{IsWell, IsWellAt}
+use Rattle.vx_hub.specs.Telling.{IsNameOf, IsClassOf, HasLive}
+use Rattle.vx_hub.proofs.Resting.{some_then, adds_step, leaves_rest, rests_both}
+
+-- KINDS
+of_wider : (cause : AbandonCause) (i : ℕ) (h : Record) (e : Entry) → GivesUpOf i h e → GivesUp cause h e
+of_wider cause i h (Spent j c outcome) kind = (kind.1, kind.2)
+of_wider cause i h (Notice b status) kind = tt
+of_wider cause i h (Closed j) kind = kind.1
+of_wider cause i h e kind = absurd kind
+
+spend_at_home : (i : ℕ) (h : Record) (e : Entry) → Follows h e → IsSpendOf i Abandoned h e → is_out h i ≡ false →
+    GivesUpOf i h e × (is_out (e ∷ h) i ≡ false)
+spend_at_home i h (Spent j c outcome) follows kind home = ((kind.0, rw kind.0 home, kind.1), home)
+spend_at_home i h (Notice b status) follows kind home = (tt, home)
+spend_at_home i h e follows kind home = absurd kind
+
+spend_out : (i j : ℕ) (o : Outcome) (h : Record) (e : Entry) → IsSpendOf i o h e → is_out (e ∷ h) j ≡ is_out h j
+spend_out i j o h (Lease k worker now polls) kind = absurd kind
+spend_out i j o h (Home k) kind = absurd kind
+spend_out i j o h e kind = refl
+
+cause_on : (cause : AbandonCause) (h : Record) (e : Entry) → GivesUp cause h e → cause_of h ≡ Some cause → cause_of (e ∷ h) ≡ Some cause
+cause_on cause h (Abandon other) kind is = ap Some kind
+cause_on cause h e kind is = is
+
+closed_on : (i : ℕ) (h : Record) (e : Entry) → is_closed h i ≡ true → is_closed (e ∷ h) i ≡ true
+closed_on i h (Closed j) is = or_right (j == i) (is_closed h i) is
+closed_on i h e is = is
+
+-- the port of what is retired is closed for good, if it has one
+pub retired_closed : (h : Record) (i : ℕ) → IsLegal h → is_retired h i ≡ true → device_at h i ≡ true → is_closed h i ≡ true
+retired_closed [] i legal is device = cc
+retired_closed (Install version plan once instances now ∷ h) i legal is device = let no : is_retired [] i ≡ true = rw legal.0.row.first at is in cc
+retired_closed (Closed j ∷ h) i legal is device = or_right (j == i) (is_closed h i) (retired_closed h i legal.1 is device)
+retired_closed (Retired j ∷ h) i legal is device = elim (or_cases (j == i) (is_retired h i) is) [
+  | inl here ↦ let same : j ≡ i = eqb-true j i here in rw (← same) (legal.0.row.port_closed (rw same device))
+  | inr before ↦ retired_closed h i legal.1 before device
+]
+retired_closed (e ∷ h) i legal is device = retired_closed h i legal.1 is device
+
+module _ {P : Type 0} where
+  -- SEATS
+  flags_here : (o : Option (Seat P)) → IfSome o (λ is. IsSomeAnd o (λ was. SameFlags was is))
+  flags_here None = tt
+  flags_here (Some seat) = assumption
+
+  by_one : (o n : Option (Seat P)) → IsSomeAnd o (λ was. IsSomeAnd n (λ is. IsShut was is)) →
+      IfSome n (λ is. IsSomeAnd o (λ was. SameFlags was is))
+  by_one None n one = absurd one
+  by_one (Some was) None one = absurd one
+  by_one (Some was) (Some is) one = rw one.rest (assumption)
+
+  shut_flags : (i : ℕ) (old new : List (Seat P)) → OneSeat IsShut i old new → EachSeat SameFlags old new
+  shut_flags i old new one j = elim (cases_eq j i) [
+    | inl same ↦ rw same (by_one (slice_get old i) (slice_get new i) one.one)
+    | inr other ↦ rw (one.others j other) (flags_here (slice_get old j))
+  ]
+
+  module _ {told_by : P → Told} where
+    -- CLOSING DOWN
+    pub closes_down : {i : ℕ} {old new : Books P} {seats : List (Seat P)} → is_out old.log i ≡ false → OneSeat IsShut i old.seats seats →
+        length seats ≡ length old.seats → Steps told_by (Closed i) (record old { seats = seats }) new →
+        Leaves (record old { seats = seats }) new → ClosesDown told_by i old new
+    closes_down {i} {old} {new} {seats} home one size steps leaves =
+        let shut : Rests old (record old { seats = seats }) = assumption (shut_flags i old.seats seats one) in record {
+          stands = steps.stands;
+          rests = rests_both shut (leaves_rest leaves steps.size (λ j. ap (λ (h : Record). is_out h j) steps.noted));
+          only = adds_step (GivesUpOf i) steps (refl, home);
+          closed = ap (λ (h : Record). is_closed h i) steps.noted ∙ or_left (i == i) (is_closed old.log i) (itself i);
+          still = λ p. ap (λ (h : Record). at h p) steps.noted;
+        }
+
+    -- GIVING UP
+    pub spends_out : {i : ℕ} {o : Outcome} {old new : Books P} → OnlySpends told_by i o old new → (j : ℕ) →
+        is_out new.log j ≡ is_out old.log j
+    spends_out {i} {o} {old} {new} spent j =
+        carry (IsSpendOf i o) (λ h. is_out h j ≡ is_out old.log j) (λ h e follows kind same. spend_out i j o h e kind ∙ same) old.log new.log spent.only refl
+
+    pub gives_up : {i : ℕ} {old mid new : Books P} → is_out old.log i ≡ false → OnlySpends told_by i Abandoned old mid →
+        ((p : Place) → owner p ≡ i → at mid.log p ≡ []) → ClosesDown told_by i mid new → GivesUpAt told_by i old new
+    gives_up {i} {old} {mid} {new} home spent bare down = record {
+      stands = down.stands;
+      rests = rests_both (leaves_rest spent.leaves spent.size (spends_out spent)) down.rests;
+      only = adds_both (GivesUpOf i) old.log mid.log new.log
+          (adds_narrower (IsSpendOf i Abandoned) (GivesUpOf i) (λ h. is_out h i ≡ false) (spend_at_home i) old.log mid.log spent.only home) down.only;
+      up = λ home. record { bare = λ p own. down.still p ∙ bare p own; closed = down.closed };
+      empty = λ p none. down.still p ∙ spent.empty p none;
+    }
+
+    pub one_more : {n : ℕ} {old mid new : Books P} → GivesUpBelow told_by n old mid → GivesUpAt told_by n mid new →
+        GivesUpBelow told_by (n + 1) old new
+    one_more {n} {old} {mid} {new} below one = record {
+      stands = one.stands;
+      rests = rests_both below.rests one.rests;
+      only = λ cause. adds_both (GivesUp cause) old.log mid.log new.log (below.only cause)
+          (adds_wider (GivesUpOf n) (GivesUp cause) (of_wider cause n) mid.log new.log one.only);
+      up = below_more (λ k. is_out old.log k ≡ false → IsGivenUp new.log k) n
+          (λ k l home. let was = below.up k l home in record {
+            bare = λ p own. one.empty p (was.bare p own);
+            closed = carry (GivesUpOf n) (λ h. is_closed h k ≡ true) (λ h e follows kind is. closed_on k h e is) mid.log new.log one.only was.closed;
+          })
+          (λ home. one.up (below.rests.out n ∙ home));
+    }
+
+    pub still_over : {n : ℕ} {old new : Books P} → GivesUpBelow told_by n old new → abandoned old.log ≡ true → abandoned new.log ≡ true
+    still_over {old = old} {new} below over = over_stays (GivesUp WantOfMemory) old.log new.log (below.only WantOfMemory) over
+
+    -- ABANDONMENTS
+    pub abandon_rests : {cause : AbandonCause} {old new : Books P} → Steps told_by (Abandon cause) old new →
+        new.run ≡ record old.run { abandoned = Some cause } →
+        SameRooms old.places new.places → new.seats ≡ old.seats → Rests old new
+    abandon_rests {old = old} {new} steps run rooms seats = record {
+      flags = λ i. rw seats (flags_here (slice_get old.seats i));
+      size = steps.size;
+      rooms = rooms;
+      plan = cc;
+      short = cc;
+      latest = cc;
+      out = λ i. ap (λ (h : Record). is_out h i) steps.noted;
+    }
+
+    pub abandons : {cause : AbandonCause} {n : ℕ} {old mid new : Books P} → Steps told_by (Abandon cause) old mid →
+        GivesUpBelow told_by n mid new →
+        OnlyAdds (GivesUp cause) old.log new.log × (cause_of new.log ≡ Some cause)
+    abandons {cause} {old = old} {mid} {new} steps below = (
+      adds_both (GivesUp cause) old.log mid.log new.log (adds_step (GivesUp cause) steps refl) (below.only cause),
+      carry (GivesUp cause) (λ h. cause_of h ≡ Some cause)
+          (λ h e follows kind is. cause_on cause h e kind is) mid.log new.log (below.only cause) (ap (λ (h : Record). cause_of h) steps.noted),
+    )
+
+-- AN INSTANCE
+module _ {P : Type 0} {told_by : P → Told} {books : Books P} (stands : Stands told_by books) (i : ℕ) {seat : Seat P}
+    (there : slice_get books.seats i ≡ Some seat) where
+  k : IsKnown told_by seat books.log i
+  k = known told_by books stands i seat there
+
+  pub name_is : IsNameOf books.log i seat.name
+  name_is = some_then (component_of books.log i) k.fitted.component (λ c is. is.name)
+
+  pub class_is : IsClassOf books.log i seat.class
+  class_is = some_then (component_of books.log i) k.fitted.component (λ c is. is.class)
+
+  pub retired_is : seat.facts.retired ≡ is_retired books.log i
+  retired_is = k.facts.retired
+
+  -- what is at home isn't out, and what isn't out is at home
+  pub home_is : IsSome seat.task ↔ (is_out books.log i ≡ false)
+  home_is = go seat.task k.home k.away
+    where
+      go : (o : Option (Task P)) → IfSome o (HasHome told_by seat.facts books.log i) →
+          IfNone o (is_out books.log i ≡ true) → IsSome o ↔ (is_out books.log i ≡ false)
+      go None home away = (λ some. cc, λ home. cc)
+      go (Some task) home away = (λ some. home.home, λ home. refl)
+
+  pub settled_there : IsSome seat.task → IsWell books → books.run.abandoned ≡ None → IsSettled books i
+  settled_there some well going =
+      let w : IsWellAt seat = rw there at (well.seats i) in record { home = rw there (assumption (some, w)); going = going }
+
+  -- what is closing may end where it is done, or bare in a run that was given up
+  pub may_end : IsClosing seat → (is_done books.log i ≡ true) ⊎
+      ((abandoned books.log ≡ true) × (is_bare books.log i ≡ true)) → MayRetire books.log i
+  may_end closing over = record {
+    known = ap is_some (runs told_by books stands i seat there).there;
+    home = home_is.0 closing.home;
+    unretired = sym k.facts.retired ∙ closing.unretired;
+    port_closed = λ device. sym k.facts.closed ∙ closing.closed;
+    over = over;
+  }
+
+  module _ (served : IsServed books) (within : i < length books.seats) where
+    pub may_close : seat.facts.closed ≡ false → abandoned books.log ≡ true → MayClose books.log i
+    may_close unshut over = record { device = device_there told_by books stands served i within; unclosed = sym k.facts.closed ∙ unshut; over = inr over }
+
+    -- and what may end is closing
+    pub closing_so : MayRetire books.log i → IsClosing seat
+    closing_so may = assumption
+        (home_is.1 may.home, k.facts.closed ∙ may.port_closed (device_there told_by books stands served i within), k.facts.retired ∙ may.unretired)
+
+    pub bare_may : IsClosing seat → is_some books.run.abandoned ≡ true → IsBare books.places i → MayRetire books.log i
+    bare_may closing over bare = may_end closing
+        (inr (over_known told_by books stands over, (bare_is_bare books.log books.places i stands.legal stands.places).0 bare))
+
+    pub bare_not : (IsBare books.places i → ⊥) → MayRetire books.log i → ⊥
+    bare_not none may =
+        none ((bare_is_bare books.log books.places i stands.legal stands.places).1
+        (seen_kept books.places i (rw stands.size within) (stands.kept i may.home)) (retired_bare books.log i stands.legal may))
+
+    -- a run that wasn't given up
+    module _ (none : is_some books.run.abandoned ≡ false) where
+      going : abandoned books.log ≡ false
+      going = unabandoned books.log (none_known told_by books stands none)
+
+      pub unsettled_not : IsClosing seat → (IsSettled books i → ⊥) → IsWell books ⊎ (abandoned books.log ≡ true) → ⊥
+      unsettled_not closing unsettled (inl well) = unsettled (settled_there closing.home well (stands.run.cause ∙ none_known told_by books stands none))
+      unsettled_not closing unsettled (inr over) = let still = going in cc
+
+      pub undone_not : is_done books.log i ≡ false → MayRetire books.log i → ⊥
+      undone_not undone may = let still = going in elim may.over [ inl done ↦ cc | inr over ↦ cc ]
+
+-- LIVE COPIES
+-- the first of some rows has a live copy
+first_live : (next : ℕ) (row : OpenBatch) (rows : List OpenBatch) → AreKept next (row ∷ rows) →
+    0 < live_count row.number row.number (row ∷ rows)
+first_live next row rows kept = let place = kept.2 in let some = kept.3 in grind (arith, nat_tests, place, some)
+
+in_is : (h : Record) (b c : ℕ) → c < next_copy h → 0 < live_in h b c → IsLive h c
+in_is h b c made some = grind (arith, nat_tests)
+
+live_of : (account : Ledger) (h : Record) (rows : List OpenBatch) → account.open_rows ≡ rows → Balances account h →
+    (rows ≡ [] → ⊥) → HasLive h
+live_of account h [] is balances some = absurd (some refl)
+live_of account h (row ∷ rows) is balances some =
+    let b = row.number in
+    let kept = subst (AreKept account.next) is balances.kept.rows in
+    let many : 0 < live_copies h b = subst (λ n. 0 < n) (sym (ap (live_count b b) is) ∙ balances.live b) (first_live account.next row rows kept) in
+    let found = sum_some (live_in h b) (next_copy h) many in
+    (found.0, in_is h b found.0 found.1 found.2)
+
+-- a copy is live exactly where a batch is open
+pub live_is : {account : Ledger} {h : Record} (settled : Bool) → (settled ≡ true) ↔ (account.open_rows ≡ []) →
+    Balances account h → (not settled ≡ true) ↔ HasLive h
+live_is {account} {h} true says balances = (λ e. cc, λ live. absurd ((settled_closes account h balances (says.0 refl)).0 live.0 live.1))
+live_is {account} {h} false says balances = (λ e. live_of account h account.open_rows refl balances (λ none. let contrary = says.1 none in cc), λ live. refl)

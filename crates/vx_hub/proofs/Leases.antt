@@ -1,0 +1,407 @@
+-- Which instance is leased, what it takes before its task leaves, and what is handed out.
+use Rattle.std.proofs.Common.{◌≡◌, ◌≢◌, ◌∙◌, ℕ, ◌+◌, ◌<◌, ◌≤◌, ◌⊎◌, inl, inr, Bool, true, false, ◌&&◌, ◌||◌, List, ◌∷◌, length, Option, Some, None, IfSome, IsSome, IsSomeAnd, refl, sym, ap, arith}
+use Rattle.std.specs.Prelude.{not, slice_get}
+use Rattle.std.proofs.lemmas.Bool.{and_parts, cases_Bool, cases_eq, false_from_ne_true}
+use Rattle.std.proofs.lemmas.List.{append-nil}
+use Rattle.vx_value.specs.Filled.{Filled}
+use Rattle.vx_value.specs.Texts.{is_empty}
+use Rattle.vx_ends.specs.Told.{Told}
+use Rattle.vx_ends.specs.declared.position.Position.{Position}
+use Rattle.vx_ledger.specs.declared.parcel.Parcel.{Parcel}
+use Rattle.vx_record.specs.declared.entry.Entry.{Entry}
+use Rattle.vx_record.specs.declared.entry.Entry.TheVariants.{Lease, Take}
+use Rattle.vx_record.specs.Records.{Record}
+use Rattle.vx_record.specs.Abandoning.{abandoned}
+use Rattle.vx_record.specs.Additions.{OnlyAdds}
+use Rattle.vx_record.specs.Ceasing.{cause_of}
+use Rattle.vx_record.specs.Confirms.{is_confirm_due}
+use Rattle.vx_record.specs.Installs.{device_at, is_closed, is_retired, sink_at}
+use Rattle.vx_record.specs.Legal.{Follows}
+use Rattle.vx_record.specs.Lists.{held}
+use Rattle.vx_record.specs.Makers.{IsBy}
+use Rattle.vx_record.specs.Owing.{unspent_of, owes_spends_in, owes, is_done}
+use Rattle.vx_record.specs.Places.Place.{Held}
+use Rattle.vx_record.specs.Ready.{is_ready, is_close_due}
+use Rattle.vx_record.specs.SinkBatches.{is_full_batch, is_timed_out, is_last_batch, was_attempted, is_batch_closed}
+use Rattle.vx_record.specs.Starting.{MayLease}
+use Rattle.vx_record.specs.Tasks.{out_to}
+use Rattle.vx_record.specs.Turns.{is_out, at_lease, lease_now}
+use Rattle.vx_record.proofs.Adding.{carry, adds_none, adds_both, adds_narrower}
+use Rattle.vx_record.proofs.Answerers.{sink_untransforming}
+use Rattle.vx_record.proofs.Ceasing.{unabandoned}
+use Rattle.vx_record.proofs.Lasting.{leased_unclosed, retired_final, unready}
+use Rattle.vx_record.proofs.SourceEnds.{source_done}
+use Rattle.vx_counts.proofs.Once.{itself}
+use Rattle.vx_places.specs.declared.row.Row.{Row}
+use Rattle.vx_places.specs.Calls.{IsKept}
+use Rattle.vx_places.specs.Rooms.{held_room, LendsRoom}
+use Rattle.vx_places.specs.Views.{parcels_here}
+use Rattle.vx_places.proofs.Making.{held_says}
+use Rattle.vx_tasks.specs.declared.task.Role.{Role}
+use Rattle.vx_tasks.specs.declared.task.Role.TheVariants as role_is
+use Rattle.vx_tasks.specs.declared.task.Task.{Task}
+use Rattle.vx_tasks.specs.declared.work.Job.{Job}
+use Rattle.vx_tasks.specs.declared.work.Job.TheVariants as job
+use Rattle.vx_tasks.specs.Home.{IsAtHome}
+use Rattle.vx_tasks.specs.Out.{IsIdle, IsHeld, MayAttemptNow, MayCloseNow, AreDue, is_unfit}
+use Rattle.vx_seats.specs.declared.seat.Seat.{Seat}
+use Rattle.vx_seats.specs.Knowing.{HasHome, IsKnown}
+use Rattle.vx_seats.specs.Staying.{IsLeft}
+use Rattle.vx_seats.proofs.Telling.{told_mute, come_mute}
+use Rattle.vx_moves.specs.declared.books.Books.{Books}
+use Rattle.vx_moves.specs.declared.run.Run.{Run}
+use Rattle.vx_moves.specs.Leasing.{HasLent}
+use Rattle.vx_moves.specs.Leaving.{Leaves}
+use Rattle.vx_moves.specs.Rooms.{IsHandOf}
+use Rattle.vx_moves.specs.Stands.{Stands, Steps}
+use Rattle.vx_moves.specs.Taking.{MayTakeNow}
+use Rattle.vx_moves.proofs.Leaving.{each_stays}
+use Rattle.vx_moves.proofs.Stepping.{follows}
+use Rattle.vx_ready.specs.Asking.{IsServed}
+use Rattle.vx_ready.specs.Jobs.{IsJob}
+use Rattle.vx_ready.proofs.Closed.{closed_filled}
+use Rattle.vx_ready.proofs.Done.{device_there}
+use Rattle.vx_ready.proofs.Knowing.{known, owes_none, seat_there}
+use Rattle.vx_ready.proofs.Untried.{untried, waits_for_none}
+use Rattle.vx_landing.proofs.Lending.{lent_room, room_lent}
+use Rattle.vx_landing.proofs.Seating.{not_same, well_stays}
+use Rattle.vx_hub.specs.Collecting.{IsOut, IsCollecting, IsTakeOf, HasTaken}
+use Rattle.vx_hub.specs.Leases.{MayGather, IsReadyFor, NoneFoundAt, NoneReady, HasGathered, HasHandedOut}
+use Rattle.vx_hub.specs.Standing.{IsWell, IsWellAt, LentWhileOut}
+use Rattle.vx_hub.proofs.Tasks.{keeps_task}
+use Rattle.vx_hub.proofs.Endings.{home_is, retired_closed, settled_there}
+use Rattle.vx_hub.proofs.Resting.{adds_step, leaves_both}
+
+-- WHERE NONE HAS WORK
+module _ {P : Type 0} {told_by : P → Told} {books : Books P} (stands : Stands told_by books)
+    (served : IsServed books) (well : IsWell books) (kept : books.run.abandoned ≡ None)
+    (now : ℕ) (latest : books.run.latest ≤ now) (i : ℕ) (within : i < length books.seats) (home : is_out books.log i ≡ false) where
+  going : abandoned books.log ≡ false
+  going = unabandoned books.log (sym stands.run.cause ∙ kept)
+
+  module _ (seat : Seat P) (there : slice_get books.seats i ≡ Some seat) where
+    -- what is closed isn't leased, so it isn't ready
+    closed_unready : is_closed books.log i ≡ true → is_retired books.log i ≡ false → is_ready books.log i now ≡ false
+    closed_unready closed unretired = false_from_ne_true (is_ready books.log i now) (λ ready.
+        let later = stands.run.later 0 in
+        let still = going in
+        let may : MayLease books.log i 0 now 0 = record {
+          home = home;
+          unretired = unretired;
+          settled = owes_none told_by books stands i seat there (settled_there stands i there ((home_is stands i there).1 home) well kept);
+          ready = inl ready;
+          later = omega (arith, later, latest);
+          unpolled = refl;
+        } in
+        let follow = follows (Lease i 0 now 0) books.balance books.log stands.balance may (λ given. cc) in
+        let unclosed = leased_unclosed books.log i 0 now 0 (follow, stands.legal) in cc)
+
+    none_at : NoneFoundAt books now i → is_ready books.log i now ≡ false
+    none_at none =
+        let facts = (known told_by books stands i seat there).facts in
+        let w : IsWellAt seat = rw there at (well.seats i) in
+        elim (cases_Bool (is_retired books.log i)) [
+          | inl retired ↦ unready books.log i now stands.legal (retired_final books.log i stands.legal going retired).done
+              (retired_closed books.log i stands.legal retired (device_there told_by books stands served i within))
+          | inr unretired ↦ elim (cases_Bool seat.facts.closed) [
+            | inl closed ↦ closed_unready (sym facts.closed ∙ closed) unretired
+            | inr unclosed ↦ none (settled_there stands i there ((home_is stands i there).1 home) well kept)
+                (rw there (assumption (unclosed, facts.retired ∙ unretired, w)))
+          ]
+        ]
+
+-- each instance below a number was asked
+abbrev pub NoneBelow : {P : Type 0} → Books P → ℕ → ℕ → Type 0
+NoneBelow books now n = (i : ℕ) → i < n → NoneFoundAt books now i
+
+pub none_ready : {P : Type 0} {told_by : P → Told} {books : Books P} (now n : ℕ) → Stands told_by books →
+    IsServed books → books.run.latest ≤ now → length books.seats ≤ n → NoneBelow books now n → NoneReady books now
+none_ready {books = books} now n stands served latest most below well kept i within home =
+    let seat = seat_there books.seats i within in none_at stands served well kept now latest i within home seat.0 seat.1 (below i (omega (arith, within, most)))
+
+-- WHAT IS OWED
+-- by a lease, or a take of a sink, an instance owes nothing more
+owes_leased : (h : Record) (i worker now : ℕ) → owes (Lease i worker now 0 ∷ h) i ≡ owes h i
+owes_leased h i worker now = simp (append-nil, owes_spends_in, unspent_of)
+
+owes_taken : (h : Record) (i s : ℕ) (copies : List ℕ) → sink_at h i ≡ true → owes (Take i s copies ∷ h) i ≡ owes h i
+owes_taken h i s copies sink = let off = sink_untransforming h i sink in simp (append-nil, off, owes_spends_in, unspent_of)
+
+-- TAKES
+pub kept_at : (rows : List Row) (i : ℕ) → i < length rows → IsSome (parcels_here rows (Held i)) → IsKept rows i
+kept_at rows i within = go (parcels_here rows (Held i)) refl
+  where
+    go : (o : Option (List Parcel)) → parcels_here rows (Held i) ≡ o → IsSome o → IsKept rows i
+    go None there is = cc
+    go (Some parcels) there is = (held_says rows i within).0 parcels there
+
+-- so many were taken at the most
+pub record HasCollected {P : Type 0} (told_by : P → Told) (i now taken : ℕ) (old new : Books P) : Type 0 where
+  pub stands : Stands told_by new
+  pub served : IsServed new
+  pub collecting : IsCollecting new i now taken
+  pub only : OnlyAdds (IsTakeOf i) old.log new.log
+  pub leaves : Leaves old new
+  pub size : length new.seats ≡ length old.seats
+
+module _ {P : Type 0} where
+  pub may_take : {books : Books P} {i now taken : ℕ} → taken < 64 → IsCollecting books i now taken →
+      is_batch_closed books.log i now ≡ false → MayTakeNow books.log i
+  may_take {books} {i} below collecting unclosed = record {
+    going = unabandoned books.log collecting.is.untried.going;
+    out = collecting.is.out;
+    only_takes = collecting.is.only_takes;
+    few = let most = collecting.few in omega (arith, most, below);
+    unclosed = λ sink. ap (is_batch_closed books.log i) (sym collecting.is.moment) ∙ unclosed;
+    unticked = λ transform. let plain = sink_untransforming books.log i collecting.is.untried.sink in cc;
+  }
+
+  served_on : {old new : Books P} → IsServed old → new.run.plan ≡ old.run.plan → length new.seats ≡ length old.seats → IsServed new
+  served_on served plan size = let few = served.few in record { ported = rw plan served.ported; few = omega (arith, few, size) }
+
+  module _ {told_by : P → Told} where
+    pub taken_one : {i now taken s : ℕ} {copies : List ℕ} {old new : Books P} → IsServed old →
+        i < length old.seats → IsCollecting old i now taken → Steps told_by (Take i s copies) old new →
+        Leaves old new → IsSome (parcels_here new.places (Held i)) → HasTaken told_by i now taken old new
+    taken_one {i} {now} {taken} {s} {copies} {old} {new} served within was steps leaves kept =
+        let rows = steps.stands.size in let size = steps.size in let most = was.few in let u = was.is.untried in
+        let collecting : IsCollecting new i now (taken + 1) = record {
+          is = record {
+            out = rw steps.noted was.is.out;
+            moment = rw steps.noted was.is.moment;
+            only_takes = rw (steps.noted, itself i) was.is.only_takes;
+            untried = record {
+              sink = rw steps.noted u.sink;
+              settled = rw steps.noted (owes_taken old.log i s copies u.sink ∙ u.settled);
+              going = rw steps.noted u.going;
+            };
+            kept = kept_at new.places i (omega (arith, rows, size, within)) kept;
+            unread = rw steps.noted tt;
+          };
+          few = rw steps.noted (omega (arith, most));
+        } in
+        assumption (collecting, served_on {new = new} served (ap (λ (r : Run). r.plan) leaves.run) steps.size, adds_step (IsTakeOf i) steps refl, leaves, steps)
+
+    pub taken_none : {i now : ℕ} {books : Books P} → Stands told_by books → IsServed books →
+        IsCollecting books i now 0 → HasCollected told_by i now 0 books books
+    taken_none {i} {books = books} stands served collecting = assumption (adds_none (IsTakeOf i) books.log books.log refl, each_stays books.seats)
+
+    pub taken_more : {i now taken : ℕ} {old mid new : Books P} → HasCollected told_by i now taken old mid →
+        HasTaken told_by i now taken mid new → HasCollected told_by i now (taken + 1) old new
+    taken_more {i} {old = old} {mid} {new} some one =
+        assumption (adds_both (IsTakeOf i) old.log mid.log new.log some.only one.only, leaves_both some.leaves one.leaves, one.size ∙ some.size, one)
+
+-- WHEN A BATCH MAY BE ATTEMPTED
+by_which : (some full timed last tried : Bool) → (some && (full || timed || last || tried)) ≡ true →
+    ((full || timed || tried) ≡ true) ⊎ (last ≡ true)
+by_which some full timed last tried e = grind arith
+
+pub may_attempt : {P : Type 0} {told_by : P → Told} {books : Books P} {i now : ℕ} → Stands told_by books →
+    IsOut books i now → is_batch_closed books.log i now ≡ true → MayAttemptNow books.log i
+may_attempt {books = books} {i} {now} stands out closed =
+    let h = books.log in
+    let at_lease : is_batch_closed h i (lease_now h i) ≡ true = ap (is_batch_closed h i) (sym out.moment) ∙ closed in
+    let none = waits_for_none h i (untried h i stands.legal out.untried.settled (closed_filled h i now closed)) in
+    record {
+      sink = out.untried.sink;
+      batch_closed = at_lease;
+      stays = elim (by_which (not (is_empty (held h i))) (is_full_batch h i) (is_timed_out h i (lease_now h i))
+          (is_last_batch h i) (was_attempted h i) at_lease) [
+            | inl alone ↦ inl alone
+            | inr last ↦ inr (last, out.unread)
+          ];
+      waited = omega (arith, none);
+    }
+
+-- WHAT A LEASE LEADS TO
+still_kept : (old new : List Row) (j : ℕ) → j < length old → held_room new j ≡ held_room old j →
+    IsSome (parcels_here old (Held j)) → IsSome (parcels_here new (Held j))
+still_kept old new j within same some = go (parcels_here new (Held j)) refl
+  where
+    go : (o : Option (List Parcel)) → parcels_here new (Held j) ≡ o → IsSome o
+    go (Some parcels) is = refl
+    go None is = rw (room_lent old j within (sym same ∙ lent_room new j is)) at some
+
+-- the task of a seat that is taken along was at home there
+had_task : {P : Type 0} (task : Task P) (o n : Option (Seat P)) → IsSomeAnd o (λ was. IsSomeAnd n (λ is. IsLeft task was is)) → IsSomeAnd o (λ seat. seat.task ≡ Some task)
+had_task task None n left = absurd left
+had_task task (Some was) None left = absurd left
+had_task task (Some was) (Some is) left = left.had
+
+fits : (role : Role) → role ≢ role_is.Unfit → is_unfit role ≡ false
+fits (role_is.Source core) fit = refl
+fits (role_is.Sink codec) fit = refl
+fits (role_is.Transform picker) fit = refl
+fits role_is.Unfit fit = absurd (fit refl)
+
+-- a seat whose task left is well still, and what is leased while all is well is of use
+left_says : {P : Type 0} (told_by : P → Told) (i : ℕ) (task : Task P) (h : Record) (o n : Option (Seat P)) →
+    IsSomeAnd o (λ was. IsSomeAnd n (λ is. IsLeft task was is)) →
+    IfSome o IsWellAt → IfSome o (λ seat. IsKnown told_by seat h i) → IfSome n IsWellAt × (is_unfit task.role ≡ false)
+left_says told_by i task h None n left well known = absurd left
+left_says told_by i task h (Some was) None left well known = absurd left
+left_says told_by i task h (Some was) (Some is) left well known =
+    let home : HasHome told_by was.facts h i task = rw left.had at known.home in
+    (assumption (left.flags.owing ∙ well.settled, left.flags.behind ∙ well.counted, left.flags.starved ∙ well.fed), fits task.role (home.fit well.counted))
+
+taken_by : (i worker : ℕ) (h : Record) (e : Entry) → Follows h e → IsTakeOf i h e → out_to h i ≡ Some worker →
+    IsBy worker h e × (out_to (e ∷ h) i ≡ Some worker)
+taken_by i worker h (Take j s copies) follows same out = (rw same out, out)
+taken_by i worker h e follows kind out = absurd kind
+
+due_on : (o : Option (List Position)) (h : Record) (i j s : ℕ) (copies : List ℕ) → AreDue h i o → AreDue (Take j s copies ∷ h) i o
+due_on None h i j s copies due = due
+due_on (Some ps) h i j s copies due = due
+
+module _ {P : Type 0} {told_by : P → Told} {i worker now : ℕ} {task : Task P} {positions : Option (List Position)}
+    {old mid : Books P} (lent : HasLent told_by i worker now task positions old mid) where
+  -- what leaves, from the lease on
+  record Gone (h : Record) : Type 0 where
+    out : out_to h i ≡ Some worker
+    idle : IsIdle h i
+    home : IsAtHome told_by h i task
+    due : AreDue h i positions
+    aside : (j : ℕ) → is_out h j ≡ is_out mid.log j
+
+  gone_on : (h : Record) (e : Entry) → Follows h e → IsTakeOf i h e → Gone h → Gone (e ∷ h)
+  gone_on h (Take j s copies) follows kind gone = assumption (
+    told_mute (told_by task.port) h (Take j s copies) i tt gone.home.told,
+    come_mute task.role h (Take j s copies) i tt gone.home.come,
+    due_on positions h i j s copies gone.due,
+    gone,
+  )
+  gone_on h e follows kind gone = absurd kind
+
+  gone_leased : Gone mid.log
+  gone_leased = record {
+    out = rw (lent.steps.noted, itself i);
+    idle = rw lent.steps.noted (record {
+      no_turn = rw (itself i);
+      no_attempt = rw (itself i);
+      no_confirm = rw (itself i);
+      unclosed = leased_unclosed old.log i worker now 0 (rw lent.steps.noted at lent.steps.stands.legal);
+    });
+    home = lent.home;
+    due = lent.due;
+    aside = λ j. refl;
+  }
+
+  gone_all : (new : Record) → OnlyAdds (IsTakeOf i) mid.log new → Gone new
+  gone_all new adds = carry (IsTakeOf i) Gone gone_on mid.log new adds gone_leased
+
+  pub out_two : {two : Record} → OnlyAdds (IsTakeOf i) mid.log two → is_out two i ≡ true
+  out_two {two} adds = let leased : is_out mid.log i ≡ true = rw (lent.steps.noted, itself i) in (gone_all two adds).aside i ∙ leased
+
+  collects : IsKept mid.places i → owes old.log i ≡ false → cause_of old.log ≡ None → sink_at old.log i ≡ true → IsCollecting mid i now 0
+  collects kept settled going sink = record {
+    is = record {
+      out = rw (lent.steps.noted, itself i);
+      moment = rw (lent.steps.noted, itself i);
+      only_takes = rw (lent.steps.noted, itself i);
+      untried = record {
+        sink = rw lent.steps.noted sink;
+        settled = rw lent.steps.noted (owes_leased old.log i worker now ∙ settled);
+        going = rw lent.steps.noted going;
+      };
+      kept = kept;
+      unread = rw lent.steps.noted tt;
+    };
+    few = rw (lent.steps.noted, itself i) (omega arith);
+  }
+
+  unconfirmed : (o : Option (List Position)) → AreDue mid.log i o → is_done old.log i ≡ true → is_confirm_due (at_lease mid.log i) i ≡ false
+  unconfirmed None due done = due
+  unconfirmed (Some ps) due done = rw (lent.steps.noted, itself i) (source_done old.log i (rw lent.steps.noted at due.0) done).undue
+
+  closing : is_close_due old.log i ≡ true → MayCloseNow mid.log i
+  closing close =
+      let done = (and_parts (device_at old.log i && not (is_closed old.log i)) (is_done old.log i) close).1 in
+      record { over = rw (lent.steps.noted, itself i) done; confirmed = unconfirmed positions lent.due done }
+
+  gathers : (work : Job) → IsKept mid.places i → owes old.log i ≡ false → cause_of old.log ≡ None →
+      IsJob old.log i now work → MayGather mid i now work
+  gathers job.Confirm kept settled going is = tt
+  gathers job.Read kept settled going (inl is) = record { source = rw lent.steps.noted is.0; readable = rw (lent.steps.noted, itself i) is.1 }
+  gathers job.Read kept settled going (inr is) = absurd is.1
+  gathers job.Collect kept settled going (inl is) = absurd is.1
+  gathers job.Collect kept settled going (inr is) = collects kept settled going is.0
+  gathers job.Attempt kept settled going (inl is) = absurd is.1
+  gathers job.Attempt kept settled going (inr is) = collects kept settled going is.0
+  gathers job.Close kept settled going (inl is) = closing is.1
+  gathers job.Close kept settled going (inr is) = closing is.1
+  gathers job.Judge kept settled going (inl is) = absurd is.1
+  gathers job.Judge kept settled going (inr is) = absurd is.1
+
+  -- what the lease of what is ready leads to
+  pub leased_gathers : {work : Job} → Stands told_by old → old.run.latest ≤ now → IsReadyFor old now i work →
+      IsSome (parcels_here mid.places (Held i)) × MayGather mid i now work
+  leased_gathers {work} stands latest ready =
+      let later = stands.run.later worker in
+      let may = ready.leasable.may worker (omega (arith, later, latest)) in
+      let rows = stands.size in let size = lent.steps.size in let now_rows = lent.steps.stands.size in let within = ready.within in
+      let kept = still_kept old.places mid.places i (omega (arith, rows, within)) (lent.rooms i).1 (stands.kept i may.home) in (
+        kept,
+        gathers work (kept_at mid.places i (omega (arith, now_rows, size, within)) kept) may.settled
+            (sym stands.run.cause ∙ ready.settled.going) ready.works,
+      )
+
+  -- WHAT IS HANDED OUT
+  module _ {two new : Books P} {done : Job} (line : Filled Parcel) (stood : Stands told_by old) (well : IsWell old)
+      (was : LentWhileOut old) (gathered : HasGathered told_by i mid two done)
+      (stands : Stands told_by new) (none : parcels_here new.places (Held i) ≡ None) (rooms : LendsRoom i line.room two.places new.places)
+      (log : new.log ≡ two.log) (seats : new.seats ≡ two.seats) (run : new.run ≡ two.run) where
+    gone : Gone two.log
+    gone = gone_all two.log gathered.only
+
+    left : IfSome (slice_get mid.seats i) IsWellAt × (is_unfit task.role ≡ false)
+    left = left_says told_by i task old.log (slice_get old.seats i) (slice_get mid.seats i) lent.seats.one (well.seats i) (stood.seats.each i)
+
+    size : length new.seats ≡ length old.seats
+    size = ap length seats ∙ (gathered.size ∙ lent.steps.size)
+
+    out_old : (j : ℕ) → j ≢ i → is_out new.log j ≡ true → is_out old.log j ≡ true
+    out_old j other out =
+        let out_mid : is_out mid.log j ≡ true = sym (gone.aside j) ∙ rw log at out in
+        rw (lent.steps.noted, not_same i j other) at out_mid
+
+    lends : LentWhileOut new
+    lends j within out = elim (cases_eq j i) [
+      | inl same ↦ rw same none
+      | inr other ↦
+          let all = size in let rows = stands.size in
+          room_lent new.places j (omega (arith, within, rows))
+          (rooms.others j other ∙ ((gathered.leaves.rooms j).1 ∙
+          ((lent.rooms j).1 ∙ lent_room old.places j (was j (omega (arith, within, all)) (out_old j other out)))))
+    ]
+
+    wells : IsWell new
+    wells = record {
+      seats = λ j. rw seats (well_stays (slice_get mid.seats j) (slice_get two.seats j) (gathered.leaves.seats j) (elim (cases_eq j i) [
+        | inl same ↦ rw same left.0
+        | inr other ↦ rw (lent.seats.others j other) (well.seats j)
+      ]));
+      fed = ap (λ (r : Run). r.short) (run ∙ (gathered.leaves.run ∙ lent.run)) ∙ well.fed;
+    }
+
+    made : OnlyAdds (IsBy worker) old.log two.log
+    made = adds_both (IsBy worker) old.log mid.log two.log (adds_step (IsBy worker) lent.steps refl)
+        (adds_narrower (IsTakeOf i) (IsBy worker) (λ h. out_to h i ≡ Some worker) (taken_by i worker) mid.log two.log gathered.only gone_leased.out)
+
+    pub handed : IsHeld two.log i line.items → IsHandOf two.log i line.room →
+        HasHandedOut told_by i worker now old new (record { instance = i; worker = worker; task = task; held = line; positions = positions; job = done })
+    handed held room = record {
+      stands = stands;
+      served = served_on gathered.served (ap (λ (r : Run). r.plan) run) (ap length seats);
+      lent = lends;
+      well = wells;
+      size = size;
+      instance_is = refl;
+      worker_is = refl;
+      left = rw log (record { out = gone.out; idle = gone.idle; home = gone.home; held = held; asked = gone.due; job = gathered.given; fit = left.1 });
+      room = rw log room;
+      only = rw log made;
+      noted = rw (log, ← lent.steps.noted) gathered.only;
+      latest = ap (λ (r : Run). r.latest) (run ∙ gathered.leaves.run ∙ lent.run);
+      had = had_task task (slice_get old.seats i) (slice_get mid.seats i) lent.seats.one;
+      others = λ j other. rw seats (rw (lent.seats.others j other) at (keeps_task (slice_get mid.seats j) (slice_get two.seats j) (gathered.leaves.seats j)));
+    }
