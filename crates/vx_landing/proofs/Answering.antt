@@ -1,129 +1,74 @@
--- What an answered attempt leaves to be spent.
-use Rattle.std.proofs.Common.{zero, suc, ◌≡◌, ◌∙◌, ℕ, ◌+◌, ◌<◌, ◌≤◌, Bool, true, false, List, [], ◌∷◌, length, Option, Some, None, IsSome, refl, sym, ap, subst, arith}
-use Rattle.std.specs.Prelude.{◌==◌, ◌&&◌, is_some, if◌then◌else◌}
-use Rattle.std.proofs.lemmas.Bool.Decides.{nat_tests}
+-- What the notes of a landing need, what they add, and what becomes of an instance that is given up.
+use Rattle.std.proofs.Common.{zero, suc, ◌≡◌, ◌∙◌, ℕ, ◌<◌, Bool, true, false, List, [], ◌∷◌, length, take, Option, Some, None, IfSome, IsSomeAnd, refl, sym, subst, arith, inr}
+use Rattle.std.specs.Prelude.{◌==◌, is_some, slice_get}
+use Rattle.std.specs.List.{list_any}
+use Rattle.std.proofs.lemmas.Bool.{eqb-true, false_from_ne_true, lt-ltb}
+use Rattle.std.proofs.lemmas.Option.{IfSome_then}
+use Rattle.std.proofs.Math.Seq.{take-length}
 use Rattle.vx_value.specs.Texts.{Word}
-use Rattle.vx_value.specs.Filled.{Filled}
-use Rattle.vx_status.specs.declared.outcome.Outcome.{Outcome}
 use Rattle.vx_ends.specs.Told.{Told}
 use Rattle.vx_ends.specs.declared.trouble.Reply.{Reply}
 use Rattle.vx_ends.specs.declared.trouble.Reply.TheVariants as reply
+use Rattle.vx_status.specs.declared.outcome.Outcome.{Outcome}
+use Rattle.vx_status.specs.declared.outcome.Outcome.TheVariants.{Abandoned}
+use Rattle.vx_json.specs.declared.demo_settings.DemoSettings.{DemoSettings}
 use Rattle.vx_plan.specs.declared.component.Component.{Component}
-use Rattle.vx_ledger.specs.declared.parcel.Parcel.{Parcel}
+use Rattle.vx_plan.specs.declared.settings.Settings.{Settings}
+use Rattle.vx_plan.specs.declared.settings.Settings.TheVariants.{DemoLogs}
+use Rattle.vx_plan.specs.Options.{has_device, demo_of}
 use Rattle.vx_record.specs.declared.abandon_cause.AbandonCause.{AbandonCause}
 use Rattle.vx_record.specs.declared.entry.Entry.{Entry}
-use Rattle.vx_record.specs.declared.entry.Entry.TheVariants.{Attempt, Spent, Notice}
+use Rattle.vx_record.specs.declared.entry.Entry.TheVariants.{Lease, Home, Read, Attempt, Spent, Abandon}
+use Rattle.vx_record.specs.declared.taken.Taken.{Taken}
 use Rattle.vx_record.specs.Records.{Record}
-use Rattle.vx_record.specs.Abandoning.{abandoned}
+use Rattle.vx_record.specs.Abandoning.{abandoned, at_abandon}
+use Rattle.vx_record.specs.Additions.{OnlyAdds}
 use Rattle.vx_record.specs.Ceasing.{cause_of}
-use Rattle.vx_record.specs.Copies.{count, contains, joined}
-use Rattle.vx_record.specs.Installs.{component_of}
+use Rattle.vx_record.specs.Copies.{count, joined}
+use Rattle.vx_record.specs.Encoding.{encoded, is_prefix}
+use Rattle.vx_record.specs.Ending.{MayClose}
+use Rattle.vx_record.specs.Generating.{IsGenerated}
+use Rattle.vx_record.specs.Installs.{component_of, device_at}
 use Rattle.vx_record.specs.Legal.{IsLegal}
 use Rattle.vx_record.specs.Lists.{held}
 use Rattle.vx_record.specs.Makers.{IsFor}
 use Rattle.vx_record.specs.Places.Place.{Held}
 use Rattle.vx_record.specs.Shifts.{at}
-use Rattle.vx_record.specs.SinkBatches.{retries_made, attempts_allowed, failures_with}
-use Rattle.vx_record.specs.Spending.{last_attempted, last_reply, HasCause}
-use Rattle.vx_record.proofs.Adding.{adds_both, adds_wider}
+use Rattle.vx_record.specs.Sinking.{MayAttempt}
+use Rattle.vx_record.specs.Spending.{HasCause}
+use Rattle.vx_record.specs.Tasks.{of_task, is_number}
+use Rattle.vx_record.specs.Turns.{is_out, since_lease, is_turn_of, is_attempt_of}
+use Rattle.vx_record.proofs.Adding.{adds_none, adds_one}
+use Rattle.vx_record.proofs.Attempted.{attempts_one}
 use Rattle.vx_record.proofs.Ceasing.{unabandoned, has_abandoned}
 use Rattle.vx_record.proofs.Shifting.{stands_at}
-use Rattle.vx_places.specs.declared.row.Row.{Row}
-use Rattle.vx_places.specs.Rooms.{SameRooms, held_room_if, line_room}
-use Rattle.vx_places.specs.Views.{row_at, held_items, here_if, parcels_here}
+use Rattle.vx_counts.proofs.Once.{itself}
+use Rattle.vx_sourcecore.specs.declared.source.Cut.{Cut}
+use Rattle.vx_sourcecore.specs.NewLines.{AreNew}
+use Rattle.vx_sourcecore.specs.Turns.{Reading}
+use Rattle.vx_tasks.specs.declared.task.Role.{Role}
+use Rattle.vx_tasks.specs.Out.{MayReadNow, MayAttemptNow}
+use Rattle.vx_tasks.specs.Telling.{IsToldButGiven}
+use Rattle.vx_tasks.proofs.Saying.{told_closed}
+use Rattle.vx_seats.specs.Calls.{IsBack, IsClosedBy, IsShutAt}
+use Rattle.vx_seats.specs.Knowing.{IsAtHomeBut, IsKnown, Knows}
+use Rattle.vx_seats.specs.declared.facts.Facts.{Facts}
+use Rattle.vx_seats.specs.declared.seat.Seat.{Seat}
 use Rattle.vx_moves.specs.declared.books.Books.{Books}
-use Rattle.vx_moves.specs.Spends.{IsSpendOf, MaySpendAll, OnlySpends}
-use Rattle.vx_moves.specs.Stands.{Stands}
-use Rattle.vx_landing.specs.Landings.{HasNoted, HasSpentBy, outcome_of}
-use Rattle.vx_landing.proofs.Noting.{for_own}
+use Rattle.vx_moves.specs.Leaving.{Leaves, LeavesUntold}
+use Rattle.vx_moves.specs.Reading.{MayNoteRead}
+use Rattle.vx_moves.specs.Returns.{HaveReturned}
+use Rattle.vx_moves.specs.Spends.{MaySpendAll, OnlySpends}
+use Rattle.vx_moves.specs.Stands.{Stands, Steps}
+use Rattle.vx_moves.proofs.Leaving.{rooms_both, each_both}
+use Rattle.vx_ready.specs.Asking.{IsServed}
+use Rattle.vx_ready.proofs.Done.{device_there}
+use Rattle.vx_landing.specs.Landings.{ComesBehind, HasNoted, HasNotedRead, outcome_of}
+use Rattle.vx_landing.proofs.Owing.{spends_keep, spends_wider, was_out}
 
--- WHAT IS HELD STAYS HERE
-here_roomed : (i : ℕ) (o : Option Row) → IsSome o → IsSome (here_if (Held i) o) → IsSome (held_room_if o)
-here_roomed i None there kept = cc
-here_roomed i (Some row) there kept = go row.held kept
-  where
-    go : (f : Option (Filled Parcel)) → IsSome (held_items f) → IsSome (line_room f)
-    go None kept = cc
-    go (Some f) kept = refl
-
-roomed_here : (i : ℕ) (o : Option Row) → IsSome (held_room_if o) → IsSome (here_if (Held i) o)
-roomed_here i None roomed = cc
-roomed_here i (Some row) roomed = go row.held roomed
-  where
-    go : (f : Option (Filled Parcel)) → IsSome (line_room f) → IsSome (held_items f)
-    go None roomed = cc
-    go (Some f) roomed = refl
-
-row_there : (rows : List Row) (i : ℕ) → i < length rows → IsSome (row_at rows i)
-row_there [] i below = absurd (omega (arith, below))
-row_there (row ∷ rows) zero below = refl
-row_there (row ∷ rows) (suc i) below = row_there rows i (omega (arith, below))
-
-pub kept_on : (old new : List Row) (i : ℕ) → i < length old → SameRooms old new → IsSome (parcels_here old (Held i)) → IsSome (parcels_here new (Held i))
-kept_on old new i below same kept =
-    roomed_here i (row_at new i) (subst (λ (o : Option ℕ). IsSome o) (sym (same i).1) (here_roomed i (row_at old i) (row_there old i below) kept))
-
--- ITS CAUSE
-pub same_test : (n : ℕ) → (n == n) ≡ true
-same_test n = grind (arith, nat_tests)
-
-allowed_one : (h : Record) (i : ℕ) → attempts_allowed h i ≡ 1
-allowed_one h i = go (component_of h i)
-  where
-    go : (o : Option Component) → (elim o [ None ↦ 0 | Some c ↦ retries_made c ]) + 1 ≡ 1
-    go None = refl
-    go (Some c) = refl
-
-had_so : (h : Record) (i c : ℕ) (copies : List ℕ) → 0 < count c copies → 0 < count c (if i == i then copies else last_attempted h i)
-had_so h i c copies l = subst (λ (b : Bool). 0 < count c (if b then copies else last_attempted h i)) (sym (same_test i)) l
-
-replied_so : (h : Record) (i : ℕ) (answer : Reply) → ◌≡◌ {A = Option Reply} (if i == i then Some answer else last_reply h i) (Some answer)
-replied_so h i answer = subst (λ (b : Bool). ◌≡◌ {A = Option Reply} (if b then Some answer else last_reply h i) (Some answer)) (sym (same_test i)) refl
-
-failed_so : (h : Record) (i c : ℕ) (copies : List ℕ) → 0 < count c copies → 1 ≤ failures_with h i c + (if (i == i) && contains copies c && true then 1 else 0)
-failed_so h i c copies l =
-    let one : contains copies c ≡ true = grind (arith, nat_tests, l) in
-    let here : 1 ≤ failures_with h i c + (if true && contains copies c && true then 1 else 0) = subst (λ (b : Bool). 1 ≤ failures_with h i c + (if true && b && true then 1 else 0)) (sym one) (omega arith) in
-    subst (λ (b : Bool). 1 ≤ failures_with h i c + (if b && contains copies c && true then 1 else 0)) (sym (same_test i)) here
-
-answered_cause : (h : Record) (i c : ℕ) (copies : List ℕ) (bytes : Word) (answer : Reply) → 0 < count c copies → HasCause (Attempt i copies bytes answer ∷ h) i c (outcome_of answer)
-answered_cause h i c copies bytes reply.Ok l = record { had = had_so h i c copies l; answered = replied_so h i reply.Ok }
-answered_cause h i c copies bytes reply.Refused l = record { had = had_so h i c copies l; answered = replied_so h i reply.Refused }
-answered_cause h i c copies bytes reply.Failed l =
-    subst (λ (n : ℕ). n ≤ failures_with (Attempt i copies bytes reply.Failed ∷ h) i c) (sym (allowed_one (Attempt i copies bytes reply.Failed ∷ h) i)) (failed_so h i c copies l)
-
-pub may_spend : (h log : Record) (i : ℕ) (bytes : Word) (answer : Reply) → IsLegal h → log ≡ Attempt i (joined (held h i)) bytes answer ∷ h → cause_of log ≡ None → MaySpendAll log (Held i) (outcome_of answer)
-may_spend h log i bytes answer legal noted going =
-    subst (λ (k : Record). MaySpendAll k (Held i) (outcome_of answer)) (sym noted) (record {
-      cause = λ c among. answered_cause h i c (joined (held h i)) bytes answer (subst (λ (ps : List (List ℕ)). 0 < count c (joined ps)) (sym (stands_at h (Held i) legal)) among);
-      left = λ c over. let not : abandoned log ≡ false = unabandoned log going in let same : abandoned log ≡ abandoned h = ap abandoned noted in cc;
-    })
-
--- WHAT WAS SPENT IS THE INSTANCE'S
-pub spend_own : (i : ℕ) (outcome : Outcome) (h : Record) (e : Entry) → IsSpendOf i outcome h e → IsFor i h e
-spend_own i outcome h (Spent j c other) kind = let own : IsFor j h (Spent j c other) = for_own (Spent j c other) j h refl in λ k of. own k of ∙ kind.0
-spend_own i outcome h (Notice b status) kind = λ k of. cc
-spend_own i outcome h e kind = absurd kind
-
+-- THE RUN
+-- whether it is given up, as the books know
 module _ {P : Type 0} (told_by : P → Told) where
-  pub spent_by : (i : ℕ) (e : Entry) (answer : Reply) (old mid new : Books P) → abandoned old.log ≡ false → HasNoted told_by i e old mid → OnlySpends told_by i (outcome_of answer) mid new → at new.log (Held i) ≡ [] → IsSome (parcels_here new.places (Held i)) →
-      HasSpentBy told_by i e answer old new
-  spent_by i e answer old mid new going noted spent none kept = record {
-    none = λ is. none;
-    kept = kept;
-    mid = mid;
-    noted = noted;
-    spent = λ is. spent;
-    over = λ is. cc;
-    stands = spent.stands;
-    only = adds_both (IsFor i) old.log mid.log new.log noted.only (adds_wider (IsSpendOf i (outcome_of answer)) (IsFor i) (spend_own i (outcome_of answer)) mid.log new.log spent.only);
-  }
-
-  pub spent_none : (i : ℕ) (e : Entry) (answer : Reply) (old mid : Books P) → abandoned old.log ≡ true → HasNoted told_by i e old mid → IsSome (parcels_here mid.places (Held i)) → HasSpentBy told_by i e answer old mid
-  spent_none i e answer old mid over noted kept =
-      record { mid = mid; noted = noted; spent = λ is. cc; over = λ is. refl; none = λ is. cc; kept = kept; stands = noted.steps.stands; only = noted.only }
-
-  -- whether the run is given up, as its books know
   pub none_known : (books : Books P) → Stands told_by books → is_some books.run.abandoned ≡ false → cause_of books.log ≡ None
   none_known books stands none = go books.run.abandoned stands.run.cause none
     where
@@ -132,14 +77,168 @@ module _ {P : Type 0} (told_by : P → Told) where
       go (Some cause) is none = cc
 
   pub over_known : (books : Books P) → Stands told_by books → is_some books.run.abandoned ≡ true → abandoned books.log ≡ true
-  over_known books stands some = has_abandoned books.log (subst (λ (o : Option AbandonCause). IsSome o) stands.run.cause some)
+  over_known books stands some = has_abandoned books.log (rw (← stands.run.cause) some)
 
   pub going_known : (books : Books P) → Stands told_by books → abandoned books.log ≡ false → is_some books.run.abandoned ≡ false
-  going_known books stands going = go (is_some books.run.abandoned) refl
-    where
-      go : (b : Bool) → is_some books.run.abandoned ≡ b → b ≡ false
-      go false is = refl
-      go true is = let over : true ≡ false = sym (over_known books stands is) ∙ going in cc
+  going_known books stands going = false_from_ne_true (is_some books.run.abandoned) (λ some. let over = over_known books stands some in cc)
 
-  pub still_kept : (i : ℕ) (e : Entry) (old mid : Books P) → Stands told_by old → i < length old.seats → HasNoted told_by i e old mid → IsSome (parcels_here old.places (Held i)) → IsSome (parcels_here mid.places (Held i))
-  still_kept i e old mid stands within noted kept = kept_on old.places mid.places i (let size = stands.size in omega (arith, size, within)) noted.leaves.rooms kept
+  pub not_over : (books : Books P) → Stands told_by books → is_some books.run.abandoned ≡ false → abandoned books.log ≡ true → ⊥
+  not_over books stands none over = let not = unabandoned books.log (none_known books stands none) in cc
+
+-- WHO IS OUT
+-- nobody is leased behind an abandonment: who is out was out before it
+pub left_out : (h : Record) (i : ℕ) → IsLegal h → is_out h i ≡ true → abandoned h ≡ true → is_out (at_abandon h) i ≡ true
+left_out [] i legal out gone = cc
+left_out (Abandon cause ∷ h) i legal out gone = out
+left_out (Lease j worker now polls ∷ h) i legal out gone = let no : false ≡ true = legal.0.still gone in cc
+left_out (Home j ∷ h) i legal out gone = left_out h i legal.1 (was_out (j == i) (is_out h i) out) gone
+left_out (e ∷ h) i legal out gone = left_out h i legal.1 out gone
+
+-- an entry of a task is of no other
+pub for_own : (e : Entry) (i : ℕ) (h : Record) → of_task e ≡ Some i → IsFor i h e
+for_own e i h own j of = sym (eqb-true i j (subst (λ (o : Option ℕ). is_number j o ≡ true) own of))
+
+-- who works with a port makes no lines
+no_demo : (settings : Settings) → has_device settings ≡ true → demo_of settings ≡ None
+no_demo (DemoLogs demo interval) is = cc
+no_demo settings is = refl
+
+no_lines : (o : Option Component) → elim o [ None ↦ false | Some c ↦ has_device c.settings ] ≡ true →
+    ◌≡◌ {A = Option DemoSettings} (elim o [ None ↦ None | Some c ↦ demo_of c.settings ]) None
+no_lines None is = refl
+no_lines (Some c) is = no_demo c.settings is
+
+read_from_port : (h : Record) (i stream : ℕ) (took : Taken) → device_at h i ≡ true → IsGenerated h i stream took
+read_from_port h i stream took device demo is = let none = no_lines (component_of h i) device in absurd (cc)
+
+-- WHAT WAS GIVEN
+taken_prefix : (n : ℕ) (w : Word) → is_prefix (take n w) w ≡ true
+taken_prefix zero w = refl
+taken_prefix (suc n) [] = refl
+taken_prefix (suc n) (b ∷ w) = rw (itself b) (taken_prefix n w)
+
+-- an answered attempt is a cause to spend what it had
+answered_cause : (h : Record) (i c : ℕ) (copies : List ℕ) (bytes : Word) (answer : Reply) → 0 < count c copies →
+    HasCause (Attempt i copies bytes answer ∷ h) i c (outcome_of answer)
+answered_cause h i c copies bytes reply.Ok some = record { had = rw (itself i) some; answered = rw (itself i) refl }
+answered_cause h i c copies bytes reply.Refused some = record { had = rw (itself i) some; answered = rw (itself i) refl }
+answered_cause h i c copies bytes reply.Failed some =
+    rw (attempts_one (Attempt i copies bytes reply.Failed ∷ h) i, itself i, lt-ltb 0 (count c copies) some) (omega arith)
+
+pub may_spend : (h log : Record) (i : ℕ) (bytes : Word) (answer : Reply) → IsLegal h → log ≡ Attempt i (joined (held h i)) bytes answer ∷ h →
+    cause_of log ≡ None → MaySpendAll log (Held i) (outcome_of answer)
+may_spend h log i bytes answer legal noted going =
+    let not = unabandoned log going in
+    rw noted (record {
+      cause = λ c among. answered_cause h i c (joined (held h i)) bytes answer (rw (stands_at h (Held i) legal) among);
+      left = λ c over. let no = rw noted at not in cc;
+    })
+
+-- NOTES
+pub leaves_both : {P : Type 0} {a b c : Books P} → Leaves a b → Leaves b c → Leaves a c
+leaves_both {a = a} {b = b} {c = c} first second = record {
+  seats = each_both a.seats b.seats c.seats first.seats second.seats;
+  rooms = rooms_both a.places b.places c.places first.rooms second.rooms;
+  run = second.run ∙ first.run;
+}
+
+module _ {P : Type 0} {told_by : P → Told} where
+  -- one entry more
+  pub adds_step : {Kind : Record → Entry → Type 0} {h : Record} {mid new : Books P} {e : Entry} → OnlyAdds Kind h mid.log → Kind mid.log e →
+      Steps told_by e mid new → OnlyAdds Kind h new.log
+  adds_step {Kind} {h} {mid} {new} {e} adds kind steps = adds_one Kind h mid.log new.log e adds steps.follows kind steps.noted
+
+  pub adds_own : {i : ℕ} {e : Entry} {old new : Books P} → of_task e ≡ Some i → Steps told_by e old new → OnlyAdds (IsFor i) old.log new.log
+  adds_own {i} {e} {old} own steps = adds_step (adds_none (IsFor i) old.log old.log refl) (for_own e i old.log own) steps
+
+  pub noted : {i : ℕ} {e : Entry} {old new : Books P} → of_task e ≡ Some i → Steps told_by e old new → Leaves old new → HasNoted told_by i e old new
+  noted own steps leaves = record { steps = steps; only = adds_own own steps; leaves = leaves }
+
+  -- what was spent is the instance's, and comes behind what was done
+  pub spends_own : {i : ℕ} {outcome : Outcome} {old new : Books P} → OnlySpends told_by i outcome old new → OnlyAdds (IsFor i) old.log new.log
+  spends_own {i} {outcome} spent = spends_wider (IsFor i) (λ h c. for_own (Spent i c outcome) i h refl) (λ h b status k of. cc) spent.only
+
+  pub spends_behind : {i : ℕ} {outcome : Outcome} {old new : Books P} → OnlySpends told_by i outcome old new → OnlyAdds (ComesBehind i) old.log new.log
+  spends_behind {i} spent = spends_wider (ComesBehind i) (λ h c. refl) (λ h b status. tt) spent.only
+
+  -- it leaves a run given up, and who is at home there
+  pub over_still : {i : ℕ} {outcome : Outcome} {old new : Books P} → OnlySpends told_by i outcome old new → abandoned old.log ≡ true → abandoned new.log ≡ true
+  over_still spent = spends_keep (λ h. abandoned h ≡ true) (λ h c over. over) (λ h b status over. over) spent.only
+
+  pub home_still : {i : ℕ} {outcome : Outcome} {old new : Books P} → OnlySpends told_by i outcome old new → is_out old.log i ≡ false → is_out new.log i ≡ false
+  home_still {i} spent = spends_keep (λ h. is_out h i ≡ false) (λ h c home. home) (λ h b status home. home) spent.only
+
+  -- and its port may be closed then
+  pub may_shut : {i : ℕ} {old new : Books P} {seat : Seat P} → IsServed old → i < length old.seats → abandoned old.log ≡ true →
+      OnlySpends told_by i Abandoned old new → slice_get new.seats i ≡ Some seat → seat.facts.closed ≡ false → MayClose new.log i
+  may_shut {i} {old} {new} {seat} served within over spent there unclosed =
+      let known : IsKnown told_by seat new.log i = rw there at (spent.stands.seats.each i) in
+      record {
+        device = device_there told_by new spent.stands (record { ported = rw spent.leaves.run served.ported; few = rw spent.size served.few }) i (rw spent.size within);
+        unclosed = sym known.facts.closed ∙ unclosed;
+        over = inr (over_still spent over);
+      }
+
+pub noted_read : {P : Type 0} (told_by : P → Told) {untold : Bool} {i : ℕ} {old new : Books P} (o : Option Reading) →
+    IsSomeAnd o (λ reading. Steps told_by (Read i reading.stream reading.took) old new) → LeavesUntold untold i old new →
+    IsSomeAnd o (λ reading. HasNotedRead told_by untold i (Read i reading.stream reading.took) old new)
+noted_read told_by None steps leaves = steps
+noted_read told_by (Some reading) steps leaves = record { steps = steps; only = adds_own refl steps; leaves = leaves }
+
+module _ {P : Type 0} {told_by : P → Told} {books : Books P} (stands : Stands told_by books) where
+  -- the port of an instance that is out isn't at home
+  pub shut_out : (i : ℕ) → is_out books.log i ≡ true → IsShutAt told_by books.seats i
+  shut_out i out = IfSome_then (slice_get books.seats i) (stands.seats.each i) (λ seat known. IfSome_then seat.task known.home (λ task home. let in_it = home.home in cc))
+
+  -- where memory was wanting less is said, so the books still stand
+  pub marked : {seats : List (Seat P)} → length seats ≡ length books.seats → Knows told_by seats books.log →
+      Stands told_by (record books { seats = seats; run = record books.run { short = true } })
+  marked size knows = let off : true ≡ false → HaveReturned books.log = λ is. cc in assumption (off, stands.size ∙ sym size)
+
+  module _ {i : ℕ} (served : IsServed books) (within : i < length books.seats) where
+    device : device_at books.log i ≡ true
+    device = device_there told_by books stands served i within
+
+    pub may_attempt : {all : Word} {sent : ℕ} {answer : Reply} → is_out books.log i ≡ true → list_any (is_attempt_of i) (since_lease books.log i) ≡ false →
+        MayAttemptNow books.log i → all ≡ encoded books.log i (at books.log (Held i)) → (answer ≡ reply.Ok → sent ≡ length all) →
+        MayAttempt books.log i (joined (held books.log i)) (take sent all) answer
+    may_attempt {all} {sent} out once may whole well =
+        let is : encoded books.log i (held books.log i) ≡ all = rw (stands_at books.log (Held i) stands.legal) (sym whole) in
+        record {
+          sink = may.sink;
+          out = out;
+          once = once;
+          all = refl;
+          batch_closed = may.batch_closed;
+          waited = may.waited;
+          given = rw is (taken_prefix sent all);
+          whole = λ ok. rw (is, well ok) (take-length all);
+          swallowed = λ none. let has = device in cc;
+        }
+
+    pub may_read : (cut : Option Cut) (o : Option Reading) → is_out books.log i ≡ true → list_any (is_turn_of i) (since_lease books.log i) ≡ false →
+        MayReadNow books.log i → IsSomeAnd o (λ reading. IfSome cut (λ cut. AreNew books.log i reading.stream reading.took cut.new)) →
+        IsSomeAnd o (MayNoteRead books.log i cut)
+    may_read cut None out once may lines = lines
+    may_read cut (Some reading) out once may lines = record {
+      row = record {
+        turn = record { source = may.source; out = out; readable = may.readable; once = once };
+        generated = read_from_port books.log i reading.stream reading.took device;
+      };
+      left = left_out books.log i stands.legal out;
+      lines = lines;
+    }
+
+-- WHAT IS HANDED BACK CLOSED
+module _ {P : Type 0} (told_by : P → Told) (h : Record) (i : ℕ) (port shut : P) (does : Role) (closed : IsClosedBy (told_by port) (told_by shut)) where
+  still_told : IsToldButGiven (told_by port) h i → IsToldButGiven (told_by shut) h i
+  still_told told =
+      told_closed (record (told_by port) { given = None }) (record (told_by shut) { given = None }) h i (assumption closed.bytes) (assumption closed.counts) told
+
+  still_home : (starved : Bool) → IsAtHomeBut told_by starved h i (record { port = port; role = does }) →
+      IsAtHomeBut told_by starved h i (record { port = shut; role = does })
+  still_home true home = (still_told home.0, home.1)
+  still_home false home = record { told = told_closed (told_by port) (told_by shut) h i closed.bytes closed.counts home.told; come = home.come }
+
+  pub back_shut : (f : Facts) → IsBack told_by f h i (record { port = port; role = does }) → IsBack told_by f h i (record { port = shut; role = does })
+  back_shut f back = assumption (still_home f.starved back.task_is, closed.shut)

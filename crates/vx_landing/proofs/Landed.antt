@@ -1,388 +1,418 @@
 -- What was done was noted, and the task can come home.
-use Rattle.std.proofs.Common.{◌≡◌, ◌≢◌, ◌∙◌, ℕ, ◌<◌, Bool, true, false, List, [], ◌∷◌, length, Option, Some, None, IfSome, IsSome, IsSomeAnd, refl, sym, ap, subst}
+use Rattle.std.proofs.Common.{◌≡◌, ◌⊎◌, ◌∙◌, ℕ, ◌<◌, Bool, true, false, [], ◌∷◌, length, Option, Some, None, IfSome, IsSomeAnd, refl, sym, ap, inl, inr}
 use Rattle.std.specs.Prelude.{◌&&◌, nat_lt, slice_get, take, if◌then◌else◌}
+use Rattle.std.specs.Option.{is_none}
+use Rattle.std.proofs.lemmas.List.{append-nil}
 use Rattle.vx_ends.specs.Told.{Told}
-use Rattle.vx_value.specs.Texts.{Word}
+use Rattle.vx_ends.specs.declared.trouble.Reply.{Reply}
+use Rattle.vx_ledger.specs.declared.short.Short.{Short}
 use Rattle.vx_record.specs.declared.entry.Entry.{Entry}
 use Rattle.vx_record.specs.declared.entry.Entry.TheVariants as entry
+use Rattle.vx_record.specs.declared.taken.Taken.{Taken}
 use Rattle.vx_record.specs.Records.{Record, capped}
 use Rattle.vx_record.specs.Abandoning.{abandoned}
 use Rattle.vx_record.specs.Additions.{OnlyAdds}
 use Rattle.vx_record.specs.Ceasing.{cause_of}
 use Rattle.vx_record.specs.Confirms.{last_confirm, due}
+use Rattle.vx_record.specs.Copies.{counting, joined, next_copy}
 use Rattle.vx_record.specs.Installs.{is_closed, started}
-use Rattle.vx_record.specs.Legal.{Follows}
-use Rattle.vx_status.specs.declared.outcome.Outcome.{Outcome}
-use Rattle.vx_moves.specs.Spends.{IsSpendOf}
+use Rattle.vx_record.specs.Lists.{held}
 use Rattle.vx_record.specs.Makers.{IsFor}
 use Rattle.vx_record.specs.Owing.{owes}
 use Rattle.vx_record.specs.Places.Place.{Held}
 use Rattle.vx_record.specs.Reads.{bytes_taken}
-use Rattle.vx_record.specs.Sourcing.{failed_starts}
 use Rattle.vx_record.specs.Shifts.{at}
+use Rattle.vx_record.specs.Sourcing.{failed_starts, yield, must_wait}
 use Rattle.vx_record.specs.Turns.{is_out, at_lease}
-use Rattle.vx_record.proofs.Adding.{adds_both, adds_none, carry}
+use Rattle.vx_record.proofs.Adding.{adds_none}
 use Rattle.vx_record.proofs.Ceasing.{unabandoned}
 use Rattle.vx_record.proofs.Shifting.{stands_at}
-use Rattle.vx_record.specs.Copies.{joined}
-use Rattle.vx_record.specs.Lists.{held}
-use Rattle.vx_ends.specs.declared.trouble.Reply.{Reply}
-use Rattle.vx_moves.specs.Leaving.{Leaves}
-use Rattle.vx_places.specs.Views.{parcels_here}
+use Rattle.vx_places.specs.Rooms.{SameRooms}
+use Rattle.vx_counts.proofs.Once.{itself}
+use Rattle.vx_sourcecore.specs.Abreast.{IsCutOf}
+use Rattle.vx_sourcecore.specs.declared.source.Cut.{Cut}
 use Rattle.vx_sourcecore.specs.declared.source.Turned.{Turned}
 use Rattle.vx_sourcecore.specs.declared.source.Turned.TheVariants as turned
-use Rattle.vx_sourcecore.specs.Turns.{reading_of}
 use Rattle.vx_sourcecore.specs.Laws.{IsUnread}
+use Rattle.vx_sourcecore.specs.Turns.{Reading, reading_of, cut_of}
 use Rattle.vx_sourcecore.proofs.Keeping.{abreast_under}
+use Rattle.vx_tasks.specs.declared.landing.Done.{Done}
 use Rattle.vx_tasks.specs.declared.landing.Done.TheVariants as done
 use Rattle.vx_tasks.specs.declared.task.Role.{Role}
 use Rattle.vx_tasks.specs.declared.task.Role.TheVariants as role
 use Rattle.vx_tasks.specs.declared.task.Task.{Task}
 use Rattle.vx_tasks.specs.Home.{HasCome}
-use Rattle.vx_tasks.specs.Out.{HasRoleTurned, is_unfit, turn_entry}
-use Rattle.vx_tasks.specs.Telling.{IsTold, IsToldButGiven}
-use Rattle.vx_seats.specs.Calls.{IsBack}
+use Rattle.vx_tasks.specs.Out.{HasRoleTurned, is_unfit, lacks_cut, read_entry, turn_entry}
+use Rattle.vx_tasks.specs.Telling.{IsTold}
+use Rattle.vx_seats.specs.Calls.{IsBack, HasTaskBack}
 use Rattle.vx_seats.specs.declared.seat.Seat.{Seat}
-use Rattle.vx_seats.specs.Knowing.{IsKnown, IsAtHomeBut}
+use Rattle.vx_seats.specs.Knowing.{IsKnown}
+use Rattle.vx_seats.specs.Staying as staying
 use Rattle.vx_seats.proofs.Owing.{owes_still}
 use Rattle.vx_seats.proofs.Telling.{told_mute, come_mute}
-use Rattle.vx_places.specs.Rooms.{rooms_at, held_room}
-use Rattle.vx_places.specs.declared.row.Row.{Row}
-use Rattle.vx_moves.specs.declared.run.Run.{Run}
+use Rattle.vx_moves.specs.Bearing.{IsBirthShort}
 use Rattle.vx_moves.specs.declared.books.Books.{Books}
-use Rattle.vx_moves.specs.Returns.{AreSettled}
+use Rattle.vx_moves.specs.declared.run.Run.{Run}
+use Rattle.vx_moves.specs.Leaving.{Leaves}
+use Rattle.vx_moves.specs.Returns.{AreSettled, IsReturned}
 use Rattle.vx_moves.specs.Stands.{Stands}
-use Rattle.vx_landing.specs.Landings.{ComesBehind, IsBackWith, LandsOn, HasLanded, HasNoted, HasSpentBy, IsMarked, IsWellLanded, outcome_of}
+use Rattle.vx_landing.specs.Failures.{LacksBirth}
+use Rattle.vx_landing.specs.Landings.{ComesBehind, HasBorneCut, HasLanded, HasNoted, HasNotedRead, HasSpentBy, IsBackWith, IsMarked, IsOwingNow, IsWellLanded, LandsOn, Owes, outcome_of}
 use Rattle.vx_landing.specs.Standing.{IsWellAt, IsFedAt}
-use Rattle.vx_landing.proofs.Answering.{still_kept}
-use Rattle.vx_landing.proofs.Settling.{settled_by, owes_attempted}
-use Rattle.vx_landing.proofs.Yielding.{leaves_both, spends_behind}
-use Rattle.vx_landing.proofs.Seating.{lands_as, well_on, fed_well, flags_here, others_one}
+use Rattle.vx_landing.proofs.Answering.{adds_step, for_own, leaves_both, spends_behind}
+use Rattle.vx_landing.proofs.Lending.{kept_on}
+use Rattle.vx_landing.proofs.Owing.{lacks_birth, owes_attempted, owes_barren, owes_borne, settled_by, spends_keep, uncaused}
+use Rattle.vx_landing.proofs.Seating.{LeavesBe, NowOwes, NowStarves, be_both, be_here, be_stays, both_are, both_said, carried, carried_one, fed_well, lands, others_both, others_one, well_on}
 
--- a run that wasn't given up has no cause
-pub uncaused : (h : Record) → abandoned h ≡ false → cause_of h ≡ None
-uncaused [] going = refl
-uncaused (entry.Abandon cause ∷ h) going = cc
-uncaused (e ∷ h) going = uncaused h going
-
--- A TASK THAT COMES HOME
-pub useful : (r : Role) → is_unfit r ≡ false → r ≢ role.Unfit
-useful (role.Source core) fit is = cc
-useful (role.Sink codec) fit is = cc
-useful role.Unfit fit is = cc
-
+-- WHAT A TASK DOES
 pub come_under : (r : Role) (h : Record) (e : Entry) (i : ℕ) → IsUnread e → HasCome h i r → HasCome (e ∷ h) i r
 come_under (role.Source core) h e i unread come = abreast_under h e i core unread come
 come_under (role.Sink codec) h (entry.Install version plan once instances now) i unread come = absurd unread
 come_under (role.Sink codec) h e i unread come = come
+come_under (role.Transform picker) h (entry.Install version plan once instances now) i unread come = absurd unread
+come_under (role.Transform picker) h e i unread come = come
 come_under role.Unfit h e i unread come = tt
 
--- an entry of a turn that took nothing
-abbrev pub TakesNothing : Entry → Type 0
-TakesNothing (entry.Idle i failed) = Unit {0}
-TakesNothing (entry.SourceLost i at failed) = Unit {0}
-TakesNothing e = ⊥
+-- a turn that took nothing leaves it where it was
+role_idle : (r : Role) (h : Record) (i : ℕ) (took : Turned) → reading_of took ≡ None → HasRoleTurned h i r took → HasCome h i r
+role_idle (role.Source core) h i took none turned = rw none at turned
+role_idle (role.Sink codec) h i took none turned = absurd turned
+role_idle (role.Transform picker) h i took none turned = absurd turned
+role_idle role.Unfit h i took none turned = tt
 
-pub failed_takes : (h : Record) (i : ℕ) (at_start : Bool) → TakesNothing (turn_entry h i (turned.Failed at_start))
-failed_takes h i at_start = go (at_start && nat_lt (failed_starts h i) 4)
-  where
-    go : (b : Bool) → TakesNothing (if b then entry.Idle i true else entry.SourceLost i (capped (bytes_taken h i)) at_start)
-    go true = tt
-    go false = tt
+-- whoever reads is a source where what it read was cut
+role_cut : (r : Role) (h : Record) (i : ℕ) (took : Turned) (reading : Reading) (cut : Cut) → reading_of took ≡ Some reading → cut_of took ≡ Some cut →
+    HasRoleTurned h i r took → is_unfit r ≡ lacks_cut took →
+    HasCome (entry.Read i reading.stream reading.took ∷ h) i r × (IsCutOf h i reading.stream reading.took cut × (is_unfit r ≡ false))
+role_cut (role.Source core) h i took reading cut reads cuts turned fit = let both = rw (reads, cuts) at turned in (both.0, (both.1, refl))
+role_cut (role.Sink codec) h i took reading cut reads cuts turned fit = absurd turned
+role_cut (role.Transform picker) h i took reading cut reads cuts turned fit = absurd turned
+role_cut role.Unfit h i took reading cut reads cuts turned fit = let no = rw (reads, cuts) at fit in cc
 
-module _ {P : Type 0} (told_by : P → Told) where
-  -- a task as the record has it, which owes nothing to it
-  pub record IsComeTo (h : Record) (i : ℕ) (task : Task P) : Type 0 where
-    pub told : IsTold (told_by task.port) h i
-    pub come : HasCome h i task.role
-    pub settled : cause_of h ≡ None → owes h i ≡ false
-    pub answered : last_confirm h i ≡ due (at_lease h i) i
-    pub shut : is_closed h i ≡ true → (told_by task.port).started ≡ false
-    pub fit : is_unfit task.role ≡ false
+-- and it is of no use any more where it wasn't
+role_uncut : (r : Role) (h : Record) (i : ℕ) (took : Turned) (reading : Reading) → reading_of took ≡ Some reading → cut_of took ≡ None →
+    is_unfit r ≡ lacks_cut took → HasCome h i r
+role_uncut (role.Source core) h i took reading reads cuts fit = let no = rw (reads, cuts) at fit in cc
+role_uncut (role.Sink codec) h i took reading reads cuts fit = let no = rw (reads, cuts) at fit in cc
+role_uncut (role.Transform picker) h i took reading reads cuts fit = let no = rw (reads, cuts) at fit in cc
+role_uncut role.Unfit h i took reading reads cuts fit = tt
 
-  -- so far it has come, but for what it owes
-  pub record IsAnsweredBy (h : Record) (i : ℕ) (task : Task P) : Type 0 where
-    pub out : is_out h i ≡ true
-    pub unclosed : is_closed h i ≡ false
-    pub told : IsTold (told_by task.port) h i
-    pub come : HasCome h i task.role
-    pub answered : last_confirm h i ≡ due (at_lease h i) i
+-- what a turn read is told by its entry
+entry_of : (h : Record) (i : ℕ) (took : Turned) {reading : Reading} → reading_of took ≡ Some reading →
+    turn_entry h i took ≡ entry.Read i reading.stream reading.took
+entry_of h i turned.Idle is = cc
+entry_of h i (turned.Failed at_start) is = cc
+entry_of h i took is = ap (read_entry i) is
 
-  back_well : (h : Record) (i : ℕ) (task : Task P) (o : Option (Seat P)) → IfSome o (λ seat. IsKnown told_by seat h i) → IfSome o IsWellAt → IsComeTo h i task → IfSome o (λ seat. IsBack told_by seat.facts h i task)
-  back_well h i task None known well comes = tt
-  back_well h i task (Some seat) known well comes = record {
-    settled = λ none going. comes.settled going;
-    answered = λ device none going. comes.answered;
-    task_is = subst (λ (b : Bool). IsAtHomeBut told_by b h i task) (sym well.fed) (record { told = comes.told; come = comes.come });
-    shut = λ closed. comes.shut (sym known.facts.closed ∙ closed);
-    fit = λ counted. useful task.role comes.fit;
-  }
+-- what was cut is what the read yields
+yields_cut : (h : Record) (i : ℕ) {stream : ℕ} (reading : Reading) (cut : Cut) → reading.stream ≡ stream → IsCutOf h i reading.stream reading.took cut →
+    0 < length cut.events → yield (entry.Read i reading.stream reading.took ∷ h) i ≡ Some (record { events = cut.events; stream = stream; end = cut.end })
+yields_cut h i reading cut same is some =
+    rw (itself i) (λ t. Some (record { events = sym is.events t; stream = (sym (is.of_stream some) ∙ same) t; end = sym (is.end some) t }))
 
-  -- so it is home where all is well
-  pub landed_well : (i : ℕ) (task : Task P) (old new : Books P) → Stands told_by new → OnlyAdds (IsFor i) old.log new.log → LandsOn i old new → is_out new.log i ≡ true → IsSome (parcels_here new.places (Held i)) →
-      IfSome (slice_get new.seats i) IsWellAt → IsComeTo new.log i task → AreSettled new.log i → HasLanded told_by i task old new
-  landed_well i task old new stands only leaves out kept well comes settled = record {
-    stands = stands;
+-- a read spends nothing
+settled_read : (h : Record) (i stream : ℕ) (took : Taken) → AreSettled h i → AreSettled (entry.Read i stream took ∷ h) i
+settled_read h i stream took settled going c some = rw append-nil (settled going c some)
+
+some_of : {A : Type 0} (F : A → Type 0) (o : Option A) → IsSomeAnd o F → (x : A) × ((o ≡ Some x) × F x)
+some_of F None is = absurd is
+some_of F (Some x) is = (x, (refl, is))
+
+-- A TASK THAT COMES HOME
+-- a task as the record has it, but for what it owes to it
+pub record IsArrived {P : Type 0} (told_by : P → Told) (h : Record) (i : ℕ) (task : Task P) : Type 0 where
+  pub out : is_out h i ≡ true
+  pub told : IsTold (told_by task.port) h i
+  pub come : HasCome h i task.role
+  pub answered : last_confirm h i ≡ due (at_lease h i) i
+  pub shut : is_closed h i ≡ true → (told_by task.port).started ≡ false
+  pub fit : is_unfit task.role ≡ false
+
+-- what its instance owes isn't known any more
+record IsOwing {P : Type 0} (task : Task P) (seat : Seat P) : Type 0 where
+  owing : seat.facts.owing ≡ true
+  fed : seat.facts.starved ≡ false
+  fit : seat.facts.behind ≡ false → is_unfit task.role ≡ false
+
+module _ {P : Type 0} {told_by : P → Told} {i : ℕ} {task : Task P} {old : Books P} {outcome : Done}
+    (stands : Stands told_by old) (within : i < length old.seats) (b : IsBackWith told_by old i task outcome) where
+  landed_by : {h : Record} {new : Books P} → new.log ≡ h → Stands told_by new → OnlyAdds (IsFor i) old.log new.log → LandsOn i old new → is_out h i ≡ true →
+      HasTaskBack told_by new.seats h i task → (new.run.short ≡ false → IsReturned h i) → HasLanded told_by i task old new
+  landed_by {h} {new} log now only leaves out back returned = record {
+    stands = now;
     only = only;
     leaves = leaves;
-    out = out;
-    kept = kept;
-    back = back_well new.log i task (slice_get new.seats i) (stands.seats.each i) well comes;
-    returned = λ fed. record { settled = settled; told = comes.answered };
+    out = rw log out;
+    kept = kept_on old.places new.places i (rw stands.size within) leaves.rooms b.kept;
+    back = rw log back;
+    returned = λ fed. rw log (returned fed);
   }
 
-  -- NOTHING WAS DONE
-  same_leaves : (i : ℕ) (books : Books P) → IfSome (slice_get books.seats i) IsWellAt → LandsOn i books books
-  same_leaves i books well = record {
-    size = refl;
-    rooms = λ j. (refl, refl);
-    run = refl;
-    short = λ is. is;
-    others = λ j other. flags_here (slice_get books.seats j);
-    fed = λ is. fed_well (slice_get books.seats i) well;
-  }
+  -- all is well
+  landed_well : {h : Record} {new : Books P} → new.log ≡ h → Stands told_by new → OnlyAdds (IsFor i) old.log new.log → LeavesBe i old new →
+      IfSome (slice_get new.seats i) IsWellAt → IsArrived told_by h i task → (cause_of h ≡ None → owes h i ≡ false) → HasLanded told_by i task old new
+  landed_well {h} {new} log now only be well arrived settled =
+      landed_by log now only (lands be (fed_well (slice_get new.seats i) well)) arrived.out
+      (both_said (λ seat. IsKnown told_by seat h i) IsWellAt (λ seat. IsBack told_by seat.facts h i task) (slice_get new.seats i)
+      (rw log at (now.seats.each i)) well (λ seat known well. record {
+        settled = λ owing. settled;
+        answered = λ device owing going. arrived.answered;
+        task_is = rw well.fed (record { told = arrived.told; come = arrived.come });
+        shut = λ closed. arrived.shut (sym known.facts.closed ∙ closed);
+        fit = λ counted unfit. let no = rw unfit at arrived.fit in cc;
+      }))
+      (λ fed. record { settled = λ going. settled_by h i (settled (uncaused h going)) going; told = arrived.answered })
 
-  pub landed_nothing : (i : ℕ) (task : Task P) (books : Books P) → Stands told_by books → IsBackWith told_by books i task done.Nothing → HasLanded told_by i task books books
-  landed_nothing i task books stands b =
-      landed_well i task books books stands (adds_none (IsFor i) books.log books.log refl) (same_leaves i books b.well) b.out b.kept b.well
-      (record { told = b.told; come = b.acted; settled = λ going. b.settled; answered = b.answered; shut = λ closed. cc; fit = b.fit })
-      (settled_by books.log i b.settled)
+  -- so it is behind one entry
+  landed_noted : {e : Entry} {new : Books P} → HasNoted told_by i e old new → IsArrived told_by (e ∷ old.log) i task → owes (e ∷ old.log) i ≡ false →
+      HasLanded told_by i task old new
+  landed_noted noted arrived none = landed_well noted.steps.noted noted.steps.stands noted.only (be_stays noted.leaves noted.steps.size) (well_on i noted.leaves b.well) arrived (λ going. none)
 
-  -- AN ENTRY WAS NOTED, AND ALL IS WELL
-  landed_noted : (i : ℕ) (e : Entry) (task : Task P) (old new : Books P) → Stands told_by old → i < length old.seats → HasNoted told_by i e old new → IfSome (slice_get old.seats i) IsWellAt →
-      IsSome (parcels_here old.places (Held i)) → is_out (e ∷ old.log) i ≡ true → IsComeTo (e ∷ old.log) i task → AreSettled (e ∷ old.log) i → HasLanded told_by i task old new
-  landed_noted i e task old new stands within noted well kept out comes settled =
-      let log = noted.steps.noted in
-      landed_well i task old new noted.steps.stands noted.only (lands_as i old new noted.leaves noted.steps.size well)
-      (ap (λ (h : Record). is_out h i) log ∙ out) (still_kept told_by i e old new stands within noted kept) (well_on i old.seats new.seats noted.leaves.seats well)
-      (subst (λ (h : Record). IsComeTo h i task) (sym log) comes) (subst (λ (h : Record). AreSettled h i) (sym log) settled)
-
-  pub landed_closed : (i : ℕ) (task : Task P) (old new : Books P) → Stands told_by old → i < length old.seats → IsBackWith told_by old i task done.Closed → HasNoted told_by i (entry.Closed i) old new → HasLanded told_by i task old new
-  landed_closed i task old new stands within b noted =
-      let e = entry.Closed i in
-      let owes_none = owes_still old.log e i tt b.settled in
-      landed_noted i e task old new stands within noted b.well b.kept b.out
-      (record {
-        told = told_mute (told_by task.port) old.log e i tt b.told;
-        come = come_mute task.role old.log e i tt b.acted.come;
-        settled = λ going. owes_none;
-        answered = b.answered;
-        shut = λ closed. b.acted.shut;
-        fit = b.fit;
+  -- memory was wanting
+  back_owing : {h : Record} {new : Books P} → new.log ≡ h → Stands told_by new → IsTold (told_by task.port) h i → HasCome h i task.role →
+      is_closed h i ≡ false → IfSome (slice_get new.seats i) (IsOwing task) → HasTaskBack told_by new.seats h i task
+  back_owing {h} {new} log now told come unclosed owing =
+      both_said (λ seat. IsKnown told_by seat h i) (IsOwing task) (λ seat. IsBack told_by seat.facts h i task) (slice_get new.seats i)
+      (rw log at (now.seats.each i)) owing (λ seat known owes. record {
+        settled = λ none going. let some = owes.owing in cc;
+        answered = λ device none going. let some = owes.owing in cc;
+        task_is = rw owes.fed (record { told = told; come = come });
+        shut = λ closed. let is : is_closed h i ≡ true = sym known.facts.closed ∙ closed in cc;
+        fit = λ counted unfit. let no = rw unfit at (owes.fit counted) in cc;
       })
-      (settled_by (e ∷ old.log) i owes_none)
+
+  landed_marked : {h : Record} {mid new : Books P} {Marks : Seat P → Seat P → Type 0} → mid.log ≡ h → Stands told_by mid → OnlyAdds (IsFor i) old.log mid.log →
+      LeavesBe i old mid → IsMarked told_by Marks i mid new → is_out h i ≡ true → HasTaskBack told_by new.seats h i task → HasLanded told_by i task old new
+  landed_marked {h} {mid} {new} {Marks} log now only be marked out back =
+      let short : new.run.short ≡ true = ap (λ (r : Run). r.short) marked.run in
+      landed_by (marked.log ∙ log) marked.stands (rw marked.log only)
+      (record {
+        size = marked.stands.seats.size ∙ (ap (λ (h : Record). length (started h)) marked.log ∙ sym now.seats.size) ∙ be.size;
+        rooms = rw marked.places be.rooms;
+        run = rw (marked.run, be.run) refl;
+        short = λ was. short;
+        others = others_both old.seats mid.seats new.seats be.others (others_one Marks i mid.seats new.seats marked.seats);
+        fed = λ fed. cc;
+      })
+      out back (λ fed. cc)
+
+-- WHAT WAS DONE
+module _ {P : Type 0} {told_by : P → Told} {i : ℕ} {task : Task P} {old : Books P} (stands : Stands told_by old) (within : i < length old.seats) where
+  pub landed_nothing : IsBackWith told_by old i task done.Nothing → HasLanded told_by i task old old
+  landed_nothing b =
+      landed_well stands within b refl stands (adds_none (IsFor i) old.log old.log refl) be_here b.well
+      (record { out = b.out; told = b.told; come = b.acted; answered = b.answered; shut = λ closed. cc; fit = b.fit }) (λ going. b.settled)
+
+  pub landed_closed : {new : Books P} → IsBackWith told_by old i task done.Closed → HasNoted told_by i (entry.Closed i) old new →
+      HasLanded told_by i task old new
+  landed_closed b noted =
+      let told = told_mute (told_by task.port) old.log (entry.Closed i) i tt b.told in
+      let come = come_mute task.role old.log (entry.Closed i) i tt b.acted.come in
+      landed_noted stands within b noted
+      (record { out = b.out; told = told; come = come; answered = b.answered; shut = λ closed. b.acted.shut; fit = b.fit })
+      (owes_still old.log (entry.Closed i) i tt b.settled)
 
   -- a turn that took nothing
-  role_idle : (r : Role) (h : Record) (i : ℕ) (took : Turned) → reading_of took ≡ None → HasRoleTurned h i r took → HasCome h i r
-  role_idle (role.Source core) h i turned.Idle none come = come
-  role_idle (role.Source core) h i (turned.Failed at_start) none come = come
-  role_idle (role.Source core) h i (turned.Lines stream n room cut) none come = cc
-  role_idle (role.Source core) h i (turned.StreamEnded stream cut) none come = cc
-  role_idle (role.Source core) h i (turned.AllEnded stream cut) none come = cc
-  role_idle (role.Sink codec) h i took none come = absurd come
-  role_idle role.Unfit h i took none come = tt
+  landed_idle_by : {took : Turned} {failed : Bool} {new : Books P} → reading_of took ≡ None → is_unfit task.role ≡ false →
+      IsTold (told_by task.port) (entry.Idle i failed ∷ old.log) i → IsBackWith told_by old i task (done.Read took) →
+      HasNoted told_by i (entry.Idle i failed) old new → HasLanded told_by i task old new
+  landed_idle_by {took} {failed} none fit told b noted =
+      let come = come_under task.role old.log (entry.Idle i failed) i tt (role_idle task.role old.log i took none b.acted.come) in
+      landed_noted stands within b noted (record { out = b.out; told = told; come = come; answered = b.answered; shut = λ closed. cc; fit = fit })
+      (owes_still old.log (entry.Idle i failed) i tt b.settled)
 
-  landed_turn : (i : ℕ) (e : Entry) (task : Task P) (old new : Books P) → TakesNothing e → Stands told_by old → i < length old.seats → IfSome (slice_get old.seats i) IsWellAt → IsSome (parcels_here old.places (Held i)) →
-      is_out old.log i ≡ true → is_closed old.log i ≡ false → owes old.log i ≡ false → last_confirm old.log i ≡ due (at_lease old.log i) i → is_unfit task.role ≡ false → IsTold (told_by task.port) (e ∷ old.log) i →
-      HasCome old.log i task.role → HasNoted told_by i e old new → HasLanded told_by i task old new
-  landed_turn i (entry.Idle j failed) task old new takes stands within well kept out unclosed owing answered fit told come noted =
-      let e = entry.Idle j failed in
-      let owes_none = owes_still old.log e i tt owing in
-      landed_noted i e task old new stands within noted well kept out
-      (record { told = told; come = come_under task.role old.log e i tt come; settled = λ going. owes_none; answered = answered; shut = λ closed. cc; fit = fit })
-      (settled_by (e ∷ old.log) i owes_none)
-  landed_turn i (entry.SourceLost j at_byte failed) task old new takes stands within well kept out unclosed owing answered fit told come noted =
-      let e = entry.SourceLost j at_byte failed in
-      let owes_none = owes_still old.log e i tt owing in
-      landed_noted i e task old new stands within noted well kept out
-      (record { told = told; come = come_under task.role old.log e i tt come; settled = λ going. owes_none; answered = answered; shut = λ closed. cc; fit = fit })
-      (settled_by (e ∷ old.log) i owes_none)
-  landed_turn i e task old new takes stands within well kept out unclosed owing answered fit told come noted = absurd takes
+  pub landed_idle : {new : Books P} → IsBackWith told_by old i task (done.Read turned.Idle) → HasNoted told_by i (entry.Idle i false) old new →
+      HasLanded told_by i task old new
+  landed_idle b = landed_idle_by refl b.fit b.told b
 
-  pub landed_idle : (i : ℕ) (task : Task P) (old new : Books P) → Stands told_by old → i < length old.seats → IsBackWith told_by old i task (done.Read turned.Idle) → HasNoted told_by i (entry.Idle i false) old new → HasLanded told_by i task old new
-  landed_idle i task old new stands within b noted =
-      landed_turn i (entry.Idle i false) task old new tt stands within b.well b.kept b.out b.unclosed b.settled b.answered b.fit b.told (role_idle task.role old.log i turned.Idle refl b.acted.come) noted
-
-  pub landed_failed : (i : ℕ) (at_start : Bool) (task : Task P) (old new : Books P) → Stands told_by old → i < length old.seats → IsBackWith told_by old i task (done.Read (turned.Failed at_start)) →
+  pub landed_failed : {at_start : Bool} {new : Books P} → IsBackWith told_by old i task (done.Read (turned.Failed at_start)) →
       HasNoted told_by i (turn_entry old.log i (turned.Failed at_start)) old new → HasLanded told_by i task old new
-  landed_failed i at_start task old new stands within b noted =
-      landed_turn i (turn_entry old.log i (turned.Failed at_start)) task old new (failed_takes old.log i at_start) stands within b.well b.kept b.out b.unclosed b.settled b.answered b.fit b.told
-      (role_idle task.role old.log i (turned.Failed at_start) refl b.acted.come) noted
+  landed_failed {at_start} {new} b = go (at_start && nat_lt (failed_starts old.log i) 4) b.told
+    where
+      go : (again : Bool) → IsTold (told_by task.port) ((if again then entry.Idle i true else entry.SourceLost i (capped (bytes_taken old.log i)) at_start) ∷ old.log) i →
+          HasNoted told_by i (if again then entry.Idle i true else entry.SourceLost i (capped (bytes_taken old.log i)) at_start) old new → HasLanded told_by i task old new
+      go true told noted = landed_idle_by refl b.fit told b noted
+      go false told noted =
+          let e = entry.SourceLost i (capped (bytes_taken old.log i)) at_start in
+          let come = come_under task.role old.log e i tt (role_idle task.role old.log i (turned.Failed at_start) refl b.acted.come) in
+          landed_noted stands within b noted (record { out = b.out; told = told; come = come; answered = b.answered; shut = λ closed. cc; fit = b.fit })
+          (owes_still old.log e i tt b.settled)
 
-  -- MEMORY WAS WANTING
-  back_short : (h : Record) (i : ℕ) (task : Task P) (o n : Option (Seat P)) → IfSome n (λ seat. IsKnown told_by seat h i) → IfSome o IsWellAt →
-      IsSomeAnd o (λ was. IsSomeAnd n (λ is. is ≡ record was { facts = record was.facts { owing = true } })) → IsTold (told_by task.port) h i → HasCome h i task.role → is_closed h i ≡ false → is_unfit task.role ≡ false →
-      IfSome n (λ seat. IsBack told_by seat.facts h i task) × IfSome n IsFedAt
-  back_short h i task None n known well marks told come unclosed fit = absurd marks
-  back_short h i task (Some was) None known well marks told come unclosed fit = absurd marks
-  back_short h i task (Some was) (Some is) known well marks told come unclosed fit =
-      let starved : is.facts.starved ≡ false = ap (λ (s : Seat P). s.facts.starved) marks ∙ well.fed in
-      let owing : is.facts.owing ≡ true = ap (λ (s : Seat P). s.facts.owing) marks in (
-        record {
-          settled = λ none going. cc;
-          answered = λ device none going. cc;
-          task_is = subst (λ (b : Bool). IsAtHomeBut told_by b h i task) (sym starved) (record { told = told; come = come });
-          shut = λ closed. let c : is_closed h i ≡ true = sym known.facts.closed ∙ closed in cc;
-          fit = λ counted. useful task.role fit;
-        },
-        record { counted = ap (λ (s : Seat P). s.facts.behind) marks ∙ well.counted; fed = starved },
-      )
+  -- memory was wanting for the confirm or the work, or in the midst of an attempt
+  pub landed_short : {new : Books P} → IsBackWith told_by old i task done.Short → IsMarked told_by NowOwes i old new → HasLanded told_by i task old new
+  landed_short b marked =
+      landed_marked stands within b refl stands (adds_none (IsFor i) old.log old.log refl) be_here marked b.out
+      (back_owing stands within b marked.log marked.stands b.told b.acted b.unclosed
+      (carried_one IsWellAt (IsOwing task) marked.seats b.well (λ was is now well. rw now (record { owing = refl; fed = well.fed; fit = λ counted. b.fit }))))
 
-  back_starved : (h : Record) (i : ℕ) (task : Task P) (o n : Option (Seat P)) → IfSome n (λ seat. IsKnown told_by seat h i) → IfSome o IsWellAt →
-      IsSomeAnd o (λ was. IsSomeAnd n (λ is. is ≡ record was { facts = record was.facts { starved = true } })) → IsToldButGiven (told_by task.port) h i → HasCome h i task.role →
-      owes h i ≡ false → last_confirm h i ≡ due (at_lease h i) i → (told_by task.port).started ≡ false → is_unfit task.role ≡ false →
-      IfSome n (λ seat. IsBack told_by seat.facts h i task)
-  back_starved h i task None n known well marks told come settled answered shut fit = absurd marks
-  back_starved h i task (Some was) None known well marks told come settled answered shut fit = absurd marks
-  back_starved h i task (Some was) (Some is) known well marks told come settled answered shut fit =
-      let starved : is.facts.starved ≡ true = ap (λ (s : Seat P). s.facts.starved) marks in
-      record {
-        settled = λ none going. settled;
-        answered = λ device none going. answered;
-        task_is = subst (λ (b : Bool). IsAtHomeBut told_by b h i task) (sym starved) (told, come);
-        shut = λ closed. shut;
-        fit = λ counted. useful task.role fit;
-      }
-
-  marked_leaves : (Marks : Seat P → Seat P → Type 0) (i : ℕ) (old new : Books P) → IsMarked told_by Marks i old new → length new.seats ≡ length old.seats → LandsOn i old new
-  marked_leaves Marks i old new marked size =
-      let short : new.run.short ≡ true = ap (λ (r : Run). r.short) marked.run in
-      record {
-        size = size;
-        rooms = λ j. (ap (λ (rows : List Row). rooms_at rows j) marked.places, ap (λ (rows : List Row). held_room rows j) marked.places);
-        run = marked.run ∙ ap (λ (b : Bool). record old.run { short = b }) (sym short);
-        short = λ was. short;
-        others = others_one Marks i old.seats new.seats marked.seats;
-        fed = λ fed. cc;
-      }
-
-  -- the instance owes nothing new in the record, and what holds where memory wasn't wanting says nothing
-  landed_marked : (Marks : Seat P → Seat P → Type 0) (i : ℕ) (task : Task P) (old new : Books P) → IsMarked told_by Marks i old new → length new.seats ≡ length old.seats → is_out old.log i ≡ true →
-      IsSome (parcels_here old.places (Held i)) → IfSome (slice_get new.seats i) (λ seat. IsBack told_by seat.facts new.log i task) → HasLanded told_by i task old new
-  landed_marked Marks i task old new marked size out kept back = record {
-    stands = marked.stands;
-    only = adds_none (IsFor i) old.log new.log marked.log;
-    leaves = marked_leaves Marks i old new marked size;
-    out = ap (λ (h : Record). is_out h i) marked.log ∙ out;
-    kept = subst (λ (rows : List Row). IsSome (parcels_here rows (Held i))) (sym marked.places) kept;
-    back = back;
-    returned = λ fed. let short : new.run.short ≡ true = ap (λ (r : Run). r.short) marked.run in cc;
-  }
-
-  -- as many seats as before
-  pub seats_as : (old new : Books P) → Stands told_by old → Stands told_by new → new.log ≡ old.log → length new.seats ≡ length old.seats
-  seats_as old new before after log = after.seats.size ∙ (ap (λ (h : Record). length (started h)) log ∙ sym before.seats.size)
-
-  pub landed_short : (i : ℕ) (task : Task P) (old new : Books P) → Stands told_by old → IsBackWith told_by old i task done.Short → IsMarked told_by (λ was is. is ≡ record was { facts = record was.facts { owing = true } }) i old new →
-      HasLanded told_by i task old new
-  landed_short i task old new stands b marked =
-      let log = marked.log in
-      landed_marked (λ was is. is ≡ record was { facts = record was.facts { owing = true } }) i task old new marked (seats_as old new stands marked.stands log) b.out b.kept
-      (back_short new.log i task (slice_get old.seats i) (slice_get new.seats i) (marked.stands.seats.each i) b.well marked.seats.one
-      (subst (λ (h : Record). IsTold (told_by task.port) h i) (sym log) b.told) (subst (λ (h : Record). HasCome h i task.role) (sym log) b.acted) (ap (λ (h : Record). is_closed h i) log ∙ b.unclosed) b.fit).0
-
-  pub landed_starved : (i : ℕ) (task : Task P) (old new : Books P) → Stands told_by old → IsBackWith told_by old i task done.Starved → IsMarked told_by (λ was is. is ≡ record was { facts = record was.facts { starved = true } }) i old new →
-      HasLanded told_by i task old new
-  landed_starved i task old new stands b marked =
-      let log = marked.log in
-      landed_marked (λ was is. is ≡ record was { facts = record was.facts { starved = true } }) i task old new marked (seats_as old new stands marked.stands log) b.out b.kept
-      (back_starved new.log i task (slice_get old.seats i) (slice_get new.seats i) (marked.stands.seats.each i) b.well marked.seats.one
-      (subst (λ (h : Record). IsToldButGiven (told_by task.port) h i) (sym log) b.told) (subst (λ (h : Record). HasCome h i task.role) (sym log) b.acted.come)
-      (ap (λ (h : Record). owes h i) log ∙ b.settled) (ap (λ (h : Record). last_confirm h i) log ∙ (b.answered ∙ ap (λ (h : Record). due (at_lease h i) i) (sym log))) b.acted.shut b.fit)
+  pub landed_starved : {new : Books P} → IsBackWith told_by old i task done.Starved → IsMarked told_by NowStarves i old new → HasLanded told_by i task old new
+  landed_starved b marked =
+      landed_marked stands within b refl stands (adds_none (IsFor i) old.log old.log refl) be_here marked b.out
+      (carried_one IsWellAt (λ seat. IsBack told_by seat.facts old.log i task) marked.seats b.well (λ was is now well. rw now (record {
+        settled = λ owing going. b.settled;
+        answered = λ device owing going. b.answered;
+        task_is = (b.told, b.acted.come);
+        shut = λ closed. b.acted.shut;
+        fit = λ counted unfit. let no = rw unfit at b.fit in cc;
+      })))
 
   -- AN ATTEMPT
-  -- what the port tells, how far the task has come and what it answered stay behind spends and notices
-  spent_step : (i j : ℕ) (outcome : Outcome) (task : Task P) (h : Record) (e : Entry) → Follows h e → IsSpendOf j outcome h e → IsAnsweredBy h i task → IsAnsweredBy (e ∷ h) i task
-  spent_step i j outcome task h (entry.Spent k c o) follows kind is = record {
-    out = is.out;
-    unclosed = is.unclosed;
-    told = told_mute (told_by task.port) h (entry.Spent k c o) i tt is.told;
-    come = come_mute task.role h (entry.Spent k c o) i tt is.come;
-    answered = is.answered;
-  }
-  spent_step i j outcome task h (entry.Notice b status) follows kind is = record {
-    out = is.out;
-    unclosed = is.unclosed;
-    told = told_mute (told_by task.port) h (entry.Notice b status) i tt is.told;
-    come = come_mute task.role h (entry.Notice b status) i tt is.come;
-    answered = is.answered;
-  }
-  spent_step i j outcome task h e follows kind is = absurd kind
+  module _ {sent : ℕ} {all : _} {answer : Reply} {new : Books P} (b : IsBackWith told_by old i task (done.Attempted all sent answer))
+      (spent : HasSpentBy told_by i (entry.Attempt i (joined (held old.log i)) (take sent all.value) answer) answer old new) where
+    abbrev tried : Record
+    tried = entry.Attempt i (joined (held old.log i)) (take sent all.value) answer ∷ old.log
 
-  -- what an attempt and its spends leave of the books
-  leaves_spent : (i : ℕ) (e : Entry) (answer : Reply) (old new : Books P) → HasSpentBy told_by i e answer old new → Leaves old new × (length new.seats ≡ length old.seats)
-  leaves_spent i e answer old new spent = go (abandoned old.log) refl
-    where
-      go : (b : Bool) → abandoned old.log ≡ b → Leaves old new × (length new.seats ≡ length old.seats)
-      go true over =
-          subst (λ (books : Books P). Leaves old books × (length books.seats ≡ length old.seats)) (sym (spent.over over)) (spent.noted.leaves, spent.noted.steps.size)
-      go false going =
-          (leaves_both told_by old spent.mid new spent.noted.leaves (spent.spent going).leaves, (spent.spent going).size ∙ spent.noted.steps.size)
-
-  module _ (i sent : ℕ) (all : _) (answer : Reply) (task : Task P) (old new : Books P) (stands : Stands told_by old) (b : IsBackWith told_by old i task (done.Attempted all sent answer)) where
-    abbrev e : Entry
-    e = entry.Attempt i (joined (held old.log i)) (take sent all.value) answer
-
-    tried : IsAnsweredBy (e ∷ old.log) i task
-    tried = record {
+    arrived : IsArrived told_by spent.mid.log i task
+    arrived = rw spent.noted.steps.noted (record {
       out = b.out;
-      unclosed = b.unclosed;
-      told = subst (λ (ps : List (List ℕ)). IsTold (told_by task.port) (entry.Attempt i (joined ps) (take sent all.value) answer ∷ old.log) i) (b.held ∙ sym (stands_at old.log (Held i) stands.legal)) b.told;
-      come = come_under task.role old.log e i tt b.acted.come;
+      told = rw (stands_at old.log (Held i) stands.legal, ← b.held) b.told;
+      come = come_under task.role old.log (entry.Attempt i (joined (held old.log i)) (take sent all.value) answer) i tt b.acted.come;
       answered = b.answered;
-    }
+      shut = λ closed. cc;
+      fit = b.fit;
+    })
 
-    -- and they leave of the task what the attempt made of it
-    module _ (spent : HasSpentBy told_by i e answer old new) where
-      behind : IsAnsweredBy new.log i task
-      behind = go (abandoned old.log) refl
-        where
-          mid : IsAnsweredBy spent.mid.log i task
-          mid = subst (λ (h : Record). IsAnsweredBy h i task) (sym spent.noted.steps.noted) tried
+    -- what the attempt and its spends leave of the books, and of the task
+    record IsTried : Type 0 where
+      leaves : Leaves old new
+      size : length new.seats ≡ length old.seats
+      arrived : IsArrived told_by new.log i task
+      settled : cause_of new.log ≡ None → owes new.log i ≡ false
+      behind : OnlyAdds (ComesBehind i) tried new.log
 
-          go : (over : Bool) → abandoned old.log ≡ over → IsAnsweredBy new.log i task
-          go true over = subst (λ (books : Books P). IsAnsweredBy books.log i task) (sym (spent.over over)) mid
-          go false going =
-              carry (IsSpendOf i (outcome_of answer)) (λ h. IsAnsweredBy h i task) (λ h f follows kind is. spent_step i i (outcome_of answer) task h f follows kind is) spent.mid.log new.log (spent.spent going).only mid
+    is_tried : (over : Bool) → abandoned old.log ≡ over → IsTried
+    is_tried true over =
+        let same = spent.over over in
+        let log = ap (λ (books : Books P). books.log) same ∙ spent.noted.steps.noted in
+        record {
+          leaves = rw same spent.noted.leaves;
+          size = rw same spent.noted.steps.size;
+          arrived = rw same arrived;
+          settled = λ going. let not = rw log at (unabandoned new.log going) in cc;
+          behind = adds_none (ComesBehind i) tried new.log log;
+        }
+    is_tried false going =
+        let spends = spent.spent going in
+        record {
+          leaves = leaves_both spent.noted.leaves spends.leaves;
+          size = spends.size ∙ spent.noted.steps.size;
+          arrived = spends_keep (λ h. IsArrived told_by h i task)
+              (λ h c is. let e = entry.Spent i c (outcome_of answer) in assumption (told_mute (told_by task.port) h e i tt is.told, come_mute task.role h e i tt is.come, is))
+              (λ h batch status is. let e = entry.Notice batch status in assumption (told_mute (told_by task.port) h e i tt is.told, come_mute task.role h e i tt is.come, is))
+              spends.only arrived;
+          settled = λ none. owes_attempted old.log new.log i (joined (held old.log i)) (take sent all.value) answer (outcome_of answer) b.settled
+              (rw spent.noted.steps.noted at spends.only) spent.stands.legal (spent.none going);
+          behind = rw spent.noted.steps.noted at (spends_behind spends);
+        }
 
-      owes_none : cause_of new.log ≡ None → owes new.log i ≡ false
-      owes_none none = go (abandoned old.log) refl
-        where
-          go : (over : Bool) → abandoned old.log ≡ over → owes new.log i ≡ false
-          go true over =
-              let same : new.log ≡ e ∷ old.log = ap (λ (books : Books P). books.log) (spent.over over) ∙ spent.noted.steps.noted in
-              let not : abandoned old.log ≡ false = sym (ap abandoned same) ∙ unabandoned new.log none in cc
-          go false going =
-              owes_attempted old.log new.log i (joined (held old.log i)) (take sent all.value) answer (outcome_of answer) b.settled
-              (subst (λ (h : Record). OnlyAdds (IsSpendOf i (outcome_of answer)) h new.log) spent.noted.steps.noted (spent.spent going).only) spent.stands.legal (spent.none going)
+    pub landed_attempted : HasLanded told_by i task old new
+    landed_attempted =
+        let t = is_tried (abandoned old.log) refl in
+        landed_well stands within b refl spent.stands spent.only (be_stays t.leaves t.size) (well_on i t.leaves b.well) t.arrived t.settled
 
-      settled : AreSettled new.log i
-      settled going = settled_by new.log i (owes_none (uncaused new.log going)) going
+    pub well_attempted : IsWellLanded i old new
+    well_attempted = let t = is_tried (abandoned old.log) refl in record { fed = ap (λ (r : Run). r.short) t.leaves.run; seat = well_on i t.leaves b.well }
 
-      pub landed_attempted : HasLanded told_by i task old new
-      landed_attempted =
-          let leaves = leaves_spent i e answer old new spent in
-          landed_well i task old new spent.stands spent.only (lands_as i old new leaves.0 leaves.1 b.well) behind.out spent.kept (well_on i old.seats new.seats leaves.0.seats b.well)
-          (record { told = behind.told; come = behind.come; settled = owes_none; answered = behind.answered; shut = λ closed. let open_now : is_closed new.log i ≡ false = behind.unclosed in cc; fit = b.fit })
-          settled
+    pub attempt_behind : OnlyAdds (ComesBehind i) (entry.Attempt i (joined (at old.log (Held i))) (take sent all.value) answer ∷ old.log) new.log
+    attempt_behind = rw (stands_at old.log (Held i) stands.legal) at ((is_tried (abandoned old.log) refl).behind)
 
-      pub well_attempted : IsWellLanded i old new
-      well_attempted =
-          let leaves = leaves_spent i e answer old new spent in
-          record { fed = ap (λ (r : Run). r.short) leaves.0.run; seat = well_on i old.seats new.seats leaves.0.seats b.well }
+  -- A READ
+  module _ {took : Turned} (mid : Books P) (b : IsBackWith told_by old i task (done.Read took))
+      (noted : IsSomeAnd (reading_of took) (λ reading. HasNotedRead told_by (is_none (cut_of took)) i (entry.Read i reading.stream reading.took) old mid)) where
+    found : (reading : Reading) × ((reading_of took ≡ Some reading) × HasNotedRead told_by (is_none (cut_of took)) i (entry.Read i reading.stream reading.took) old mid)
+    found = some_of (λ reading. HasNotedRead told_by (is_none (cut_of took)) i (entry.Read i reading.stream reading.took) old mid) (reading_of took) noted
 
-  -- the attempt, and spends behind it
-  pub attempt_behind : (i : ℕ) (gave : Word) (answer : Reply) (old new : Books P) → Stands told_by old → HasSpentBy told_by i (entry.Attempt i (joined (held old.log i)) gave answer) answer old new →
-      OnlyAdds (ComesBehind i) (entry.Attempt i (joined (at old.log (Held i))) gave answer ∷ old.log) new.log
-  attempt_behind i gave answer old new stands spent = go (abandoned old.log) refl
-    where
-      first : spent.mid.log ≡ entry.Attempt i (joined (at old.log (Held i))) gave answer ∷ old.log
-      first = spent.noted.steps.noted ∙ ap (λ (ps : List (List ℕ)). entry.Attempt i (joined ps) gave answer ∷ old.log) (stands_at old.log (Held i) stands.legal)
+    abbrev read : Record
+    read = entry.Read i found.0.stream found.0.took ∷ old.log
 
-      begins : OnlyAdds (ComesBehind i) (entry.Attempt i (joined (at old.log (Held i))) gave answer ∷ old.log) spent.mid.log
-      begins = adds_none (ComesBehind i) (entry.Attempt i (joined (at old.log (Held i))) gave answer ∷ old.log) spent.mid.log first
+    log : mid.log ≡ read
+    log = found.1.1.steps.noted
 
-      go : (b : Bool) → abandoned old.log ≡ b → OnlyAdds (ComesBehind i) (entry.Attempt i (joined (at old.log (Held i))) gave answer ∷ old.log) new.log
-      go true over = subst (λ (books : Books P). OnlyAdds (ComesBehind i) (entry.Attempt i (joined (at old.log (Held i))) gave answer ∷ old.log) books.log) (sym (spent.over over)) begins
-      go false going =
-          adds_both (ComesBehind i) (entry.Attempt i (joined (at old.log (Held i))) gave answer ∷ old.log) spent.mid.log new.log begins (spends_behind told_by i (outcome_of answer) spent.mid new (spent.spent going))
+    told : IsTold (told_by task.port) read i
+    told = rw (entry_of old.log i took found.1.0) at b.told
+
+    be : LeavesBe i old mid
+    be =
+        let is = found.1.1 in
+        record { size = is.steps.size; rooms = is.leaves.rooms; run = is.leaves.run; others = others_one (staying.HasRead (is_none (cut_of took))) i old.seats mid.seats is.leaves.seats }
+
+    -- the turn, and nothing behind it
+    pub nothing_behind : {new : Record} → new ≡ mid.log → OnlyAdds (ComesBehind i) (turn_entry old.log i took ∷ old.log) new
+    nothing_behind {new} same = adds_none (ComesBehind i) (turn_entry old.log i took ∷ old.log) new (rw (same, log, entry_of old.log i took found.1.0) refl)
+
+    -- no memory was found to cut it
+    pub landed_uncut : {new : Books P} → cut_of took ≡ None → IsMarked told_by NowOwes i mid new → HasLanded told_by i task old new
+    landed_uncut cuts marked =
+        landed_marked stands within b log found.1.1.steps.stands found.1.1.only be marked b.out
+        (back_owing stands within b (marked.log ∙ log) marked.stands told (role_uncut task.role read i took found.0 found.1.0 cuts b.fit) b.unclosed
+        (carried_one (λ seat. (seat.facts.starved ≡ false) × (seat.facts.behind ≡ true)) (IsOwing task) marked.seats
+        (carried_one IsWellAt (λ seat. (seat.facts.starved ≡ false) × (seat.facts.behind ≡ true)) found.1.1.leaves.seats b.well
+        (λ was is reads well. (reads.starved ∙ well.fed, rw cuts at reads.behind)))
+        (λ was is now lost. rw now (record { owing = refl; fed = lost.0; fit = λ counted. let not = lost.1 in cc }))))
+
+    module _ {cut : Cut} (cuts : cut_of took ≡ Some cut) where
+      taken : HasCome read i task.role × (IsCutOf old.log i found.0.stream found.0.took cut × (is_unfit task.role ≡ false))
+      taken = role_cut task.role old.log i took found.0 cut found.1.0 cuts b.acted.come b.fit
+
+      well_mid : IfSome (slice_get mid.seats i) IsWellAt
+      well_mid = carried_one IsWellAt IsWellAt found.1.1.leaves.seats b.well
+          (λ was is reads well. record { settled = reads.owing ∙ well.settled; counted = (rw cuts at reads.behind) ∙ well.counted; fed = reads.starved ∙ well.fed })
+
+      pub yields : {stream : ℕ} → IsSomeAnd (reading_of took) (λ reading. reading.stream ≡ stream) → 0 < length cut.events →
+          yield mid.log i ≡ Some (record { events = cut.events; stream = stream; end = cut.end })
+      yields of some = rw log (yields_cut old.log i found.0 cut (rw found.1.0 at of) taken.1.0 some)
+
+      -- no batch was to be born
+      unyielding : (cut.events ≡ []) ⊎ (abandoned mid.log ≡ true) → cause_of read ≡ None → owes read i ≡ false
+      unyielding (inl none) going = owes_barren old.log i found.0.stream found.0.took (sym taken.1.0.events ∙ none) b.settled
+      unyielding (inr over) going = let not = unabandoned read going in let is = rw log at over in cc
+
+      pub landed_cut : {stream : ℕ} {new : Books P} → HasBorneCut told_by i stream cut mid new → Leaves mid new → length new.seats ≡ length mid.seats →
+          HasLanded told_by i task old new
+      landed_cut {stream} (inl barren) leaves size =
+          rw barren.1 (landed_well stands within b log found.1.1.steps.stands found.1.1.only be well_mid
+          (record { out = b.out; told = told; come = taken.0; answered = b.answered; shut = λ closed. cc; fit = taken.1.1 }) (unyielding barren.0))
+      landed_cut {stream} (inr borne) leaves size =
+          let next = next_copy mid.log in
+          let e = entry.Born i next next (counting next (length cut.events)) cut.events (must_wait mid.log i) stream cut.end in
+          landed_well stands within b (borne.1.noted ∙ ap (λ (h : Record). e ∷ h) log) borne.1.stands (adds_step found.1.1.only (for_own e i mid.log refl) borne.1)
+          (be_both be (be_stays leaves size)) (well_on i leaves well_mid)
+          (record {
+            out = b.out;
+            told = told_mute (told_by task.port) read e i tt told;
+            come = come_mute task.role read e i tt taken.0;
+            answered = b.answered;
+            shut = λ closed. cc;
+            fit = taken.1.1;
+          })
+          (λ going. owes_borne old.log i found.0.stream found.0.took next next (counting next (length cut.events)) cut.events (must_wait mid.log i) stream cut.end b.settled)
+
+      pub well_cut : {new : Books P} → Leaves mid new → IsWellLanded i old new
+      well_cut leaves = record { fed = ap (λ (r : Run). r.short) (leaves.run ∙ be.run); seat = well_on i leaves well_mid }
+
+      pub born_behind : {stream : ℕ} {new : Books P} → HasBorneCut told_by i stream cut mid new →
+          OnlyAdds (ComesBehind i) (turn_entry old.log i took ∷ old.log) new.log
+      born_behind (inl barren) = nothing_behind (ap (λ (books : Books P). books.log) barren.1)
+      born_behind (inr borne) = adds_step (nothing_behind refl) refl borne.1
+
+      -- it couldn't be
+      pub landed_unborn : {new : Books P} → Stands told_by new → new.log ≡ mid.log → length new.seats ≡ length mid.seats → SameRooms mid.places new.places →
+          new.run ≡ mid.run → IsOwingNow i mid.seats new.seats → HasLanded told_by i task old new
+      landed_unborn {new} now same size rooms run owing =
+          let marks = both_are Owes (slice_get mid.seats i) (slice_get new.seats i) owing.one in
+          landed_by stands within b (same ∙ log) now (rw same found.1.1.only)
+          (lands (be_both be (record { size = size; rooms = rooms; run = run; others = owing.others }))
+          (carried Owes IsWellAt IsFedAt (slice_get mid.seats i) (slice_get new.seats i) marks well_mid
+          (λ was is owes well. record { counted = owes.counted ∙ well.counted; fed = owes.fed ∙ well.fed })))
+          b.out
+          (back_owing stands within b (same ∙ log) now told taken.0 b.unclosed
+          (carried Owes IsWellAt (IsOwing task) (slice_get mid.seats i) (slice_get new.seats i) marks well_mid
+          (λ was is owes well. record { owing = owes.owing; fed = owes.fed ∙ well.fed; fit = λ counted. taken.1.1 })))
+          (λ fed. record { settled = settled_read old.log i found.0.stream found.0.took (settled_by old.log i b.settled); told = b.answered })
+
+      -- for which the run may be given up
+      pub lacks : (stream : ℕ) {new : Record} (short : Short) → IsSomeAnd (reading_of took) (λ reading. reading.stream ≡ stream) → new ≡ mid.log →
+          IsBirthShort mid.log (length cut.events) short → LacksBirth new short
+      lacks stream short of same is =
+          rw (same, log) (lacks_birth old.log i found.0.stream found.0.took (record { events = cut.events; stream = stream; end = cut.end }) short (rw log at found.1.1.steps.stands.legal)
+          (yields_cut old.log i found.0 cut (rw found.1.0 at of) taken.1.0) (rw log at is))

@@ -1,47 +1,164 @@
--- What is left of the hub when a task came home.
-use Rattle.std.proofs.Common.{◌≡◌, ◌≢◌, ◌∙◌, ℕ, ◌<◌, Bool, true, false, List, ◌∷◌, length, Option, Some, None, IfSome, IsSomeAnd, refl, sym, ap, subst, arith, inl, inr}
-use Rattle.std.specs.Prelude.{◌==◌, slice_get, Result, Ok, Err, OnOk, IfErr}
-use Rattle.std.proofs.lemmas.Bool.{cases_eq}
+-- A task that was done comes home: first what it holds and its confirm, then what was done; and what is left of the books then.
+use Rattle.std.proofs.Common.{◌≡◌, ◌≢◌, ◌∙◌, ℕ, ◌<◌, true, false, ◌∷◌, ◌++◌, length, Option, Some, None, IfSome, IsSome, IsSomeAnd, refl, sym, ap, arith, inl, inr}
+use Rattle.std.specs.Prelude.{is_some, slice_get, Result, OnOk}
+use Rattle.std.specs.List.{list_any}
+use Rattle.std.proofs.lemmas.Bool.{cases_Bool, cases_eq}
+use Rattle.std.proofs.lemmas.Result.{on_ok_weaker}
 use Rattle.vx_ends.specs.Told.{Told}
+use Rattle.vx_ledger.specs.declared.short.Short.{Short}
 use Rattle.vx_record.specs.declared.entry.Entry.{Entry}
 use Rattle.vx_record.specs.declared.entry.Entry.TheVariants as entry
 use Rattle.vx_record.specs.Records.{Record}
 use Rattle.vx_record.specs.Abandoning.{abandoned}
-use Rattle.vx_record.specs.Ceasing.{cause_of}
 use Rattle.vx_record.specs.Additions.{OnlyAdds}
+use Rattle.vx_record.specs.Ceasing.{cause_of}
+use Rattle.vx_record.specs.Installs.{source_at, sink_at, device_at, is_closed}
+use Rattle.vx_record.specs.Legal.{Follows, IsLegal}
 use Rattle.vx_record.specs.Makers.{IsFor}
-use Rattle.vx_record.specs.Turns.{is_out}
+use Rattle.vx_record.specs.Owing.{owes}
+use Rattle.vx_record.specs.Places.Place.{Held}
+use Rattle.vx_record.specs.Shifts.{at}
+use Rattle.vx_record.specs.Turns.{is_out, since_lease, is_turn_of, is_attempt_of, is_confirm_of}
+use Rattle.vx_record.proofs.Answerers.{source_untransforming}
 use Rattle.vx_record.proofs.Adding.{carry}
 use Rattle.vx_record.proofs.Ceasing.{unabandoned}
-use Rattle.vx_landing.proofs.Landed.{uncaused}
-use Rattle.vx_places.specs.Rooms.{LendsRoom, SameRooms}
+use Rattle.vx_record.proofs.TasksOut.{out_to_worker}
+use Rattle.vx_places.specs.Numbers.{numbers}
+use Rattle.vx_places.specs.Rooms.{LendsRoom}
+use Rattle.vx_places.specs.Views.{parcels_here}
+use Rattle.vx_counts.proofs.Once.{itself}
+use Rattle.vx_sourcecore.specs.declared.source.Turned.{Turned}
+use Rattle.vx_sourcecore.proofs.Keeping.{turned_under}
+use Rattle.vx_tasks.specs.declared.confirming.Confirmed.{Confirmed}
+use Rattle.vx_tasks.specs.declared.landing.Done.{Done}
+use Rattle.vx_tasks.specs.declared.landing.Done.TheVariants as done
+use Rattle.vx_tasks.specs.declared.landing.Landing.{Landing}
+use Rattle.vx_tasks.specs.declared.task.Role.{Role}
+use Rattle.vx_tasks.specs.declared.task.Role.TheVariants as role
+use Rattle.vx_tasks.specs.Out.{AreDue, HasDone, HasActed, HasRoleTurned, IsConfirmedSo, confirm_entries}
 use Rattle.vx_seats.specs.declared.seat.Seat.{Seat}
 use Rattle.vx_seats.specs.Staying.{EachSeat, SameFlags}
+use Rattle.vx_seats.proofs.Owing.{owes_still}
 use Rattle.vx_moves.specs.declared.books.Books.{Books}
 use Rattle.vx_moves.specs.declared.run.Run.{Run}
 use Rattle.vx_moves.specs.Leaving.{Leaves}
 use Rattle.vx_moves.specs.Stands.{Stands}
-use Rattle.vx_ready.specs.Asking.{IsServed, all_ported}
-use Rattle.vx_landing.specs.Landings.{HasComeHome, IsGivenUp, OthersStay, LandsOn, IsWellLanded}
-use Rattle.vx_ledger.specs.declared.short.Short.{Short}
+use Rattle.vx_ready.specs.Asking.{IsServed}
+use Rattle.vx_ready.proofs.Done.{device_there, plain_there}
 use Rattle.vx_landing.specs.Failures.{LacksBirth}
-use Rattle.vx_landing.proofs.Births.{lacks_on}
+use Rattle.vx_landing.specs.Landings.{HasComeHome, IsAnswered, IsBackWith, IsConfirmable, IsGivenUp, IsWellLanded, LandsOn, OthersStay}
 use Rattle.vx_landing.specs.Standing.{IsWellAt, IsWell, IsFedAt, IsFed, AwayIsWell, LentWhileOut}
-use Rattle.vx_landing.proofs.Answering.{same_test}
-use Rattle.vx_landing.proofs.Lending.{lent_room, room_lent}
-use Rattle.vx_landing.proofs.Seating.{not_same}
-use Rattle.vx_landing.proofs.OutSteps.{StaysOut, out_over}
-use Rattle.vx_landing.proofs.Seating.{others_each, others_both}
+use Rattle.vx_landing.proofs.Landed.{come_under}
+use Rattle.vx_landing.proofs.Lending.{kept_on, lent_room, room_lent}
+use Rattle.vx_landing.proofs.Owing.{lacks_home, owes_out, uncaused}
+use Rattle.vx_landing.proofs.Seating.{LeavesBe, carried, not_same, others_both, well_on}
+use Rattle.vx_landing.proofs.ToldOut.{told_none, told_some}
+
+-- ITS CONFIRM
+-- there is one only where it was due
+due_if : (h : Record) (i : ℕ) (d : Done) (confirmed : Option Confirmed) → IsConfirmedSo h i d confirmed → IfSome confirmed (λ c. AreDue h i (Some c.positions))
+due_if h i d None so = tt
+due_if h i done.Short (Some c) so = so
+due_if h i d (Some c) so = so
+
+-- a source is no sink
+no_sink : (h : Record) (i : ℕ) → source_at h i ≡ true → sink_at h i ≡ true → ⊥
+no_sink h i source sink = grind arith
+
+-- what was done stays so behind it
+role_confirmed : (h : Record) (i : ℕ) (r : Role) (took : Turned) (c : Confirmed) → HasRoleTurned h i r took →
+    HasRoleTurned (entry.Confirm i c.positions c.made ∷ h) i r took
+role_confirmed h i (role.Source core) took c turned = turned_under h (entry.Confirm i c.positions c.made) i core took tt turned
+role_confirmed h i (role.Sink codec) took c turned = turned
+role_confirmed h i (role.Transform picker) took c turned = turned
+role_confirmed h i role.Unfit took c turned = tt
+
+acted_some : (told : Told) (h : Record) (i : ℕ) (r : Role) (d : Done) (c : Confirmed) → AreDue h i (Some c.positions) → HasActed told h i r d →
+    HasActed told (entry.Confirm i c.positions c.made ∷ h) i r d
+acted_some told h i r (done.Read took) c was acted = assumption (role_confirmed h i r took c acted.come)
+acted_some told h i r (done.Attempted all sent answer) c was acted = absurd (no_sink h i was.0 acted.may.sink)
+acted_some told h i r (done.Judged ports) c was acted = let no = source_untransforming h i was.0 in let yes = acted.may.transform in cc
+acted_some told h i r done.Closed c was acted = let no = acted.may.confirmed in let yes = was.1.0 in cc
+acted_some told h i r done.Starved c was acted = absurd (no_sink h i was.0 acted.may.sink)
+acted_some told h i r d c was acted = come_under r h (entry.Confirm i c.positions c.made) i tt acted
+
+acted_behind : (told : Told) (h : Record) (i : ℕ) (r : Role) (d : Done) (confirmed : Option Confirmed) → IsConfirmedSo h i d confirmed → HasActed told h i r d →
+    HasActed told (confirm_entries i confirmed ++ h) i r d
+acted_behind told h i r d None so acted = acted
+acted_behind told h i r d (Some c) so acted = acted_some told h i r d c (due_if h i d (Some c) so) acted
+
+-- and then it names what was due
+answered_behind : (h : Record) (i : ℕ) (d : Done) (confirmed : Option Confirmed) → IsLegal (confirm_entries i confirmed ++ h) → is_out h i ≡ true →
+    device_at h i ≡ true → list_any (is_confirm_of i) (since_lease h i) ≡ false → IsConfirmedSo h i d confirmed →
+    IsAnswered (confirm_entries i confirmed ++ h) i d
+answered_behind h i done.Short confirmed legal out device none so = tt
+answered_behind h i d None legal out device none so = told_none h i legal out device so none
+answered_behind h i d (Some c) legal out device none so = told_some h i c.positions c.made legal.0
+
+owes_behind : (h : Record) (i : ℕ) (confirmed : Option Confirmed) → owes h i ≡ false → owes (confirm_entries i confirmed ++ h) i ≡ false
+owes_behind h i None none = none
+owes_behind h i (Some c) none = owes_still h (entry.Confirm i c.positions c.made) i tt none
+
+-- what a confirm doesn't change
+same_behind : (F : Record → Type 0) (h : Record) (i : ℕ) (confirmed : Option Confirmed) → ((c : Confirmed) → F h → F (entry.Confirm i c.positions c.made ∷ h)) →
+    F h → F (confirm_entries i confirmed ++ h)
+same_behind F h i None same was = was
+same_behind F h i (Some c) same was = same c was
+
+module _ {P : Type 0} {told_by : P → Told} {old : Books P} {landing : Landing P} (stands : Stands told_by old) (served : IsServed old)
+    (within : landing.instance < length old.seats) (back : HasDone told_by old.log landing) where
+  abbrev i : ℕ
+  i = landing.instance
+
+  pub out_now : is_out old.log i ≡ true
+  out_now = out_to_worker old.log i ∙ ap is_some back.out
+
+  pub confirmable : {h : Record} → h ≡ old.log → IsConfirmable h i landing.confirmed
+  confirmable same = rw same (record { out = out_now; once = back.idle.no_confirm; due = due_if old.log i landing.done landing.confirmed back.confirmed })
+
+  -- of the record with its confirm
+  record IsBackOn (h : Record) : Type 0 where
+    out : is_out h i ≡ true
+    no_turn : list_any (is_turn_of i) (since_lease h i) ≡ false
+    no_attempt : list_any (is_attempt_of i) (since_lease h i) ≡ false
+    unclosed : is_closed h i ≡ false
+    held : numbers landing.held.items ≡ at h (Held i)
+
+  -- once both were noted
+  pub back_with : {one two : Books P} → one.log ≡ old.log → one.seats ≡ old.seats → length one.places ≡ length one.seats →
+      IsSome (parcels_here one.places (Held i)) → Stands told_by two → two.log ≡ confirm_entries i landing.confirmed ++ one.log → Leaves one two →
+      IfSome (slice_get old.seats i) IsWellAt → IsBackWith told_by two i landing.task landing.done
+  back_with {one} {two} same seats rows kept after log leaves well =
+      let c = landing.confirmed in
+      let now : two.log ≡ confirm_entries i c ++ old.log = rw same at log in
+      let on = same_behind IsBackOn old.log i c (λ c on. assumption on) (assumption (out_now, back.idle, back.held)) in
+      record {
+        out = rw now on.out;
+        no_turn = rw now on.no_turn;
+        no_attempt = rw now on.no_attempt;
+        unclosed = rw now on.unclosed;
+        settled = rw now (owes_behind old.log i c
+            (owes_out old.log i stands.legal out_now (plain_there told_by old stands served i within) back.idle.no_turn back.idle.no_attempt));
+        answered = rw now (answered_behind old.log i landing.done c (rw now at after.legal) out_now
+            (device_there told_by old stands served i within) back.idle.no_confirm back.confirmed);
+        parcels = landing.held.items;
+        held = rw now on.held;
+        told = rw now back.told;
+        acted = rw now (acted_behind (told_by landing.task.port) old.log i landing.task.role landing.done c back.confirmed back.acted);
+        fit = back.fit;
+        kept = kept_on one.places two.places i (rw (rows, seats) within) leaves.rooms kept;
+        well = well_on i leaves (rw seats well);
+      }
 
 -- WHO IS OUT
--- an entry of an instance's task leaves who else is out
-stays_out : (i j : ℕ) → j ≢ i → (h : Record) (e : Entry) → IsFor i h e → StaysOut j e
-stays_out i j other h (entry.Lease k worker now polls) own = ap (λ m. m == j) (own k (same_test k)) ∙ not_same i j other
-stays_out i j other h (entry.Home k) own = ap (λ m. m == j) (own k (same_test k)) ∙ not_same i j other
-stays_out i j other h e own = tt
-
+-- entries of an instance's task leave who else is out
 others_out : (i j : ℕ) (old new : Record) → j ≢ i → OnlyAdds (IsFor i) old new → is_out new j ≡ is_out old j
-others_out i j old new other adds = out_over (IsFor i) old new j (λ h e own. stays_out i j other h e own) adds
+others_out i j old new other adds = carry (IsFor i) (λ k. is_out k j ≡ is_out old j) step old new adds refl
+  where
+    step : (h : Record) (e : Entry) → Follows h e → IsFor i h e → is_out h j ≡ is_out old j → is_out (e ∷ h) j ≡ is_out old j
+    step h (entry.Lease k worker now polls) follows own was = rw (own k (itself k), not_same i j other) was
+    step h (entry.Home k) follows own was = rw (own k (itself k), not_same i j other) was
+    step h e follows own was = was
 
 -- a run that is given up stays so
 over_on : (h : Record) (e : Entry) → abandoned h ≡ true → abandoned (e ∷ h) ≡ true
@@ -54,109 +171,91 @@ over_stays Kind old new adds over = carry Kind (λ h. abandoned h ≡ true) (λ 
 -- SEATS
 module _ {P : Type 0} where
   pub well_flags : (o n : Option (Seat P)) → IfSome n (λ is. IsSomeAnd o (λ was. SameFlags was is)) → IfSome o IsWellAt → IfSome n IsWellAt
-  well_flags o None flags well = tt
-  well_flags None (Some is) flags well = absurd flags
-  well_flags (Some was) (Some is) flags well = record { settled = flags.owing ∙ well.settled; counted = flags.behind ∙ well.counted; fed = flags.starved ∙ well.fed }
+  well_flags o n flags well =
+      carried SameFlags IsWellAt IsWellAt o n flags well (λ was is so known. record { settled = so.owing ∙ known.settled; counted = so.behind ∙ known.counted; fed = so.starved ∙ known.fed })
 
   pub fed_flags : (o n : Option (Seat P)) → IfSome n (λ is. IsSomeAnd o (λ was. SameFlags was is)) → IfSome o IsFedAt → IfSome n IsFedAt
-  fed_flags o None flags fed = tt
-  fed_flags None (Some is) flags fed = absurd flags
-  fed_flags (Some was) (Some is) flags fed = record { counted = flags.behind ∙ fed.counted; fed = flags.starved ∙ fed.fed }
-
--- what was false and can only become true
-was_false : (b c : Bool) → (b ≡ true → c ≡ true) → c ≡ false → b ≡ false
-was_false true c raises off = let on : c ≡ true = raises refl in cc
-was_false false c raises off = refl
+  fed_flags o n flags fed = carried SameFlags IsFedAt IsFedAt o n flags fed (λ was is so known. record { counted = so.behind ∙ known.counted; fed = so.starved ∙ known.fed })
 
 -- WHAT IS LEFT
 -- the books before, with what is held taken back, with the confirm noted, with what was done noted, and with the instance at home
-module _ {P : Type 0} (told_by : P → Told) (i room : ℕ) (old one two three new : Books P)
-    (rooms : LendsRoom i room one.places old.places) (one_seats : one.seats ≡ old.seats) (one_run : one.run ≡ old.run) (one_rows : length one.places ≡ length one.seats)
-    (first : Leaves one two) (first_size : length two.seats ≡ length one.seats)
-    (second : LandsOn i two three)
-    (last_rooms : SameRooms three.places new.places) (last_run : new.run ≡ three.run) (last_flags : EachSeat SameFlags three.seats new.seats) (last_size : length new.seats ≡ length three.seats)
+module _ {P : Type 0} {told_by : P → Told} {i room : ℕ} (old : Books P) {one two three new : Books P}
+    (rooms : LendsRoom i room one.places old.places) (one_seats : one.seats ≡ old.seats) (one_run : one.run ≡ old.run)
+    (first : LeavesBe i one two) (second : LandsOn i two three) (last : LeavesBe i three new) (flags : EachSeat SameFlags three.seats new.seats)
     (only : OnlyAdds (IsFor i) old.log new.log) (home : is_out new.log i ≡ false) (stands : Stands told_by new) where
   size : length new.seats ≡ length old.seats
-  size = last_size ∙ (second.size ∙ (first_size ∙ ap length one_seats))
+  size = last.size ∙ (second.size ∙ (first.size ∙ ap length one_seats))
 
   run : new.run ≡ record old.run { short = new.run.short }
-  run =
-      last_run ∙ (second.run ∙ (ap (λ (r : Run). record r { short = three.run.short }) (first.run ∙ one_run) ∙ ap (λ (b : Bool). record old.run { short = b }) (sym (ap (λ (r : Run). r.short) last_run))))
+  run = rw (last.run, second.run, first.run, one_run) refl
+
+  short : new.run.short ≡ three.run.short
+  short = ap (λ (r : Run). r.short) last.run
 
   -- the others
   others : OthersStay i old.seats new.seats
-  others =
-      others_both i old.seats three.seats new.seats
-      (subst (λ (ss : List (Seat P)). OthersStay i ss three.seats) one_seats (others_both i one.seats two.seats three.seats (others_each i one.seats two.seats first.seats) second.others))
-      (λ j other. last_flags j)
+  others = others_both old.seats three.seats new.seats (rw one_seats at (others_both one.seats two.seats three.seats first.others second.others)) last.others
 
-  short_raises : old.run.short ≡ true → new.run.short ≡ true
-  short_raises was =
-      ap (λ (r : Run). r.short) last_run ∙ second.short (ap (λ (r : Run). r.short) (first.run ∙ one_run) ∙ was)
+  raised : old.run.short ≡ true → new.run.short ≡ true
+  raised was = rw short (second.short (rw (first.run, one_run) was))
 
   not_home : (j : ℕ) → is_out new.log j ≡ true → j ≢ i
-  not_home j out same = let off : is_out new.log j ≡ false = ap (λ k. is_out new.log k) same ∙ home in cc
+  not_home j out same = let at_home = rw same at out in cc
 
   was_out : (j : ℕ) → is_out new.log j ≡ true → is_out old.log j ≡ true
   was_out j out = sym (others_out i j old.log new.log (not_home j out) only) ∙ out
 
-  pub served_behind : IsServed old → IsServed new
-  served_behind served = record {
-    ported = ap (λ (r : Run). all_ported r.plan.components) run ∙ served.ported;
-    few = let few = served.few in omega (arith, few, size);
-  }
-
-  pub lent_behind : LentWhileOut old → LentWhileOut new
+  lent_behind : LentWhileOut old → LentWhileOut new
   lent_behind lent j within out =
-      let other = not_home j out in
-      let before : j < length old.seats = omega (arith, within, size) in
-      let here : j < length new.places = let rows = stands.size in omega (arith, within, rows) in
-      let none_old = lent_room old.places j (lent j before (was_out j out)) in
-      room_lent new.places j here ((last_rooms j).1 ∙ ((second.rooms j).1 ∙ ((first.rooms j).1 ∙ (sym (rooms.others j other) ∙ none_old))))
+      room_lent new.places j (rw stands.size within)
+      ((last.rooms j).1 ∙ ((second.rooms j).1 ∙ ((first.rooms j).1 ∙ (sym (rooms.others j (not_home j out)) ∙ lent_room old.places j (lent j (rw (← size) within) (was_out j out))))))
 
-  pub away_behind : AwayIsWell old → AwayIsWell new
-  away_behind away j out =
-      well_flags (slice_get old.seats j) (slice_get new.seats j) (others j (not_home j out)) (away j (was_out j out))
-
-  pub fed_behind : IsFed old → IsFed new
+  fed_behind : IsFed old → IsFed new
   fed_behind fed off j = elim (cases_eq j i) [
-    | inl same ↦ subst (λ k. IfSome (slice_get new.seats k) IsFedAt) (sym same)
-        (fed_flags (slice_get three.seats i) (slice_get new.seats i) (last_flags i) (second.fed (sym (ap (λ (r : Run). r.short) last_run) ∙ off)))
-    | inr other ↦ fed_flags (slice_get old.seats j) (slice_get new.seats j) (others j other) (fed (was_false old.run.short new.run.short short_raises off) j)
+    | inl same ↦ rw same (fed_flags (slice_get three.seats i) (slice_get new.seats i) (flags i) (second.fed (sym short ∙ off)))
+    | inr other ↦ fed_flags (slice_get old.seats j) (slice_get new.seats j) (others j other)
+        (fed (elim (cases_Bool old.run.short) [ inl on ↦ let up = raised on in cc | inr off ↦ off ]) j)
   ]
 
   pub well_behind : IsWellLanded i two three → IsWell old → IsWell new
   well_behind landed well = record {
     seats = λ j. elim (cases_eq j i) [
-      | inl same ↦ subst (λ k. IfSome (slice_get new.seats k) IsWellAt) (sym same) (well_flags (slice_get three.seats i) (slice_get new.seats i) (last_flags i) landed.seat)
+      | inl same ↦ rw same (well_flags (slice_get three.seats i) (slice_get new.seats i) (flags i) landed.seat)
       | inr other ↦ well_flags (slice_get old.seats j) (slice_get new.seats j) (others j other) (well.seats j)
     ];
-    fed = ap (λ (r : Run). r.short) last_run ∙ (landed.fed ∙ (ap (λ (r : Run). r.short) (first.run ∙ one_run) ∙ well.fed));
+    fed = short ∙ (landed.fed ∙ rw (first.run, one_run) well.fed);
   }
 
   pub came_home : (abandoned old.log ≡ true → IsGivenUp new.log i) → IsServed old → LentWhileOut old → AwayIsWell old → HasComeHome told_by i old new
-  came_home over served lent away =
-      record { run = run; short = short_raises; over = over; stands = stands; served = served_behind served; size = size; only = only; home = home; lent = lent_behind lent; away = away_behind away; fed = fed_behind }
+  came_home over served lent away = record {
+    stands = stands;
+    served = record { ported = rw run served.ported; few = rw size served.few };
+    size = size;
+    only = only;
+    run = run;
+    short = raised;
+    home = home;
+    over = over;
+    lent = lent_behind lent;
+    away = λ j out. well_flags (slice_get old.seats j) (slice_get new.seats j) (others j (not_home j out)) (away j (was_out j out));
+    fed = fed_behind;
+  }
 
 -- what is lacking is so behind the home
-pub came_short : (h new : Record) (i : ℕ) (short : Short) (Kind : Record → Entry → Type 0) → OnlyAdds Kind h new → (abandoned h ≡ false → new ≡ entry.Home i ∷ h) → LacksBirth h short → abandoned new ≡ false → LacksBirth new short
-came_short h new i short Kind adds noted lacks going = go (abandoned h) refl
-  where
-    go : (b : Bool) → abandoned h ≡ b → LacksBirth new short
-    go true over = let still : abandoned new ≡ true = over_stays Kind h new adds over in cc
-    go false is = subst (λ (k : Record). LacksBirth k short) (sym (noted is)) (lacks_on h (entry.Home i) short tt lacks)
+pub came_short : {Kind : Record → Entry → Type 0} {h new : Record} {i : ℕ} (short : Short) → OnlyAdds Kind h new →
+    (abandoned h ≡ false → new ≡ entry.Home i ∷ h) → LacksBirth h short → abandoned new ≡ false → LacksBirth new short
+came_short {Kind} {h} {new} {i} short adds noted lacks going = elim (cases_Bool (abandoned h)) [
+  | inl over ↦ let still = over_stays Kind h new adds over in cc
+  | inr still ↦ rw (noted still) (lacks_home h i short lacks)
+]
 
 -- ANSWERS
 pub on_ok : {X E : Type 0} (r : Result X E) (A B : Type 0) → (A → B) → OnOk r A → OnOk r B
-on_ok (Ok x) A B leads is = leads is
-on_ok (Err e) A B leads is = tt
-
-pub on_err : {X E : Type 0} (r : Result X E) (A B : E → Type 0) → ((e : E) → A e → B e) → IfErr r A → IfErr r B
-on_err (Ok x) A B leads is = tt
-on_err (Err e) A B leads is = leads e is
+on_ok r A B leads is = on_ok_weaker r leads is
 
 -- a run isn't given up by a landing
-pub goes_on_home : {P : Type 0} (told_by : P → Told) (i : ℕ) (old new : Books P) → Stands told_by old → HasComeHome told_by i old new → cause_of new.log ≡ cause_of old.log
+pub goes_on_home : {P : Type 0} (told_by : P → Told) (i : ℕ) (old new : Books P) → Stands told_by old → HasComeHome told_by i old new →
+    cause_of new.log ≡ cause_of old.log
 goes_on_home told_by i old new stands home = sym home.stands.run.cause ∙ (ap (λ (r : Run). r.abandoned) home.run ∙ stands.run.cause)
 
 pub still_going : (old new : Record) → cause_of new ≡ cause_of old → abandoned old ≡ false → abandoned new ≡ false

@@ -1,30 +1,33 @@
--- What is lent has its room lent, and the other way round.
-use Rattle.std.proofs.Common.{zero, suc, ◌≡◌, ℕ, ◌<◌, List, [], ◌∷◌, length, Option, Some, None, refl, arith}
+-- What is lent has its room lent, and the other way round; and what is here stays so with its room.
+use Rattle.std.proofs.Common.{zero, suc, ◌≡◌, ◌∙◌, ℕ, ◌<◌, List, [], ◌∷◌, length, Option, Some, None, IsSome, refl, sym, arith}
+use Rattle.std.specs.Prelude.{◌↔◌}
 use Rattle.vx_value.specs.Filled.{Filled}
 use Rattle.vx_ledger.specs.declared.parcel.Parcel.{Parcel}
 use Rattle.vx_record.specs.Places.Place.{Held}
 use Rattle.vx_places.specs.declared.row.Row.{Row}
-use Rattle.vx_places.specs.Rooms.{held_room, held_room_if, line_room}
-use Rattle.vx_places.specs.Views.{row_at, here_if, held_items, parcels_here}
+use Rattle.vx_places.specs.Rooms.{SameRooms, held_room, line_room}
+use Rattle.vx_places.specs.Views.{held_items, parcels_here}
+
+line_lent : (o : Option (Filled Parcel)) → (held_items o ≡ None) ↔ (line_room o ≡ None)
+line_lent None = (λ lent. refl, λ none. refl)
+line_lent (Some line) = (λ lent. cc, λ none. cc)
 
 -- what is lent has its room lent
-lent_row : (j : ℕ) (o : Option Row) → here_if (Held j) o ≡ None → held_room_if o ≡ None
-lent_row j None lent = cc
-lent_row j (Some row) lent = go row.held lent
-  where
-    go : (o : Option (Filled Parcel)) → held_items o ≡ None → line_room o ≡ None
-    go None is = refl
-    go (Some line) is = cc
-
 pub lent_room : (rows : List Row) (j : ℕ) → parcels_here rows (Held j) ≡ None → held_room rows j ≡ None
-lent_room rows j lent = lent_row j (row_at rows j) lent
+lent_room [] j lent = refl
+lent_room (row ∷ rows) zero lent = (line_lent row.held).0 lent
+lent_room (row ∷ rows) (suc j) lent = lent_room rows j lent
 
 -- and where there is such an instance, the other way round
 pub room_lent : (rows : List Row) (j : ℕ) → j < length rows → held_room rows j ≡ None → parcels_here rows (Held j) ≡ None
 room_lent [] j within none = absurd (omega (arith, within))
-room_lent (row ∷ rows) zero within none = go row.held none
-  where
-    go : (o : Option (Filled Parcel)) → line_room o ≡ None → held_items o ≡ None
-    go None is = refl
-    go (Some line) is = cc
+room_lent (row ∷ rows) zero within none = (line_lent row.held).1 none
 room_lent (row ∷ rows) (suc j) within none = room_lent rows j (omega (arith, within)) none
+
+-- so what is here stays so where the rooms are the same
+pub kept_on : (old new : List Row) (i : ℕ) → i < length old → SameRooms old new → IsSome (parcels_here old (Held i)) → IsSome (parcels_here new (Held i))
+kept_on old new i below same kept = go (parcels_here new (Held i)) refl
+  where
+    go : (o : Option (List Parcel)) → parcels_here new (Held i) ≡ o → IsSome o
+    go None lent = rw (room_lent old i below (sym (same i).1 ∙ lent_room new i lent)) at kept
+    go (Some parcels) lent = refl

@@ -1,15 +1,7 @@
 pub mod Answering
-pub mod Bearing
-pub mod Births
 pub mod Landed
 pub mod LandedBooks
-pub mod LandedReads
 pub mod Lending
-pub mod Noting
-pub mod OutSteps
-pub mod OwesOut
-pub mod Returning
+pub mod Owing
 pub mod Seating
-pub mod Settling
 pub mod ToldOut
-pub mod Yielding

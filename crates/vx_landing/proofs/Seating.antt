@@ -1,136 +1,157 @@
--- What is known of the seats behind the steps of a landing.
-use Rattle.std.proofs.Common.{◌≡◌, ◌≢◌, ◌∙◌, ℕ, Bool, true, false, List, length, Option, Some, None, IfSome, IsSomeAnd, refl, sym, ap, subst, inl, inr}
+-- What is known of the seats behind the steps of a landing, and what those leave of the books.
+use Rattle.std.proofs.Common.{◌≡◌, ◌≢◌, ◌∙◌, ℕ, true, false, List, length, Option, Some, None, IfSome, IsSomeAnd, refl, sym, inl, inr}
 use Rattle.std.specs.Prelude.{◌==◌, slice_get}
-use Rattle.std.proofs.lemmas.Bool.{cases_eq, eqb-true}
+use Rattle.std.proofs.lemmas.Bool.{cases_eq, ne_eqb}
+use Rattle.vx_places.specs.Rooms.{SameRooms}
 use Rattle.vx_tasks.specs.declared.task.Task.{Task}
 use Rattle.vx_seats.specs.declared.seat.Seat.{Seat}
 use Rattle.vx_seats.specs.Staying.{EachSeat, OneSeat, SameFlags, Stays}
 use Rattle.vx_moves.specs.declared.books.Books.{Books}
-use Rattle.vx_moves.specs.declared.run.Run.{Run}
 use Rattle.vx_moves.specs.Leaving.{Leaves}
+use Rattle.vx_moves.proofs.Leaving.{rooms_both}
 use Rattle.vx_landing.specs.Landings.{HasTask, OthersStay, LandsOn, Owes, IsOwingNow}
 use Rattle.vx_landing.specs.Standing.{IsWellAt, IsFedAt}
 
 -- another number
 pub not_same : (i j : ℕ) → j ≢ i → (i == j) ≡ false
-not_same i j other = go (i == j) refl
-  where
-    go : (b : Bool) → (i == j) ≡ b → b ≡ false
-    go false is = refl
-    go true is = absurd (other (sym (eqb-true i j is)))
+not_same i j other = ne_eqb i j (λ same. other (sym same))
+
+-- WHAT WAS AND WHAT IS
+-- one that is stands to the one that was
+abbrev pub Beside : {A : Type 0} → (A → A → Type 0) → Option A → Option A → Type 0
+Beside R o n = IfSome n (λ is. IsSomeAnd o (λ was. R was is))
+
+-- so it does where there are both
+pub both_are : {A : Type 0} (R : A → A → Type 0) (o n : Option A) → IsSomeAnd o (λ was. IsSomeAnd n (λ is. R was is)) → Beside R o n
+both_are R None n both = absurd both
+both_are R (Some was) None both = tt
+both_are R (Some was) (Some is) both = both
+
+-- so it does otherwise
+pub beside : {A : Type 0} (R S : A → A → Type 0) (o n : Option A) → ((was is : A) → R was is → S was is) → Beside R o n → Beside S o n
+beside R S o None leads stands = tt
+beside R S None (Some is) leads stands = absurd stands
+beside R S (Some was) (Some is) leads stands = leads was is stands
+
+-- what is said of the one that was leads to what is said of the one that is
+pub carried : {A : Type 0} (R : A → A → Type 0) (F G : A → Type 0) (o n : Option A) → Beside R o n → IfSome o F → ((was is : A) → R was is → F was → G is) →
+    IfSome n G
+carried R F G o None stands said leads = tt
+carried R F G None (Some is) stands said leads = absurd stands
+carried R F G (Some was) (Some is) stands said leads = leads was is stands said
+
+-- two things that are said of one lead to a third
+pub both_said : {A : Type 0} (F G H : A → Type 0) (o : Option A) → IfSome o F → IfSome o G → ((x : A) → F x → G x → H x) → IfSome o H
+both_said F G H None first second leads = tt
+both_said F G H (Some x) first second leads = leads x first second
 
 -- what is well stays so
 pub well_stays : {P : Type 0} (o n : Option (Seat P)) → IfSome n (λ is. IsSomeAnd o (λ was. Stays was is)) → IfSome o IsWellAt → IfSome n IsWellAt
-well_stays o None stays well = tt
-well_stays None (Some is) stays well = absurd stays
-well_stays (Some was) (Some is) stays well =
-    record { settled = stays.flags.owing ∙ well.settled; counted = stays.flags.behind ∙ well.counted; fed = stays.flags.starved ∙ well.fed }
+well_stays o n stays well =
+    carried Stays IsWellAt IsWellAt o n stays well (λ was is so known. record { settled = so.flags.owing ∙ known.settled; counted = so.flags.behind ∙ known.counted; fed = so.flags.starved ∙ known.fed })
+
+-- what an instance owes, or what its port gave, isn't known any more
+abbrev pub NowOwes : {P : Type 0} → Seat P → Seat P → Type 0
+NowOwes was is = is ≡ record was { facts = record was.facts { owing = true } }
+
+abbrev pub NowStarves : {P : Type 0} → Seat P → Seat P → Type 0
+NowStarves was is = is ≡ record was { facts = record was.facts { starved = true } }
+
+-- its task is at home
+abbrev pub NowHas : {P : Type 0} → Task P → Seat P → Seat P → Type 0
+NowHas task was is = is ≡ record was { task = Some task }
 
 module _ {P : Type 0} where
   -- WHAT ISN'T KNOWN
-  same_flags : (seat : Seat P) → SameFlags seat seat
-  same_flags seat = record { owing = refl; behind = refl; starved = refl }
+  pub flags_here : (o : Option (Seat P)) → Beside SameFlags o o
+  flags_here None = tt
+  flags_here (Some seat) = record { owing = refl; behind = refl; starved = refl }
 
-  flags_both : (a b c : Seat P) → SameFlags a b → SameFlags b c → SameFlags a c
-  flags_both a b c first second =
+  pub flags_both : (x y z : Option (Seat P)) → Beside SameFlags x y → Beside SameFlags y z → Beside SameFlags x z
+  flags_both x y None first second = tt
+  flags_both x None (Some z) first second = absurd second
+  flags_both None (Some y) (Some z) first second = absurd first
+  flags_both (Some x) (Some y) (Some z) first second =
       record { owing = second.owing ∙ first.owing; behind = second.behind ∙ first.behind; starved = second.starved ∙ first.starved }
 
-  flags_stay : (o n : Option (Seat P)) → IfSome n (λ is. IsSomeAnd o (λ was. Stays was is)) → IfSome n (λ is. IsSomeAnd o (λ was. SameFlags was is))
-  flags_stay o None stays = tt
-  flags_stay None (Some is) stays = absurd stays
-  flags_stay (Some was) (Some is) stays = stays.flags
-
-  pub flags_here : (o : Option (Seat P)) → IfSome o (λ is. IsSomeAnd o (λ was. SameFlags was is))
-  flags_here None = tt
-  flags_here (Some seat) = same_flags seat
-
   pub each_flags : (old new : List (Seat P)) → EachSeat Stays old new → EachSeat SameFlags old new
-  each_flags old new each j = flags_stay (slice_get old j) (slice_get new j) (each j)
+  each_flags old new each j = beside Stays SameFlags (slice_get old j) (slice_get new j) (λ was is stays. stays.flags) (each j)
 
   pub flags_then : (a b c : List (Seat P)) → EachSeat SameFlags a b → EachSeat SameFlags b c → EachSeat SameFlags a c
-  flags_then a b c first second j = go (slice_get a j) (slice_get b j) (slice_get c j) (first j) (second j)
-    where
-      go : (x y z : Option (Seat P)) → IfSome y (λ is. IsSomeAnd x (λ was. SameFlags was is)) → IfSome z (λ is. IsSomeAnd y (λ was. SameFlags was is)) → IfSome z (λ is. IsSomeAnd x (λ was. SameFlags was is))
-      go x y None one two = tt
-      go x None (Some z) one two = absurd two
-      go None (Some y) (Some z) one two = absurd one
-      go (Some x) (Some y) (Some z) one two = flags_both x y z one two
+  flags_then a b c first second j = flags_both (slice_get a j) (slice_get b j) (slice_get c j) (first j) (second j)
 
   -- OF THE OTHERS
-  pub others_each : (i : ℕ) (old new : List (Seat P)) → EachSeat Stays old new → OthersStay i old new
-  others_each i old new each j other = each_flags old new each j
-
   pub others_one : (F : Seat P → Seat P → Type 0) (i : ℕ) (old new : List (Seat P)) → OneSeat F i old new → OthersStay i old new
-  others_one F i old new one j other = subst (λ (n : Option (Seat P)). IfSome n (λ is. IsSomeAnd (slice_get old j) (λ was. SameFlags was is))) (sym (one.others j other)) (flags_here (slice_get old j))
+  others_one F i old new one j other = rw (one.others j other) (flags_here (slice_get old j))
 
-  pub others_both : (i : ℕ) (a b c : List (Seat P)) → OthersStay i a b → OthersStay i b c → OthersStay i a c
-  others_both i a b c first second j other = go (slice_get a j) (slice_get b j) (slice_get c j) (first j other) (second j other)
-    where
-      go : (x y z : Option (Seat P)) → IfSome y (λ is. IsSomeAnd x (λ was. SameFlags was is)) → IfSome z (λ is. IsSomeAnd y (λ was. SameFlags was is)) → IfSome z (λ is. IsSomeAnd x (λ was. SameFlags was is))
-      go x y None one two = tt
-      go x None (Some z) one two = absurd two
-      go None (Some y) (Some z) one two = absurd one
-      go (Some x) (Some y) (Some z) one two = flags_both x y z one two
+  -- OF ONE
+  pub carried_one : {R : Seat P → Seat P → Type 0} {i : ℕ} {old new : List (Seat P)} (F G : Seat P → Type 0) → OneSeat R i old new →
+      IfSome (slice_get old i) F → ((was is : Seat P) → R was is → F was → G is) → IfSome (slice_get new i) G
+  carried_one {R} {i} {old} {new} F G one = carried R F G (slice_get old i) (slice_get new i) (both_are R (slice_get old i) (slice_get new i) one.one)
 
-  -- OF THE ONE
-  pub well_on : (i : ℕ) (old new : List (Seat P)) → EachSeat Stays old new → IfSome (slice_get old i) IsWellAt → IfSome (slice_get new i) IsWellAt
-  well_on i old new each well = well_stays (slice_get old i) (slice_get new i) (each i) well
+  pub well_on : (i : ℕ) {old new : Books P} → Leaves old new → IfSome (slice_get old.seats i) IsWellAt → IfSome (slice_get new.seats i) IsWellAt
+  well_on i {old} {new} leaves = well_stays (slice_get old.seats i) (slice_get new.seats i) (leaves.seats i)
 
   pub fed_well : (o : Option (Seat P)) → IfSome o IsWellAt → IfSome o IsFedAt
   fed_well None well = tt
   fed_well (Some seat) well = record { counted = well.counted; fed = well.fed }
 
-  -- a landing that leaves all seats as they were
-  pub lands_as : (i : ℕ) (old new : Books P) → Leaves old new → length new.seats ≡ length old.seats → IfSome (slice_get old.seats i) IsWellAt → LandsOn i old new
-  lands_as i old new leaves size well =
-      let short : new.run.short ≡ old.run.short = ap (λ (r : Run). r.short) leaves.run in
-      record {
-        size = size;
-        rooms = leaves.rooms;
-        run = leaves.run ∙ ap (λ (b : Bool). record old.run { short = b }) (sym short);
-        short = λ was. short ∙ was;
-        others = others_each i old.seats new.seats leaves.seats;
-        fed = λ is. fed_well (slice_get new.seats i) (well_on i old.seats new.seats leaves.seats well);
-      }
-
   -- what one owes isn't known any more
-  owes_from : (x y z : Option (Seat P)) → IfSome y (λ is. IsSomeAnd x (λ was. Stays was is)) → IsSomeAnd y (λ was. IsSomeAnd z (λ is. is ≡ record was { facts = record was.facts { owing = true } })) → IsSomeAnd x (λ was. IsSomeAnd z (λ is. Owes was is))
+  owes_from : (x y z : Option (Seat P)) → Beside Stays x y → IsSomeAnd y (λ was. IsSomeAnd z (λ is. NowOwes was is)) →
+      IsSomeAnd x (λ was. IsSomeAnd z (λ is. Owes was is))
   owes_from x None z stays marks = absurd marks
   owes_from x (Some y) None stays marks = absurd marks
   owes_from None (Some y) (Some z) stays marks = absurd stays
-  owes_from (Some x) (Some y) (Some z) stays marks = record {
-    owing = ap (λ (s : Seat P). s.facts.owing) marks;
-    counted = ap (λ (s : Seat P). s.facts.behind) marks ∙ stays.flags.behind;
-    fed = ap (λ (s : Seat P). s.facts.starved) marks ∙ stays.flags.starved;
-  }
+  owes_from (Some x) (Some y) (Some z) stays marks = rw marks (record { owing = refl; counted = stays.flags.behind; fed = stays.flags.starved })
 
-  pub owing_now : (i : ℕ) (a b c : List (Seat P)) → EachSeat Stays a b → OneSeat (λ was is. is ≡ record was { facts = record was.facts { owing = true } }) i b c → IsOwingNow i a c
+  pub owing_now : (i : ℕ) (a b c : List (Seat P)) → EachSeat Stays a b → OneSeat NowOwes i b c → IsOwingNow i a c
   owing_now i a b c each one = record {
     one = owes_from (slice_get a i) (slice_get b i) (slice_get c i) (each i) one.one;
-    others = others_both i a b c (others_each i a b each) (others_one (λ was is. is ≡ record was { facts = record was.facts { owing = true } }) i b c one);
+    others = λ j other. flags_both (slice_get a j) (slice_get b j) (slice_get c j) (each_flags a b each j) (others_one NowOwes i b c one j other);
   }
 
   -- with its task back a seat has the same of what isn't known
-  home_flags : (task : Task P) (o n : Option (Seat P)) → IsSomeAnd o (λ was. IsSomeAnd n (λ is. is ≡ record was { task = Some task })) → IfSome n (λ is. IsSomeAnd o (λ was. SameFlags was is))
-  home_flags task None n back = absurd back
-  home_flags task (Some was) None back = absurd back
-  home_flags task (Some was) (Some is) back = record {
-    owing = ap (λ (s : Seat P). s.facts.owing) back;
-    behind = ap (λ (s : Seat P). s.facts.behind) back;
-    starved = ap (λ (s : Seat P). s.facts.starved) back;
-  }
-
-  pub flags_home : (i : ℕ) (task : Task P) (old new : List (Seat P)) → OneSeat (λ was is. is ≡ record was { task = Some task }) i old new → EachSeat SameFlags old new
+  pub flags_home : (i : ℕ) (task : Task P) (old new : List (Seat P)) → OneSeat (NowHas task) i old new → EachSeat SameFlags old new
   flags_home i task old new back j = elim (cases_eq j i) [
-    | inl same ↦ subst (λ k. IfSome (slice_get new k) (λ is. IsSomeAnd (slice_get old k) (λ was. SameFlags was is))) (sym same) (home_flags task (slice_get old i) (slice_get new i) back.one)
-    | inr other ↦ others_one (λ was is. is ≡ record was { task = Some task }) i old new back j other
+    | inl same ↦ rw same (beside (NowHas task) SameFlags (slice_get old i) (slice_get new i) (λ was is has. rw has (record { owing = refl; behind = refl; starved = refl }))
+        (both_are (NowHas task) (slice_get old i) (slice_get new i) back.one))
+    | inr other ↦ others_one (NowHas task) i old new back j other
   ]
 
--- WHAT CAME HOME
-pub has_task : {P : Type 0} (i : ℕ) (task : Task P) (old new : List (Seat P)) → OneSeat (λ was is. is ≡ record was { task = Some task }) i old new → HasTask new i task
-has_task i task old new back = go (slice_get old i) (slice_get new i) back.one
-  where
-    go : (o n : Option (Seat _)) → IsSomeAnd o (λ was. IsSomeAnd n (λ is. is ≡ record was { task = Some task })) → IsSomeAnd n (λ seat. seat.task ≡ Some task)
-    go None n one = absurd one
-    go (Some was) None one = absurd one
-    go (Some was) (Some is) one = ap (λ (seat : Seat _). seat.task) one
+  has_back : (task : Task P) (o n : Option (Seat P)) → IsSomeAnd o (λ was. IsSomeAnd n (λ is. NowHas task was is)) → IsSomeAnd n (λ seat. seat.task ≡ Some task)
+  has_back task None n has = absurd has
+  has_back task (Some was) None has = has
+  has_back task (Some was) (Some is) has = rw has refl
+
+  pub has_task : (i : ℕ) (task : Task P) (old new : List (Seat P)) → OneSeat (NowHas task) i old new → HasTask new i task
+  has_task i task old new back = has_back task (slice_get old i) (slice_get new i) back.one
+
+-- WHAT STEPS LEAVE
+-- of all but one instance what isn't known any more, the rooms, and the run
+pub record LeavesBe {P : Type 0} (i : ℕ) (old new : Books P) : Type 0 where
+  pub size : length new.seats ≡ length old.seats
+  pub rooms : SameRooms old.places new.places
+  pub run : new.run ≡ old.run
+  pub others : OthersStay i old.seats new.seats
+
+module _ {P : Type 0} {i : ℕ} where
+  pub be_here : {books : Books P} → LeavesBe i books books
+  be_here {books} = record { size = refl; rooms = λ j. (refl, refl); run = refl; others = λ j other. flags_here (slice_get books.seats j) }
+
+  pub be_stays : {old new : Books P} → Leaves old new → length new.seats ≡ length old.seats → LeavesBe i old new
+  be_stays {old} {new} leaves size = record { size = size; rooms = leaves.rooms; run = leaves.run; others = λ j other. each_flags old.seats new.seats leaves.seats j }
+
+  pub others_both : (a b c : List (Seat P)) → OthersStay i a b → OthersStay i b c → OthersStay i a c
+  others_both a b c first second j other = flags_both (slice_get a j) (slice_get b j) (slice_get c j) (first j other) (second j other)
+
+  pub be_both : {a b c : Books P} → LeavesBe i a b → LeavesBe i b c → LeavesBe i a c
+  be_both {a} {b} {c} first second = record {
+    size = second.size ∙ first.size;
+    rooms = rooms_both a.places b.places c.places first.rooms second.rooms;
+    run = second.run ∙ first.run;
+    others = others_both a.seats b.seats c.seats first.others second.others;
+  }
+
+  -- where what an instance counts and what its port gave is known, they leave what a landing does
+  pub lands : {old new : Books P} → LeavesBe i old new → IfSome (slice_get new.seats i) IsFedAt → LandsOn i old new
+  lands be fed = record { size = be.size; rooms = be.rooms; run = rw be.run refl; short = λ was. rw be.run was; others = be.others; fed = λ known. fed }

@@ -1,11 +1,12 @@
 -- What the notes of a landing leave.
-use Rattle.std.specs.Prelude.{◌≡◌, ◌≢◌, ◌<◌, ◌⊎◌, ◌∷◌, ◌++◌, take, ℕ, Bool, true, false, List, [], length, Option, Some, is_some, IfSome, IsSome, IsSomeAnd, slice_get}
+use Rattle.std.specs.Prelude.{◌≡◌, ◌≢◌, ◌<◌, ◌⊎◌, ◌∷◌, ◌++◌, ◌==◌, if◌then◌else◌, take, ℕ, Bool, true, false, List, [], length, Option, Some, is_some, IfSome, IsSome, IsSomeAnd, slice_get}
 use Rattle.std.specs.List.{list_any}
 use Rattle.vx_status.specs.declared.outcome.Outcome.{Outcome}
 use Rattle.vx_status.specs.declared.outcome.Outcome.TheVariants.{Delivered, Attempts, Refusal}
 use Rattle.vx_ends.specs.Told.{Told}
 use Rattle.vx_ends.specs.declared.trouble.Reply.{Reply}
 use Rattle.vx_ends.specs.declared.trouble.Reply.TheVariants.{Ok, Failed, Refused}
+use Rattle.vx_record.specs.declared.output.Output.{Output}
 use Rattle.vx_record.specs.declared.entry.Entry.{Entry}
 use Rattle.vx_record.specs.declared.entry.Entry.TheVariants as entry
 use Rattle.vx_record.specs.Abandoning.{abandoned}
@@ -23,6 +24,7 @@ use Rattle.vx_tasks.specs.declared.landing.Landing.{Landing}
 use Rattle.vx_record.specs.Confirms.{last_confirm, due}
 use Rattle.vx_record.specs.Installs.{is_closed}
 use Rattle.vx_record.specs.Owing.{owes}
+use Rattle.vx_record.specs.Parcels.{parcel_event}
 use Rattle.vx_record.specs.Records.{Record}
 use Rattle.vx_record.specs.Turns.{is_out, at_lease, since_lease, is_turn_of, is_attempt_of, is_confirm_of}
 use Rattle.vx_places.specs.Rooms.{SameRooms}
@@ -180,11 +182,26 @@ pub record HasComeHome {P : Type 0} (told_by : P → Told) (i : ℕ) (old new : 
 abbrev pub HasTask : {P : Type 0} → List (Seat P) → ℕ → Task P → Type 0
 HasTask seats i task = IsSomeAnd (slice_get seats i) (λ seat. seat.task ≡ Some task)
 
--- the entries that tell what was done: those that went through the port, and its close
+-- what an answer puts out of the parcels that its instance holds, by the ports of each
+abbrev pub put_out_of : Record → List ℕ → List (List ℕ) → List Output
+put_out_of h [] parcels = []
+put_out_of h (ports ∷ more) [] = []
+put_out_of h (ports ∷ more) (copies ∷ parcels) =
+    let rest = put_out_of h more parcels in
+    if ports == 0 then rest else record { ports = ports; copies = copies; event = parcel_event h copies } ∷ rest
+
+-- and the copies of the others
+abbrev pub refused_of : List ℕ → List (List ℕ) → List ℕ
+refused_of [] parcels = []
+refused_of (ports ∷ more) [] = []
+refused_of (ports ∷ more) (copies ∷ parcels) = let rest = refused_of more parcels in if ports == 0 then copies ++ rest else rest
+
+-- the entries that tell what was done: those that went through the port, an answer, and the port's close
 abbrev pub done_entries : Record → ℕ → Done → List Entry
 done_entries h i done.Nothing = []
 done_entries h i (done.Read took) = turn_entry h i took ∷ []
 done_entries h i (done.Attempted all sent answer) = entry.Attempt i (joined (at h (Held i))) (take sent all.value) answer ∷ []
+done_entries h i (done.Judged ports) = entry.Answer i (put_out_of h ports (at h (Held i))) (refused_of ports (at h (Held i))) [] ∷ []
 done_entries h i done.Closed = entry.Closed i ∷ []
 done_entries h i done.Short = []
 done_entries h i done.Starved = []
@@ -215,6 +232,7 @@ abbrev pub wants_memory : Done → Bool
 wants_memory done.Nothing = false
 wants_memory (done.Read took) = lacks_cut took
 wants_memory (done.Attempted all sent answer) = false
+wants_memory (done.Judged ports) = false
 wants_memory done.Closed = false
 wants_memory done.Short = true
 wants_memory done.Starved = true

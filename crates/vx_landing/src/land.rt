@@ -80,7 +80,7 @@ fn note_confirmed<P: Port>(books: &mut Books<P>, i: u32, confirmed: &Option<Conf
     }
 }
 
-// Notes what was done.
+// Notes what was done. No transform was leased.
 fn note_done<P: Port>(
     books: &mut Books<P>,
     alloc: Global,
@@ -105,6 +105,7 @@ fn note_done<P: Port>(
             land_attempt(books, i, &all, sent, reply);
             Ok(())
         }
+        Done::Judged(_) => unreachable!(),
         Done::Closed => {
             note_closed(books, i);
             Ok(())

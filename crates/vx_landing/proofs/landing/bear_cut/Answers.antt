@@ -1,22 +1,28 @@
-use Rattle.std.proofs.Common.{◌≡◌, ◌∙◌, ◌<◌, true, false, length, refl, sym, inl, inr}
-use Rattle.std.specs.Prelude.{is_some}
-use Rattle.vx_landing.proofs.Answering.{over_known}
-use Rattle.vx_landing.proofs.Bearing.{filled, may_bear}
+use Rattle.std.proofs.Common.{◌≡◌, ◌∙◌, ◌<◌, Bool, false, List, [], ◌∷◌, length, refl, sym, inl, inr, arith}
+use Rattle.std.specs.Prelude.{IsTrue}
+use Rattle.vx_record.proofs.Ceasing.{unabandoned}
+use Rattle.vx_landing.proofs.Answering.{none_known, over_known}
 use Rattle.vx_landing.proofs.Seating.{owing_now}
 use Rattle.vx_landing.proofs.landing.bear_cut.Goals as goal
 
+filled : {X : Type 0} (xs : List X) (empty : Bool) → empty ≡ false → (xs ≡ [] → IsTrue empty) → 0 < length xs
+filled [] empty not says = let yes : IsTrue empty = says refl in cc
+filled (x ∷ xs) empty not says = omega arith
+
 pub bear-requires-clause-may : goal.bear-requires-clause-may
 bear-requires-clause-may g c =
-    let d = c.args.books.now in
-    let cut = c.args.cut in
-    let some : 0 < length cut.events = filled cut.events c.is_empty.result c.if-is_empty.false c.is_empty.ensures.1 in
-    let none : is_some d.run.abandoned ≡ false = sym c.is_some.ensures ∙ c.if-is_some.false in
-    may_bear g.P.Port.told d c.args.i c.args.stream cut.end cut.events c.requires.stands none some c.requires.yields c.requires.few
+    let r = c.requires in
+    let some = filled c.args.cut.events c.is_empty.result c.if-is_empty.false c.is_empty.ensures.1 in
+    record {
+      going = unabandoned c.args.books.now.log (none_known g.P.Port.told c.args.books.now r.stands (sym c.is_some.ensures ∙ c.if-is_some.false));
+      yields = r.yields some;
+      some = some;
+      few = r.few;
+    }
 
 pub returns-then-is_some-clause-borne : goal.returns-then-is_some-clause-borne
 returns-then-is_some-clause-borne g c =
-    let some : is_some c.args.books.now.run.abandoned ≡ true = sym c.is_some.ensures ∙ c.if-is_some.true in
-    inl (inr (over_known g.P.Port.told c.args.books.now c.requires.stands some), refl)
+    inl (inr (over_known g.P.Port.told c.args.books.now c.requires.stands (sym c.is_some.ensures ∙ c.if-is_some.true)), refl)
 
 pub returns-in-Err-clause-owing : goal.returns-in-Err-clause-owing
 returns-in-Err-clause-owing g c =
