@@ -14,6 +14,9 @@ SOURCE = '[sources.in]\ntype = "stdin"\n'
 SINK = '[sinks.out]\ntype = "console"\ninputs = ["in"]\nencoding.codec = "text"\n'
 BEFORE_OPTIONS = SOURCE + '[sinks.out]\ntype = "console"\ninputs = ["in"]\n'
 BEFORE_INPUTS = SOURCE + '[sinks.out]\ntype = "console"\nencoding.codec = "text"\n'
+BEFORE_FILTER = SOURCE + SINK + '[transforms.t]\ntype = "filter"\ninputs = ["in"]\n'
+BEFORE_ROUTE = SOURCE + SINK + '[transforms.t]\ntype = "route"\ninputs = ["in"]\n'
+BEFORE_ROUTED = BEFORE_ROUTE.replace(SINK, "") + "route.a = 'exists(.a)'\n" + BEFORE_INPUTS.replace(SOURCE, "")
 
 # In each table a text stands beside why it isn't accepted, or None where it is.
 
@@ -56,7 +59,7 @@ WHOLE = [
 COMPONENTS = [
     ('[sources.k]\ntype = "kafka"\n', "unknown kind at sources.k.type"),
     ('[sources.k]\ntype = "console"\n', "unknown kind at sources.k.type"),
-    ('[transforms.k]\ntype = "filter"\nx = 1\n', "unknown kind at transforms.k.type"),
+    ('[transforms.k]\ntype = "console"\nx = 1\n', "unknown kind at transforms.k.type"),
     ('[sinks.k]\ntype = "kafka"\n', "unknown kind at sinks.k.type"),
     ("[sources.k]\n", "missing option sources.k.type"),
     ("[sources.k]\nx = 1\n", "missing option sources.k.type"),
@@ -69,7 +72,7 @@ COMPONENTS = [
     ('[sources."a b"]\ntype = "stdin"\n', "bad value at sources.a b"),
     ('[sources.""]\ntype = "stdin"\n', "bad value at sources."),
     ('[sinks.in]\ntype = "console"\nencoding.codec = "text"\n', "bad value at sinks.in"),
-    ('[transforms.out]\ntype = "filter"\n', "unknown kind at transforms.out.type"),
+    ('[transforms.out]\ntype = "filter"\n', "missing option transforms.out.condition"),
     ("[sources.in]\n", "not a TOML document"),
     ("inputs = []\n", "unknown option sources.in.inputs"),
     ("min_length = 3\n", "unknown option sources.in.min_length"),
@@ -121,6 +124,51 @@ SOURCE_OPTIONS = [
     ('decoding.codec = "bytes"', None),
     ("acknowledgements = true", "unknown option sources.in.acknowledgements"),
     ("acknowledgements.enabled = true", "unknown option sources.in.acknowledgements"),
+]
+
+# options of a filter
+FILTER_OPTIONS = [
+    ("", "missing option transforms.t.condition"),
+    ("condition = 1", "bad value at transforms.t.condition"),
+    ('condition = ""', "bad value at transforms.t.condition"),
+    ("condition = '.a =='", "bad value at transforms.t.condition"),
+    ("condition = 'exists(.a)'", None),
+    ("condition = { type = \"vrl\", source = 'exists(.a)' }", None),
+    ("condition = { type = \"js\", source = 'exists(.a)' }", "bad value at transforms.t.condition"),
+    ('condition = { type = "vrl" }', "bad value at transforms.t.condition"),
+    ("condition = { source = 'exists(.a)' }", "bad value at transforms.t.condition"),
+    ("condition = \"match(.a, r'^d.*l$')\"", None),
+    ("condition = \"match(.a, r'(')\"", "bad value at transforms.t.condition"),
+    ("condition = '" + 32 * "!" + "exists(.a)'", None),
+    ("condition = '" + 33 * "!" + "exists(.a)'", "bad value at transforms.t.condition"),
+    ("condition = 'exists(.a)'\nx = 1", "unknown option transforms.t.x"),
+    ("condition = 'a'\nroute.a = 'exists(.a)'", "unknown option transforms.t.route"),
+]
+
+# options of a route
+ROUTE_OPTIONS = [
+    ("", "missing option transforms.t.route"),
+    ("[transforms.t.route]", "missing option transforms.t.route"),
+    ("route = 1", "bad value at transforms.t.route"),
+    ("route.a = 'exists(.a)'", None),
+    ("route.a = 1", "bad value at transforms.t.route.a"),
+    ("route.a = 'exists(.a)'\nroute.b = 'a'", "bad value at transforms.t.route.b"),
+    ("route._unmatched = 'exists(.a)'", "bad value at transforms.t.route._unmatched"),
+    ("route.\"a b\" = 'exists(.a)'", "bad value at transforms.t.route.a b"),
+    ("route.a = 'exists(.a)'\nreroute_unmatched = false", None),
+    ("route.a = 'exists(.a)'\nreroute_unmatched = 1", "bad value at transforms.t.reroute_unmatched"),
+    ("".join(f"route.k{k} = 'exists(.a)'\n" for k in range(64)), None),
+    ("".join(f"route.k{k} = 'exists(.a)'\n" for k in range(65)), "too many at transforms.t.route: 65, limit 64"),
+    ("route.a = 'a'\nx = 1\n[transforms.u]\ntype = \"filter\"", "unknown option transforms.t.x"),
+]
+
+# inputs of the sink, where a route has the ports a and _unmatched
+ROUTE_INPUTS = [
+    ('inputs = ["t.a"]', None),
+    ('inputs = ["t._unmatched", "in"]', None),
+    ('inputs = ["t*"]', None),
+    ('inputs = ["t"]', "unknown input t of component out"),
+    ('inputs = ["t.b"]', "unknown input t.b of component out"),
 ]
 
 # inputs of the sink
@@ -283,6 +331,7 @@ def configurations():
     """Configurations, each with why it isn't accepted, or accepted."""
     tables = [
         ("", WHOLE, ""), (SOURCE, COMPONENTS, "\n" + SINK), (BEFORE_OPTIONS, SINK_OPTIONS, "\n"), (SOURCE, SOURCE_OPTIONS, "\n" + SINK),
+        (BEFORE_FILTER, FILTER_OPTIONS, "\n"), (BEFORE_ROUTE, ROUTE_OPTIONS, "\n"), (BEFORE_ROUTED, ROUTE_INPUTS, "\n"),
         (BEFORE_INPUTS, INPUTS, "\n"), ("", TWO_FAULTS, ""), ("", FORMS, ""), ("", NAMES, ""),
     ]
     with tempfile.TemporaryDirectory() as folder:

@@ -16,12 +16,14 @@ use Rattle.vx_plan.specs.declared.global.Global.{Global as Options}
 use Rattle.vx_plan.specs.declared.plan.Plan.{Plan}
 use Rattle.vx_plan.proofs.Tests.{or_there, and_made, and_both, passing}
 use Rattle.vx_reading.specs.declared.kind.Kind.{Kind}
-use Rattle.vx_reading.specs.declared.kind.Kind.TheVariants.{Stdin, Console}
+use Rattle.vx_reading.specs.declared.kind.Kind.TheVariants.{Stdin, Filter, Route, Console}
 use Rattle.vx_reading.specs.declared.plan_fault.PlanFault.{PlanFault}
 use Rattle.vx_reading.specs.Components.{Part, parts, kind_of, type_in}
 use Rattle.vx_reading.specs.Names.{AreApart, names_of, AreApartByClass}
 use Rattle.vx_reading.specs.Options.{kinds, kind_class, kind_name, kind_named}
 use Rattle.vx_reading.specs.Plans.{component, component_of, global_of}
+use Rattle.vx_reading.specs.declared.reading.ReadPlan.{ReadPlan}
+use Rattle.vx_reading.specs.Answers.{plan_in}
 use Rattle.vx_reading.specs.Reading.{IsPlanOf, IsJudged}
 use Rattle.vx_reading.proofs.Apart.{judged_apart}
 
@@ -36,9 +38,17 @@ pub apart_differ : (components : List Component) → AreApart (names_of componen
 apart_differ [] apart = refl
 apart_differ (c ∷ rest) apart = (λ i. not (none_named c.name rest apart.0 i) && apart_differ rest apart.1 i)
 
+-- what is a transform may read others
+transform_reads : (class : Class) (inputs : List Word) → same_class Transform class ≡ true → (not (elim class [ Source ↦ true | Transform ↦ false | Sink ↦ false ]) || is_empty inputs) ≡ true
+transform_reads Source inputs e = cc
+transform_reads Transform inputs e = refl
+transform_reads Sink inputs e = refl
+
 -- a component of a type whose class is that of its part has options of its class
 kind_fits : (whole : Options) (part : Part) (kind : Kind) → same_class (kind_class kind) part.class ≡ true → fits_class (component whole part kind) ≡ true
 kind_fits whole part Stdin same = and_made (same_class Source part.class) (not (is_source (component whole part Stdin)) || true) same (or_there (not (is_source (component whole part Stdin))) true refl)
+kind_fits whole part Filter same = and_made (same_class Transform part.class) (not (is_source (component whole part Filter)) || is_empty (component whole part Filter).inputs) same (transform_reads part.class (component whole part Filter).inputs same)
+kind_fits whole part Route same = and_made (same_class Transform part.class) (not (is_source (component whole part Route)) || is_empty (component whole part Route).inputs) same (transform_reads part.class (component whole part Route).inputs same)
 kind_fits whole part Console same = and_made (same_class Sink part.class) (not (is_source (component whole part Console)) || is_empty (component whole part Console).inputs) same (go part.class same)
   where
     go : (class : Class) → same_class Sink class ≡ true → (not (elim class [ Source ↦ true | Transform ↦ false | Sink ↦ false ]) || is_empty (component whole part Console).inputs) ≡ true
@@ -54,6 +64,18 @@ kind_staged whole part Stdin same = go part.class same
     go Source e = refl
     go Transform e = refl
     go Sink e = cc
+kind_staged whole part Filter same = go part.class same
+  where
+    go : (class : Class) → same_class Transform class ≡ true → has_stage (record (component whole part Filter) { class = class }) ≡ true
+    go Source e = refl
+    go Transform e = refl
+    go Sink e = cc
+kind_staged whole part Route same = go part.class same
+  where
+    go : (class : Class) → same_class Transform class ≡ true → has_stage (record (component whole part Route) { class = class }) ≡ true
+    go Source e = refl
+    go Transform e = refl
+    go Sink e = cc
 kind_staged whole part Console same = go part.class same
   where
     go : (class : Class) → same_class Sink class ≡ true → has_stage (record (component whole part Console) { class = class }) ≡ true
@@ -62,7 +84,7 @@ kind_staged whole part Console same = go part.class same
     go Sink e = refl
 
 -- the type of a component is one of its class
-kind_class_of : (part : Part) (kind : Kind) → kind_of part ≡ Some kind → same_class (kind_class kind) part.class ≡ true
+pub kind_class_of : (part : Part) (kind : Kind) → kind_of part ≡ Some kind → same_class (kind_class kind) part.class ≡ true
 kind_class_of part kind is = go (option_and_then as_str (type_in part.value)) is
   where
     go : (o : Option Word) → option_and_then (kind_named part.class) o ≡ Some kind → same_class (kind_class kind) part.class ≡ true
@@ -83,15 +105,20 @@ each_passes test whole passes (part ∷ rest) = go (kind_of part) refl (each_pas
     go (Some kind) is later = and_made (test (component whole part kind)) (list_all test (flat_map (component_of whole) rest)) (passes part kind (kind_class_of part kind is)) later
 
 -- the plan that is answered of a document may be installed
-pub judged_accepted : (root : Data) (answer : Result Plan PlanFault) → AreApartByClass root → IsJudged root answer → IfOk answer IsPlan
-judged_accepted root (Ok plan) apart judged =
-    let of : IsPlanOf root plan = judged in
+pub judged_accepted : (refuses : Word → Bool) (root : Data) (answer : Result Plan PlanFault) → AreApartByClass root → IsJudged refuses root answer → IfOk answer IsPlan
+judged_accepted refuses root (Ok plan) apart judged =
+    let of : IsPlanOf refuses root plan = judged in
     let whole = global_of root in
-    let differ : names_differ plan.components ≡ true = apart_differ plan.components (judged_apart root (Ok plan) apart judged) in
+    let differ : names_differ plan.components ≡ true = apart_differ plan.components (judged_apart refuses root (Ok plan) apart judged) in
     record {
       named = differ;
       fitting = ap (λ (p : Plan). list_all fits_class p.components) of.same ∙ each_passes fits_class whole (kind_fits whole) (parts root);
       staged = ap (λ (p : Plan). list_all has_stage p.components) of.same ∙ each_passes has_stage whole (kind_staged whole) (parts root);
       accepted = subst (λ (p : Plan). IsAccepted (in_order (nodes_of p))) (sym of.same) of.accepted;
     }
-judged_accepted root (Err fault) apart judged = tt
+judged_accepted refuses root (Err fault) apart judged = tt
+
+-- so may the plan that is read
+pub read_accepted : (refuses : Word → Bool) (root : Data) (answer : Result ReadPlan PlanFault) → AreApartByClass root → IsJudged refuses root (plan_in answer) → IfOk answer (λ (read : ReadPlan). IsPlan read.plan)
+read_accepted refuses root (Ok read) apart judged = judged_accepted refuses root (Ok read.plan) apart judged
+read_accepted refuses root (Err fault) apart judged = tt

@@ -24,22 +24,24 @@ use Rattle.vx_reading.specs.Findings.{findings, global_findings, count_findings,
 use Rattle.vx_reading.specs.Judging.{Pair, pairs_of, pairs_in, is_table}
 use Rattle.vx_reading.specs.Names.{AreApart, names_of, part_names, pair_names, AreApartByClass}
 use Rattle.vx_reading.specs.Plans.{component, component_of, global_of}
+use Rattle.vx_reading.specs.declared.reading.ReadPlan.{ReadPlan}
+use Rattle.vx_reading.specs.Answers.{plan_in}
 use Rattle.vx_reading.specs.Reading.{IsPlanOf, IsJudged}
 use Rattle.vx_reading.proofs.Few.{none_left, none_right}
 
-all_mapped : {X : Type 0} (P Q : X → Type 0) (xs : List X) → ((x : X) → P x → Q x) → AllByRecursion P xs → AllByRecursion Q xs
+pub all_mapped : {X : Type 0} (P Q : X → Type 0) (xs : List X) → ((x : X) → P x → Q x) → AllByRecursion P xs → AllByRecursion Q xs
 all_mapped P Q [] f all = tt
 all_mapped P Q (x ∷ xs) f all = (f x all.0, all_mapped P Q xs f all.1)
 
-all_joined : {X : Type 0} (P : X → Type 0) (xs ys : List X) → AllByRecursion P xs → AllByRecursion P ys → AllByRecursion P (xs ++ ys)
+pub all_joined : {X : Type 0} (P : X → Type 0) (xs ys : List X) → AllByRecursion P xs → AllByRecursion P ys → AllByRecursion P (xs ++ ys)
 all_joined P [] ys all more = more
 all_joined P (x ∷ xs) ys all more = (all.0, all_joined P xs ys all.1 more)
 
-all_left : {X : Type 0} (P : X → Type 0) (xs ys : List X) → AllByRecursion P (xs ++ ys) → AllByRecursion P xs
+pub all_left : {X : Type 0} (P : X → Type 0) (xs ys : List X) → AllByRecursion P (xs ++ ys) → AllByRecursion P xs
 all_left P [] ys all = tt
 all_left P (x ∷ xs) ys all = (all.0, all_left P xs ys all.1)
 
-all_right : {X : Type 0} (P : X → Type 0) (xs ys : List X) → AllByRecursion P (xs ++ ys) → AllByRecursion P ys
+pub all_right : {X : Type 0} (P : X → Type 0) (xs ys : List X) → AllByRecursion P (xs ++ ys) → AllByRecursion P ys
 all_right P [] ys all = all
 all_right P (x ∷ xs) ys all = all_right P xs ys all.1
 
@@ -184,11 +186,16 @@ kept_apart whole (part ∷ rest) apart = go (kind_of part) (kept_apart whole res
     go (Some kind) later = (kept_all (λ (other : Word). same_text other part.name ≡ false) whole rest apart.0, later)
 
 -- a plan that is answered of a document has components with different names
-pub judged_apart : (root : Data) (answer : Result Plan PlanFault) → AreApartByClass root → IsJudged root answer → IfOk answer (λ (plan : Plan). AreApart (names_of plan.components))
-judged_apart root (Ok plan) apart judged =
-    let of : IsPlanOf root plan = judged in
-    subst (λ (p : Plan). AreApart (names_of p.components)) (sym of.same) (kept_apart (global_of root) (parts root) (parts_apart root apart of.faultless))
-judged_apart root (Err fault) apart judged = tt
+pub judged_apart : (refuses : Word → Bool) (root : Data) (answer : Result Plan PlanFault) → AreApartByClass root → IsJudged refuses root answer → IfOk answer (λ (plan : Plan). AreApart (names_of plan.components))
+judged_apart refuses root (Ok plan) apart judged =
+    let of : IsPlanOf refuses root plan = judged in
+    subst (λ (p : Plan). AreApart (names_of p.components)) (sym of.same) (kept_apart (global_of root) (parts root) (parts_apart root apart (none_left (findings root) _ of.faultless)))
+judged_apart refuses root (Err fault) apart judged = tt
+
+-- so has what is read
+pub read_apart : (refuses : Word → Bool) (root : Data) (answer : Result ReadPlan PlanFault) → AreApartByClass root → IsJudged refuses root (plan_in answer) → IfOk answer (λ (read : ReadPlan). AreApart (names_of read.plan.components))
+read_apart refuses root (Ok read) apart judged = judged_apart refuses root (Ok read.plan) apart judged
+read_apart refuses root (Err fault) apart judged = tt
 
 -- the components of a table that is there have the names of its members
 pub apart_section : (root : Data) (class : Class) (value : Data) → section root class ≡ Some value → AreApart (pair_names (pairs_in value)) → AreApart (part_names (parts_in root class))

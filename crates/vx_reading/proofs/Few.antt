@@ -52,9 +52,9 @@ few_parts root none =
     grind (arith, nat_tests)
 
 pub few_components : (environment : List Variable) (bytes : Word) (plan : Plan) → IsReading environment bytes (Ok plan) → length plan.components ≤ 256
-few_components environment bytes plan (inl read) =
-    let of : IsPlanOf read.1.root plan = read.1.judged in
+few_components environment bytes plan (refuses, inl read) =
+    let of : IsPlanOf refuses read.1.root plan = read.1.rightly.judged in
     let global = global_of read.1.root in
-    let few : length (flat_map (component_of global) (parts read.1.root)) ≤ 256 = omega (arith, no_more global (parts read.1.root), few_parts read.1.root of.faultless) in
+    let few : length (flat_map (component_of global) (parts read.1.root)) ≤ 256 = omega (arith, no_more global (parts read.1.root), few_parts read.1.root (none_left (findings read.1.root) _ of.faultless)) in
     subst (λ (p : Plan). length p.components ≤ 256) (sym of.same) few
-few_components environment bytes plan (inr none) = let e = none.1 in cc
+few_components environment bytes plan (refuses, inr none) = let e = none.1 in cc

@@ -7,4 +7,9 @@ pub mod FirstRead
 pub mod Few
 pub mod Apart
 pub mod Accepted
+pub mod Routes
 pub mod Ported
+pub mod Trying
+pub mod Refusing
+pub mod Sure
+pub mod Judged

@@ -15,12 +15,13 @@ use Rattle.vx_plan.specs.declared.plan.Plan.{Plan}
 use Rattle.vx_reading.specs.declared.finding.Finding.{Finding}
 use Rattle.vx_reading.specs.declared.plan_fault.PlanFault.{PlanFault}
 use Rattle.vx_reading.specs.declared.plan_fault.PlanFault.TheVariants.{MissingVariable, NotToml, UnknownKind, UnknownOption, MissingOption, BadValue, TooMany, Graph, WantOfMemory}
-use Rattle.vx_reading.specs.Findings.{findings, rank, precedes, IsFirst, HasFault, AreAlike}
+use Rattle.vx_reading.specs.Conditions.{all_findings}
+use Rattle.vx_reading.specs.Findings.{rank, precedes, IsFirst, HasFault, AreAlike}
 use Rattle.vx_reading.specs.Plans.{plan_of, nodes_of}
-use Rattle.vx_reading.specs.Reading.{IsPlanOf, IsJudged, IsDocument, IsDocumentJudged, IsTextRead, IsReading}
+use Rattle.vx_reading.specs.Reading.{IsPlanOf, IsJudged, IsDocument, IsDocumentJudged, IsTextRead, IsReadingBy, IsReading}
 
 -- a text is one document
-one_document : (environment : List Variable) (text : Word) (a b : Data) → IsDocument environment text a → IsDocument environment text b → a ≡ b
+pub one_document : (environment : List Variable) (text : Word) (a b : Data) → IsDocument environment text a → IsDocument environment text b → a ≡ b
 one_document environment text a b da db = da.same ∙ ap table (same_Some _ _ (sym da.parsed ∙ db.parsed)) ∙ sym db.same
 
 -- where there are no faults, none is the first
@@ -45,51 +46,51 @@ no_graph_fault nodes (graph.Cycle texts) stands h memory = stands.acyclic texts 
 no_graph_fault nodes graph.WantOfMemory stands h memory = memory refl
 
 -- a document with a plan has no fault
-judged_apart : (root : Data) (plan : Plan) (fault : PlanFault) → IsPlanOf root plan → IsJudged root (Err fault) → fault ≡ WantOfMemory
-judged_apart root plan (MissingVariable name at) p f = absurd f
-judged_apart root plan NotToml p f = absurd f
-judged_apart root plan (UnknownKind path) p f = absurd (no_fault (findings root) (UnknownKind path) p.faultless f)
-judged_apart root plan (UnknownOption path) p f = absurd (no_fault (findings root) (UnknownOption path) p.faultless f)
-judged_apart root plan (MissingOption path) p f = absurd (no_fault (findings root) (MissingOption path) p.faultless f)
-judged_apart root plan (BadValue path) p f = absurd (no_fault (findings root) (BadValue path) p.faultless f)
-judged_apart root plan (TooMany path count most) p f = absurd (no_fault (findings root) (TooMany path count most) p.faultless f)
-judged_apart root plan (Graph fault) p f = absurd (no_graph_fault (in_order (nodes_of (plan_of root))) fault p.accepted f.refused f.memory)
-judged_apart root plan WantOfMemory p f = refl
+judged_apart : (refuses : Word → Bool) (root : Data) (plan : Plan) (fault : PlanFault) → IsPlanOf refuses root plan → IsJudged refuses root (Err fault) → fault ≡ WantOfMemory
+judged_apart refuses root plan (MissingVariable name at) p f = absurd f
+judged_apart refuses root plan NotToml p f = absurd f
+judged_apart refuses root plan (UnknownKind path) p f = absurd (no_fault (all_findings refuses root) (UnknownKind path) p.faultless f)
+judged_apart refuses root plan (UnknownOption path) p f = absurd (no_fault (all_findings refuses root) (UnknownOption path) p.faultless f)
+judged_apart refuses root plan (MissingOption path) p f = absurd (no_fault (all_findings refuses root) (MissingOption path) p.faultless f)
+judged_apart refuses root plan (BadValue path) p f = absurd (no_fault (all_findings refuses root) (BadValue path) p.faultless f)
+judged_apart refuses root plan (TooMany path count most) p f = absurd (no_fault (all_findings refuses root) (TooMany path count most) p.faultless f)
+judged_apart refuses root plan (Graph fault) p f = absurd (no_graph_fault (in_order (nodes_of (plan_of root))) fault p.accepted f.refused f.memory)
+judged_apart refuses root plan WantOfMemory p f = refl
 
 -- the same of the document of a text
-document_apart : (environment : List Variable) (text : Word) (plan : Plan) (fault : PlanFault) → IsDocumentJudged environment text (Ok plan)
-    → IsDocumentJudged environment text (Err fault) → fault ≡ WantOfMemory
-document_apart environment text plan fault p f =
-    judged_apart p.root plan fault p.judged
-    (subst (λ (root : Data). IsJudged root (Err fault)) (one_document environment text f.root p.root f.document p.document) f.judged)
+document_apart : (refuses : Word → Bool) (environment : List Variable) (text : Word) (plan : Plan) (fault : PlanFault) → IsDocumentJudged refuses environment text (Ok plan)
+    → IsDocumentJudged refuses environment text (Err fault) → fault ≡ WantOfMemory
+document_apart refuses environment text plan fault p f =
+    judged_apart refuses p.root plan fault p.rightly.judged
+    (subst (λ (root : Data). IsJudged refuses root (Err fault)) (one_document environment text f.root p.root f.document p.document) f.rightly.judged)
 
 -- the same of a text
-text_apart : (environment : List Variable) (text : Word) (plan : Plan) (fault : PlanFault) → IsTextRead environment text (Ok plan)
-    → IsTextRead environment text (Err fault) → fault ≡ WantOfMemory
-text_apart environment text plan (MissingVariable name at) p f = let e = sym p.document.whole ∙ f.lacking in cc
-text_apart environment text plan NotToml p f = let e = sym p.document.parsed ∙ f.parsed in cc
-text_apart environment text plan (UnknownKind path) p f = document_apart environment text plan (UnknownKind path) p f
-text_apart environment text plan (UnknownOption path) p f = document_apart environment text plan (UnknownOption path) p f
-text_apart environment text plan (MissingOption path) p f = document_apart environment text plan (MissingOption path) p f
-text_apart environment text plan (BadValue path) p f = document_apart environment text plan (BadValue path) p f
-text_apart environment text plan (TooMany path count most) p f = document_apart environment text plan (TooMany path count most) p f
-text_apart environment text plan (Graph fault) p f = document_apart environment text plan (Graph fault) p f
-text_apart environment text plan WantOfMemory p f = refl
+text_apart : (refuses : Word → Bool) (environment : List Variable) (text : Word) (plan : Plan) (fault : PlanFault) → IsTextRead refuses environment text (Ok plan)
+    → IsTextRead refuses environment text (Err fault) → fault ≡ WantOfMemory
+text_apart refuses environment text plan (MissingVariable name at) p f = let e = sym p.document.whole ∙ f.lacking in cc
+text_apart refuses environment text plan NotToml p f = let e = sym p.document.parsed ∙ f.parsed in cc
+text_apart refuses environment text plan (UnknownKind path) p f = document_apart refuses environment text plan (UnknownKind path) p f
+text_apart refuses environment text plan (UnknownOption path) p f = document_apart refuses environment text plan (UnknownOption path) p f
+text_apart refuses environment text plan (MissingOption path) p f = document_apart refuses environment text plan (MissingOption path) p f
+text_apart refuses environment text plan (BadValue path) p f = document_apart refuses environment text plan (BadValue path) p f
+text_apart refuses environment text plan (TooMany path count most) p f = document_apart refuses environment text plan (TooMany path count most) p f
+text_apart refuses environment text plan (Graph fault) p f = document_apart refuses environment text plan (Graph fault) p f
+text_apart refuses environment text plan WantOfMemory p f = refl
 
 -- what has a plan is refused for want of memory alone
-pub never_both : (environment : List Variable) (bytes : Word) (plan : Plan) (fault : PlanFault) → IsReading environment bytes (Ok plan)
-    → IsReading environment bytes (Err fault) → fault ≡ WantOfMemory
-never_both environment bytes plan fault (inl p) (inl f) = text_apart environment bytes plan fault p.1 f.1
-never_both environment bytes plan fault (inl p) (inr f) = absurd (f.0 p.0)
-never_both environment bytes plan fault (inr p) f = let e = p.1 in cc
+pub never_both : (refuses : Word → Bool) (environment : List Variable) (bytes : Word) (plan : Plan) (fault : PlanFault) → IsReadingBy refuses environment bytes (Ok plan)
+    → IsReadingBy refuses environment bytes (Err fault) → fault ≡ WantOfMemory
+never_both refuses environment bytes plan fault (inl p) (inl f) = text_apart refuses environment bytes plan fault p.1 f.1
+never_both refuses environment bytes plan fault (inl p) (inr f) = absurd (f.0 p.0)
+never_both refuses environment bytes plan fault (inr p) f = let e = p.1 in cc
 
 -- what has a plan has no other
 pub one_plan : (environment : List Variable) (bytes : Word) (p q : Plan) → IsReading environment bytes (Ok p)
     → IsReading environment bytes (Ok q) → p ≡ q
-one_plan environment bytes p q (inl a) (inl b) =
-    a.1.judged.same ∙ ap plan_of (one_document environment bytes a.1.root b.1.root a.1.document b.1.document) ∙ sym b.1.judged.same
-one_plan environment bytes p q (inl a) (inr b) = absurd (b.0 a.0)
-one_plan environment bytes p q (inr a) b = let e = a.1 in cc
+one_plan environment bytes p q (_, inl a) (_, inl b) =
+    a.1.rightly.judged.same ∙ ap plan_of (one_document environment bytes a.1.root b.1.root a.1.document b.1.document) ∙ sym b.1.rightly.judged.same
+one_plan environment bytes p q (_, inl a) (_, inr b) = absurd (b.0 a.0)
+one_plan environment bytes p q (_, inr a) b = let e = a.1 in cc
 
 number-tie : (a b : ℕ) (p q : Bool) → (nat_lt a b || ((a == b) && p)) ≡ false → (nat_lt b a || ((b == a) && q)) ≡ false
     → (a ≡ b) × (p ≡ false) × (q ≡ false)

@@ -1,67 +1,74 @@
--- Each component of a plan that was read works with a port, and none is a transform.
-use Rattle.std.proofs.Common.{◌≡◌, inl, inr, Bool, true, false, List, [], ◌∷◌, ◌++◌, Option, Some, None, Ok, refl, sym, ap, subst, ◌∙◌}
-use Rattle.std.specs.Prelude.{◌&&◌, not, option_and_then}
-use Rattle.std.specs.List.{list_all, flat_map}
+-- Each component of a plan that was read works with a port, or is a filter or a route of few ways.
+use Rattle.std.proofs.Common.{◌≡◌, ◌≤◌, inl, inr, true, List, [], ◌∷◌, ◌++◌, length, Option, Some, None, Ok, refl, sym, ap, subst, ◌∙◌, arith}
+use Rattle.std.specs.Prelude.{nat_le}
+use Rattle.std.specs.List.{AllByRecursion, list_all, flat_map}
+use Rattle.std.proofs.lemmas.Bool.Decides.{nat_tests}
 use Rattle.vx_value.specs.declared.variable.Variable.{Variable}
 use Rattle.vx_value.specs.Texts.{Word}
-use Rattle.toml.specs.Data.{as_str}
+use Rattle.vx_plan.specs.Accepted.{same_class}
 use Rattle.vx_plan.specs.declared.class.Class.{Class}
 use Rattle.vx_plan.specs.declared.class.Class.TheVariants.{Source, Transform, Sink}
-use Rattle.vx_plan.specs.declared.component.Component.{Component}
 use Rattle.vx_plan.specs.declared.global.Global.{Global}
 use Rattle.vx_plan.specs.declared.plan.Plan.{Plan}
-use Rattle.vx_plan.specs.Components.{is_transform}
-use Rattle.vx_plan.specs.Options.{has_device}
+use Rattle.vx_plan.proofs.Tests.{and_made}
 use Rattle.vx_reading.specs.declared.kind.Kind.{Kind}
-use Rattle.vx_reading.specs.declared.kind.Kind.TheVariants.{Stdin, Console}
-use Rattle.vx_reading.specs.Components.{Part, parts, type_in, kind_of}
-use Rattle.vx_reading.specs.Options.{kind_named}
-use Rattle.vx_reading.specs.Plans.{component, component_of, global_of}
+use Rattle.vx_reading.specs.declared.kind.Kind.TheVariants.{Stdin, Filter, Route, Console}
+use Rattle.vx_reading.specs.Components.{Part, parts, kind_of}
+use Rattle.vx_reading.specs.Findings.{findings}
+use Rattle.vx_reading.specs.Made.{is_made}
+use Rattle.vx_reading.specs.Options.{kind_class}
+use Rattle.vx_reading.specs.Plans.{component, component_of, global_of, ways_of}
 use Rattle.vx_reading.specs.Reading.{IsReading, IsPlanOf}
+use Rattle.vx_reading.proofs.Accepted.{kind_class_of}
+use Rattle.vx_reading.proofs.Few.{none_left}
+use Rattle.vx_reading.proofs.Routes.{few_ways}
 
--- whether a component works with a port, and is no transform
-abbrev pub is_ported : Component → Bool
-is_ported c = has_device c.settings && not (is_transform c)
+few_told : (n : _) → n ≤ 64 → nat_le n 64 ≡ true
+few_told n few = grind (arith, nat_tests)
 
-all_joined : (xs ys : List Component) → list_all is_ported xs ≡ true → list_all is_ported ys ≡ true → list_all is_ported (xs ++ ys) ≡ true
-all_joined [] ys first second = second
-all_joined (c ∷ xs) ys first second = go (is_ported c) first (λ e. all_joined xs ys e second)
+kind_made : (whole : Global) (part : Part) (kind : Kind) → same_class (kind_class kind) part.class ≡ true → (kind ≡ Route → length (ways_of part.value) ≤ 64) →
+    is_made (component whole part kind) ≡ true
+kind_made whole part Stdin same few = go part.class same
   where
-    go : (b : Bool) → (b && list_all is_ported xs) ≡ true → (list_all is_ported xs ≡ true → list_all is_ported (xs ++ ys) ≡ true) → (b && list_all is_ported (xs ++ ys)) ≡ true
-    go true e rest = rest e
-    go false e rest = cc
-
--- no type stands in the table of transforms
-untyped : (name : Option Word) → option_and_then (kind_named Transform) name ≡ None
-untyped None = refl
-untyped (Some name) = refl
-
-kind_ported : (global : Global) (part : Part) (kind : Kind) → not (is_transform (component global part kind)) ≡ true → list_all is_ported (component global part kind ∷ []) ≡ true
-kind_ported global part Stdin other = ap (λ b. b && true) other
-kind_ported global part Console other = ap (λ b. b && true) other
-
-part_ported : (global : Global) (part : Part) → list_all is_ported (component_of global part) ≡ true
-part_ported global part = go (kind_of part) refl part.class refl
+    go : (class : Class) → same_class Source class ≡ true → is_made (record (component whole part Stdin) { class = class }) ≡ true
+    go Source e = refl
+    go Transform e = cc
+    go Sink e = cc
+kind_made whole part Filter same few = go part.class same
   where
-    other : (class : Class) → part.class ≡ class → (elim class [ Source ↦ true | Transform ↦ false | Sink ↦ true ]) ≡ true → not (elim part.class [ Source ↦ false | Transform ↦ true | Sink ↦ false ]) ≡ true
-    other Source is plain = ap (λ (x : Class). not (elim x [ Source ↦ false | Transform ↦ true | Sink ↦ false ])) is
-    other Transform is plain = cc
-    other Sink is plain = ap (λ (x : Class). not (elim x [ Source ↦ false | Transform ↦ true | Sink ↦ false ])) is
+    go : (class : Class) → same_class Transform class ≡ true → is_made (record (component whole part Filter) { class = class }) ≡ true
+    go Source e = cc
+    go Transform e = refl
+    go Sink e = cc
+kind_made whole part Route same few = go part.class same
+  where
+    go : (class : Class) → same_class Transform class ≡ true → is_made (record (component whole part Route) { class = class }) ≡ true
+    go Source e = cc
+    go Transform e = few_told (length (ways_of part.value)) (few refl)
+    go Sink e = cc
+kind_made whole part Console same few = go part.class same
+  where
+    go : (class : Class) → same_class Sink class ≡ true → is_made (record (component whole part Console) { class = class }) ≡ true
+    go Source e = cc
+    go Transform e = cc
+    go Sink e = refl
 
-    go : (o : Option Kind) → kind_of part ≡ o → (class : Class) → part.class ≡ class → list_all is_ported (elim o [ None ↦ [] | Some kind ↦ component global part kind ∷ [] ]) ≡ true
-    go None at class is = refl
-    go (Some kind) at Source is = kind_ported global part kind (other Source is refl)
-    go (Some kind) at Sink is = kind_ported global part kind (other Sink is refl)
-    go (Some kind) at Transform is =
-        let none : kind_of part ≡ None = ap (λ (x : Class). option_and_then (kind_named x) (option_and_then as_str (type_in part.value))) is ∙ untyped (option_and_then as_str (type_in part.value)) in
-        cc
+parts_made : (whole : Global) (all : List Part) → AllByRecursion (λ (part : Part). kind_of part ≡ Some Route → length (ways_of part.value) ≤ 64) all →
+    list_all is_made (flat_map (component_of whole) all) ≡ true
+parts_made whole [] few = refl
+parts_made whole (part ∷ rest) few = go (kind_of part) refl (parts_made whole rest few.1)
+  where
+    go : (o : Option Kind) → kind_of part ≡ o → list_all is_made (flat_map (component_of whole) rest) ≡ true →
+        list_all is_made ((elim o [ None ↦ [] | Some kind ↦ component whole part kind ∷ [] ]) ++ flat_map (component_of whole) rest) ≡ true
+    go None is later = later
+    go (Some kind) is later =
+        and_made (is_made (component whole part kind)) (list_all is_made (flat_map (component_of whole) rest))
+        (kind_made whole part kind (kind_class_of part kind is) (λ route. few.0 (is ∙ ap Some route))) later
 
-parts_ported : (global : Global) (all : List Part) → list_all is_ported (flat_map (component_of global) all) ≡ true
-parts_ported global [] = refl
-parts_ported global (part ∷ rest) = all_joined (component_of global part) (flat_map (component_of global) rest) (part_ported global part) (parts_ported global rest)
-
-pub ported_read : (environment : List Variable) (bytes : Word) (plan : Plan) → IsReading environment bytes (Ok plan) → list_all is_ported plan.components ≡ true
-ported_read environment bytes plan (inl read) =
-    let of : IsPlanOf read.1.root plan = read.1.judged in
-    subst (λ (p : Plan). list_all is_ported p.components ≡ true) (sym of.same) (parts_ported (global_of read.1.root) (parts read.1.root))
-ported_read environment bytes plan (inr none) = let e = none.1 in cc
+pub made_read : (environment : List Variable) (bytes : Word) (plan : Plan) → IsReading environment bytes (Ok plan) → list_all is_made plan.components ≡ true
+made_read environment bytes plan (refuses, inl read) =
+    let root = read.1.root in
+    let of : IsPlanOf refuses root plan = read.1.rightly.judged in
+    subst (λ (p : Plan). list_all is_made p.components ≡ true) (sym of.same)
+    (parts_made (global_of root) (parts root) (few_ways root (none_left (findings root) _ of.faultless)))
+made_read environment bytes plan (refuses, inr none) = let e = none.1 in cc

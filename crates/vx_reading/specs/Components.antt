@@ -1,14 +1,14 @@
 -- The components of a document.
-use Rattle.std.specs.Prelude.{ℕ, Bool, true, false, not, ◌&&◌, ◌||◌, ◌==◌, Option, Some, None, option_map, option_and_then, is_some, List, [], ◌∷◌, ◌++◌, map, length, codes, find, nat_le}
-use Rattle.std.specs.List.{list_all}
+use Rattle.std.specs.Prelude.{Bool, true, false, not, ◌&&◌, ◌||◌, Option, Some, None, option_map, option_and_then, is_some, List, [], ◌++◌, ◌∷◌, map, codes, find}
 use Rattle.vx_value.specs.Texts.{Word, same_text}
 use Rattle.toml.specs.Data.{Data, get, as_str}
 use Rattle.vx_plan.specs.declared.class.Class.{Class}
 use Rattle.vx_plan.specs.declared.class.Class.TheVariants.{Source, Transform, Sink}
 use Rattle.vx_reading.specs.declared.kind.Kind.{Kind}
-use Rattle.vx_reading.specs.declared.kind.Kind.TheVariants.{Stdin, Console}
+use Rattle.vx_reading.specs.declared.kind.Kind.TheVariants.{Stdin, Filter, Route, Console}
 use Rattle.vx_reading.specs.Judging.{Pair, pairs_in}
 use Rattle.vx_reading.specs.Options.{dot, kind_named}
+pub use Rattle.vx_reading.specs.Options.{is_name_byte, is_name}
 
 -- a component as the document has it
 pub record Part : Type 0 where
@@ -46,15 +46,6 @@ parts root = parts_in root Source ++ (parts_in root Transform ++ parts_in root S
 abbrev pub part_path : Part → Word
 part_path part = section_name part.class ++ dot ∷ part.name
 
--- a letter or a digit of ASCII, `_` or `-`
-abbrev pub is_name_byte : ℕ → Bool
-is_name_byte b =
-    (((nat_le 65 b && nat_le b 90) || (nat_le 97 b && nat_le b 122)) || (nat_le 48 b && nat_le b 57)) || ((b == 95) || (b == 45))
-
--- 1 to 64 of these bytes
-abbrev pub is_name : Word → Bool
-is_name name = (nat_le 1 (length name) && nat_le (length name) 64) && list_all is_name_byte name
-
 -- whether a class has a component of that name
 abbrev pub has_part : Data → Class → Word → Bool
 has_part root class name = is_some (option_and_then (get name) (section root class))
@@ -75,7 +66,7 @@ kind_of part = option_and_then (kind_named part.class) (option_and_then as_str (
 
 -- whether it reads standard input
 abbrev pub reads_stdin : Part → Bool
-reads_stdin part = elim (kind_of part) [ None ↦ false | Some kind ↦ elim kind [ Stdin ↦ true | Console ↦ false ] ]
+reads_stdin part = elim (kind_of part) [ None ↦ false | Some kind ↦ elim kind [ Stdin ↦ true | Filter ↦ false | Route ↦ false | Console ↦ false ] ]
 
 -- the name of the first component that reads standard input
 abbrev pub first_stdin : Data → Option Word

@@ -12,8 +12,8 @@ use Rattle.vx_reading.specs.declared.plan_fault.PlanFault.TheVariants as faults
 use Rattle.vx_reading.specs.declared.trouble.Trouble.{Trouble}
 use Rattle.vx_reading.specs.declared.trouble.Trouble.TheVariants.{UnknownKind, UnknownOption, MissingOption, BadValue, TooMany}
 use Rattle.vx_reading.specs.Components.{Part, section_name, section, parts, part_path, is_name, is_taken, type_in, first_stdin, is_later_stdin}
-use Rattle.vx_reading.specs.Judging.{Pair, pairs_in, is_table, Given, given, is_given, judged}
-use Rattle.vx_reading.specs.Options.{Row, dot, place_path, global_rows, rows_of, kind_named}
+use Rattle.vx_reading.specs.Judging.{Pair, pairs_in, is_table, Given, given, is_given, count_given, judged}
+use Rattle.vx_reading.specs.Options.{Row, dot, place_path, most_at, global_rows, rows_of, kind_named}
 
 -- the part of a document to which a fault belongs: 0 for the whole, 1 to 3 for the three tables, and a component's name
 pub record Owner : Type 0 where
@@ -50,9 +50,21 @@ abbrev pub lacking : Owner → Word → List Given → Row → List Finding
 lacking owner lead all row =
     if row.required && not (is_given row.place all) then found owner (lead ++ place_path row.place) MissingOption ∷ [] else []
 
+-- the fault of an option that is given more often than it may be
+abbrev pub crowded : Owner → Word → List Given → Row → List Finding
+crowded owner lead all row =
+    elim (most_at row.place) [
+      | None ↦ []
+      | Some most ↦ if nat_lt most (count_given row.place all) then found owner (lead ++ place_path row.place) (TooMany (count_given row.place all) most) ∷ [] else []
+    ]
+
+-- the faults of how often an option is given
+abbrev pub row_findings : Owner → Word → List Given → Row → List Finding
+row_findings owner lead all row = lacking owner lead all row ++ crowded owner lead all row
+
 -- the faults of a table's options
 abbrev pub option_findings : Owner → Word → List Row → List Given → List Finding
-option_findings owner lead rows all = given_findings owner lead rows all ++ flat_map (lacking owner lead all) rows
+option_findings owner lead rows all = given_findings owner lead rows all ++ flat_map (row_findings owner lead all) rows
 
 -- whether a name is that of one of the three tables
 abbrev pub is_section : Word → Bool

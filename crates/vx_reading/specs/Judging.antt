@@ -1,11 +1,11 @@
 -- What a table gives, and how each value of it is judged.
-use Rattle.std.specs.Prelude.{ℕ, ℤ, pos, negsuc, Bool, false, true, not, ◌&&◌, Option, Some, None, option_and_then, List, [], ◌∷◌, length, map, find, if◌then◌else◌, nat_lt, nat_le}
+use Rattle.std.specs.Prelude.{ℕ, ℤ, pos, negsuc, Bool, false, true, not, ◌&&◌, ◌||◌, Option, Some, None, option_and_then, List, [], ◌∷◌, length, map, find, count_by, codes, if◌then◌else◌, nat_lt, nat_le}
 use Rattle.std.specs.List.{list_any, flat_map}
 use Rattle.vx_value.specs.Texts.{Word, same_text}
-use Rattle.toml.specs.Data.{Data, Items, no_items, item, Members, no_members, member, as_table, as_array, as_str, as_integer, as_bool}
+use Rattle.toml.specs.Data.{Data, Items, no_items, item, Members, no_members, member, get, as_table, as_array, as_str, as_integer, as_bool}
 use Rattle.vx_reading.specs.declared.trouble.Trouble.{Trouble}
 use Rattle.vx_reading.specs.declared.trouble.Trouble.TheVariants.{UnknownOption, BadValue, TooMany}
-use Rattle.vx_reading.specs.Options.{Place, Alone, Within, Either, Shape, Truth, AnyText, OneOf, Texts, Whole, Row, covers}
+use Rattle.vx_reading.specs.Options.{Place, Alone, Within, Either, Each, Shape, Truth, AnyText, OneOf, Texts, Whole, Condition, Row, covers, fits_place}
 
 -- a name and the value under it
 pub record Pair : Type 0 where
@@ -35,6 +35,7 @@ abbrev pub is_within : Word → Place → Bool
 is_within group (Alone name) = false
 is_within group (Within other name) = same_text other group
 is_within group (Either other name) = same_text other group
+is_within group (Each other most) = same_text other group
 
 abbrev pub is_group : List Row → Word → Bool
 is_group rows group = list_any (λ (r : Row). is_within group r.place) rows
@@ -56,6 +57,10 @@ given rows pairs = flat_map (given_by rows) pairs
 -- whether the option of a place is given
 abbrev pub is_given : Place → List Given → Bool
 is_given place all = list_any (λ (g : Given). covers place g.place) all
+
+-- how many of those that are given the option of a place is
+abbrev pub count_given : Place → List Given → ℕ
+count_given place all = count_by (λ (g : Given). covers place g.place) all
 
 -- the items of a list, in order
 abbrev pub items_in : Items → List Data
@@ -89,6 +94,20 @@ between least most (negsuc n) = None
 abbrev pub whole_in : ℕ → ℕ → Data → Option ℕ
 whole_in least most value = option_and_then (between least most) (as_integer value)
 
+-- whether a value that may not be there is the text `vrl`
+abbrev pub names_vrl : Option Data → Bool
+names_vrl None = false
+names_vrl (Some value) = elim (as_str value) [ None ↦ false | Some text ↦ same_text text (codes "vrl") ]
+
+-- whether it is a text
+abbrev pub has_text : Option Data → Bool
+has_text None = false
+has_text (Some value) = is_text value
+
+-- whether a value is a table whose `type` is `vrl` and whose `source` is a text
+abbrev pub is_vrl : Data → Bool
+is_vrl value = names_vrl (get (codes "type") value) && has_text (get (codes "source") value)
+
 -- what is wrong with a value, by what it has to be
 abbrev pub fits : Shape → Data → Option Trouble
 fits Truth value = if is_truth value then None else Some BadValue
@@ -96,11 +115,16 @@ fits AnyText value = if is_text value then None else Some BadValue
 fits (OneOf texts) value = if is_one_of texts value then None else Some BadValue
 fits (Texts most) value = elim (as_array value) [ None ↦ Some BadValue | Some items ↦ fits_texts most (items_in items) ]
 fits (Whole least most) value = elim (whole_in least most value) [ None ↦ Some BadValue | Some n ↦ None ]
+fits Condition value = if is_text value || is_vrl value then None else Some BadValue
 
 -- the row of what is given at a place
 abbrev pub row_at : List Row → Place → Option Row
 row_at rows place = find (λ (r : Row). covers r.place place) rows
 
--- what is wrong with an option that is given: it has no row, or the value isn't what the row says
+-- what is wrong with an option that is given, by its row: it stands where it may not, or the value isn't what the row says
+abbrev pub judged_by : Row → Given → Option Trouble
+judged_by row g = if fits_place row.place g.place then fits row.shape g.value else Some BadValue
+
+-- or it has no row
 abbrev pub judged : List Row → Given → Option Trouble
-judged rows g = elim (row_at rows g.place) [ None ↦ Some UnknownOption | Some row ↦ fits row.shape g.value ]
+judged rows g = elim (row_at rows g.place) [ None ↦ Some UnknownOption | Some row ↦ judged_by row g ]

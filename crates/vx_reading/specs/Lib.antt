@@ -4,5 +4,9 @@ pub mod Components
 pub mod Names
 pub mod Findings
 pub mod Plans
+pub mod Conditions
+pub mod Trying
 pub mod Reading
+pub mod Answers
+pub mod Made
 pub mod Views

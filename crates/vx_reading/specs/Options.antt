@@ -1,27 +1,30 @@
 -- Which options there are: tables of rows, read by the same definitions whatever they hold.
-use Rattle.std.specs.Prelude.{ℕ, Bool, true, false, ◌&&◌, Option, List, [], ◌∷◌, ◌++◌, codes, find}
+use Rattle.std.specs.Prelude.{ℕ, Bool, true, false, not, ◌&&◌, ◌||◌, ◌==◌, Option, Some, None, List, [], ◌∷◌, ◌++◌, length, codes, find, nat_le}
+use Rattle.std.specs.List.{list_all}
 use Rattle.vx_value.specs.Texts.{Word, same_text}
 use Rattle.vx_plan.specs.declared.class.Class.{Class}
-use Rattle.vx_plan.specs.declared.class.Class.TheVariants.{Source, Sink}
+use Rattle.vx_plan.specs.declared.class.Class.TheVariants.{Source, Transform, Sink}
 pub use Rattle.vx_plan.specs.Accepted.{same_class}
 use Rattle.vx_reading.specs.declared.kind.Kind.{Kind}
-use Rattle.vx_reading.specs.declared.kind.Kind.TheVariants.{Stdin, Console}
+use Rattle.vx_reading.specs.declared.kind.Kind.TheVariants.{Stdin, Filter, Route, Console}
 
--- where an option stands in a table: by itself; in a table of its own, whose name comes first; or in either way, by itself
--- under the first name, or in a table of that name under the second
+-- where an option stands in a table: by itself; in a table of its own, whose name comes first; in either way, by itself under the
+-- first name, or in a table of that name under the second; or under each name in a table of its own, so many times at most
 pub data Place : Type 0 where
   Alone : Word → Place
   Within : Word → Word → Place
   Either : Word → Word → Place
+  Each : Word → ℕ → Place
 
--- what a value has to be: a truth, a text, one of some texts, a list of texts, at most so many, or a whole number between
--- two, both among them
+-- what a value has to be: a truth, a text, one of some texts, a list of texts, at most so many, a whole number between two, both
+-- among them, or a condition
 pub data Shape : Type 0 where
   Truth : Shape
   AnyText : Shape
   OneOf : List Word → Shape
   Texts : ℕ → Shape
   Whole : ℕ → ℕ → Shape
+  Condition : Shape
 
 -- an option: where it stands, what its value has to be, and whether it has to be there
 pub record Row : Type 0 where
@@ -33,11 +36,12 @@ pub record Row : Type 0 where
 abbrev pub dot : ℕ
 dot = 46
 
--- the names of a place, joined by a dot; of an option that stands in either way, the name that it has by itself
+-- the names of a place, joined by a dot; of an option that stands in either way, or under each name, the first
 abbrev pub place_path : Place → Word
 place_path (Alone name) = name
 place_path (Within group name) = group ++ dot ∷ name
 place_path (Either group name) = group
+place_path (Each group most) = group
 
 -- whether the option of a place is the one that is given at another, where it stands by itself or in a table
 abbrev pub covers : Place → Place → Bool
@@ -45,7 +49,34 @@ covers (Alone a) (Alone b) = same_text a b
 covers (Within g a) (Within h b) = same_text g h && same_text a b
 covers (Either g a) (Alone b) = same_text g b
 covers (Either g a) (Within h b) = same_text g h && same_text a b
+covers (Each g most) (Alone b) = same_text g b
+covers (Each g most) (Within h b) = same_text g h
 covers _ _ = false
+
+-- a letter or a digit of ASCII, `_` or `-`
+abbrev pub is_name_byte : ℕ → Bool
+is_name_byte b =
+    (((nat_le 65 b && nat_le b 90) || (nat_le 97 b && nat_le b 122)) || (nat_le 48 b && nat_le b 57)) || ((b == 95) || (b == 45))
+
+-- 1 to 64 of these bytes
+abbrev pub is_name : Word → Bool
+is_name name = (nat_le 1 (length name) && nat_le (length name) 64) && list_all is_name_byte name
+
+-- a name that a port may have, which isn't that of the last one
+abbrev pub is_route_name : Word → Bool
+is_route_name name = is_name name && not (same_text name (codes "_unmatched"))
+
+-- whether what is given may stand there by the place of its option: what has names of its own stands in a table, under names that
+-- ports may have
+abbrev pub fits_place : Place → Place → Bool
+fits_place (Each group most) (Alone name) = false
+fits_place (Each group most) (Within other name) = is_route_name name
+fits_place option place = true
+
+-- how often an option may be given that has names of its own
+abbrev pub most_at : Place → Option ℕ
+most_at (Each group most) = Some most
+most_at other = None
 
 -- whether sinks acknowledge: an option of the whole and of every sink
 abbrev pub acknowledgements_row : Row
@@ -83,21 +114,43 @@ length_row = record { place = Alone (codes "max_length"); shape = Whole 1 most_l
 abbrev pub decoding_row : Row
 decoding_row = record { place = Within (codes "decoding") (codes "codec"); shape = OneOf (codes "bytes" ∷ codes "json" ∷ []); required = false }
 
+-- what a filter passes
+abbrev pub condition_row : Row
+condition_row = record { place = Alone (codes "condition"); shape = Condition; required = true }
+
+-- how many routes there may be
+abbrev pub most_routes : ℕ
+most_routes = 64
+
+-- the conditions of a route, each under the name of its port
+abbrev pub route_row : Row
+route_row = record { place = Each (codes "route") most_routes; shape = Condition; required = true }
+
+-- whether what no condition of a route accepts has a port of its own
+abbrev pub reroute_row : Row
+reroute_row = record { place = Alone (codes "reroute_unmatched"); shape = Truth; required = false }
+
 -- the options of each type
 abbrev pub rows_of : Kind → List Row
 rows_of Stdin = type_row ∷ length_row ∷ decoding_row ∷ []
+rows_of Filter = type_row ∷ inputs_row ∷ condition_row ∷ []
+rows_of Route = type_row ∷ inputs_row ∷ route_row ∷ reroute_row ∷ []
 rows_of Console = type_row ∷ inputs_row ∷ target_row ∷ codec_row ∷ acknowledgements_row ∷ []
 
 -- the types, each with the table in which it stands and its name
 abbrev pub kinds : List Kind
-kinds = Stdin ∷ Console ∷ []
+kinds = Stdin ∷ Filter ∷ Route ∷ Console ∷ []
 
 abbrev pub kind_class : Kind → Class
 kind_class Stdin = Source
+kind_class Filter = Transform
+kind_class Route = Transform
 kind_class Console = Sink
 
 abbrev pub kind_name : Kind → Word
 kind_name Stdin = codes "stdin"
+kind_name Filter = codes "filter"
+kind_name Route = codes "route"
 kind_name Console = codes "console"
 
 -- the type of that name in a table

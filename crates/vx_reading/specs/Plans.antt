@@ -1,5 +1,5 @@
 -- The plan of a document without faults.
-use Rattle.std.specs.Prelude.{ℕ, Bool, Option, Some, None, option_and_then, unwrap_or, List, [], ◌∷◌, codes, if◌then◌else◌, false, ◌^◌, ◌-◌}
+use Rattle.std.specs.Prelude.{ℕ, Bool, Option, Some, None, option_and_then, unwrap_or, List, [], ◌∷◌, map, codes, if◌then◌else◌, true, false, ◌^◌, ◌-◌}
 use Rattle.std.specs.List.{flat_map}
 use Rattle.vx_value.specs.Texts.{Word, same_text}
 use Rattle.toml.specs.Data.{Data, Items, get, as_str, as_array, as_bool}
@@ -12,15 +12,16 @@ use Rattle.vx_plan.specs.declared.console_target.ConsoleTarget.{ConsoleTarget}
 use Rattle.vx_plan.specs.declared.console_target.ConsoleTarget.TheVariants.{Stdout, Stderr}
 use Rattle.vx_plan.specs.declared.global.Global.{Global}
 use Rattle.vx_plan.specs.declared.plan.Plan.{Plan}
+use Rattle.vx_plan.specs.declared.route.Route.{Route as Way}
 use Rattle.vx_plan.specs.declared.settings.Settings.{Settings}
 use Rattle.vx_plan.specs.declared.settings.Settings.TheVariants as settings
 use Rattle.vx_plan.specs.declared.sink_settings.SinkSettings.{SinkSettings}
 use Rattle.vx_plan.specs.declared.when_full.WhenFull.TheVariants.{Block}
 pub use Rattle.vx_plan.specs.Graphs.{nodes_of}
 use Rattle.vx_reading.specs.declared.kind.Kind.{Kind}
-use Rattle.vx_reading.specs.declared.kind.Kind.TheVariants.{Stdin, Console}
+use Rattle.vx_reading.specs.declared.kind.Kind.TheVariants.{Stdin, Filter, Route, Console}
 use Rattle.vx_reading.specs.Components.{Part, parts, kind_of}
-use Rattle.vx_reading.specs.Judging.{items_in, whole_in}
+use Rattle.vx_reading.specs.Judging.{Pair, pairs_in, items_in, whole_in}
 use Rattle.vx_reading.specs.Options.{most_length}
 
 -- a text, or another where it isn't given
@@ -90,6 +91,26 @@ abbrev pub codec_named : Option Word → Codec
 codec_named None = codec.Text
 codec_named (Some text) = if same_text text (codes "json") then codec.Json else codec.Text
 
+-- the condition that a value is: a text, or that under `source` in a table
+abbrev pub condition_of : Data → Word
+condition_of value = elim (as_str value) [ None ↦ text_or [] (text_at (codes "source") value) | Some text ↦ text ]
+
+-- the condition under a name of a table; where there is none, the empty text, which is no condition
+abbrev pub condition_at : Word → Data → Word
+condition_at name value = elim (get name value) [ None ↦ [] | Some inner ↦ condition_of inner ]
+
+-- a way of a route: the name of its port, and its condition
+abbrev pub way_of : Pair → Way
+way_of p = record { name = p.name; condition = condition_of p.value }
+
+-- the ways of a route, by the bytes of their names
+abbrev pub ways_of : Data → List Way
+ways_of value = elim (get (codes "route") value) [ None ↦ [] | Some inner ↦ map way_of (pairs_in inner) ]
+
+-- whether what no condition of a route accepts has a port of its own: it has where it doesn't say
+abbrev pub is_rerouted : Data → Bool
+is_rerouted value = unwrap_or (truth_at (codes "reroute_unmatched") value) true
+
 -- what every sink has that says nothing of it
 abbrev pub sink_defaults : SinkSettings
 sink_defaults = record {
@@ -110,12 +131,16 @@ sink_of global value = record sink_defaults { acknowledgements = acknowledgement
 abbrev pub settings_of : Global → Data → Kind → Settings
 settings_of global value Stdin =
     settings.Stdin (length_of value) (decoding_named (text_within (codes "decoding") (codes "codec") value))
+settings_of global value Filter = settings.Filter (condition_at (codes "condition") value)
+settings_of global value Route = settings.Route (ways_of value) (is_rerouted value)
 settings_of global value Console =
     settings.Console (target_named (text_at (codes "target") value)) (codec_named (text_within (codes "encoding") (codes "codec") value)) (sink_of global value)
 
 -- the inputs of a component of a type; a source has none
 abbrev pub inputs_for : Kind → Data → List Word
 inputs_for Stdin value = []
+inputs_for Filter value = inputs_of value
+inputs_for Route value = inputs_of value
 inputs_for Console value = inputs_of value
 
 -- the component of a type

@@ -1,5 +1,5 @@
 -- What a text stands for as a configuration.
-use Rattle.std.specs.Prelude.{◌≡◌, ℕ, ◌⊎◌, Some, None, List, [], Result, Ok, Err}
+use Rattle.std.specs.Prelude.{◌≡◌, ℕ, Bool, ◌⊎◌, Some, None, List, [], Result, Ok, Err}
 use Rattle.std.specs.Str.{IsUtf8}
 use Rattle.vx_value.specs.declared.variable.Variable.{Variable}
 use Rattle.vx_value.specs.Texts.{Word}
@@ -14,33 +14,40 @@ use Rattle.vx_graph.specs.Order.{in_order}
 use Rattle.vx_plan.specs.declared.plan.Plan.{Plan}
 use Rattle.vx_reading.specs.declared.plan_fault.PlanFault.{PlanFault}
 use Rattle.vx_reading.specs.declared.plan_fault.PlanFault.TheVariants.{MissingVariable, NotToml, UnknownKind, UnknownOption, MissingOption, BadValue, TooMany, Graph, WantOfMemory}
-use Rattle.vx_reading.specs.Findings.{findings, HasFault}
+use Rattle.vx_reading.specs.Conditions.{all_conditions, RefusesRightly, all_findings}
+use Rattle.vx_reading.specs.Findings.{HasFault}
 use Rattle.vx_reading.specs.Plans.{plan_of, nodes_of}
 
--- a document has no fault, its graph may stand, and this is its plan
-pub record IsPlanOf (root : Data) (plan : Plan) : Type 0 where
-  pub faultless : findings root ≡ []
+-- a document has no fault, where these conditions are refused, its graph may stand, and this is its plan
+pub record IsPlanOf (refuses : Word → Bool) (root : Data) (plan : Plan) : Type 0 where
+  pub faultless : all_findings refuses root ≡ []
   pub same : plan ≡ plan_of root
   pub accepted : IsAccepted (in_order (nodes_of (plan_of root)))
 
 -- a document has no fault, but its graph has this one
-pub record IsGraphFaultOf (root : Data) (fault : GraphFault) : Type 0 where
-  pub faultless : findings root ≡ []
+pub record IsGraphFaultOf (refuses : Word → Bool) (root : Data) (fault : GraphFault) : Type 0 where
+  pub faultless : all_findings refuses root ≡ []
   pub memory : fault ≡ graph.WantOfMemory → ⊥
   pub refused : IsFault (in_order (nodes_of (plan_of root))) fault
 
 -- what is answered of a document: its plan, or its first fault; want of memory is free
-abbrev pub IsJudged : Data → Result Plan PlanFault → Type 0
-IsJudged root (Ok plan) = IsPlanOf root plan
-IsJudged root (Err (MissingVariable name at)) = ⊥
-IsJudged root (Err NotToml) = ⊥
-IsJudged root (Err (UnknownKind path)) = HasFault (findings root) (UnknownKind path)
-IsJudged root (Err (UnknownOption path)) = HasFault (findings root) (UnknownOption path)
-IsJudged root (Err (MissingOption path)) = HasFault (findings root) (MissingOption path)
-IsJudged root (Err (BadValue path)) = HasFault (findings root) (BadValue path)
-IsJudged root (Err (TooMany path found limit)) = HasFault (findings root) (TooMany path found limit)
-IsJudged root (Err (Graph fault)) = IsGraphFaultOf root fault
-IsJudged root (Err WantOfMemory) = Unit {0}
+abbrev pub IsJudged : (Word → Bool) → Data → Result Plan PlanFault → Type 0
+IsJudged refuses root (Ok plan) = IsPlanOf refuses root plan
+IsJudged refuses root (Err (MissingVariable name at)) = ⊥
+IsJudged refuses root (Err NotToml) = ⊥
+IsJudged refuses root (Err (UnknownKind path)) = HasFault (all_findings refuses root) (UnknownKind path)
+IsJudged refuses root (Err (UnknownOption path)) = HasFault (all_findings refuses root) (UnknownOption path)
+IsJudged refuses root (Err (MissingOption path)) = HasFault (all_findings refuses root) (MissingOption path)
+IsJudged refuses root (Err (BadValue path)) = HasFault (all_findings refuses root) (BadValue path)
+IsJudged refuses root (Err (TooMany path found limit)) = HasFault (all_findings refuses root) (TooMany path found limit)
+IsJudged refuses root (Err (Graph fault)) = IsGraphFaultOf refuses root fault
+IsJudged refuses root (Err WantOfMemory) = Unit {0}
+
+-- what is answered, where each condition of the document is refused that is none, and none that is one, but for a pattern that
+-- `regex` may refuse or take; where no memory was found not each was read
+pub record IsRightlyJudged (refuses : Word → Bool) (root : Data) (answer : Result Plan PlanFault) : Type 0 where
+  pub right : (answer ≡ Err WantOfMemory → ⊥) → RefusesRightly refuses (all_conditions (plan_of root).components)
+  pub judged : IsJudged refuses root answer
 
 -- a text, in which each variable has a value, is the document of a table
 pub record IsDocument (environment : List Variable) (text : Word) (document : Data) : Type 0 where
@@ -62,28 +69,32 @@ pub record LacksVariable (environment : List Variable) (text : Word) (missing : 
   pub at : place ≡ piece.at
 
 -- what is answered of the document that a text is
-pub record IsDocumentJudged (environment : List Variable) (text : Word) (answer : Result Plan PlanFault) : Type 0 where
+pub record IsDocumentJudged (refuses : Word → Bool) (environment : List Variable) (text : Word) (answer : Result Plan PlanFault) : Type 0 where
   pub root : Data
   pub document : IsDocument environment text root
-  pub judged : IsJudged root answer
+  pub rightly : IsRightlyJudged refuses root answer
 
 -- what is answered of a text
-abbrev pub IsTextRead : List Variable → Word → Result Plan PlanFault → Type 0
-IsTextRead environment text (Ok plan) = IsDocumentJudged environment text (Ok plan)
-IsTextRead environment text (Err (MissingVariable name at)) = LacksVariable environment text name at
-IsTextRead environment text (Err NotToml) = IsNoDocument environment text
-IsTextRead environment text (Err (UnknownKind path)) = IsDocumentJudged environment text (Err (UnknownKind path))
-IsTextRead environment text (Err (UnknownOption path)) = IsDocumentJudged environment text (Err (UnknownOption path))
-IsTextRead environment text (Err (MissingOption path)) = IsDocumentJudged environment text (Err (MissingOption path))
-IsTextRead environment text (Err (BadValue path)) = IsDocumentJudged environment text (Err (BadValue path))
-IsTextRead environment text (Err (TooMany path found limit)) = IsDocumentJudged environment text (Err (TooMany path found limit))
-IsTextRead environment text (Err (Graph fault)) = IsDocumentJudged environment text (Err (Graph fault))
-IsTextRead environment text (Err WantOfMemory) = Unit {0}
+abbrev pub IsTextRead : (Word → Bool) → List Variable → Word → Result Plan PlanFault → Type 0
+IsTextRead refuses environment text (Ok plan) = IsDocumentJudged refuses environment text (Ok plan)
+IsTextRead refuses environment text (Err (MissingVariable name at)) = LacksVariable environment text name at
+IsTextRead refuses environment text (Err NotToml) = IsNoDocument environment text
+IsTextRead refuses environment text (Err (UnknownKind path)) = IsDocumentJudged refuses environment text (Err (UnknownKind path))
+IsTextRead refuses environment text (Err (UnknownOption path)) = IsDocumentJudged refuses environment text (Err (UnknownOption path))
+IsTextRead refuses environment text (Err (MissingOption path)) = IsDocumentJudged refuses environment text (Err (MissingOption path))
+IsTextRead refuses environment text (Err (BadValue path)) = IsDocumentJudged refuses environment text (Err (BadValue path))
+IsTextRead refuses environment text (Err (TooMany path found limit)) = IsDocumentJudged refuses environment text (Err (TooMany path found limit))
+IsTextRead refuses environment text (Err (Graph fault)) = IsDocumentJudged refuses environment text (Err (Graph fault))
+IsTextRead refuses environment text (Err WantOfMemory) = Unit {0}
 
 -- what is answered of bytes that are no text
 abbrev pub IsNoText : Result Plan PlanFault → Type 0
 IsNoText answer = answer ≡ Err NotToml
 
--- what is answered of some bytes: as a text, or as none
+-- what is answered of some bytes, where these conditions are refused: as a text, or as none
+abbrev pub IsReadingBy : (Word → Bool) → List Variable → Word → Result Plan PlanFault → Type 0
+IsReadingBy refuses environment bytes answer = (IsUtf8 bytes × IsTextRead refuses environment bytes answer) ⊎ ((IsUtf8 bytes → ⊥) × IsNoText answer)
+
+-- what is answered, by whatever conditions are refused
 abbrev pub IsReading : List Variable → Word → Result Plan PlanFault → Type 0
-IsReading environment bytes answer = (IsUtf8 bytes × IsTextRead environment bytes answer) ⊎ ((IsUtf8 bytes → ⊥) × IsNoText answer)
+IsReading environment bytes answer = (refuses : Word → Bool) × IsReadingBy refuses environment bytes answer

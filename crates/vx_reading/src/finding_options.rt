@@ -1,11 +1,11 @@
 ghost use Rattle.std.specs.Prelude.{◌≡◌, ◌++◌, OnOk};
-ghost use Rattle.vx_reading.specs.Findings.{found_if, given_findings, lacking, option_findings};
+ghost use Rattle.vx_reading.specs.Findings.{found_if, given_findings, lacking, crowded, row_findings, option_findings};
 ghost use Rattle.vx_reading.specs.Judging.{judged};
 ghost use Rattle.vx_reading.specs.Options.{place_path};
 ghost use Rattle.vx_reading.specs.Views.{owner_view, rows_view, row_view, given_view, givens_view};
 
 use crate::finding::{FindingList, push};
-use crate::given::{Given, is_given};
+use crate::given::{Given, count_given, is_given, most_at};
 use crate::judging::judged;
 use crate::owner::Owner;
 use crate::paths::option_path;
@@ -71,6 +71,47 @@ fn push_lacking(
     }
 }
 
+/// Adds the fault of an option that is given more often than it may be.
+fn push_crowded(
+    alloc: Global,
+    findings: &mut FindingList,
+    owner: Owner<'_>,
+    lead: &str,
+    all: &[Given<'_>],
+    row: Row,
+) -> Result<(), WantOfMemory>
+    ensures { OnOk result (findings.new ≡ findings.old ++ crowded (owner_view owner.entry) lead.now (givens_view all.now) (row_view row)) }
+{
+    let Some(most) = most_at(row.place) else {
+        return Ok(());
+    };
+    let count = count_given(row.place, all);
+    if count <= most {
+        return Ok(());
+    }
+    let path = option_path(alloc, lead, row.place)?;
+    let trouble = Trouble::TooMany {
+        found: count as u64,
+        limit: most as u64,
+    };
+    push(alloc, findings, owner, path, trouble)
+}
+
+/// Adds the faults of how often an option is given.
+fn push_row(
+    alloc: Global,
+    findings: &mut FindingList,
+    owner: Owner<'_>,
+    lead: &str,
+    all: &[Given<'_>],
+    row: Row,
+) -> Result<(), WantOfMemory>
+    ensures { OnOk result (findings.new ≡ findings.old ++ row_findings (owner_view owner.entry) lead.now (givens_view all.now) (row_view row)) }
+{
+    push_lacking(alloc, findings, owner, lead, all, row)?;
+    push_crowded(alloc, findings, owner, lead, all, row)
+}
+
 /// Adds the faults of a table's options.
 pub(crate) fn push_options(
     alloc: Global,
@@ -84,7 +125,7 @@ pub(crate) fn push_options(
 {
     push_given(alloc, findings, owner, lead, rows, all)?;
     for row in rows {
-        push_lacking(alloc, findings, owner, lead, all, *row)?;
+        push_row(alloc, findings, owner, lead, all, *row)?;
     }
     Ok(())
 }

@@ -1,13 +1,13 @@
 ghost use Rattle.std.specs.Prelude.{◌≡◌, ◌++◌, ◌∷◌, [], IfOk, OnOk, map};
 ghost use Rattle.toml.specs.View.{view};
-ghost use Rattle.vx_reading.specs.Judging.{is_group, is_table, given_by, given, is_given, is_within, within};
-ghost use Rattle.vx_reading.specs.Options.{covers};
+ghost use Rattle.vx_reading.specs.Judging.{is_group, is_table, given_by, given, is_given, count_given, is_within, within};
+ghost use Rattle.vx_reading.specs.Options.{covers, fits_place, most_at};
 ghost use Rattle.vx_reading.specs.Views.{place_view, rows_view, pair_view, pairs_view, givens_view};
 
 use crate::pair::{Pair, pairs_in};
 use crate::place::Place;
 use crate::row::Row;
-use crate::texts::same_text;
+use crate::texts::{is_route_name, same_text};
 use std::alloc::Global;
 use toml::Value;
 use vx_value::WantOfMemory;
@@ -26,17 +26,47 @@ pub(crate) fn covers(option: Place<'_>, given: Place<'_>) -> bool
     match option {
         Place::Alone(a) => match given {
             Place::Alone(b) => same_text(a, b),
-            Place::Within(_, _) | Place::Either(_, _) => false,
+            Place::Within(_, _) | Place::Either(_, _) | Place::Each(_, _) => false,
         },
         Place::Within(g, a) => match given {
             Place::Within(h, b) => same_text(g, h) && same_text(a, b),
-            Place::Alone(_) | Place::Either(_, _) => false,
+            Place::Alone(_) | Place::Either(_, _) | Place::Each(_, _) => false,
         },
         Place::Either(g, a) => match given {
             Place::Alone(b) => same_text(g, b),
             Place::Within(h, b) => same_text(g, h) && same_text(a, b),
-            Place::Either(_, _) => false,
+            Place::Either(_, _) | Place::Each(_, _) => false,
         },
+        Place::Each(g, _) => match given {
+            Place::Alone(b) => same_text(g, b),
+            Place::Within(h, _) => same_text(g, h),
+            Place::Either(_, _) | Place::Each(_, _) => false,
+        },
+    }
+}
+
+/// Whether what is given may stand there by the place of its option: what has names of its own stands in a table, under names that
+/// ports may have.
+pub(crate) fn fits_place(option: Place<'_>, given: Place<'_>) -> bool
+    ensures { result ≡ fits_place (place_view option.entry) (place_view given.entry) }
+{
+    match option {
+        Place::Each(_, _) => match given {
+            Place::Alone(_) => false,
+            Place::Within(_, name) => is_route_name(name),
+            Place::Either(_, _) | Place::Each(_, _) => true,
+        },
+        Place::Alone(_) | Place::Within(_, _) | Place::Either(_, _) => true,
+    }
+}
+
+/// How often an option may be given that has names of its own.
+pub(crate) fn most_at(place: Place<'_>) -> Option<usize>
+    ensures { result ≡ most_at (place_view place.entry) }
+{
+    match place {
+        Place::Each(_, most) => Some(most),
+        Place::Alone(_) | Place::Within(_, _) | Place::Either(_, _) => None,
     }
 }
 
@@ -46,7 +76,9 @@ fn is_within(group: &str, place: Place<'_>) -> bool
 {
     match place {
         Place::Alone(_) => false,
-        Place::Within(other, _) | Place::Either(other, _) => same_text(other, group),
+        Place::Within(other, _) | Place::Either(other, _) | Place::Each(other, _) => {
+            same_text(other, group)
+        }
     }
 }
 
@@ -149,4 +181,17 @@ pub(crate) fn is_given(place: Place<'_>, all: &[Given<'_>]) -> bool
         }
     }
     false
+}
+
+/// How many of those that are given the option of a place is.
+pub(crate) fn count_given(place: Place<'_>, all: &[Given<'_>]) -> usize
+    ensures { result ≡ count_given (place_view place.entry) (givens_view all.now) }
+{
+    let mut count = 0;
+    for given in all {
+        if covers(place, given.place) {
+            count += 1;
+        }
+    }
+    count
 }

@@ -3,10 +3,10 @@ ghost use Rattle.std.specs.Option.{option_map};
 ghost use Rattle.std.specs.List.{list_any};
 ghost use Rattle.toml.specs.View.{view, items_view};
 ghost use Rattle.vx_value.specs.Texts.{same_text};
-ghost use Rattle.vx_reading.specs.Judging.{fits, fits_texts, judged, items_in, is_truth, is_text, is_one_of, between, whole_in, row_at};
+ghost use Rattle.vx_reading.specs.Judging.{fits, fits_texts, judged, items_in, is_truth, is_text, is_one_of, between, whole_in, row_at, is_vrl, names_vrl, has_text, judged_by};
 ghost use Rattle.vx_reading.specs.Views.{shape_view, rows_view, row_view, place_view, given_view};
 
-use crate::given::{Given, covers};
+use crate::given::{Given, covers, fits_place};
 use crate::place::Place;
 use crate::row::Row;
 use crate::shape::Shape;
@@ -98,6 +98,36 @@ pub(crate) fn whole_in(least: u32, most: u32, value: &Value) -> Option<u32>
     }
 }
 
+/// Whether a value is a table whose `type` is `vrl` and whose `source` is a text.
+fn is_vrl(value: &Value) -> bool
+    ensures { result ≡ is_vrl (view value.now) }
+{
+    has_vrl(value.get("type")) && has_text(value.get("source"))
+}
+
+/// Whether a value that may not be there is the text `vrl`.
+fn has_vrl(value: Option<&Value>) -> bool
+    ensures { result ≡ names_vrl (option_map (λ v. view v.now) value.entry) }
+{
+    match value {
+        Some(value) => match value.as_str() {
+            Some(text) => same_text(text, "vrl"),
+            None => false,
+        },
+        None => false,
+    }
+}
+
+/// Whether a value that may not be there is a text.
+fn has_text(value: Option<&Value>) -> bool
+    ensures { result ≡ has_text (option_map (λ v. view v.now) value.entry) }
+{
+    match value {
+        Some(value) => is_text(value),
+        None => false,
+    }
+}
+
 /// What is wrong with a value, by what it has to be.
 fn fits(shape: Shape, value: &Value) -> Option<Trouble>
     ensures { result ≡ fits (shape_view shape) (view value.now) }
@@ -114,6 +144,7 @@ fn fits(shape: Shape, value: &Value) -> Option<Trouble>
             Some(_) => None,
             None => Some(Trouble::BadValue),
         },
+        Shape::Condition if is_text(value) || is_vrl(value) => None,
         _ => Some(Trouble::BadValue),
     }
 }
@@ -130,12 +161,23 @@ fn row_at<'a>(rows: &'a [Row], place: Place<'_>) -> Option<&'a Row>
     None
 }
 
+/// What is wrong with an option that is given, by its row.
+fn judged_by(row: &Row, given: Given<'_>) -> Option<Trouble>
+    ensures { result ≡ judged_by (row_view row.now) (given_view given.entry) }
+{
+    if fits_place(row.place, given.place) {
+        fits(row.shape, given.value)
+    } else {
+        Some(Trouble::BadValue)
+    }
+}
+
 /// What is wrong with an option that is given.
 pub(crate) fn judged(rows: &[Row], given: Given<'_>) -> Option<Trouble>
     ensures { result ≡ judged (rows_view rows.now) (given_view given.entry) }
 {
     match row_at(rows, given.place) {
-        Some(row) => fits(row.shape, given.value),
+        Some(row) => judged_by(row, given),
         None => Some(Trouble::UnknownOption),
     }
 }

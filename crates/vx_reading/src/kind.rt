@@ -3,6 +3,10 @@
 pub(crate) enum Kind {
     /// A source that reads standard input.
     Stdin,
+    /// A transform that passes what its condition accepts.
+    Filter,
+    /// A transform that puts events out by conditions.
+    Route,
     /// A sink that writes to standard output or standard error.
     Console,
 }

@@ -20,11 +20,14 @@ mod place;
 mod plan_fault;
 mod plans;
 mod reading;
+mod refusals;
 mod row;
 mod shape;
 mod texts;
+mod tried;
 mod trouble;
 
 pub use laws::{few_components, first_configuration, one_answer};
 pub use plan_fault::PlanFault;
-pub use reading::read_plan;
+pub use reading::{ReadPlan, read_plan};
+pub use tried::ConditionLists;

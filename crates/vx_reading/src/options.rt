@@ -56,14 +56,47 @@ static STDIN_ROWS: [Row; 3] = [
     },
 ];
 
+/// An option of every component that reads others.
+const INPUTS_ROW: Row = Row {
+    place: Place::Alone("inputs"),
+    shape: Shape::Texts(MOST_INPUTS),
+    required: false,
+};
+
+/// How many routes there may be.
+const MOST_ROUTES: usize = 64;
+
+/// The options of a transform that passes what its condition accepts.
+static FILTER_ROWS: [Row; 3] = [
+    TYPE_ROW,
+    INPUTS_ROW,
+    Row {
+        place: Place::Alone("condition"),
+        shape: Shape::Condition,
+        required: true,
+    },
+];
+
+/// The options of a transform that puts events out by conditions.
+static ROUTE_ROWS: [Row; 4] = [
+    TYPE_ROW,
+    INPUTS_ROW,
+    Row {
+        place: Place::Each("route", MOST_ROUTES),
+        shape: Shape::Condition,
+        required: true,
+    },
+    Row {
+        place: Place::Alone("reroute_unmatched"),
+        shape: Shape::Truth,
+        required: false,
+    },
+];
+
 /// The options of a sink that writes to standard output or standard error.
 static CONSOLE_ROWS: [Row; 5] = [
     TYPE_ROW,
-    Row {
-        place: Place::Alone("inputs"),
-        shape: Shape::Texts(MOST_INPUTS),
-        required: false,
-    },
+    INPUTS_ROW,
     Row {
         place: Place::Alone("target"),
         shape: Shape::OneOf(&["stdout", "stderr"]),
@@ -90,6 +123,8 @@ pub(crate) fn rows_of(kind: Kind) -> &'static [Row]
 {
     match kind {
         Kind::Stdin => &STDIN_ROWS,
+        Kind::Filter => &FILTER_ROWS,
+        Kind::Route => &ROUTE_ROWS,
         Kind::Console => &CONSOLE_ROWS,
     }
 }
@@ -100,6 +135,8 @@ pub(crate) fn kind_named(class: Class, name: &str) -> Option<Kind>
 {
     match class {
         Class::Source if same_text("stdin", name) => Some(Kind::Stdin),
+        Class::Transform if same_text("filter", name) => Some(Kind::Filter),
+        Class::Transform if same_text("route", name) => Some(Kind::Route),
         Class::Sink if same_text("console", name) => Some(Kind::Console),
         _ => None,
     }

@@ -1,5 +1,5 @@
 ghost use Rattle.std.specs.Prelude.{◌≡◌, ◌++◌, ◌∷◌, [], IfOk, OnOk, string_bytes};
-ghost use Rattle.vx_reading.specs.Components.{part_path};
+ghost use Rattle.vx_reading.specs.Components.{part_path, section_name as section_name_of};
 ghost use Rattle.vx_reading.specs.Findings.{type_path};
 ghost use Rattle.vx_reading.specs.Options.{dot, place_path};
 ghost use Rattle.vx_reading.specs.Views.{place_view, part_view};
@@ -8,6 +8,7 @@ use crate::options::section_name;
 use crate::part::Part;
 use crate::place::Place;
 use std::alloc::Global;
+use vx_plan::Class;
 use vx_value::{Text, WantOfMemory};
 
 /// Adds a text at the end.
@@ -27,7 +28,7 @@ pub(crate) fn option_path(alloc: Global, lead: &str, place: Place<'_>) -> Result
     let mut out = String::new(alloc);
     push(&mut out, lead)?;
     match place {
-        Place::Alone(name) | Place::Either(name, _) => push(&mut out, name)?,
+        Place::Alone(name) | Place::Either(name, _) | Place::Each(name, _) => push(&mut out, name)?,
         Place::Within(group, name) => {
             push(&mut out, group)?;
             push(&mut out, ".")?;
@@ -52,10 +53,17 @@ pub(crate) fn part_path(alloc: Global, part: Part<'_>) -> Result<Text, WantOfMem
 pub(crate) fn part_lead(alloc: Global, part: Part<'_>) -> Result<Text, WantOfMemory>
     ensures { IfOk result (λ lead. lead ≡ part_path (part_view part.entry) ++ dot ∷ []) }
 {
+    lead_of(alloc, part.class, part.name)
+}
+
+/// What leads to the options of the component of a class that has a name.
+pub(crate) fn lead_of(alloc: Global, class: Class, name: &str) -> Result<Text, WantOfMemory>
+    ensures { IfOk result (λ lead. lead ≡ (section_name_of class ++ dot ∷ name.now) ++ dot ∷ []) }
+{
     let mut out = String::new(alloc);
-    push(&mut out, section_name(part.class))?;
+    push(&mut out, section_name(class))?;
     push(&mut out, ".")?;
-    push(&mut out, part.name)?;
+    push(&mut out, name)?;
     push(&mut out, ".")?;
     Text::copy_of(alloc, out.as_str())
 }

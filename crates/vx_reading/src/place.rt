@@ -7,4 +7,6 @@ pub(crate) enum Place<'a> {
     Within(&'a str, &'a str),
     /// By itself under the first name, or in a table of that name under the second.
     Either(&'a str, &'a str),
+    /// In a table of that name, under each name that a port may have, so many times at most.
+    Each(&'a str, usize),
 }

@@ -1,22 +1,23 @@
-ghost use Rattle.std.specs.Prelude.{◌≡◌, ◌++◌, IfOk, OnOk, map};
+ghost use Rattle.std.specs.Prelude.{◌≡◌, ◌++◌, ◌∷◌, [], IfOk, OnOk, map};
 ghost use Rattle.std.specs.Option.{option_map};
 ghost use Rattle.std.specs.List.{flat_map};
 ghost use Rattle.toml.specs.View.{view, items_view};
-ghost use Rattle.vx_reading.specs.Judging.{items_in};
+ghost use Rattle.vx_reading.specs.Judging.{items_in, pairs_in as pairs_in_view};
 ghost use Rattle.vx_reading.specs.Components.{parts};
-ghost use Rattle.vx_reading.specs.Plans.{text_at, text_within, truth_at, truth_in, truth_either, acknowledgements_of, global_of, text_of, inputs_of, inputs_for, target_named, length_of, decoding_named, codec_named, sink_defaults, sink_of, settings_of, component, component_of, plan_of};
-ghost use Rattle.vx_reading.specs.Views.{part_view, parts_view};
+ghost use Rattle.vx_reading.specs.Plans.{text_at, text_within, truth_at, truth_in, truth_either, acknowledgements_of, global_of, text_of, inputs_of, inputs_for, target_named, length_of, decoding_named, codec_named, condition_of, condition_at, way_of, ways_of, is_rerouted, sink_defaults, sink_of, settings_of, component, component_of, plan_of};
+ghost use Rattle.vx_reading.specs.Views.{pair_view, part_view, parts_view};
 
 use crate::judging::whole_in;
 use crate::kind::Kind;
 use crate::options::MOST_LENGTH;
+use crate::pair::{Pair, pairs_in};
 use crate::part::{Part, kind_of};
 use crate::texts::same_text;
 use std::alloc::Global as Allocator;
 use toml::Value;
 use vx_plan::{
-    Codec, Component, ComponentList, ConsoleTarget, Decoding, Global, Plan, Settings, SinkSettings,
-    Stage, StageList, WhenFull,
+    Codec, Component, ComponentList, ConsoleTarget, Decoding, Global, Plan, Route, RouteList,
+    Settings, SinkSettings, Stage, StageList, WhenFull,
 };
 use vx_value::{Text, TextList, WantOfMemory};
 
@@ -143,7 +144,7 @@ fn inputs_for(alloc: Allocator, kind: Kind, table: &Value) -> Result<TextList, W
 {
     match kind {
         Kind::Stdin => Ok(TextList::new(alloc)),
-        Kind::Console => inputs_of(alloc, table),
+        Kind::Filter | Kind::Route | Kind::Console => inputs_of(alloc, table),
     }
 }
 
@@ -187,6 +188,75 @@ fn codec_named(name: Option<&str>) -> Codec
     match name {
         Some(text) if same_text(text, "json") => Codec::Json,
         _ => Codec::Text,
+    }
+}
+
+/// The condition that a value is: a text, or that under `source` in a table; the empty text, which is no condition, elsewhere.
+fn condition_of(value: &Value) -> &str
+    ensures { result.now ≡ condition_of (view value.now) }
+{
+    match value.as_str() {
+        Some(text) => text,
+        None => match text_at("source", value) {
+            Some(text) => text,
+            None => "",
+        },
+    }
+}
+
+/// The condition under a name of a table; the empty text, which is no condition, where there is none.
+fn condition_at<'a>(name: &str, table: &'a Value) -> &'a str
+    ensures { result.now ≡ condition_at name.now (view table.now) }
+{
+    match table.get(name) {
+        Some(value) => condition_of(value),
+        None => "",
+    }
+}
+
+/// Adds a way of a route: the name of its port, and its condition.
+fn push_way(alloc: Allocator, ways: &mut RouteList, pair: Pair<'_>) -> Result<(), WantOfMemory>
+    ensures { OnOk result (ways.new ≡ ways.old ++ way_of (pair_view pair.entry) ∷ []) }
+{
+    let way = Route {
+        name: Text::copy_of(alloc, pair.name)?,
+        condition: Text::copy_of(alloc, condition_of(pair.value))?,
+    };
+    match ways.push(way) {
+        Ok(()) => Ok(()),
+        Err(_) => Err(WantOfMemory),
+    }
+}
+
+/// The ways of a route that a table has, by the bytes of their names.
+fn ways_in(alloc: Allocator, table: &Value) -> Result<RouteList, WantOfMemory>
+    ensures { IfOk result (λ ways. ways ≡ map way_of (pairs_in_view (view table.now))) }
+{
+    let pairs = pairs_in(alloc, table)?;
+    let mut ways = RouteList::new(alloc);
+    for pair in pairs.as_slice() {
+        push_way(alloc, &mut ways, *pair)?;
+    }
+    Ok(ways)
+}
+
+/// The ways of a route.
+fn ways_of(alloc: Allocator, table: &Value) -> Result<RouteList, WantOfMemory>
+    ensures { IfOk result (λ ways. ways ≡ ways_of (view table.now)) }
+{
+    match table.get("route") {
+        Some(inner) => ways_in(alloc, inner),
+        None => Ok(RouteList::new(alloc)),
+    }
+}
+
+/// Whether what no condition of a route accepts has a port of its own: it has where it doesn't say.
+fn is_rerouted(table: &Value) -> bool
+    ensures { result ≡ is_rerouted (view table.now) }
+{
+    match truth_at("reroute_unmatched", table) {
+        Some(truth) => truth,
+        None => true,
     }
 }
 
@@ -234,6 +304,13 @@ fn settings_of(
         Kind::Stdin => Ok(Settings::Stdin {
             max_length: length_of(table),
             decoding_codec: decoding_named(text_within("decoding", "codec", table)),
+        }),
+        Kind::Filter => Ok(Settings::Filter {
+            condition: Text::copy_of(alloc, condition_at("condition", table))?,
+        }),
+        Kind::Route => Ok(Settings::Route {
+            routes: ways_of(alloc, table)?,
+            reroute_unmatched: is_rerouted(table),
         }),
         Kind::Console => Ok(Settings::Console {
             target: target_named(text_at("target", table)),

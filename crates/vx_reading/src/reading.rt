@@ -1,10 +1,12 @@
-ghost use Rattle.std.specs.Prelude.{◌≡◌, IfOk};
+ghost use Rattle.std.specs.Prelude.{◌≡◌, Bool, IfOk};
+ghost use Rattle.vx_value.specs.Texts.{Word};
 ghost use Rattle.toml.specs.View.{view};
 ghost use Rattle.vx_plan.specs.Accepted.{IsPlan};
 ghost use Rattle.vx_reading.specs.Components.{parts};
 ghost use Rattle.vx_reading.specs.Names.{AreApart, names_of};
 ghost use Rattle.vx_reading.specs.Views.{parts_view};
-ghost use Rattle.vx_reading.specs.Reading.{IsJudged, IsTextRead, IsReading};
+ghost use Rattle.vx_reading.specs.Reading.{IsRightlyJudged, IsTextRead, IsReading};
+ghost use Rattle.vx_reading.specs.Answers.{plan_in, HasConditions};
 
 use crate::findings::findings;
 use crate::first::first;
@@ -12,6 +14,8 @@ use crate::graphs::nodes_of;
 use crate::part::{Part, parts};
 use crate::plan_fault::PlanFault;
 use crate::plans::plan_of;
+use crate::refusals::push_refusals;
+use crate::tried::{ConditionLists, Tried, try_all};
 use std::alloc::Global;
 use toml::Value;
 use vx_graph::{GraphFault, check};
@@ -19,39 +23,55 @@ use vx_plan::Plan;
 use vx_subst::{SubstFault, replace};
 use vx_value::VariableList;
 
+/// What was read: a plan, and the conditions of each of its components.
+#[derive(Drop)]
+pub struct ReadPlan {
+    pub plan: Plan,
+    /// The conditions of each component of the plan, in order: of a filter one, of a route one for each way, and none of what has none.
+    pub conditions: ConditionLists,
+}
+
 /// The plan of a document.
-fn read_root(alloc: Global, root: &Value) -> Result<Plan, PlanFault>
-    ensures judged { IsJudged (view root.now) result }
-    ensures apart { IfOk result (λ plan. AreApart (names_of plan.components)) }
-    ensures accepted { IfOk result (λ plan. IsPlan plan) }
+fn read_root(alloc: Global, root: &Value) -> Result<ReadPlan, PlanFault>
+    ensures judged { (refuses : Word → Bool) × IsRightlyJudged refuses (view root.now) (plan_in result) }
+    ensures conditions { IfOk result HasConditions }
+    ensures apart { IfOk result (λ read. AreApart (names_of read.plan.components)) }
+    ensures accepted { IfOk result (λ read. IsPlan read.plan) }
 {
     let all = parts(alloc, root)?;
     read_parts(alloc, root, all.as_slice())
 }
 
 /// The plan of a document that has these components.
-fn read_parts(alloc: Global, root: &Value, all: &[Part<'_>]) -> Result<Plan, PlanFault>
+fn read_parts(alloc: Global, root: &Value, all: &[Part<'_>]) -> Result<ReadPlan, PlanFault>
     requires { parts_view all.now ≡ parts (view root.now) }
-    ensures { IsJudged (view root.now) result }
+    ensures judged { (refuses : Word → Bool) × IsRightlyJudged refuses (view root.now) (plan_in result) }
+    ensures conditions { IfOk result HasConditions }
 {
-    let found = findings(alloc, root, all)?;
+    let plan = plan_of(alloc, root, all)?;
+    let Tried {
+        refused,
+        conditions,
+    } = try_all(alloc, &plan)?;
+    let mut found = findings(alloc, root, all)?;
+    push_refusals(alloc, &mut found, &refused, &plan.components)?;
     if let Some(fault) = first(found) {
         return Err(fault);
     }
-    let plan = plan_of(alloc, root, all)?;
     let nodes = nodes_of(alloc, &plan)?;
     match check(alloc, nodes) {
-        Ok(_) => Ok(plan),
+        Ok(_) => Ok(ReadPlan { plan, conditions }),
         Err(GraphFault::WantOfMemory) => Err(PlanFault::WantOfMemory),
         Err(fault) => Err(PlanFault::Graph(fault)),
     }
 }
 
 /// The plan of a text.
-fn read_text(alloc: Global, text: &str, environment: &VariableList) -> Result<Plan, PlanFault>
-    ensures read { IsTextRead environment.now text.now result }
-    ensures apart { IfOk result (λ plan. AreApart (names_of plan.components)) }
-    ensures accepted { IfOk result (λ plan. IsPlan plan) }
+fn read_text(alloc: Global, text: &str, environment: &VariableList) -> Result<ReadPlan, PlanFault>
+    ensures read { (refuses : Word → Bool) × IsTextRead refuses environment.now text.now (plan_in result) }
+    ensures conditions { IfOk result HasConditions }
+    ensures apart { IfOk result (λ read. AreApart (names_of read.plan.components)) }
+    ensures accepted { IfOk result (λ read. IsPlan read.plan) }
 {
     let replaced = match replace(alloc, text, environment) {
         Ok(replaced) => replaced,
@@ -71,11 +91,17 @@ fn read_text(alloc: Global, text: &str, environment: &VariableList) -> Result<Pl
 ///
 /// A refusal is the first fault in the order of `PlanFault`. Within one kind the options of the whole come first, then
 /// sources, transforms and sinks, each by the bytes of the component's name, and then by the bytes of the path. Want of
-/// memory comes at any text. The components of a plan have different names, and the plan may be installed.
-pub fn read_plan(alloc: Global, bytes: &[u8], environment: &VariableList) -> Result<Plan, PlanFault>
-    ensures read { IsReading environment.now bytes.now result }
-    ensures apart { IfOk result (λ plan. AreApart (names_of plan.components)) }
-    ensures accepted { IfOk result (λ plan. IsPlan plan) }
+/// memory comes at any text. The components of a plan have different names, and the plan may be installed. Each condition is read
+/// once, and comes with the plan: nothing is said of what `regex` would make of a pattern another time.
+pub fn read_plan(
+    alloc: Global,
+    bytes: &[u8],
+    environment: &VariableList,
+) -> Result<ReadPlan, PlanFault>
+    ensures read { IsReading environment.now bytes.now (plan_in result) }
+    ensures conditions { IfOk result HasConditions }
+    ensures apart { IfOk result (λ read. AreApart (names_of read.plan.components)) }
+    ensures accepted { IfOk result (λ read. IsPlan read.plan) }
 {
     match std::str::from_utf8(bytes) {
         Ok(text) => read_text(alloc, text, environment),

@@ -9,6 +9,8 @@ pub(crate) enum Shape {
     OneOf(&'static [&'static str]),
     /// A list of texts, at most so many.
     Texts(usize),
+    /// A condition: a text, or a table whose `type` is `vrl` and whose `source` is a text.
+    Condition,
     /// A whole number between two, both among them.
     Whole(u32, u32),
 }

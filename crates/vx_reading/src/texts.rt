@@ -1,9 +1,11 @@
 ghost use Rattle.std.specs.Prelude.{◌≡◌};
 ghost use Rattle.std.specs.List.{list_all};
 ghost use Rattle.vx_value.specs.Texts.{same_text, text_lt};
-ghost use Rattle.vx_reading.specs.Components.{is_name, is_name_byte};
+ghost use Rattle.vx_reading.specs.Options.{is_name, is_name_byte, is_route_name};
+ghost use Rattle.vx_reading.specs.Conditions.{is_one};
 
 use std::cmp::Ordering;
+use vx_value::TextList;
 
 /// The longest name of a component, in bytes.
 const LONGEST_NAME: usize = 64;
@@ -56,4 +58,23 @@ pub(crate) fn is_name(name: &str) -> bool
     ensures { result ≡ is_name name.now }
 {
     1 <= name.len() && name.len() <= LONGEST_NAME && are_name_bytes(name.as_bytes())
+}
+
+/// Whether a text may name a port of a route: a name that isn't that of the last port.
+pub(crate) fn is_route_name(name: &str) -> bool
+    ensures { result ≡ is_route_name name.now }
+{
+    is_name(name) && !same_text(name, "_unmatched")
+}
+
+/// Whether one of some texts is this.
+pub(crate) fn is_one(texts: &TextList, text: &str) -> bool
+    ensures { result ≡ is_one texts.now text.now }
+{
+    for other in texts.as_slice() {
+        if same_text(other.as_str(), text) {
+            return true;
+        }
+    }
+    false
 }

@@ -1,0 +1,101 @@
+-- What is answered of a document whose conditions were read.
+use Rattle.std.proofs.Common.{◌≡◌, Bool, false, List, [], ◌++◌, map, Result, Ok, Err, IsErrAnd, refl, sym, ◌∙◌, ap, subst}
+use Rattle.vx_value.specs.Texts.{Word}
+use Rattle.toml.specs.Data.{Data}
+use Rattle.vx_graph.specs.declared.graph_fault.GraphFault.{GraphFault}
+use Rattle.vx_graph.specs.declared.graph_fault.GraphFault.TheVariants as graph
+use Rattle.vx_graph.specs.Faults.{IsAccepted, IsFault}
+use Rattle.vx_graph.specs.Order.{in_order}
+use Rattle.vx_plan.specs.declared.plan.Plan.{Plan}
+use Rattle.vx_reading.specs.declared.finding.Finding.{Finding}
+use Rattle.vx_reading.specs.declared.plan_fault.PlanFault.{PlanFault}
+use Rattle.vx_reading.specs.declared.plan_fault.PlanFault.TheVariants as fault
+use Rattle.vx_reading.specs.declared.reading.ReadPlan.{ReadPlan}
+use Rattle.vx_reading.specs.declared.trouble.Trouble.{Trouble}
+use Rattle.vx_reading.specs.declared.trouble.Trouble.TheVariants as trouble
+use Rattle.vx_reading.specs.Answers.{plan_in}
+use Rattle.vx_reading.specs.Conditions.{conditions_by, all_conditions, is_one, RefusesRightly, refusals, all_findings}
+use Rattle.vx_reading.specs.Findings.{findings, HasFault, fault_at}
+use Rattle.vx_reading.specs.Plans.{plan_of, nodes_of}
+use Rattle.vx_reading.specs.Reading.{IsJudged, IsRightlyJudged}
+use Rattle.vx_reading.specs.Trying.{Tries}
+use Rattle.vx_reading.proofs.Few.{none_right}
+use Rattle.vx_reading.proofs.Refusing.{right, conditions_are}
+
+-- want of memory may be answered of each
+pub short_judged : (root : Data) → (refuses : Word → Bool) × IsRightlyJudged refuses root (Err fault.WantOfMemory)
+short_judged root = (λ text. false, record { right = λ some. absurd (some refl); judged = tt })
+
+pub memory_judged : (root : Data) (answer : Result ReadPlan PlanFault) → IsErrAnd answer (λ why. why ≡ fault.WantOfMemory) →
+    (refuses : Word → Bool) × IsRightlyJudged refuses root (plan_in answer)
+memory_judged root (Ok read) is = absurd is
+memory_judged root (Err why) is =
+    subst (λ (f : PlanFault). (refuses : Word → Bool) × IsRightlyJudged refuses root (Err f)) (sym is) (short_judged root)
+
+-- the first of some faults is answered
+fault_judged : (refuses : Word → Bool) (root : Data) (why : PlanFault) → HasFault (all_findings refuses root) why → IsJudged refuses root (Err why)
+fault_judged refuses root (fault.MissingVariable name at) has = absurd (never has.finding.path has.finding.trouble has.same)
+  where
+    never : (path : Word) (t : Trouble) → fault.MissingVariable name at ≡ fault_at path t → ⊥
+    never path trouble.UnknownKind is = cc
+    never path trouble.UnknownOption is = cc
+    never path trouble.MissingOption is = cc
+    never path trouble.BadValue is = cc
+    never path (trouble.TooMany count most) is = cc
+fault_judged refuses root fault.NotToml has = absurd (never has.finding.path has.finding.trouble has.same)
+  where
+    never : (path : Word) (t : Trouble) → fault.NotToml ≡ fault_at path t → ⊥
+    never path trouble.UnknownKind is = cc
+    never path trouble.UnknownOption is = cc
+    never path trouble.MissingOption is = cc
+    never path trouble.BadValue is = cc
+    never path (trouble.TooMany count most) is = cc
+fault_judged refuses root (fault.Graph why) has = absurd (never has.finding.path has.finding.trouble has.same)
+  where
+    never : (path : Word) (t : Trouble) → fault.Graph why ≡ fault_at path t → ⊥
+    never path trouble.UnknownKind is = cc
+    never path trouble.UnknownOption is = cc
+    never path trouble.MissingOption is = cc
+    never path trouble.BadValue is = cc
+    never path (trouble.TooMany count most) is = cc
+fault_judged refuses root (fault.UnknownKind path) has = has
+fault_judged refuses root (fault.UnknownOption path) has = has
+fault_judged refuses root (fault.MissingOption path) has = has
+fault_judged refuses root (fault.BadValue path) has = has
+fault_judged refuses root (fault.TooMany path count most) has = has
+fault_judged refuses root fault.WantOfMemory has = tt
+
+module _ (root : Data) (plan : Plan) (refused : List Word) (conditions : List (List Word)) (found : List Finding) (of : plan ≡ plan_of root)
+    (tried : Tries (all_conditions plan.components) (map conditions_by plan.components) [] refused [] conditions)
+    (all : found ≡ findings root ++ refusals (is_one refused) plan.components) where
+  right_here : RefusesRightly (is_one refused) (all_conditions (plan_of root).components)
+  right_here = subst (λ (p : Plan). RefusesRightly (is_one refused) (all_conditions p.components)) of (right plan.components refused conditions tried)
+
+  all_here : found ≡ all_findings (is_one refused) root
+  all_here = all ∙ ap (λ (p : Plan). findings root ++ refusals (is_one refused) p.components) of
+
+  pub fault_here : (why : PlanFault) → HasFault found why → (refuses : Word → Bool) × IsRightlyJudged refuses root (Err why)
+  fault_here why has =
+      (is_one refused, record { right = λ some. right_here; judged = fault_judged (is_one refused) root why (subst (λ (fs : List Finding). HasFault fs why) all_here has) })
+
+  pub plan_here : found ≡ [] → IsAccepted (in_order (nodes_of plan)) → (refuses : Word → Bool) × IsRightlyJudged refuses root (Ok plan)
+  plan_here none accepted = (
+    is_one refused,
+    record {
+      right = λ some. right_here;
+      judged = record { faultless = sym all_here ∙ none; same = of; accepted = subst (λ (p : Plan). IsAccepted (in_order (nodes_of p))) of accepted };
+    },
+  )
+
+  pub graph_here : found ≡ [] → (why : GraphFault) → IsFault (in_order (nodes_of plan)) why → (why ≡ graph.WantOfMemory → ⊥) →
+      (refuses : Word → Bool) × IsRightlyJudged refuses root (Err (fault.Graph why))
+  graph_here none why is memory = (
+    is_one refused,
+    record {
+      right = λ some. right_here;
+      judged = record { faultless = sym all_here ∙ none; memory = memory; refused = subst (λ (p : Plan). IsFault (in_order (nodes_of p)) why) of is };
+    },
+  )
+
+  pub conditions_here : found ≡ [] → conditions ≡ map conditions_by plan.components
+  conditions_here none = conditions_are plan.components refused conditions tried (none_right (findings root) _ (sym all ∙ none))

@@ -1,0 +1,157 @@
+-- A route without faults has few ways.
+use Rattle.std.proofs.Common.{◌≡◌, ℕ, suc, ◌+◌, ◌≤◌, Bool, true, false, nat_lt, List, [], ◌∷◌, ◌++◌, map, length, Option, Some, None, Ordering, Less, Equal, Greater, nat_cmp, refl, sym, ◌∙◌, subst, arith}
+use Rattle.std.specs.Prelude.{cond, codes, if◌then◌else◌, option_and_then}
+use Rattle.std.specs.Cmp.Lexicographic.{slice_cmp}
+use Rattle.std.specs.List.{AllByRecursion, flat_map}
+use Rattle.std.specs.Ordering.{match_ordering}
+use Rattle.std.proofs.lemmas.Bool.Decides.{nat_tests}
+use Rattle.std.proofs.lemmas.List.{length-map}
+use Rattle.std.proofs.lemmas.List.Sums.{sum_by-append, sum_by-cons}
+use Rattle.toml.specs.Data.{Data, string, integer, float, boolean, datetime, array, table, Members, no_members, member, as_table, as_str, get, get_member}
+use Rattle.vx_value.specs.Texts.{Word}
+use Rattle.vx_value.proofs.Order.{told_same, same_text-true}
+use Rattle.vx_plan.specs.declared.route.Route.{Route as Way}
+use Rattle.vx_reading.specs.declared.finding.Finding.{Finding}
+use Rattle.vx_reading.specs.declared.kind.Kind.{Kind}
+use Rattle.vx_reading.specs.declared.kind.Kind.TheVariants.{Route}
+use Rattle.vx_reading.specs.Components.{Part, parts, kind_of, type_in, first_stdin}
+use Rattle.vx_reading.specs.Findings.{Owner, findings, global_findings, count_findings, all_section_findings, part_finding, part_findings, type_findings, text_findings, named_findings, kind_findings, later_findings, option_findings, given_findings, row_findings, lacking, crowded}
+use Rattle.vx_reading.specs.Judging.{Pair, pairs_of, pairs_in, is_table, Given, given_by, given, within, alone, count_given}
+use Rattle.vx_reading.specs.Options.{rows_of, type_row, inputs_row, route_row, most_routes, kind_named, covers}
+use Rattle.vx_reading.specs.Plans.{way_of, ways_of}
+use Rattle.vx_reading.proofs.Few.{none_left, none_right}
+
+-- HOW MANY ARE GIVEN
+one_more : (a b : ℕ) → a ≡ b → 1 + a ≡ suc b
+one_more a b is = omega (arith, is)
+
+abbrev counted : Given → ℕ
+counted g = cond (covers route_row.place g.place) 1 0
+
+count_joined : (xs ys : List Given) → count_given route_row.place (xs ++ ys) ≡ count_given route_row.place xs + count_given route_row.place ys
+count_joined xs ys = sum_by-append counted xs ys
+
+-- each that stands in the table of the routes counts
+count_within : (pairs : List Pair) → count_given route_row.place (map (within (codes "route")) pairs) ≡ length pairs
+count_within [] = refl
+count_within (p ∷ pairs) =
+    sum_by-cons counted (within (codes "route") p) (map (within (codes "route")) pairs) ∙ one_more _ _ (count_within pairs)
+
+no_pairs : (o : Option Members) → (elim o [ None ↦ false | Some inner ↦ true ]) ≡ false → length {A = Pair} (elim o [ None ↦ [] | Some inner ↦ pairs_of inner ]) ≡ 0
+no_pairs None is = refl
+no_pairs (Some inner) is = cc
+
+table_counts : (value : Data) → length (pairs_in value) ≤ count_given route_row.place (given_by (rows_of Route) (record { name = codes "route"; value = value }))
+table_counts value = go (is_table value) refl
+  where
+    p : Pair
+    p = record { name = codes "route"; value = value }
+
+    go : (b : Bool) → is_table value ≡ b → length (pairs_in value) ≤ count_given route_row.place (given_by (rows_of Route) p)
+    go true is =
+        subst (λ (b : Bool). length (pairs_in value) ≤ count_given route_row.place (if b then map (within (codes "route")) (pairs_in value) else alone p ∷ [])) (sym is)
+        (let all = count_within (pairs_in value) in omega (arith, all))
+    go false is = let none = no_pairs (as_table value) is in omega (arith, none)
+
+-- the ways of what may stand under a name
+abbrev ways_in : Option Data → List Way
+ways_in o = elim o [ None ↦ [] | Some inner ↦ map way_of (pairs_in inner) ]
+
+members_count : (ms : Members) → length (ways_in (get_member (codes "route") ms)) ≤ count_given route_row.place (given (rows_of Route) (pairs_of ms))
+members_count no_members = omega arith
+members_count (member name value rest) = go (slice_cmp nat_cmp (codes "route") name) refl (members_count rest)
+  where
+    here : List Given
+    here = given_by (rows_of Route) (record { name = name; value = value })
+
+    later : List Given
+    later = given (rows_of Route) (pairs_of rest)
+
+    split : count_given route_row.place (here ++ later) ≡ count_given route_row.place here + count_given route_row.place later
+    split = count_joined here later
+
+    go : (o : Ordering) → slice_cmp nat_cmp (codes "route") name ≡ o → length (ways_in (get_member (codes "route") rest)) ≤ count_given route_row.place later →
+        length (ways_in (match_ordering o (get_member (codes "route") rest) (Some value) (get_member (codes "route") rest))) ≤ count_given route_row.place (here ++ later)
+    go Less is few = omega (arith, split, few)
+    go Greater is few = omega (arith, split, few)
+    go Equal is few =
+        let same : codes "route" ≡ name = same_text-true (codes "route") name (sym (told_same (codes "route") name Equal (sym is))) in
+        let all : length (pairs_in value) ≤ count_given route_row.place here =
+        subst (λ (n : Word). length (pairs_in value) ≤ count_given route_row.place (given_by (rows_of Route) (record { name = n; value = value }))) same (table_counts value) in
+        let mapped = length-map (pairs_in value) way_of in
+        omega (arith, split, all, mapped)
+
+-- as many ways as are given, at the most
+ways_count : (value : Data) → length (ways_of value) ≤ count_given route_row.place (given (rows_of Route) (pairs_in value))
+ways_count (table ms) = members_count ms
+ways_count (string s) = omega arith
+ways_count (integer z) = omega arith
+ways_count (float x) = omega arith
+ways_count (boolean b) = omega arith
+ways_count (datetime d) = omega arith
+ways_count (array ds) = omega arith
+
+-- WHERE NO FAULT IS FOUND
+uncrowded : (b : Bool) (finding : Finding) → (if b then finding ∷ [] else []) ≡ [] → b ≡ false
+uncrowded true finding none = cc
+uncrowded false finding none = refl
+
+few_given : (owner : Owner) (lead : Word) (all : List Given) → option_findings owner lead (rows_of Route) all ≡ [] → count_given route_row.place all ≤ 64
+few_given owner lead all none =
+    let rows = none_right (given_findings owner lead (rows_of Route) all) _ none in
+    let behind_type = none_right (row_findings owner lead all type_row) _ rows in
+    let behind_inputs = none_right (row_findings owner lead all inputs_row) _ behind_type in
+    let of_route = none_left (row_findings owner lead all route_row) _ behind_inputs in
+    let free = none_right (lacking owner lead all route_row) (crowded owner lead all route_row) of_route in
+    let few : nat_lt most_routes (count_given route_row.place all) ≡ false = uncrowded (nat_lt most_routes (count_given route_row.place all)) _ free in
+    grind (arith, nat_tests)
+
+few_of_kind : (first : Option Word) (part : Part) → kind_findings first part Route ≡ [] → length (ways_of part.value) ≤ 64
+few_of_kind first part none =
+    let given_few = few_given _ _ (given (rows_of Route) (pairs_in part.value)) (none_right (later_findings first part) _ none) in
+    let ways = ways_count part.value in
+    omega (arith, given_few, ways)
+
+-- a value without a table has nothing under a name
+typed_table : (value told : Data) → get (codes "type") value ≡ Some told → is_table value ≡ true
+typed_table (table ms) told is = refl
+typed_table (string s) told is = cc
+typed_table (integer z) told is = cc
+typed_table (float x) told is = cc
+typed_table (boolean b) told is = cc
+typed_table (datetime d) told is = cc
+typed_table (array ds) told is = cc
+
+few_of_part : (root : Data) (first : Option Word) (part : Part) → part_findings root first part ≡ [] → kind_of part ≡ Some Route → length (ways_of part.value) ≤ 64
+few_of_part root first part none is = go (type_in part.value) refl is
+  where
+    typed : (b : Bool) → is_table part.value ≡ b → b ≡ true → type_findings first part (type_in part.value) ≡ []
+    typed true there so =
+        subst (λ (b : Bool). (if b then type_findings first part (type_in part.value) else []) ≡ []) there (none_right (part_finding root part) _ none)
+    typed false there so = cc
+
+    named : (told : Data) → type_in part.value ≡ Some told → (o : Option Word) → as_str told ≡ o → option_and_then (kind_named part.class) o ≡ Some Route → length (ways_of part.value) ≤ 64
+    named told at None str kind = cc
+    named told at (Some text) str kind =
+        let faultless = typed (is_table part.value) refl (typed_table part.value told at) in
+        few_of_kind first part
+        (subst (λ (k : Option Kind). named_findings first part k ≡ []) kind
+        (subst (λ (o : Option Word). text_findings first part o ≡ []) str
+        (subst (λ (o : Option Data). type_findings first part o ≡ []) at faultless)))
+
+    go : (o : Option Data) → type_in part.value ≡ o → option_and_then (kind_named part.class) (option_and_then as_str o) ≡ Some Route → length (ways_of part.value) ≤ 64
+    go None at kind = cc
+    go (Some told) at kind = named told at (as_str told) refl kind
+
+all_few : (root : Data) (first : Option Word) (all : List Part) → flat_map (part_findings root first) all ≡ [] → AllByRecursion (λ (part : Part). kind_of part ≡ Some Route → length (ways_of part.value) ≤ 64) all
+all_few root first [] none = tt
+all_few root first (part ∷ rest) none = (
+  few_of_part root first part (none_left (part_findings root first part) _ none),
+  all_few root first rest (none_right (part_findings root first part) _ none),
+)
+
+-- each route of a document without faults has at most 64 ways
+pub few_ways : (root : Data) → findings root ≡ [] → AllByRecursion (λ (part : Part). kind_of part ≡ Some Route → length (ways_of part.value) ≤ 64) (parts root)
+few_ways root none =
+    all_few root (first_stdin root) (parts root)
+    (none_right (all_section_findings root) _ (none_right (count_findings root) _ (none_right (global_findings root) _ none)))

@@ -1,0 +1,144 @@
+// The faults of conditions that are refused.
+ghost use Rattle.std.specs.Prelude.{◌≡◌, ◌++◌, OnOk, map};
+ghost use Rattle.std.specs.List.{flat_map};
+ghost use Rattle.vx_reading.specs.Conditions.{Placed, placed_way, placed_any, is_one, owner_by, refusal, refusals_of, refusals};
+ghost use Rattle.vx_reading.specs.Views.{place_view, owner_view};
+
+use crate::finding::{FindingList, push};
+use crate::options::section_number;
+use crate::owner::Owner;
+use crate::paths::{lead_of, option_path};
+use crate::place::Place;
+use crate::texts::is_one;
+use crate::trouble::Trouble;
+use std::alloc::Global;
+use vx_plan::{Component, ComponentList, RouteList, Settings};
+use vx_value::{Text, TextList, WantOfMemory};
+
+/// To whom the faults of a component belong.
+fn owner_by(component: &Component) -> Owner<'_>
+    ensures { owner_view result ≡ owner_by component.now }
+{
+    Owner {
+        section: section_number(component.class),
+        name: component.name.as_str(),
+    }
+}
+
+/// Adds the fault of a condition, if it is refused.
+fn push_refusal(
+    alloc: Global,
+    findings: &mut FindingList,
+    refused: &TextList,
+    component: &Component,
+    place: Place<'_>,
+    text: &Text,
+) -> Result<(), WantOfMemory>
+    ensures { OnOk result (findings.new ≡ findings.old ++ refusal (is_one refused.now) component.now (record { place = place_view place.entry; text = text.now })) }
+{
+    if !is_one(refused, text.as_str()) {
+        return Ok(());
+    }
+    let lead = lead_of(alloc, component.class, component.name.as_str())?;
+    let path = option_path(alloc, lead.as_str(), place)?;
+    push(
+        alloc,
+        findings,
+        owner_by(component),
+        path,
+        Trouble::BadValue,
+    )
+}
+
+/// Adds the fault of a condition, if there is one and it is refused.
+fn push_any(
+    alloc: Global,
+    findings: &mut FindingList,
+    refused: &TextList,
+    component: &Component,
+    name: &str,
+    text: &Option<Text>,
+) -> Result<(), WantOfMemory>
+    ensures { OnOk result (findings.new ≡ findings.old ++ flat_map (refusal (is_one refused.now) component.now) (placed_any name.now text.now)) }
+{
+    match text {
+        Some(text) => push_refusal(
+            alloc,
+            findings,
+            refused,
+            component,
+            Place::Alone(name),
+            text,
+        ),
+        None => Ok(()),
+    }
+}
+
+/// Adds the faults of a route's conditions.
+fn push_ways(
+    alloc: Global,
+    findings: &mut FindingList,
+    refused: &TextList,
+    component: &Component,
+    ways: &RouteList,
+) -> Result<(), WantOfMemory>
+    ensures { OnOk result (findings.new ≡ findings.old ++ flat_map (refusal (is_one refused.now) component.now) (map placed_way ways.now)) }
+{
+    for way in ways.as_slice() {
+        let place = Place::Within("route", way.name.as_str());
+        push_refusal(alloc, findings, refused, component, place, &way.condition)?;
+    }
+    Ok(())
+}
+
+/// Adds the faults of a component's conditions.
+fn push_component(
+    alloc: Global,
+    findings: &mut FindingList,
+    refused: &TextList,
+    component: &Component,
+) -> Result<(), WantOfMemory>
+    ensures { OnOk result (findings.new ≡ findings.old ++ refusals_of (is_one refused.now) component.now) }
+{
+    match &component.settings {
+        Settings::Filter { condition } => {
+            let place = Place::Alone("condition");
+            push_refusal(alloc, findings, refused, component, place, condition)
+        }
+        Settings::Route { routes, .. } => push_ways(alloc, findings, refused, component, routes),
+        Settings::Sample { exclude, .. } => {
+            push_any(alloc, findings, refused, component, "exclude", exclude)
+        }
+        Settings::Reduce {
+            starts_when,
+            ends_when,
+            ..
+        } => {
+            push_any(alloc, findings, refused, component, "ends_when", ends_when)?;
+            push_any(
+                alloc,
+                findings,
+                refused,
+                component,
+                "starts_when",
+                starts_when,
+            )
+        }
+        _ => Ok(()),
+    }
+}
+
+/// Adds the faults of the conditions of some components.
+pub(crate) fn push_refusals(
+    alloc: Global,
+    findings: &mut FindingList,
+    refused: &TextList,
+    components: &ComponentList,
+) -> Result<(), WantOfMemory>
+    ensures { OnOk result (findings.new ≡ findings.old ++ refusals (is_one refused.now) components.now) }
+{
+    for component in components.as_slice() {
+        push_component(alloc, findings, refused, component)?;
+    }
+    Ok(())
+}
