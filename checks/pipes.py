@@ -20,6 +20,7 @@ from running import FIRST, PATIENCE, PROGRAM, TOP, check, go_through, run
 TWO = str(TOP / "examples" / "two_consoles.toml")
 JSON = str(TOP / "examples" / "json_lines.toml")
 ACKNOWLEDGED = str(TOP / "examples" / "acknowledged.toml")
+LEVELS = str(TOP / "examples" / "levels.toml")
 LONGEST = 102_400
 BUILT = str(TOP / "crates" / "vector" / "out" / "vector")
 
@@ -473,6 +474,36 @@ def json_lines():
         check("messages of all kinds", seen == (0, b'1.50\n[1,"a"]\n\nlast\n', b""), seen)
 
 
+def layers(count):
+    """A configuration of so many transforms one behind the other: the kth leaves out the line k. Each second one is a route."""
+    kinds = ["type = \"filter\"\ncondition = '.message != \"{}\"'", "type = \"route\"\nroute.on = '.message != \"{}\"'"]
+    outputs = ["in", *[f"t{k}.on" if k % 2 else f"t{k}" for k in range(count)]]
+    parts = [f"[transforms.t{k}]\ninputs = [\"{outputs[k]}\"]\n{kinds[k % 2].format(k)}\n" for k in range(count)]
+    return f'[sources.in]\ntype = "stdin"\n{"".join(parts)}[sinks.out]\ntype = "console"\ninputs = ["{outputs[-1]}"]\nencoding.codec = "text"\n'
+
+
+def filters(count):
+    """A configuration of so many filters that read one source, the kth of which passes the line k, and one console that reads them."""
+    parts = "".join(f"[transforms.t{k}]\ninputs = [\"in\"]\ntype = \"filter\"\ncondition = '.message == \"{k}\"'\n" for k in range(count))
+    return f'[sources.in]\ntype = "stdin"\n{parts}[sinks.out]\ntype = "console"\ninputs = ["t*"]\nencoding.codec = "text"\n'
+
+
+def transforms():
+    """Filters and routes: which lines come out, and where."""
+    events = [{"level": "debug", "message": "tick"}, {"level": "info", "message": "started"}, {"level": "error", "message": "disk full"}, {"message": "gone", "status": 502}]
+    seen = run(b"".join(written(event) for event in events), ["--config", LEVELS])
+    check("errors to one output, the rest to the other", seen == (0, written({**events[1], "source_type": "stdin"}), b"disk full\ngone\n"), seen)
+    with tempfile.TemporaryDirectory() as folder:
+        at = Path(folder) / "many.toml"
+        lines = [b"%d\n" % k for k in range(2_000)]
+        at.write_text(layers(20))
+        seen = run(b"".join(lines), ["--config", "many.toml"], cwd=folder)
+        check("20 transforms in a row", seen == (0, b"".join(lines[20:]), b""), (seen[0], len(seen[1]), seen[2]))
+        at.write_text(filters(254))
+        seen = run(b"".join(lines), ["--config", "many.toml"], cwd=folder)
+        check("254 filters of one source", (seen[0], sorted(seen[1].splitlines()), seen[2]) == (0, sorted(b"%d" % k for k in range(254)), b""), (seen[0], len(seen[1]), seen[2]))
+
+
 def judgements():
     """The command that judges a configuration, and runs nothing."""
     seen = run(b"a\n", ["validate", TWO])
@@ -489,4 +520,4 @@ def judgements():
 
 
 if __name__ == "__main__":
-    sys.exit(go_through([consoles, acknowledged, judgements, json_lines, inputs, bytes_of_all_kinds, lines_as_they_come, a_reader_that_leaves, late_readers, signals, short_writes, wanting_memory, late_texts, ends_that_fail, many_lines]))
+    sys.exit(go_through([consoles, acknowledged, judgements, json_lines, transforms, inputs, bytes_of_all_kinds, lines_as_they_come, a_reader_that_leaves, late_readers, signals, short_writes, wanting_memory, late_texts, ends_that_fail, many_lines]))

@@ -1,5 +1,5 @@
 ghost use Rattle.std.specs.Prelude.{◌≡◌, ◌<◌, ◌≤◌, ◌^◌, length, None, [], true, false};
-ghost use Rattle.vx_ends.specs.Told.{Rose, raised};
+ghost use Rattle.vx_ends.specs.Told.{Rose, raised, untold};
 
 use crate::os_output::OsOutput;
 use std::io::{ErrorKind, Read, Write};
@@ -105,7 +105,7 @@ impl Port for OsPort {
       left = λ _. None;
       given = None;
       confirmed = None;
-      spec = None;
+      spec = untold;
       ended = [];
       over = p.over;
       started = p.started;

@@ -1,9 +1,9 @@
 -- What contracts see of a port in memory.
-use Rattle.std.specs.Prelude.{ℕ, List, [], ◌++◌, Bool, true, false, Option, Some, Result, Ok, Err, is_ok, if◌then◌else◌}
+use Rattle.std.specs.Prelude.{ℕ, List, [], ◌++◌, Bool, true, false, Option, Some, Result, Ok, Err, is_ok, if◌then◌else◌, None}
 use Rattle.vx_ends.specs.Acts.{first_act, later_acts, plain_answer, is_failed, raised}
 use Rattle.vx_ends.specs.declared.trouble.Trouble.{Trouble}
 use Rattle.vx_ends.specs.Script.{Progress, bytes_of, left_of, ends_of}
-use Rattle.vx_ends.specs.Told.{Told}
+use Rattle.vx_ends.specs.Told.{Told, Made, untold, made}
 use Rattle.vx_ends.specs.declared.act.Act.{Act}
 use Rattle.vx_ends.specs.declared.step.Step.{Step}
 use Rattle.vx_ends.specs.declared.position.Position.{Position}
@@ -51,6 +51,11 @@ closed_port spec steps acts = record {
   confirms = 0;
 }
 
+-- what a port tells that may have been made for something
+abbrev pub made_by : Option PortSpec → Made
+made_by None = untold
+made_by (Some spec) = made spec
+
 -- what such a port tells: everything
 abbrev pub told_by : Playing → Told
 told_by p = record {
@@ -58,7 +63,7 @@ told_by p = record {
   left = λ stream. Some (left_of stream p.script);
   given = Some p.given;
   confirmed = Some p.confirmed;
-  spec = p.spec;
+  spec = made_by p.spec;
   ended = ends_of p.script.past;
   over = p.over;
   started = p.started;

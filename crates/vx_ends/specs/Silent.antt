@@ -1,6 +1,6 @@
 -- What a port tells that may not be there.
 use Rattle.std.specs.Prelude.{[], false, Option, Some, None}
-use Rattle.vx_ends.specs.Told.{Told}
+use Rattle.vx_ends.specs.Told.{Told, absent}
 
 -- nothing
 abbrev pub silent : Told
@@ -9,7 +9,7 @@ silent = record {
   left = λ stream. None;
   given = None;
   confirmed = None;
-  spec = None;
+  spec = absent;
   ended = [];
   over = false;
   started = false;

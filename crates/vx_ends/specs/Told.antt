@@ -7,6 +7,23 @@ use Rattle.vx_ends.specs.declared.port.Took.TheVariants.{Bytes, StreamEnded, All
 use Rattle.vx_ends.specs.declared.position.Position.{Position}
 use Rattle.vx_ends.specs.declared.port_spec.PortSpec.{PortSpec}
 
+-- what a port was made for: there is no port; there is one, and it doesn't tell; or that
+pub data Made : Type 0 where
+  absent : Made
+  untold : Made
+  made : PortSpec → Made
+
+-- a port is there, and if it tells what it was made for, that is this
+abbrev pub IsFor : PortSpec → Made → Type 0
+IsFor spec absent = ⊥
+IsFor spec untold = Unit {0}
+IsFor spec (made other) = other ≡ spec
+
+-- so it is where one is wanted; elsewhere there is none
+abbrev pub Fits : Option PortSpec → Made → Type 0
+Fits None for = for ≡ absent
+Fits (Some spec) for = IsFor spec for
+
 -- What a port tells. `None` says nothing.
 pub record Told : Type 0 where
   -- the bytes that were taken of a stream
@@ -18,7 +35,7 @@ pub record Told : Type 0 where
   -- the positions that were confirmed, in order
   pub confirmed : Option (List Position)
   -- what the port was made for
-  pub spec : Option PortSpec
+  pub spec : Made
   -- the streams that have ended, in order
   pub ended : List ℕ
   -- whether it told the end of all
@@ -41,7 +58,7 @@ pub record IsFresh (spec : PortSpec) (told : Told) : Type 0 where
   pub taken : (stream : ℕ) → IfSome (told.taken stream) (λ bytes. bytes ≡ [])
   pub given : IfSome told.given (λ bytes. bytes ≡ [])
   pub confirmed : IfSome told.confirmed (λ positions. positions ≡ [])
-  pub made_for : IfSome told.spec (λ made. made ≡ spec)
+  pub made_for : IsFor spec told.spec
   pub ended : told.ended ≡ []
   pub over : told.over ≡ false
   pub closed : told.started ≡ false

@@ -1,25 +1,26 @@
 -- A hub as it begins.
 use Rattle.std.proofs.Common.{◌≡◌, ◌≢◌, ◌∙◌, ℕ, zero, suc, ◌+◌, ◌<◌, ◌≤◌, inl, inr, Bool, true, false, List, [], ◌∷◌, ◌++◌, Option, Some, None, IfSome, length, refl, sym, ap, arith, get_or}
-use Rattle.std.specs.Prelude.{◌^◌, map, not, IsSomeAnd, slice_get, slice_set, vec_capacity}
-use Rattle.std.proofs.lemmas.Bool.{and_parts, cases_eq, cases_lt}
+use Rattle.std.specs.Prelude.{◌^◌, ◌&&◌, map, IsSomeAnd, slice_get, slice_set, vec_capacity}
+use Rattle.std.proofs.lemmas.Bool.{and_from, cases_eq, cases_lt}
 use Rattle.std.proofs.lemmas.List.{length_push}
-use Rattle.std.proofs.lemmas.Option.{IfSome_then, slice_get_past, slice_get_read}
-use Rattle.vx_ends.specs.Told.{Told}
+use Rattle.std.proofs.lemmas.Option.{IfSome_then, slice_get_past, slice_get_read, slice_get-get_or}
+use Rattle.vx_ends.specs.Told.{Told, Fits}
 use Rattle.vx_plan.specs.declared.component.Component.{Component}
 use Rattle.vx_plan.specs.declared.plan.Plan.{Plan}
 use Rattle.vx_plan.specs.declared.stage.Stage.{Stage}
 use Rattle.vx_plan.specs.Accepted.{IsPlan}
-use Rattle.vx_plan.specs.Components.{is_transform, stages, batch_max_events}
-use Rattle.vx_plan.specs.Options.{has_device}
+use Rattle.vx_plan.specs.Components.{is_transform, stages}
 use Rattle.vx_plan.specs.Ports.{port_of}
 use Rattle.vx_record.specs.declared.entry.Entry.TheVariants.{Install}
 use Rattle.vx_record.specs.Records.{Record}
-use Rattle.vx_record.specs.Installs.{component_of}
+use Rattle.vx_record.specs.Installs.{component_of, told}
+use Rattle.vx_record.specs.Judges.{is_judging, OnlyJudges}
 use Rattle.vx_record.specs.Places.Place.{Outputs, Held}
 use Rattle.vx_record.specs.Reads.{all_ended}
 use Rattle.vx_record.specs.Starting.{first_instances}
 use Rattle.vx_record.specs.Wirings.{begun}
 use Rattle.vx_record.proofs.Wired.{begun_legal, component_there, component_in_place}
+use Rattle.vx_pick.specs.declared.picker.Picker.{Picker}
 use Rattle.vx_sourcecore.specs.Turns.{NothingLeft}
 use Rattle.vx_sourcecore.proofs.Keeping.{fresh_abreast}
 use Rattle.vx_balance.proofs.Steps.{aside_kept}
@@ -39,15 +40,16 @@ use Rattle.vx_seats.specs.Beginning.{AreNew, IsFresh, AreFresh}
 use Rattle.vx_seats.specs.Knowing.{Knows}
 use Rattle.vx_seats.proofs.Staying.{written, other_seat}
 use Rattle.vx_moves.specs.declared.books.Books.{Books}
-use Rattle.vx_moves.specs.Rooms.{planned_rooms, planned_batch, IsHandOf}
+use Rattle.vx_moves.specs.Rooms.{planned_rooms, hand_of, IsHandOf}
 use Rattle.vx_moves.specs.Stands.{Stands}
 use Rattle.vx_hub.specs.declared.hub.Hub.{Hub}
 use Rattle.vx_hub.specs.declared.making.Room.{Room}
 use Rattle.vx_hub.specs.declared.parts.Named.{Named}
-use Rattle.vx_hub.specs.Beginning.{IsBegun, IsRoleFor, AreFor, HasRoomFor, HaveRooms, AreVacant, AreSeatedFrom}
-use Rattle.vx_hub.specs.Making.{IsUntouched, AreUntouched, is_ported, all_ported}
+use Rattle.vx_hub.specs.Beginning.{IsBegun, IsWorkerFor, IsRoleFor, IsRoleBut, AreFor, HasRoomFor, HaveRooms, AreVacant, AreRoledFrom, AreSeatedFrom}
+use Rattle.vx_hub.specs.Making.{IsUntouched, AreUntouched, IsPickerFor, ArePickers, is_served, all_served}
 use Rattle.vx_hub.specs.Standing.{IsHub}
-use Rattle.vx_hub.proofs.Resting.{with_some, pushed}
+use Rattle.vx_hub.proofs.Resting.{with_some, if_there, pushed}
+use Rattle.vx_hub.proofs.Served.{serves, served_at}
 
 -- LOOPS
 -- one more, for the next component in a loop over them
@@ -57,12 +59,12 @@ pub for_next : {X : Type 0} (F : X → Component → Type 0) {components items :
 for_next F {components} {items} xs x {c} {i} same more all size l is f =
     rw more (pushed (λ j y. IsSomeAnd (slice_get components j) (F y)) xs x all (rw (size, ← same, slice_get_read items (length items) i c refl l is) f))
 
--- each of the components has a device
-pub device_in : (components : List Component) (i : ℕ) (c : Component) → all_ported components ≡ true →
-    i < length components → c ≡ get_or components i c → has_device c.settings ≡ true
-device_in [] i c all l is = absurd (omega (arith, l))
-device_in (d ∷ rest) zero c all l is = rw is (and_parts (has_device d.settings) (not (is_transform d)) (and_parts (is_ported d) (all_ported rest) all).0).0
-device_in (d ∷ rest) (suc i) c all l is = device_in rest i c (and_parts (is_ported d) (all_ported rest) all).1 (omega (arith, l)) is
+-- what works with a port has its role
+pub worker_but : (role : Role) (c : Component) → IsWorkerFor c.settings role → IsRoleBut role c
+worker_but (Source core) c is = is
+worker_but (Sink codec) c is = is
+worker_but (Transform picker) c is = absurd is
+worker_but Unfit c is = absurd is
 
 -- two lists are the same below a number
 abbrev pub SameBelow : {X : Type 0} → ℕ → List X → List X → Type 0
@@ -95,6 +97,96 @@ seated_more before roles ports seats n {was} {role} {named} within there role_is
   | inr other ↦ rw (other_seat seats n j (record was { task = Some (record { port = named.port; role = role }) }) other) (rest j (omega (arith, l, other)))
 ]
 
+-- a list with another item in one place
+pub put_here : {X : Type 0} (xs : List X) (i : ℕ) (x : X) → i < length xs → slice_get (slice_set xs i x) i ≡ Some x
+put_here [] i x l = absurd (omega (arith, l))
+put_here (y ∷ xs) zero x l = refl
+put_here (y ∷ xs) (suc i) x l = put_here xs i x (omega (arith, l))
+
+pub put_aside : {X : Type 0} (xs : List X) (i : ℕ) (x : X) (j : ℕ) → j ≢ i → slice_get (slice_set xs i x) j ≡ slice_get xs j
+put_aside [] i x j other = refl
+put_aside (y ∷ xs) zero x zero other = absurd (other refl)
+put_aside (y ∷ xs) zero x (suc j) other = refl
+put_aside (y ∷ xs) (suc i) x zero other = refl
+put_aside (y ∷ xs) (suc i) x (suc j) other = put_aside xs i x j (λ e. other (ap suc e))
+
+pub put_size : {X : Type 0} (xs : List X) (i : ℕ) (x : X) → length (slice_set xs i x) ≡ length xs
+put_size [] i x = refl
+put_size (y ∷ xs) zero x = refl
+put_size (y ∷ xs) (suc i) x = ap suc (put_size xs i x)
+
+-- the roles from those on that are left have what they pick by
+pub record AreRoledSo (before : List Role) (all left : List (Option Picker)) (roles : List Role) : Type 0 where
+  pub size : length roles ≡ length before
+  pub within : length left ≤ length before
+  pub same : SameBelow (length left) left all
+  pub kept : SameBelow (length left) roles before
+  pub roled : AreRoledFrom (length left) before all roles
+
+-- so has the last of those that are left, where it has that, or has none
+module _ (before : List Role) (all : List (Option Picker)) {left : List (Option Picker)} (rest : List (Option Picker)) (o : Option Picker)
+    (parts : left ≡ rest ++ o ∷ []) (roles : List Role) (so : AreRoledSo before all left roles) where
+  last : SameBelow (length rest) rest all × (slice_get all (length rest) ≡ Some o) × (length left ≡ length rest + 1)
+  last = popped rest all parts so.same
+
+  there : slice_get before (length rest) ≡ Some (get_or before (length rest) Unfit)
+  there = let fewer = last.2 in let within = so.within in slice_get-get_or before (length rest) Unfit (omega (arith, fewer, within))
+
+  one_more : (new : List Role) → length new ≡ length roles → slice_get new (length rest) ≡ Some (elim o [ None ↦ get_or before (length rest) Unfit | Some p ↦ Transform p ]) →
+      ((j : ℕ) → j ≢ length rest → slice_get new j ≡ slice_get roles j) → AreRoledSo before all rest new
+  one_more new size here aside = let fewer = last.2 in let within = so.within in record {
+    size = size ∙ so.size;
+    within = omega (arith, fewer, within);
+    same = last.0;
+    kept = λ j l. aside j (λ e. omega (arith, e, l)) ∙ so.kept j (omega (arith, l, fewer));
+    roled = λ j l. elim (cases_eq j (length rest)) [
+      | inl same ↦ rw (same, here, there, last.1) refl
+      | inr other ↦ rw (aside j other) (so.roled j (omega (arith, l, other, fewer)))
+    ];
+  }
+
+  pub roled_none : o ≡ None → AreRoledSo before all rest roles
+  roled_none is = let fewer = last.2 in one_more roles refl (rw is (so.kept (length rest) (omega (arith, fewer)) ∙ there)) (λ j other. refl)
+
+  pub roled_some : (p : Picker) → o ≡ Some p → AreRoledSo before all rest (slice_set roles (length rest) (Transform p))
+  roled_some p is = let fewer = last.2 in let within = so.within in let size = so.size in
+      one_more (slice_set roles (length rest) (Transform p)) (put_size roles (length rest) (Transform p))
+      (rw is (put_here roles (length rest) (Transform p) (omega (arith, fewer, within, size)))) (put_aside roles (length rest) (Transform p))
+
+-- ROLES
+pickers_at : (components : List Component) (pickers : List (Option Picker)) → ArePickers components pickers → (i : ℕ) →
+    IfSome (slice_get pickers i) (λ picker. IfSome (slice_get components i) (λ c. IsPickerFor c picker))
+pickers_at components [] all i = tt
+pickers_at [] (picker ∷ pickers) all i = absurd all
+pickers_at (d ∷ rest) (picker ∷ pickers) all zero = all.0
+pickers_at (d ∷ rest) (picker ∷ pickers) all (suc i) = pickers_at rest pickers all.1 i
+
+-- with what a transform picks by a role is whole
+whole_role : (role : Role) (picker : Option Picker) (c : Component) → IsRoleBut role c → IsPickerFor c picker →
+    IsRoleFor (elim picker [ None ↦ role | Some p ↦ Transform p ]) c
+whole_role (Source core) None c but of = but
+whole_role (Sink codec) None c but of = but
+whole_role (Transform p) None c but of = absurd but
+whole_role Unfit None c but of = cc
+whole_role role (Some p) c but of = of.1
+
+pub whole_roles : (components : List Component) (roles : List Role) (pickers : List (Option Picker)) (roled : List Role) →
+    AreFor IsRoleBut components roles → ArePickers components pickers → AreRoledFrom 0 roles pickers roled → AreFor IsRoleFor components roled
+whole_roles components roles pickers roled but of each i = IfSome_then (slice_get roled i) (each i (omega arith)) (λ is has.
+    with_some (slice_get roles i) has (λ was was_there picked.
+    with_some (slice_get pickers i) picked (λ picker there made.
+    let bare : IsSomeAnd (slice_get components i) (IsRoleBut was) = rw was_there at (but i) in
+    with_some (slice_get components i) bare (λ c c_there fits.
+    let picks : IsPickerFor c picker = rw (there, c_there) at (pickers_at components pickers of i) in
+    rw (c_there, made) (whole_role was picker c fits picks)))))
+
+-- as many have what they pick by as there are
+pub pickers_size : (components : List Component) (pickers : List (Option Picker)) → ArePickers components pickers → length pickers ≡ length components
+pickers_size [] [] all = refl
+pickers_size [] (picker ∷ pickers) all = absurd all
+pickers_size (d ∷ rest) [] all = absurd all
+pickers_size (d ∷ rest) (picker ∷ pickers) all = ap suc (pickers_size rest pickers all.1)
+
 -- SEATS
 untouched_at : {P : Type 0} (told_by : P → Told) (components : List Component) (ports : List (Named P)) →
     AreUntouched told_by components ports → (i : ℕ) →
@@ -118,7 +210,7 @@ module _ {plan : Plan} (accepted : IsPlan plan) (i : ℕ) {c : Component}
   told_first : (told : Told) → IsUntouched (port_of c) told → IsTold told (begun plan once now) i
   told_first told u =
       let over : all_ended (begun plan once now) i ≡ true → NothingLeft told = λ e. cc in
-      let spec : IfSome told.spec (λ spec. spec_of (component_of (begun plan once now) i) ≡ Some spec) = rw runs u.made_for in
+      let spec : Fits (spec_of (component_of (begun plan once now) i)) told.spec = rw runs u.made_for in
       assumption (over, spec, u)
 
   come_first : (role : Role) → IsRoleFor role c → HasCome (begun plan once now) i role
@@ -178,26 +270,37 @@ module _ {plan : Plan} (accepted : IsPlan plan) (once : Bool) (now : ℕ) (rows 
 
   planned_first : (i : ℕ) (o : Option Component) → slice_get plan.components i ≡ o →
       (planned_rooms (begun plan once now) i ≡ map (λ (stage : Stage). stage.max_events) (elim o [ None ↦ [] | Some c ↦ stages c ]))
-      × (planned_batch (begun plan once now) i ≡ (elim o [ None ↦ 0 | Some c ↦ batch_max_events c.settings ]))
+      × (told 0 hand_of (begun plan once now) i ≡ (elim o [ None ↦ 0 | Some c ↦ hand_of c ]))
   planned_first i o is = (
     ap (λ (x : Option Component). map (λ (stage : Stage). stage.max_events) (elim x [ None ↦ [] | Some c ↦ stages c ])) (in_place i ∙ is),
-    ap (λ (x : Option Component). elim x [ None ↦ 0 | Some c ↦ batch_max_events c.settings ]) (in_place i ∙ is),
+    ap (λ (x : Option Component). elim x [ None ↦ 0 | Some c ↦ hand_of c ]) (in_place i ∙ is),
   )
 
   room_first : (i : ℕ) → (rooms_at rows i ≡ planned_rooms (begun plan once now) i) ×
       IfSome (held_room rows i) (IsHandOf (begun plan once now) i)
   room_first i = elim (cases_lt i (length rows)) [
     | inl l ↦ with_some (slice_get plan.components i) (rooms i l) (λ c there has.
-        let planned = planned_first i (Some c) there in (has.stages ∙ sym planned.0, rw has.hand (λ sink. sym planned.1)))
+        let planned = planned_first i (Some c) there in (has.stages ∙ sym planned.0, rw has.hand (sym planned.1)))
     | inr past ↦
         let gone = slice_get_past rows i past in
         (ap rooms_if gone ∙ sym (planned_first i None (slice_get_past plan.components i (omega (arith, past, size)))).0, rw gone tt)
   ]
 
+-- TRANSFORMS
+judges_if : (o : Option Component) → IfSome o (λ c. is_served c ≡ true) → (elim o [ None ↦ false | Some c ↦ is_transform c ]) ≡ true →
+    (elim o [ None ↦ false | Some c ↦ is_transform c && is_judging c.settings ]) ≡ true
+judges_if None served is = cc
+judges_if (Some c) served is = and_from (is_transform c) (is_judging c.settings) is ((serves c served).1 is)
+
+-- each judges each event by itself
+judging_first : (plan : Plan) (once : Bool) (now : ℕ) → IsPlan plan → all_served plan.components ≡ true → OnlyJudges (begun plan once now)
+judging_first plan once now accepted served i = let h = begun plan once now in judges_if (component_of h i)
+    (rw (component_in_place h plan i (begun_legal plan once now accepted) refl) (if_there (slice_get plan.components i) (λ c there. served_at plan.components i c served there)))
+
 -- ALL OF IT
 module _ {P : Type 0} {told_by : P → Told} {plan : Plan} {once : Bool} {now : ℕ} {room : Room P}
     {seats : List (Seat P)} (accepted : IsPlan plan) (few : length plan.components < 2 ^ 32)
-    (ported : all_ported plan.components ≡ true) (made : HasRoomFor plan room) (fresh : AreFresh told_by plan seats)
+    (served : all_served plan.components ≡ true) (made : HasRoomFor plan room) (fresh : AreFresh told_by plan seats)
     (knows : Knows told_by seats (begun plan once now)) where
   abbrev books_first : Record → Books P
   books_first log = record {
@@ -217,7 +320,7 @@ module _ {P : Type 0} {told_by : P → Told} {plan : Plan} {once : Bool} {now : 
     places = holds_first accepted once now room.places made.vacant made.rooms made.places_size;
     seats = knows;
     balance = aside_kept room.balance [] (Install 0 plan once (first_instances 0 plan.components) now) tt made.balance;
-    run = record { installed = refl; cause = refl; later = λ worker. omega arith; plain = refl; returned = λ fed. tt };
+    run = record { installed = refl; cause = refl; later = λ worker. omega arith; judging = judging_first plan once now accepted served; returned = λ fed. tt };
     size = made.places_size ∙ sym fresh.size;
     kept = λ i home. rw (made.vacant (Held i));
     rooms = let each = room_first accepted once now room.places made.vacant made.rooms made.places_size in
@@ -228,7 +331,7 @@ module _ {P : Type 0} {told_by : P → Told} {plan : Plan} {once : Bool} {now : 
       length seats ≤ vec_capacity hub.ports → hub.ports.items ≡ [] → IsHub told_by hub
   hub_first hub first is berths none = record {
     stands = rw (is, first) stands_first;
-    served = rw (is, first) (record { ported = ported; few = let same = fresh.size in omega (arith, same, few) });
+    served = rw (is, first) (record { served = served; few = let same = fresh.size in omega (arith, same, few) });
     lent = rw (is, first) (λ i l out. cc);
     well = λ sound. rw (is, first)
         (record { seats = seat_new (λ seat new. record { settled = new.owing; counted = new.behind; fed = new.starved }); fed = refl });

@@ -46,8 +46,7 @@ use Rattle.vx_moves.specs.Leaving.{Leaves}
 use Rattle.vx_moves.specs.Spends.{IsSpendOf, OnlySpends}
 use Rattle.vx_moves.specs.Stands.{Stands, Steps}
 use Rattle.vx_moves.proofs.Moving.{seen_kept}
-use Rattle.vx_ready.specs.Asking.{IsServed, IsSettled}
-use Rattle.vx_ready.proofs.Done.{device_there}
+use Rattle.vx_ready.specs.Asking.{IsSettled}
 use Rattle.vx_ready.proofs.Knowing.{known, runs}
 use Rattle.vx_landing.proofs.Answering.{none_known, over_known}
 use Rattle.vx_landing.proofs.LandedBooks.{over_stays}
@@ -78,9 +77,11 @@ cause_on : (cause : AbandonCause) (h : Record) (e : Entry) → GivesUp cause h e
 cause_on cause h (Abandon other) kind is = ap Some kind
 cause_on cause h e kind is = is
 
-closed_on : (i : ℕ) (h : Record) (e : Entry) → is_closed h i ≡ true → is_closed (e ∷ h) i ≡ true
-closed_on i h (Closed j) is = or_right (j == i) (is_closed h i) is
-closed_on i h e is = is
+closed_on : (i n : ℕ) (h : Record) (e : Entry) → GivesUpOf n h e → (device_at h i ≡ true → is_closed h i ≡ true) → device_at (e ∷ h) i ≡ true → is_closed (e ∷ h) i ≡ true
+closed_on i n h (Closed j) kind is device = or_right (j == i) (is_closed h i) (is device)
+closed_on i n h (Spent j c outcome) kind is device = is device
+closed_on i n h (Notice b status) kind is device = is device
+closed_on i n h e kind is device = absurd kind
 
 -- the port of what is retired is closed for good, if it has one
 pub retired_closed : (h : Record) (i : ℕ) → IsLegal h → is_retired h i ≡ true → device_at h i ≡ true → is_closed h i ≡ true
@@ -121,7 +122,7 @@ module _ {P : Type 0} where
           stands = steps.stands;
           rests = rests_both shut (leaves_rest leaves steps.size (λ j. ap (λ (h : Record). is_out h j) steps.noted));
           only = adds_step (GivesUpOf i) steps (refl, home);
-          closed = ap (λ (h : Record). is_closed h i) steps.noted ∙ or_left (i == i) (is_closed old.log i) (itself i);
+          closed = λ device. ap (λ (h : Record). is_closed h i) steps.noted ∙ or_left (i == i) (is_closed old.log i) (itself i);
           still = λ p. ap (λ (h : Record). at h p) steps.noted;
         }
 
@@ -152,7 +153,7 @@ module _ {P : Type 0} where
       up = below_more (λ k. is_out old.log k ≡ false → IsGivenUp new.log k) n
           (λ k l home. let was = below.up k l home in record {
             bare = λ p own. one.empty p (was.bare p own);
-            closed = carry (GivesUpOf n) (λ h. is_closed h k ≡ true) (λ h e follows kind is. closed_on k h e is) mid.log new.log one.only was.closed;
+            closed = carry (GivesUpOf n) (λ h. device_at h k ≡ true → is_closed h k ≡ true) (λ h e follows kind is. closed_on k n h e kind is) mid.log new.log one.only was.closed;
           })
           (λ home. one.up (below.rests.out n ∙ home));
     }
@@ -212,45 +213,45 @@ module _ {P : Type 0} {told_by : P → Told} {books : Books P} (stands : Stands 
       let w : IsWellAt seat = rw there at (well.seats i) in record { home = rw there (assumption (some, w)); going = going }
 
   -- what is closing may end where it is done, or bare in a run that was given up
-  pub may_end : IsClosing seat → (is_done books.log i ≡ true) ⊎
+  pub may_end : IsClosing books i → (is_done books.log i ≡ true) ⊎
       ((abandoned books.log ≡ true) × (is_bare books.log i ≡ true)) → MayRetire books.log i
   may_end closing over = record {
     known = ap is_some (runs told_by books stands i seat there).there;
-    home = home_is.0 closing.home;
-    unretired = sym k.facts.retired ∙ closing.unretired;
-    port_closed = λ device. sym k.facts.closed ∙ closing.closed;
+    home = home_is.0 (rw there at closing.home);
+    unretired = closing.unretired;
+    port_closed = closing.closed;
     over = over;
   }
 
-  module _ (served : IsServed books) (within : i < length books.seats) where
-    pub may_close : seat.facts.closed ≡ false → abandoned books.log ≡ true → MayClose books.log i
-    may_close unshut over = record { device = device_there told_by books stands served i within; unclosed = sym k.facts.closed ∙ unshut; over = inr over }
+  -- and what may end is closing
+  pub closing_so : MayRetire books.log i → IsClosing books i
+  closing_so may = record { home = rw there (home_is.1 may.home); closed = may.port_closed; unretired = may.unretired }
 
-    -- and what may end is closing
-    pub closing_so : MayRetire books.log i → IsClosing seat
-    closing_so may = assumption
-        (home_is.1 may.home, k.facts.closed ∙ may.port_closed (device_there told_by books stands served i within), k.facts.retired ∙ may.unretired)
+  -- its port may be closed where the run was given up, if it has one
+  pub may_close : device_at books.log i ≡ true → seat.facts.closed ≡ false → abandoned books.log ≡ true → MayClose books.log i
+  may_close device unshut over = record { device = device; unclosed = sym k.facts.closed ∙ unshut; over = inr over }
 
-    pub bare_may : IsClosing seat → is_some books.run.abandoned ≡ true → IsBare books.places i → MayRetire books.log i
-    bare_may closing over bare = may_end closing
-        (inr (over_known told_by books stands over, (bare_is_bare books.log books.places i stands.legal stands.places).0 bare))
+  -- where the run was given up what is closing may end bare, and only bare
+  pub bare_may : IsClosing books i → is_some books.run.abandoned ≡ true → IsBare books.places i → MayRetire books.log i
+  bare_may closing over bare = may_end closing
+      (inr (over_known told_by books stands over, (bare_is_bare books.log books.places i stands.legal stands.places).0 bare))
 
-    pub bare_not : (IsBare books.places i → ⊥) → MayRetire books.log i → ⊥
-    bare_not none may =
-        none ((bare_is_bare books.log books.places i stands.legal stands.places).1
-        (seen_kept books.places i (rw stands.size within) (stands.kept i may.home)) (retired_bare books.log i stands.legal may))
+  pub bare_not : i < length books.seats → (IsBare books.places i → ⊥) → MayRetire books.log i → ⊥
+  bare_not within none may =
+      none ((bare_is_bare books.log books.places i stands.legal stands.places).1
+      (seen_kept books.places i (rw stands.size within) (stands.kept i may.home)) (retired_bare books.log i stands.legal may))
 
-    -- a run that wasn't given up
-    module _ (none : is_some books.run.abandoned ≡ false) where
-      going : abandoned books.log ≡ false
-      going = unabandoned books.log (none_known told_by books stands none)
+  -- a run that wasn't given up
+  module _ (none : is_some books.run.abandoned ≡ false) where
+    going : abandoned books.log ≡ false
+    going = unabandoned books.log (none_known told_by books stands none)
 
-      pub unsettled_not : IsClosing seat → (IsSettled books i → ⊥) → IsWell books ⊎ (abandoned books.log ≡ true) → ⊥
-      unsettled_not closing unsettled (inl well) = unsettled (settled_there closing.home well (stands.run.cause ∙ none_known told_by books stands none))
-      unsettled_not closing unsettled (inr over) = let still = going in cc
+    pub unsettled_not : IsClosing books i → (IsSettled books i → ⊥) → IsWell books ⊎ (abandoned books.log ≡ true) → ⊥
+    unsettled_not closing unsettled (inl well) = unsettled (settled_there (rw there at closing.home) well (stands.run.cause ∙ none_known told_by books stands none))
+    unsettled_not closing unsettled (inr over) = let still = going in cc
 
-      pub undone_not : is_done books.log i ≡ false → MayRetire books.log i → ⊥
-      undone_not undone may = let still = going in elim may.over [ inl done ↦ cc | inr over ↦ cc ]
+    pub undone_not : is_done books.log i ≡ false → MayRetire books.log i → ⊥
+    undone_not undone may = let still = going in elim may.over [ inl done ↦ cc | inr over ↦ cc ]
 
 -- LIVE COPIES
 -- the first of some rows has a live copy

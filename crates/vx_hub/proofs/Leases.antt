@@ -15,11 +15,12 @@ use Rattle.vx_record.specs.Abandoning.{abandoned}
 use Rattle.vx_record.specs.Additions.{OnlyAdds}
 use Rattle.vx_record.specs.Ceasing.{cause_of}
 use Rattle.vx_record.specs.Confirms.{is_confirm_due}
-use Rattle.vx_record.specs.Installs.{device_at, is_closed, is_retired, sink_at}
-use Rattle.vx_record.specs.Legal.{Follows}
+use Rattle.vx_record.specs.Installs.{device_at, is_closed, is_retired, sink_at, transform_at}
+use Rattle.vx_record.specs.Judges.{OnlyJudges}
+use Rattle.vx_record.specs.Legal.{Follows, IsLegal}
 use Rattle.vx_record.specs.Lists.{held}
 use Rattle.vx_record.specs.Makers.{IsBy}
-use Rattle.vx_record.specs.Owing.{unspent_of, owes_spends_in, owes, is_done}
+use Rattle.vx_record.specs.Owing.{unspent_of, owes_spends_in, owes_discards, owes_answer, owes, is_done}
 use Rattle.vx_record.specs.Places.Place.{Held}
 use Rattle.vx_record.specs.Ready.{is_ready, is_close_due}
 use Rattle.vx_record.specs.SinkBatches.{is_full_batch, is_timed_out, is_last_batch, was_attempted, is_batch_closed}
@@ -30,12 +31,13 @@ use Rattle.vx_record.proofs.Adding.{carry, adds_none, adds_both, adds_narrower}
 use Rattle.vx_record.proofs.Answerers.{sink_untransforming}
 use Rattle.vx_record.proofs.Ceasing.{unabandoned}
 use Rattle.vx_record.proofs.Lasting.{leased_unclosed, retired_final, unready}
+use Rattle.vx_record.proofs.Shifting.{stands_at}
 use Rattle.vx_record.proofs.SourceEnds.{source_done}
 use Rattle.vx_counts.proofs.Once.{itself}
 use Rattle.vx_places.specs.declared.row.Row.{Row}
 use Rattle.vx_places.specs.Calls.{IsKept}
 use Rattle.vx_places.specs.Rooms.{held_room, LendsRoom}
-use Rattle.vx_places.specs.Views.{parcels_here}
+use Rattle.vx_places.specs.Views.{row_at, here_if, held_items, parcels_here}
 use Rattle.vx_places.proofs.Making.{held_says}
 use Rattle.vx_tasks.specs.declared.task.Role.{Role}
 use Rattle.vx_tasks.specs.declared.task.Role.TheVariants as role_is
@@ -61,16 +63,19 @@ use Rattle.vx_ready.specs.Asking.{IsServed}
 use Rattle.vx_ready.specs.Jobs.{IsJob}
 use Rattle.vx_ready.proofs.Closed.{closed_filled}
 use Rattle.vx_ready.proofs.Done.{device_there}
+use Rattle.vx_ready.proofs.Emptied.{holds_none}
 use Rattle.vx_ready.proofs.Knowing.{known, owes_none, seat_there}
 use Rattle.vx_ready.proofs.Untried.{untried, waits_for_none}
 use Rattle.vx_landing.proofs.Lending.{lent_room, room_lent}
 use Rattle.vx_landing.proofs.Seating.{not_same, well_stays}
-use Rattle.vx_hub.specs.Collecting.{IsOut, IsCollecting, IsTakeOf, HasTaken}
+use Rattle.vx_hub.specs.Collecting.{IsOut, IsCollecting, IsGathering, IsTakeOf, HasTaken}
 use Rattle.vx_hub.specs.Leases.{MayGather, IsReadyFor, NoneFoundAt, NoneReady, HasGathered, HasHandedOut}
 use Rattle.vx_hub.specs.Standing.{IsWell, IsWellAt, LentWhileOut}
 use Rattle.vx_hub.proofs.Tasks.{keeps_task}
 use Rattle.vx_hub.proofs.Endings.{home_is, retired_closed, settled_there}
+use Rattle.vx_hub.proofs.Judging.{buffer_leased, owes_neither, discards_leased}
 use Rattle.vx_hub.proofs.Resting.{adds_step, leaves_both}
+use Rattle.vx_hub.proofs.Served.{done_unready}
 
 -- WHERE NONE HAS WORK
 module _ {P : Type 0} {told_by : P → Told} {books : Books P} (stands : Stands told_by books)
@@ -96,13 +101,18 @@ module _ {P : Type 0} {told_by : P → Told} {books : Books P} (stands : Stands 
         let follow = follows (Lease i 0 now 0) books.balance books.log stands.balance may (λ given. cc) in
         let unclosed = leased_unclosed books.log i 0 now 0 (follow, stands.legal) in cc)
 
+    -- nor is what ended
+    retired_unready : is_retired books.log i ≡ true → (transform_at books.log i ≡ true) ⊎ (transform_at books.log i ≡ false) → is_ready books.log i now ≡ false
+    retired_unready retired (inl transform) = done_unready books.log i now stands.legal transform (retired_final books.log i stands.legal going retired).done
+    retired_unready retired (inr other) = unready books.log i now stands.legal (retired_final books.log i stands.legal going retired).done
+        (retired_closed books.log i stands.legal retired (device_there told_by books stands served i within ∙ ap not other))
+
     none_at : NoneFoundAt books now i → is_ready books.log i now ≡ false
     none_at none =
         let facts = (known told_by books stands i seat there).facts in
         let w : IsWellAt seat = rw there at (well.seats i) in
         elim (cases_Bool (is_retired books.log i)) [
-          | inl retired ↦ unready books.log i now stands.legal (retired_final books.log i stands.legal going retired).done
-              (retired_closed books.log i stands.legal retired (device_there told_by books stands served i within))
+          | inl retired ↦ retired_unready retired (cases_Bool (transform_at books.log i))
           | inr unretired ↦ elim (cases_Bool seat.facts.closed) [
             | inl closed ↦ closed_unready (sym facts.closed ∙ closed) unretired
             | inr unclosed ↦ none (settled_there stands i there ((home_is stands i there).1 home) well kept)
@@ -128,6 +138,17 @@ owes_taken : (h : Record) (i s : ℕ) (copies : List ℕ) → sink_at h i ≡ tr
 owes_taken h i s copies sink = let off = sink_untransforming h i sink in simp (append-nil, off, owes_spends_in, unspent_of)
 
 -- TAKES
+pub kept_here : (rows : List Row) (i : ℕ) → IsKept rows i → IsSome (parcels_here rows (Held i))
+kept_here rows i = go (row_at rows i)
+  where
+    line : (o : Option (Filled Parcel)) → IsSome o → IsSome (held_items o)
+    line None is = cc
+    line (Some held) is = refl
+
+    go : (o : Option Row) → IsSomeAnd o (λ row. IsSome row.held) → IsSome (here_if (Held i) o)
+    go None kept = absurd kept
+    go (Some row) kept = line row.held kept
+
 pub kept_at : (rows : List Row) (i : ℕ) → i < length rows → IsSome (parcels_here rows (Held i)) → IsKept rows i
 kept_at rows i within = go (parcels_here rows (Held i)) refl
   where
@@ -156,8 +177,8 @@ module _ {P : Type 0} where
     unticked = λ transform. let plain = sink_untransforming books.log i collecting.is.untried.sink in cc;
   }
 
-  served_on : {old new : Books P} → IsServed old → new.run.plan ≡ old.run.plan → length new.seats ≡ length old.seats → IsServed new
-  served_on served plan size = let few = served.few in record { ported = rw plan served.ported; few = omega (arith, few, size) }
+  pub served_on : {old new : Books P} → IsServed old → new.run.plan ≡ old.run.plan → length new.seats ≡ length old.seats → IsServed new
+  served_on served plan size = let few = served.few in record { served = rw plan served.served; few = omega (arith, few, size) }
 
   module _ {told_by : P → Told} where
     pub taken_one : {i now taken s : ℕ} {copies : List ℕ} {old new : Books P} → IsServed old →
@@ -318,19 +339,49 @@ module _ {P : Type 0} {told_by : P → Told} {i worker now : ℕ} {task : Task P
       let done = (and_parts (device_at old.log i && not (is_closed old.log i)) (is_done old.log i) close).1 in
       record { over = rw (lent.steps.noted, itself i) done; confirmed = unconfirmed positions lent.due done }
 
+  -- a transform holds nothing yet, and has taken nothing
+  legal_both : IsLegal (Lease i worker now 0 ∷ old.log)
+  legal_both = rw lent.steps.noted at lent.steps.stands.legal
+
+  gathering : IsKept mid.places i → owes old.log i ≡ false → abandoned old.log ≡ false → transform_at old.log i ≡ true → IsGathering mid i now
+  gathering kept settled going transform =
+      let legal = legal_both in
+      let judges : OnlyJudges (Lease i worker now 0 ∷ old.log) = rw lent.steps.noted at lent.steps.stands.run.judging in record {
+        transform = rw lent.steps.noted transform;
+        going = rw lent.steps.noted going;
+        out = rw (lent.steps.noted, itself i);
+        moment = rw (lent.steps.noted, itself i);
+        only_takes = rw (lent.steps.noted, itself i);
+        settled = rw lent.steps.noted (discards_leased old.log i worker now (owes_neither old.log i settled).0);
+        kept = kept;
+        held = rw (lent.steps.noted, itself i) (ap length (sym (stands_at old.log (Held i) legal.1)
+            ∙ holds_none old.log i legal.1 going transform (judges i transform) settled));
+      }
+
   gathers : (work : Job) → IsKept mid.places i → owes old.log i ≡ false → cause_of old.log ≡ None →
       IsJob old.log i now work → MayGather mid i now work
   gathers job.Confirm kept settled going is = tt
   gathers job.Read kept settled going (inl is) = record { source = rw lent.steps.noted is.0; readable = rw (lent.steps.noted, itself i) is.1 }
-  gathers job.Read kept settled going (inr is) = absurd is.1
+  gathers job.Read kept settled going (inr (inl is)) = absurd is.1
+  gathers job.Read kept settled going (inr (inr is)) = absurd is.1
   gathers job.Collect kept settled going (inl is) = absurd is.1
-  gathers job.Collect kept settled going (inr is) = collects kept settled going is.0
+  gathers job.Collect kept settled going (inr (inl is)) = absurd is.1
+  gathers job.Collect kept settled going (inr (inr is)) = collects kept settled going is.0
   gathers job.Attempt kept settled going (inl is) = absurd is.1
-  gathers job.Attempt kept settled going (inr is) = collects kept settled going is.0
+  gathers job.Attempt kept settled going (inr (inl is)) = absurd is.1
+  gathers job.Attempt kept settled going (inr (inr is)) = collects kept settled going is.0
   gathers job.Close kept settled going (inl is) = closing is.1
-  gathers job.Close kept settled going (inr is) = closing is.1
+  gathers job.Close kept settled going (inr (inl is)) = absurd is.1
+  gathers job.Close kept settled going (inr (inr is)) = closing is.1
   gathers job.Judge kept settled going (inl is) = absurd is.1
-  gathers job.Judge kept settled going (inr is) = absurd is.1
+  gathers job.Judge kept settled going (inr (inl is)) = (
+    rw (lent.steps.noted, itself i) refl,
+    (
+      gathering kept settled (unabandoned old.log going) is.0,
+      rw lent.steps.noted (buffer_leased old.log i worker now legal_both is.1.1),
+    ),
+  )
+  gathers job.Judge kept settled going (inr (inr is)) = absurd is.1
 
   -- what the lease of what is ready leads to
   pub leased_gathers : {work : Job} → Stands told_by old → old.run.latest ≤ now → IsReadyFor old now i work →
@@ -344,6 +395,14 @@ module _ {P : Type 0} {told_by : P → Told} {i worker now : ℕ} {task : Task P
         gathers work (kept_at mid.places i (omega (arith, now_rows, size, within)) kept) may.settled
             (sym stands.run.cause ∙ ready.settled.going) ready.works,
       )
+
+  -- it owes neither a spend of what it discarded nor an answer
+  pub leased_settled : {work : Job} → Stands told_by old → old.run.latest ≤ now → IsReadyFor old now i work →
+      (owes_discards mid.log i ≡ false) × (owes_answer mid.log i ≡ false)
+  leased_settled {work} stands latest ready =
+      let later = stands.run.later worker in
+      let owes = owes_neither old.log i (ready.leasable.may worker (omega (arith, later, latest))).settled in
+      (rw lent.steps.noted (discards_leased old.log i worker now owes.0), rw lent.steps.noted owes.1)
 
   -- WHAT IS HANDED OUT
   module _ {two new : Books P} {done : Job} (line : Filled Parcel) (stood : Stands told_by old) (well : IsWell old)
@@ -397,7 +456,17 @@ module _ {P : Type 0} {told_by : P → Told} {i worker now : ℕ} {task : Task P
       size = size;
       instance_is = refl;
       worker_is = refl;
-      left = rw log (record { out = gone.out; idle = gone.idle; home = gone.home; held = held; asked = gone.due; job = gathered.given; fit = left.1 });
+      left = rw log (record {
+        out = gone.out;
+        idle = gone.idle;
+        home = gone.home;
+        held = held;
+        asked = gone.due;
+        job = gathered.given;
+        settled = gathered.settled;
+        untaken = gathered.untaken;
+        fit = left.1;
+      });
       room = rw log room;
       only = rw log made;
       noted = rw (log, ← lent.steps.noted) gathered.only;

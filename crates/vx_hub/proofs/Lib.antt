@@ -1,6 +1,10 @@
 mod Endings
+mod Served
+mod Judging
+mod Gathering
 mod Resting
 pub mod Begun
+pub mod Coming
 pub mod Leases
 pub mod Moving
 pub mod Remaining

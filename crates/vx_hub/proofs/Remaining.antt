@@ -1,5 +1,5 @@
 -- What is left of a run whose instances all ended.
-use Rattle.std.proofs.Common.{◌≡◌, ◌∙◌, ℕ, zero, suc, ◌+◌, ◌<◌, inl, inr, Bool, true, false, List, [], ◌∷◌, ◌++◌, Some, IfSome, length, refl, sym, ap, arith}
+use Rattle.std.proofs.Common.{◌≡◌, ◌∙◌, ℕ, zero, suc, ◌+◌, ◌<◌, inl, inr, Bool, true, false, List, [], ◌∷◌, ◌++◌, Some, IfSome, None, length, refl, sym, ap, arith}
 use Rattle.std.specs.Prelude.{not, slice_get}
 use Rattle.std.proofs.lemmas.Bool.{cases_Bool, cases_lt}
 use Rattle.std.proofs.lemmas.Option.{IfSome_then, slice_get_past, slice_get_within}
@@ -7,7 +7,7 @@ use Rattle.vx_value.specs.Texts.{is_empty}
 use Rattle.vx_ends.specs.Told.{Told}
 use Rattle.vx_record.specs.Records.{Record}
 use Rattle.vx_record.specs.Copies.{IsLive, count}
-use Rattle.vx_record.specs.Installs.{started, is_closed}
+use Rattle.vx_record.specs.Installs.{started}
 use Rattle.vx_record.specs.Legal.{IsClosed}
 use Rattle.vx_record.specs.Places.{Place, owner}
 use Rattle.vx_record.specs.Shifts.{at}
@@ -26,15 +26,16 @@ use Rattle.vx_places.proofs.Recorded.{bare_is_bare}
 use Rattle.vx_tasks.specs.declared.task.Task.{Task}
 use Rattle.vx_tasks.specs.Home.{IsAtHome}
 use Rattle.vx_tasks.specs.Telling.{IsTold, IsToldButGiven}
+use Rattle.vx_tasks.proofs.Saying.{told_closed}
 use Rattle.vx_seats.specs.declared.seat.Seat.{Seat}
 use Rattle.vx_seats.specs.Knowing.{IsAtHomeBut, HasHome}
+use Rattle.vx_seats.specs.Calls.{IsClosedBy}
 use Rattle.vx_seats.specs.Staying.{OneSeat, IsLeft}
 use Rattle.vx_moves.specs.declared.books.Books.{Books}
 use Rattle.vx_moves.specs.Stands.{Stands}
 use Rattle.vx_moves.proofs.Moving.{seen_kept}
 use Rattle.vx_ready.specs.Asking.{IsServed}
 use Rattle.vx_ready.proofs.Counting.{started_are}
-use Rattle.vx_ready.proofs.Done.{device_there}
 use Rattle.vx_ready.proofs.Knowing.{known}
 use Rattle.vx_ready.proofs.Testing.{empty_tests}
 use Rattle.vx_hub.specs.declared.parts.Numbered.{Numbered}
@@ -58,11 +59,11 @@ module _ {P : Type 0} where
   numbered_at first (n ∷ ns) numbered (suc i) = IfSome_then (slice_get ns i) (numbered_at (first + 1) ns numbered.1 i) (λ m is. omega (arith, is))
 
   -- the port of a task that left
-  pub left_port : (before : List (Seat P)) {now after : List (Seat P)} {i : ℕ} {task : Task P} (n : Numbered P) →
+  pub left_port : (told_by : P → Told) (before : List (Seat P)) {now after : List (Seat P)} {i : ℕ} {task : Task P} (n : Numbered P) →
       OneSeat (IsLeft task) i now after →
-      slice_get now i ≡ slice_get before i → n.port ≡ task.port → IsPortOf before i n
-  left_port before {now} {after} {i} n left same port = rw (← same) (some_then (slice_get now i) left.one (λ was one.
-      with_some (slice_get after i) one (λ is there gone. rw gone.had port)))
+      slice_get now i ≡ slice_get before i → IsClosedBy (told_by task.port) (told_by n.port) → IsPortOf told_by before i n
+  left_port told_by before {now} {after} {i} n left same shut = rw (← same) (some_then (slice_get now i) left.one (λ was one.
+      with_some (slice_get after i) one (λ is there gone. rw gone.had shut)))
 
 -- what is told is so but for what was given, too
 but_told : {P : Type 0} (told_by : P → Told) (starved : Bool) (h : Record) (i : ℕ) (task : Task P) →
@@ -75,9 +76,6 @@ module _ {P : Type 0} {told_by : P → Told} {books : Books P} (stands : Stands 
     (served : IsServed books) (over : IsOver books.log) where
   within : (i : ℕ) → i < length books.seats → i < length (started books.log)
   within i l = let size = stands.seats.size in omega (arith, size, l)
-
-  closed_at : (i : ℕ) → i < length books.seats → is_closed books.log i ≡ true
-  closed_at i l = retired_closed books.log i stands.legal (over i (within i l)) (device_there told_by books stands served i l)
 
   -- nothing stands anywhere
   pub bare_all : AreBare books.places
@@ -128,7 +126,7 @@ module _ {P : Type 0} {told_by : P → Told} {books : Books P} (stands : Stands 
         retired = λ i some. over i (started_below i some);
       } in record {
         legal = stands.legal;
-        ported = rw stands.run.installed served.ported;
+        served = rw stands.run.installed served.served;
         finished = finished;
         places = λ later earlier is. one_place later earlier (rw is stands.legal);
         spent = spent_all;
@@ -138,7 +136,7 @@ module _ {P : Type 0} {told_by : P → Told} {books : Books P} (stands : Stands 
           folded = λ later earlier b status is. (notice_at_once later earlier b status (rw is stands.legal)).1;
           good = λ later earlier b status is. rw is at (notice_tells later earlier b status (rw is stands.legal));
         };
-        ends = λ i l. (closed_at i (let size = stands.seats.size in omega (arith, size, l)), over i l);
+        ends = λ i l. (retired_closed books.log i stands.legal (over i l), over i l);
       }
 
   -- PORTS AT HOME
@@ -152,15 +150,18 @@ module _ {P : Type 0} {told_by : P → Told} {books : Books P} (stands : Stands 
       told : books.run.short ≡ false → IsTold (told_by port) books.log i
       but : IsToldButGiven (told_by port) books.log i
 
-    says : (i : ℕ) (seat : Seat P) (task : Task P) → slice_get books.seats i ≡ Some seat → seat.task ≡ Some task → Says i task.port
-    says i seat task there is =
+    says : (i : ℕ) (seat : Seat P) (task : Task P) (port : P) → slice_get books.seats i ≡ Some seat → seat.task ≡ Some task →
+        IsClosedBy (told_by task.port) (told_by port) → Says i port
+    says i seat task port there is shut =
         let k = known told_by books stands i seat there in
         let home : HasHome told_by seat.facts books.log i task = rw is at k.home in record {
-          closed = home.shut (k.facts.closed ∙ closed_at i (slice_get_within books.seats i seat there));
+          closed = shut.shut;
           told = λ sound.
               let at_seat : IsFedAt seat = rw there at (fed sound i) in
-              let so : IsAtHome told_by books.log i task = rw at_seat.fed at home.task_is in so.told;
-          but = but_told told_by seat.facts.starved books.log i task home.task_is;
+              let so : IsAtHome told_by books.log i task = rw at_seat.fed at home.task_is in
+              told_closed (told_by task.port) (told_by port) books.log i shut.bytes shut.counts so.told;
+          but = told_closed (record (told_by task.port) { given = None }) (record (told_by port) { given = None }) books.log i
+              (assumption shut.bytes) (assumption shut.counts) (but_told told_by seat.facts.starved books.log i task home.task_is);
         }
 
     all_say : (ns : List (Numbered P)) → ((i : ℕ) → IfSome (slice_get ns i) (λ n. Says n.instance n.port)) →
@@ -171,10 +172,10 @@ module _ {P : Type 0} {told_by : P → Told} {books : Books P} (stands : Stands 
         let rest = all_say ns (λ i. each (suc i)) in
         ((one.closed, rest.0), λ sound. (one.told sound, rest.1 sound), (one.but, rest.2))
 
-    pub ports_say : (ns : List (Numbered P)) → AreNumbered 0 ns → ArePortsOf books.seats ns →
+    pub ports_say : (ns : List (Numbered P)) → AreNumbered 0 ns → ArePortsOf told_by books.seats ns →
         AreClosed told_by ns × (books.run.short ≡ false → AreTold told_by books.log ns) × AreToldButGiven told_by books.log ns
     ports_say ns numbered ports = all_say ns (λ i. if_there (slice_get ns i) (λ n here.
         let number : n.instance ≡ 0 + i = rw here at (numbered_at 0 ns numbered i) in
         let same : n.instance ≡ i = omega (arith, number) in
-        let has : IsPortOf books.seats i n = rw here at (ports i) in
-        rw same (with_some (slice_get books.seats i) has (λ seat there of. with_some seat.task of (λ task is port. rw port (says i seat task there is))))))
+        let has : IsPortOf told_by books.seats i n = rw here at (ports i) in
+        rw same (with_some (slice_get books.seats i) has (λ seat there of. with_some seat.task of (λ task is shut. says i seat task n.port there is shut)))))

@@ -1,10 +1,13 @@
 -- What rests in the books leaves the hub standing for its record.
-use Rattle.std.proofs.Common.{◌≡◌, ◌∙◌, ℕ, zero, suc, ◌≤◌, Bool, false, List, [], ◌∷◌, ◌++◌, Option, Some, None, IfSome, length, refl, sym, arith}
-use Rattle.std.specs.Prelude.{IsSomeAnd, slice_get, vec_capacity}
+use Rattle.std.proofs.Common.{◌≡◌, ◌∙◌, inl, inr, ℕ, zero, suc, ◌≤◌, Bool, true, false, List, [], ◌∷◌, ◌++◌, Option, Some, None, IfSome, length, refl, sym, arith}
+use Rattle.std.specs.Prelude.{◌||◌, IsSomeAnd, slice_get, vec_capacity, Result, Ok, Err, is_err, OnOk}
+use Rattle.std.proofs.lemmas.Bool.{cases_Bool}
 use Rattle.vx_ends.specs.Told.{Told}
 use Rattle.vx_record.specs.declared.entry.Entry.{Entry}
 use Rattle.vx_record.specs.Records.{Record}
+use Rattle.vx_record.specs.Abandoning.{abandoned}
 use Rattle.vx_record.specs.Additions.{OnlyAdds}
+use Rattle.vx_record.specs.Ceasing.{cause_of}
 use Rattle.vx_record.specs.Turns.{is_out}
 use Rattle.vx_record.proofs.Adding.{adds_none, adds_one}
 use Rattle.vx_seats.specs.declared.seat.Seat.{Seat}
@@ -14,7 +17,7 @@ use Rattle.vx_moves.specs.Leaving.{Leaves}
 use Rattle.vx_moves.specs.Stands.{Stands, Steps}
 use Rattle.vx_moves.proofs.Leaving.{rooms_both, each_both}
 use Rattle.vx_landing.specs.Landings.{HasComeHome}
-use Rattle.vx_landing.proofs.LandedBooks.{well_flags, fed_flags}
+use Rattle.vx_landing.proofs.LandedBooks.{still_going, well_flags, fed_flags}
 use Rattle.vx_landing.proofs.Lending.{lent_room, room_lent}
 use Rattle.vx_landing.proofs.Seating.{each_flags}
 use Rattle.vx_hub.specs.declared.hub.Hub.{Hub}
@@ -42,6 +45,19 @@ pushed F [] x all own zero = own
 pushed F [] x all own (suc i) = tt
 pushed F (y ∷ xs) x all own zero = all zero
 pushed F (y ∷ xs) x all own (suc i) = pushed (λ k. F (suc k)) xs x (λ j. all (suc j)) own i
+
+-- RUNS
+-- a run that is given up behind what doesn't give it up was so before
+pub over_before : (old new : Record) → cause_of new ≡ cause_of old → abandoned new ≡ true → abandoned old ≡ true
+over_before old new same over = elim (cases_Bool (abandoned old)) [
+  | inl before ↦ before
+  | inr going ↦ let still = still_going old new same going in cc
+]
+
+-- what doesn't say that it was short says that the run was given up
+pub short_or_over : {X E : Type 0} (r : Result X E) (over : Bool) → OnOk r (over ≡ true) → (is_err r || over) ≡ true
+short_or_over (Ok x) over is = is
+short_or_over (Err e) over is = refl
 
 -- BOOKS
 module _ {P : Type 0} where
@@ -98,7 +114,7 @@ module _ {P : Type 0} where
     hub_rests stands rests was =
         let size = rests.size in let rows = stands.size in let few = is.served.few in let berths = is.berths in record {
           stands = stands;
-          served = record { ported = rw rests.plan is.served.ported; few = omega (arith, size, few) };
+          served = record { served = rw rests.plan is.served.served; few = omega (arith, size, few) };
           lent = λ i l out. room_lent books.places i (omega (arith, rows, l))
               ((rests.rooms i).1 ∙ lent_room hub.books.places i (is.lent i (omega (arith, size, l)) (sym (rests.out i) ∙ out)));
           well = λ sound. record {

@@ -1,16 +1,17 @@
 -- What a hub is made from, before and when its ports are there.
-use Rattle.std.specs.Prelude.{◌≡◌, ℕ, ◌<◌, ◌≤◌, List, [], length, map, Some, IfSome, IsSomeAnd, slice_get, vec_capacity}
+use Rattle.std.specs.Prelude.{◌≡◌, ℕ, ◌<◌, ◌≤◌, true, List, [], length, map, Option, Some, None, IfSome, IsSomeAnd, slice_get, vec_capacity}
 use Rattle.vx_plan.specs.declared.component.Component.{Component}
 use Rattle.vx_plan.specs.declared.plan.Plan.{Plan}
 use Rattle.vx_plan.specs.declared.settings.Settings.{Settings}
 use Rattle.vx_plan.specs.declared.stage.Stage.{Stage}
-use Rattle.vx_plan.specs.Components.{port_names, stages, longest_line, batch_max_events}
+use Rattle.vx_plan.specs.Components.{port_names, stages, longest_line, is_transform}
 use Rattle.vx_plan.specs.Numbers.{reader_numbers}
 use Rattle.vx_plan.specs.Options.{decoding, encoding, type_name}
 use Rattle.vx_plan.specs.Targets.{acknowledged}
 use Rattle.vx_record.specs.Copies.{counting}
 use Rattle.vx_record.specs.Places.{Place}
 use Rattle.vx_pick.specs.Picks.{Picks}
+use Rattle.vx_pick.specs.declared.picker.Picker.{Picker}
 use Rattle.vx_sourcecore.specs.declared.source.SourceCore.{SourceCore}
 use Rattle.vx_sourcecore.specs.Sources.{IsFresh}
 use Rattle.vx_counts.specs.Meets.{Meets}
@@ -23,6 +24,7 @@ use Rattle.vx_tasks.specs.declared.task.Role.TheVariants.{Source, Sink, Transfor
 use Rattle.vx_seats.specs.declared.seat.Seat.{Seat}
 use Rattle.vx_seats.specs.Beginning.{AreNew, HasBorneNone}
 use Rattle.vx_seats.specs.Knowing.{IsFittedTo}
+use Rattle.vx_moves.specs.Rooms.{hand_of}
 use Rattle.vx_hub.specs.declared.making.Room.{Room}
 use Rattle.vx_hub.specs.declared.parts.Named.{Named}
 
@@ -39,12 +41,35 @@ pub record IsSourceFor (settings : Settings) (core : SourceCore) : Type 0 where
   pub fresh : IsFresh (longest_line settings) core.decoding (type_name settings) core
   pub decoding_is : decoding settings ≡ Some core.decoding
 
+-- what works with a port begins for some settings
+abbrev pub IsWorkerFor : Settings → Role → Type 0
+IsWorkerFor settings (Source core) = IsSourceFor settings core
+IsWorkerFor settings (Sink codec) = encoding settings ≡ Some codec
+IsWorkerFor settings (Transform picker) = ⊥
+IsWorkerFor settings Unfit = ⊥
+
 -- a sink begins with the codec by which it writes, and a transform picks by its settings
 abbrev pub IsRoleFor : Role → Component → Type 0
 IsRoleFor (Source core) c = IsSourceFor c.settings core
 IsRoleFor (Sink codec) c = encoding c.settings ≡ Some codec
 IsRoleFor (Transform picker) c = Picks c.settings picker
 IsRoleFor Unfit c = ⊥
+
+-- but for what a transform picks by, which comes with the parts
+abbrev pub IsRoleBut : Role → Component → Type 0
+IsRoleBut (Source core) c = IsSourceFor c.settings core
+IsRoleBut (Sink codec) c = encoding c.settings ≡ Some codec
+IsRoleBut (Transform picker) c = ⊥
+IsRoleBut Unfit c = is_transform c ≡ true
+
+-- a role with what its component picks by, if it is a transform's
+abbrev pub IsRoled : List Role → List (Option Picker) → ℕ → Role → Type 0
+IsRoled roles pickers i is =
+    IsSomeAnd (slice_get roles i) (λ was. IsSomeAnd (slice_get pickers i) (λ picker. is ≡ (elim picker [ None ↦ was | Some p ↦ Transform p ])))
+
+-- so is each from a number on
+abbrev pub AreRoledFrom : ℕ → List Role → List (Option Picker) → List Role → Type 0
+AreRoledFrom n roles pickers roled = (i : ℕ) → n ≤ i → IfSome (slice_get roled i) (IsRoled roles pickers i)
 
 -- each of some is for the component in its place
 abbrev pub AreFor : {X : Type 0} → (X → Component → Type 0) → List Component → List X → Type 0
@@ -61,7 +86,7 @@ rooms_of c = rooms_in (stages c)
 -- an instance has the rooms of a component
 pub record HasRoomsOf (rows : List Row) (i : ℕ) (c : Component) : Type 0 where
   pub stages : rooms_at rows i ≡ rooms_of c
-  pub hand : held_room rows i ≡ Some (batch_max_events c.settings)
+  pub hand : held_room rows i ≡ Some (hand_of c)
 
 -- each that is there has those of the component in its place
 abbrev pub HaveRooms : List Component → List Row → Type 0
@@ -75,7 +100,7 @@ AreVacant rows = (p : Place) → parcels_here rows p ≡ Some []
 pub record HasRoomFor {P : Type 0} (plan : Plan) (room : Room P) : Type 0 where
   pub seats : AreFor (IsBegun plan) plan.components room.seats.items
   pub seats_size : length room.seats.items ≡ length plan.components
-  pub roles : AreFor IsRoleFor plan.components room.roles.items
+  pub roles : AreFor IsRoleBut plan.components room.roles.items
   pub roles_size : length room.roles.items ≡ length plan.components
   pub balance : Balances room.balance []
   pub vacant : AreVacant room.places

@@ -1,4 +1,4 @@
--- What a sink that is out takes.
+-- What a sink or a transform that is out takes.
 use Rattle.std.specs.Prelude.{◌≡◌, ◌≤◌, ◌+◌, ℕ, true, false, length, None}
 use Rattle.std.specs.List.{list_all}
 use Rattle.vx_ends.specs.Told.{Told}
@@ -6,9 +6,12 @@ use Rattle.vx_record.specs.declared.entry.Entry.{Entry}
 use Rattle.vx_record.specs.declared.entry.Entry.TheVariants.{Take}
 use Rattle.vx_record.specs.Ceasing.{cause_of}
 use Rattle.vx_record.specs.Additions.{OnlyAdds}
-use Rattle.vx_record.specs.Installs.{sink_at}
-use Rattle.vx_record.specs.Owing.{owes}
+use Rattle.vx_record.specs.Installs.{sink_at, transform_at}
+use Rattle.vx_record.specs.Owing.{owes, owes_discards, took_since}
+use Rattle.vx_record.specs.Abandoning.{abandoned}
+use Rattle.vx_record.specs.Places.Place.{Held}
 use Rattle.vx_record.specs.Records.{Record}
+use Rattle.vx_record.specs.Shifts.{at}
 use Rattle.vx_record.specs.Turns.{is_out, since_lease, is_take_of, lease_now}
 use Rattle.vx_places.specs.Calls.{IsKept}
 use Rattle.vx_tasks.specs.Out.{IsUnread}
@@ -37,10 +40,32 @@ pub record IsCollecting {P : Type 0} (books : Books P) (i now taken : ℕ) : Typ
   pub is : IsOut books i now
   pub few : length (since_lease books.log i) ≤ taken
 
+-- a transform is out since a moment, and did nothing but take; nothing stands in its hand but what it took, which isn't lent
+pub record IsGathering {P : Type 0} (books : Books P) (i now : ℕ) : Type 0 where
+  pub transform : transform_at books.log i ≡ true
+  pub going : abandoned books.log ≡ false
+  pub out : is_out books.log i ≡ true
+  pub moment : now ≡ lease_now books.log i
+  pub only_takes : list_all (is_take_of i) (since_lease books.log i) ≡ true
+  pub settled : owes_discards books.log i ≡ false
+  pub kept : IsKept books.places i
+  pub held : length (at books.log (Held i)) ≡ length (since_lease books.log i)
+
 -- a take of the instance
 abbrev pub IsTakeOf : ℕ → Record → Entry → Type 0
 IsTakeOf i h (Take j stage copies) = j ≡ i
 IsTakeOf i h other = ⊥
+
+-- it took one more
+pub record HasGatheredOne {P : Type 0} (told_by : P → Told) (i now : ℕ) (old new : Books P) : Type 0 where
+  pub stands : Stands told_by new
+  pub served : IsServed new
+  pub gathering : IsGathering new i now
+  pub one : length (since_lease new.log i) ≡ length (since_lease old.log i) + 1
+  pub took : took_since new.log i ≡ true
+  pub only : OnlyAdds (IsTakeOf i) old.log new.log
+  pub leaves : Leaves old new
+  pub size : length new.seats ≡ length old.seats
 
 -- one more was taken
 pub record HasTaken {P : Type 0} (told_by : P → Told) (i now taken : ℕ) (old new : Books P) : Type 0 where

@@ -1,5 +1,5 @@
 -- How a run ends.
-use Rattle.std.specs.Prelude.{◌≡◌, ◌<◌, ℕ, true, false, [], length, IsSome}
+use Rattle.std.specs.Prelude.{◌≡◌, ◌<◌, ℕ, true, false, [], length, IsSome, IsSomeAnd, slice_get}
 use Rattle.vx_ends.specs.Told.{Told}
 use Rattle.vx_status.specs.declared.outcome.Outcome.TheVariants.{Abandoned}
 use Rattle.vx_record.specs.declared.abandon_cause.AbandonCause.{AbandonCause}
@@ -8,13 +8,12 @@ use Rattle.vx_record.specs.declared.entry.Entry.TheVariants.{Spent, Notice, Clos
 use Rattle.vx_record.specs.Records.{Record}
 use Rattle.vx_record.specs.Additions.{OnlyAdds}
 use Rattle.vx_record.specs.Ending.{MayRetire}
-use Rattle.vx_record.specs.Installs.{started, is_closed, is_retired}
+use Rattle.vx_record.specs.Installs.{started, device_at, is_closed, is_retired}
 use Rattle.vx_record.specs.Places.{Place}
 use Rattle.vx_record.specs.Shifts.{at}
 use Rattle.vx_record.specs.Turns.{is_out}
 use Rattle.vx_places.specs.Rooms.{SameRooms}
 pub use Rattle.vx_landing.specs.Landings.{IsGivenUp}
-use Rattle.vx_seats.specs.declared.seat.Seat.{Seat}
 use Rattle.vx_seats.specs.Staying.{EachSeat, SameFlags}
 use Rattle.vx_moves.specs.declared.books.Books.{Books}
 use Rattle.vx_moves.specs.Stands.{Stands}
@@ -27,11 +26,11 @@ IsOver h = (i : ℕ) → i < length (started h) → is_retired h i ≡ true
 abbrev pub NoneRetires : Record → Type 0
 NoneRetires h = (i : ℕ) → i < length (started h) → MayRetire h i → ⊥
 
--- the task of a seat is at home, its port is closed for good, and its instance hasn't ended
-pub record IsClosing {P : Type 0} (seat : Seat P) : Type 0 where
-  pub home : IsSome seat.task
-  pub closed : seat.facts.closed ≡ true
-  pub unretired : seat.facts.retired ≡ false
+-- the task of an instance is at home, its port, if it has one, is closed for good, and it hasn't ended
+pub record IsClosing {P : Type 0} (books : Books P) (i : ℕ) : Type 0 where
+  pub home : IsSomeAnd (slice_get books.seats i) (λ seat. IsSome seat.task)
+  pub closed : device_at books.log i ≡ true → is_closed books.log i ≡ true
+  pub unretired : is_retired books.log i ≡ false
 
 -- an entry gives up what stands at an instance that is at home: a spend of a copy as abandoned, a notice, or that its port is closed
 -- for good
@@ -64,12 +63,12 @@ pub record Rests {P : Type 0} (old new : Books P) : Type 0 where
   pub latest : new.run.latest ≡ old.run.latest
   pub out : (i : ℕ) → is_out new.log i ≡ is_out old.log i
 
--- the port of an instance is closed for good, and no parcel was moved
+-- the port of an instance, if it has one, is closed for good, and no parcel was moved
 pub record ClosesDown {P : Type 0} (told_by : P → Told) (i : ℕ) (old new : Books P) : Type 0 where
   pub stands : Stands told_by new
   pub rests : Rests old new
   pub only : OnlyAdds (GivesUpOf i) old.log new.log
-  pub closed : is_closed new.log i ≡ true
+  pub closed : device_at new.log i ≡ true → is_closed new.log i ≡ true
   pub still : (p : Place) → at new.log p ≡ at old.log p
 
 -- an instance is given up if it is at home; a place that had no parcel still has none

@@ -5,25 +5,30 @@ use Rattle.vx_record.specs.declared.entry.Entry.TheVariants.{Lease}
 use Rattle.vx_record.specs.Additions.{OnlyAdds}
 use Rattle.vx_record.specs.Makers.{IsBy}
 use Rattle.vx_record.specs.Places.Place.{Held}
+use Rattle.vx_plan.specs.declared.class.Class.{Class}
+use Rattle.vx_plan.specs.declared.class.Class.TheVariants.{Source, Transform, Sink}
 use Rattle.vx_places.specs.Views.{parcels_here}
 use Rattle.vx_tasks.specs.declared.work.Job.TheVariants as job
 use Rattle.vx_tasks.specs.declared.work.Work.{Work}
-use Rattle.vx_tasks.specs.Out.{MayReadNow, MayCloseNow, MayJudgeNow, IsGiven, HasLeft}
+use Rattle.vx_tasks.specs.Out.{MayReadNow, MayCloseNow, IsGiven, HasLeft}
 use Rattle.vx_moves.specs.Leaving.{Leaves}
 use Rattle.vx_moves.specs.Rooms.{IsHandOf}
 use Rattle.vx_moves.specs.Stands.{Stands}
-use Rattle.vx_record.specs.Installs.{started, sink_at}
+use Rattle.vx_record.specs.Installs.{started, source_at, transform_at, sink_at}
 use Rattle.vx_record.specs.Ceasing.{cause_of}
 use Rattle.vx_record.specs.Records.{Record}
+use Rattle.vx_record.specs.Lists.{buffered}
+use Rattle.vx_record.specs.Owing.{owes_discards, owes_answer}
 use Rattle.vx_record.specs.Ready.{is_ready}
-use Rattle.vx_record.specs.Turns.{is_out}
+use Rattle.vx_value.specs.Texts.{is_empty}
+use Rattle.vx_record.specs.Turns.{is_out, since_lease}
 use Rattle.vx_moves.specs.declared.books.Books.{Books}
 use Rattle.vx_ready.specs.Asking.{IsServed, IsSettled, IsOpen}
 use Rattle.vx_ready.specs.Jobs.{IsJob, IsLeasable}
 use Rattle.vx_tasks.specs.declared.work.Job.{Job}
 use Rattle.vx_landing.specs.Landings.{HasTask}
 use Rattle.vx_hub.specs.Standing.{IsWell, LentWhileOut, OthersKeep}
-use Rattle.vx_hub.specs.Collecting.{IsCollecting, IsTakeOf}
+use Rattle.vx_hub.specs.Collecting.{IsCollecting, IsGathering, IsTakeOf}
 
 -- an instance may be leased at a moment, and has this to do
 pub record IsReadyFor {P : Type 0} (books : Books P) (now i : ℕ) (job : Job) : Type 0 where
@@ -36,9 +41,20 @@ pub record IsReadyFor {P : Type 0} (books : Books P) (now i : ℕ) (job : Job) :
 abbrev pub NoneFoundAt : {P : Type 0} → Books P → ℕ → ℕ → Type 0
 NoneFoundAt books now i = IsSettled books i → IsOpen books i → is_ready books.log i now ≡ false
 
--- no sink below a number has
-abbrev pub NoSinkFound : {P : Type 0} → Books P → ℕ → ℕ → Type 0
-NoSinkFound books now n = (i : ℕ) → i < n → sink_at books.log i ≡ true → NoneFoundAt books now i
+-- no instance of a class below a number has
+abbrev pub NoneFound : {P : Type 0} → (Record → ℕ → Bool) → Books P → ℕ → ℕ → Type 0
+NoneFound is_of books now n = (i : ℕ) → i < n → is_of books.log i ≡ true → NoneFoundAt books now i
+
+-- the test of a class
+abbrev pub class_test : Class → Record → ℕ → Bool
+class_test Source = source_at
+class_test Transform = transform_at
+class_test Sink = sink_at
+
+-- an instance goes first: a sink before a transform, and both before a source
+pub record GoesFirst {P : Type 0} (books : Books P) (now i : ℕ) : Type 0 where
+  pub sinks : sink_at books.log i ≡ false → NoneFound sink_at books now (length books.seats)
+  pub transforms : source_at books.log i ≡ true → NoneFound transform_at books now (length books.seats)
 
 -- no instance at home has anything to do, in a run that wasn't given up and where memory was never wanting
 abbrev pub NoneReady : {P : Type 0} → Books P → ℕ → Type 0
@@ -58,6 +74,18 @@ takes_first job.Attempt = true
 takes_first job.Close = false
 takes_first job.Judge = false
 
+-- what a job comes to once what there was to take was taken: a sink attempts its batch or takes more, and any other job stays
+abbrev pub ComesTo : Job → Job → Type 0
+ComesTo job.Collect todo = takes_first todo ≡ true
+ComesTo job.Attempt todo = takes_first todo ≡ true
+ComesTo asked todo = todo ≡ asked
+
+-- an instance had something to do at a moment, and this is what that came to
+pub record HadWork (h : Record) (now i : ℕ) (todo : Job) : Type 0 where
+  pub asked : Job
+  pub works : IsJob h i now asked
+  pub comes : ComesTo asked todo
+
 -- what a job rests on as soon as its instance was leased
 abbrev pub MayGather : {P : Type 0} → Books P → ℕ → ℕ → Job → Type 0
 MayGather books i now job.Read = MayReadNow books.log i
@@ -65,13 +93,15 @@ MayGather books i now job.Confirm = Unit {0}
 MayGather books i now job.Collect = IsCollecting books i now 0
 MayGather books i now job.Attempt = IsCollecting books i now 0
 MayGather books i now job.Close = MayCloseNow books.log i
-MayGather books i now job.Judge = MayJudgeNow books.log i
+MayGather books i now job.Judge = (length (since_lease books.log i) ≡ 0) × (IsGathering books i now × (is_empty (buffered books.log i) ≡ false))
 
 -- what there was to take was taken, and the job is what is to be done then
-pub record HasGathered {P : Type 0} (told_by : P → Told) (i : ℕ) (old new : Books P) (job : Job) : Type 0 where
+pub record HasGathered {P : Type 0} (told_by : P → Told) (i : ℕ) (old new : Books P) (todo : Job) : Type 0 where
   pub stands : Stands told_by new
   pub served : IsServed new
-  pub given : IsGiven new.log i job
+  pub given : IsGiven new.log i todo
+  pub settled : owes_discards new.log i ≡ false
+  pub untaken : (todo ≡ job.Judge → ⊥) → owes_answer new.log i ≡ false
   pub kept : IsSome (parcels_here new.places (Held i))
   pub only : OnlyAdds (IsTakeOf i) old.log new.log
   pub leaves : Leaves old new

@@ -1,19 +1,22 @@
 -- What a hub is made of.
-use Rattle.std.specs.Prelude.{◌≡◌, ℕ, true, false, List, [], ◌∷◌, Option, Some, IfSome}
-use Rattle.vx_ends.specs.Told.{Told}
+use Rattle.std.specs.Prelude.{◌≡◌, ℕ, true, false, List, [], ◌∷◌, Option, Some, None, IfSome}
+use Rattle.vx_ends.specs.Told.{Told, Fits}
 use Rattle.vx_ends.specs.declared.port_spec.PortSpec.{PortSpec}
 use Rattle.vx_plan.specs.declared.component.Component.{Component}
 use Rattle.vx_plan.specs.declared.plan.Plan.{Plan}
 use Rattle.vx_plan.specs.Ports.{port_of}
+use Rattle.vx_plan.specs.Components.{is_transform}
+use Rattle.vx_pick.specs.declared.picker.Picker.{Picker}
+use Rattle.vx_pick.specs.Picks.{Picks}
 use Rattle.vx_record.specs.Records.{Record}
 use Rattle.vx_record.specs.Installs.{in_force}
-pub use Rattle.vx_ready.specs.Asking.{is_ported, all_ported}
+pub use Rattle.vx_ready.specs.Asking.{is_ported, is_judge, is_served, all_served}
 use Rattle.vx_tasks.specs.Telling.{HasCounted}
 use Rattle.vx_hub.specs.declared.parts.Named.{Named}
 
 -- nothing went through a port, it wasn't started, its counts are 0 where they are exact, and it is made for that
 pub record IsUntouched (spec : Option PortSpec) (told : Told) : Type 0 where
-  pub made_for : IfSome told.spec (λ made. spec ≡ Some made)
+  pub made_for : Fits spec told.spec
   pub taken : (stream : ℕ) → IfSome (told.taken stream) (λ bytes. bytes ≡ [])
   pub given : IfSome told.given (λ bytes. bytes ≡ [])
   pub confirmed : IfSome told.confirmed (λ positions. positions ≡ [])
@@ -33,6 +36,18 @@ AreUntouched told_by [] (named ∷ rest) = ⊥
 AreUntouched told_by (component ∷ components) (named ∷ rest) =
     IsUntouched (port_of component) (told_by named.port) × AreUntouched told_by components rest
 
--- each component of the plan in force does
-abbrev pub ArePorted : Record → Type 0
-ArePorted h = IfSome (in_force h) (λ (plan : Plan). all_ported plan.components ≡ true)
+-- a transform has what picks by its settings, and what is none has nothing
+abbrev pub IsPickerFor : Component → Option Picker → Type 0
+IsPickerFor c None = is_transform c ≡ false
+IsPickerFor c (Some picker) = (is_transform c ≡ true) × Picks c.settings picker
+
+-- so has each component in its place
+abbrev pub ArePickers : List Component → List (Option Picker) → Type 0
+ArePickers [] [] = Unit {0}
+ArePickers [] (picker ∷ rest) = ⊥
+ArePickers (component ∷ components) [] = ⊥
+ArePickers (component ∷ components) (picker ∷ rest) = IsPickerFor component picker × ArePickers components rest
+
+-- each component of the plan in force works with a port or judges each event by itself
+abbrev pub AreServed : Record → Type 0
+AreServed h = IfSome (in_force h) (λ (plan : Plan). all_served plan.components ≡ true)

@@ -10,12 +10,13 @@ use Rattle.vx_record.specs.Batches.{batches, awaits_notice}
 use Rattle.vx_record.specs.Statuses.{batch_status, AllGood}
 use Rattle.vx_record.specs.Laws.{times_noticed}
 use Rattle.vx_record.specs.Lists.{places}
-use Rattle.vx_record.specs.Installs.{is_closed, is_retired}
+use Rattle.vx_record.specs.Installs.{device_at, is_closed, is_retired}
 use Rattle.vx_record.specs.Legal.{IsLegal, IsClosed}
 use Rattle.vx_tasks.specs.Telling.{IsTold, IsToldButGiven}
 use Rattle.vx_seats.specs.declared.seat.Seat.{Seat}
+use Rattle.vx_seats.specs.Calls.{IsClosedBy}
 use Rattle.vx_hub.specs.declared.parts.Numbered.{Numbered}
-use Rattle.vx_hub.specs.Making.{ArePorted}
+use Rattle.vx_hub.specs.Making.{AreServed}
 
 -- each copy that was made by then was split once, or was spent once, or stands in one place, once, at any time of the record
 abbrev pub HasOnePlace : Record → Type 0
@@ -35,9 +36,9 @@ pub record HasNotices (h : Record) : Type 0 where
   pub folded : (later earlier : Record) (b : ℕ) (status : BatchStatus) → later ++ Notice b status ∷ earlier ≡ h → status ≡ batch_status earlier b
   pub good : (later earlier : Record) (b : ℕ) (status : BatchStatus) → later ++ Notice b status ∷ earlier ≡ h → (status ≡ Delivered) ↔ AllGood h b
 
--- the port of each of so many instances was closed, and each was retired
+-- the port of each of so many instances that has one was closed, and each was retired
 abbrev pub HasEnds : ℕ → Record → Type 0
-HasEnds n h = (i : ℕ) → i < n → (is_closed h i ≡ true) × (is_retired h i ≡ true)
+HasEnds n h = (i : ℕ) → i < n → (device_at h i ≡ true → is_closed h i ≡ true) × (is_retired h i ≡ true)
 
 -- the ports are those of the instances from `first` on, none left out
 abbrev pub AreNumbered : {P : Type 0} → ℕ → List (Numbered P) → Type 0
@@ -48,13 +49,13 @@ AreNumbered first (n ∷ ns) = (n.instance ≡ first) × AreNumbered (first + 1)
 abbrev pub AreHome : {P : Type 0} → List (Seat P) → Type 0
 AreHome seats = (i : ℕ) → IfSome (slice_get seats i) (λ seat. IsSome seat.task)
 
--- a port is that of the task that was at home in a seat
-abbrev pub IsPortOf : {P : Type 0} → List (Seat P) → ℕ → Numbered P → Type 0
-IsPortOf seats i n = IsSomeAnd (slice_get seats i) (λ seat. IsSomeAnd seat.task (λ task. n.port ≡ task.port))
+-- a port is that of the task that was at home in a seat, which was closed
+abbrev pub IsPortOf : {P : Type 0} → (P → Told) → List (Seat P) → ℕ → Numbered P → Type 0
+IsPortOf told_by seats i n = IsSomeAnd (slice_get seats i) (λ seat. IsSomeAnd seat.task (λ task. IsClosedBy (told_by task.port) (told_by n.port)))
 
 -- each is that of the instance in its place
-abbrev pub ArePortsOf : {P : Type 0} → List (Seat P) → List (Numbered P) → Type 0
-ArePortsOf seats ports = (i : ℕ) → IfSome (slice_get ports i) (IsPortOf seats i)
+abbrev pub ArePortsOf : {P : Type 0} → (P → Told) → List (Seat P) → List (Numbered P) → Type 0
+ArePortsOf told_by seats ports = (i : ℕ) → IfSome (slice_get ports i) (IsPortOf told_by seats i)
 
 -- no port is started
 abbrev pub AreClosed : {P : Type 0} → (P → Told) → List (Numbered P) → Type 0
@@ -75,7 +76,7 @@ AreToldButGiven told_by h (n ∷ ns) = IsToldButGiven (told_by n.port) h n.insta
 -- its notice, and each of so many instances its end
 pub record HasEnded (n : ℕ) (h : Record) : Type 0 where
   pub legal : IsLegal h
-  pub ported : ArePorted h
+  pub served : AreServed h
   pub finished : IsClosed h
   pub places : HasOnePlace h
   pub spent : AllSpent h

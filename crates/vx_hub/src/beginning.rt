@@ -6,8 +6,9 @@ ghost use Rattle.vx_plan.specs.Components.{port_names, sink_stages, batch_max_ev
 ghost use Rattle.vx_plan.specs.Options.{has_device, encoding};
 ghost use Rattle.vx_seats.specs.Beginning.{AreNew};
 ghost use Rattle.vx_seats.specs.Knowing.{batching_of};
-ghost use Rattle.vx_hub.specs.Making.{all_ported};
-ghost use Rattle.vx_hub.specs.Beginning.{IsBegun, IsSourceFor, IsRoleFor, AreFor, rooms_of, rooms_in};
+ghost use Rattle.vx_hub.specs.Making.{is_served, all_served};
+ghost use Rattle.vx_moves.specs.Rooms.{hand_of};
+ghost use Rattle.vx_hub.specs.Beginning.{IsBegun, IsSourceFor, IsRoleBut, IsWorkerFor, AreFor, rooms_of, rooms_in};
 
 use std::alloc::Global;
 use vx_counts::Counts;
@@ -127,8 +128,22 @@ fn batching(component: &Component) -> Option<Batching>
     }
 }
 
+/// How many parcels a transform holds at the most: those that one lease takes.
+const TRANSFORM_HAND: u32 = 64;
+
+/// How many parcels a component holds at the most: a sink those of a batch, and a transform those that one lease takes.
+pub(crate) fn hand(component: &Component) -> u32
+    ensures { result ≡ hand_of component.now }
+{
+    match component.class {
+        Class::Source => 0,
+        Class::Transform => TRANSFORM_HAND,
+        Class::Sink => most_events(&component.settings),
+    }
+}
+
 /// How many parcels a batch may have; 0 where no sink makes one.
-pub(crate) fn most_events(settings: &Settings) -> u32
+fn most_events(settings: &Settings) -> u32
     ensures { result ≡ batch_max_events settings.now }
 {
     match settings.sink() {
@@ -154,10 +169,10 @@ fn to_millis(seconds: u32) -> u64
     u64::from(seconds) * 1000
 }
 
-/// What the components of a plan do with their ports.
+/// What the components of a plan do, but for what transforms pick by.
 pub(crate) fn make_roles(alloc: Global, plan: &Plan) -> Result<Vec<Role>, WantOfMemory>
-    requires { all_ported plan.now.components ≡ true }
-    ensures begun { IfOk result (λ roles. AreFor IsRoleFor plan.now.components roles.items) }
+    requires { all_served plan.now.components ≡ true }
+    ensures begun { IfOk result (λ roles. AreFor IsRoleBut plan.now.components roles.items) }
     ensures size { IfOk result (λ roles. length roles.items ≡ length plan.now.components) }
 {
     let mut roles = Vec::with_capacity(alloc, plan.components.len())?;
@@ -168,15 +183,26 @@ pub(crate) fn make_roles(alloc: Global, plan: &Plan) -> Result<Vec<Role>, WantOf
     Ok(roles)
 }
 
-/// What a component does with its port.
+/// What a component does, but for what a transform picks by.
 fn make_role(alloc: Global, component: &Component) -> Result<Role, WantOfMemory>
-    requires { has_device component.now.settings ≡ true }
-    ensures { IfOk result (λ role. IsRoleFor role component.now) }
+    requires { is_served component.now ≡ true }
+    ensures { IfOk result (λ role. IsRoleBut role component.now) }
 {
-    match component.settings.encoding() {
+    match component.class {
+        Class::Transform => Ok(Role::Unfit),
+        Class::Source | Class::Sink => make_worker(alloc, &component.settings),
+    }
+}
+
+/// What a component with these settings does with its port.
+fn make_worker(alloc: Global, settings: &Settings) -> Result<Role, WantOfMemory>
+    requires { has_device settings.now ≡ true }
+    ensures { IfOk result (IsWorkerFor settings.now) }
+{
+    match settings.encoding() {
         Some(codec) => Ok(Role::Sink(codec)),
         None => {
-            let core = make_source(alloc, &component.settings)?;
+            let core = make_source(alloc, settings)?;
             Ok(Role::Source(core))
         }
     }

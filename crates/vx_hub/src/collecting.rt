@@ -1,8 +1,10 @@
-// What a sink that is out takes before its work leaves.
+// What a sink or a transform that is out takes before its work leaves.
 ghost use Rattle.std.specs.Prelude.{◌≡◌, ◌<◌, length, true, false};
 ghost use Rattle.vx_record.specs.Additions.{OnlyAdds};
 ghost use Rattle.vx_record.specs.Installs.{sink_at};
 ghost use Rattle.vx_record.specs.Lists.{buffered, held};
+ghost use Rattle.vx_record.specs.Owing.{took_since};
+ghost use Rattle.vx_record.specs.Turns.{since_lease};
 ghost use Rattle.vx_record.specs.SinkBatches.{is_batch_closed as is_batch_closed_at, is_last_batch};
 ghost use Rattle.vx_value.specs.Texts.{is_empty};
 ghost use Rattle.vx_moves.specs.Leaving.{Leaves};
@@ -11,7 +13,8 @@ ghost use Rattle.vx_places.specs.Calls.{IsKept};
 ghost use Rattle.vx_ready.specs.Asking.{IsServed};
 ghost use Rattle.vx_ready.specs.Jobs.{is_full_or_old as is_full_or_old_by};
 ghost use Rattle.vx_tasks.specs.Out.{IsGiven};
-ghost use Rattle.vx_hub.specs.Collecting.{IsUntried, IsOut, IsCollecting, IsTakeOf, HasTaken};
+ghost use Rattle.vx_hub.specs.Collecting.{IsUntried, IsOut, IsCollecting, IsGathering, IsTakeOf, HasTaken, HasGatheredOne};
+ghost use Rattle.vx_hub.specs.Leases.{takes_first};
 
 use vx_ends::Port;
 use vx_moves::Books;
@@ -43,6 +46,49 @@ pub(crate) fn collect<P: Port>(books: &mut Books<P>, i: u32, now: u64)
     }
 }
 
+/// Takes parcels for a transform that was leased at a moment and has some in its buffer, until none is left there, or so many were
+/// taken as one lease takes. It takes no memory.
+pub(crate) fn take_inputs<P: Port>(books: &mut Books<P>, i: u32, now: u64)
+    requires stands { Stands P.told books.old }
+    requires served { IsServed books.old }
+    requires within { i < length books.old.seats }
+    requires fresh { length (since_lease books.old.log i) ≡ 0 }
+    requires gathering { IsGathering books.old i now }
+    requires some { is_empty (buffered books.old.log i) ≡ false }
+    ensures stands { Stands P.told books.new }
+    ensures served { IsServed books.new }
+    ensures gathering { IsGathering books.new i now }
+    ensures took { took_since books.new.log i ≡ true }
+    ensures only { OnlyAdds (IsTakeOf i) books.old.log books.new.log }
+    ensures leaves { Leaves books.old books.new }
+    ensures size { length books.new.seats ≡ length books.old.seats }
+{
+    for _ in 0..TAKES {
+        if !take_input(books, i, now) {
+            return;
+        }
+    }
+}
+
+/// Takes one more parcel for a transform; `false` where there is none to take.
+fn take_input<P: Port>(books: &mut Books<P>, i: u32, now: u64) -> bool
+    requires stands { Stands P.told books.old }
+    requires served { IsServed books.old }
+    requires within { i < length books.old.seats }
+    requires few { length (since_lease books.old.log i) < 64 }
+    requires gathering { IsGathering books.old i now }
+    ensures took { result ≡ true → HasGatheredOne P.told i now books.old books.new }
+    ensures none { result ≡ false → (books.new ≡ books.old) × (is_empty (buffered books.old.log i) ≡ true) }
+{
+    match books.places.first_filled(i) {
+        Some(stage) => {
+            books.take(i, stage, now);
+            true
+        }
+        None => false,
+    }
+}
+
 /// What a sink that was leased at a moment has to do once it took what there was: it attempts its batch where that is closed.
 pub(crate) fn decide<P: Port>(books: &Books<P>, i: u32, now: u64) -> Job
     requires stands { Stands P.told books.now }
@@ -50,6 +96,7 @@ pub(crate) fn decide<P: Port>(books: &Books<P>, i: u32, now: u64) -> Job
     requires within { i < length books.now.seats }
     requires out { IsOut books.now i now }
     ensures given { IsGiven books.now.log i result }
+    ensures sinks { takes_first result ≡ true }
 {
     if is_closed_out(books, i, now) {
         Job::Attempt

@@ -15,13 +15,12 @@ ghost use Rattle.vx_hub.specs.Ending.{IsOver, NoneRetires, IsClosing, GivesUp, A
 use crate::hub::Hub;
 use vx_ends::Port;
 use vx_moves::Books;
-use vx_ready::{is_done, is_settled};
+use vx_ready::{has_device, is_done, is_settled};
 use vx_record::AbandonCause;
-use vx_seats::Seat;
 
 impl<P: Port> Hub<P> {
-    /// Gives the run up: spends every copy that stands at an instance at home as abandoned, and closes its port for good. An
-    /// instance that is out is given up when it lands. It takes no memory.
+    /// Gives the run up: spends every copy that stands at an instance at home as abandoned, and closes its port, if it has one, for
+    /// good. An instance that is out is given up when it lands. It takes no memory.
     pub fn abandon(&mut self, cause: AbandonCause)
         requires hub { IsHub P.told self.old }
         requires going { cause_of self.old.books.log ≡ None }
@@ -38,9 +37,9 @@ impl<P: Port> Hub<P> {
         give_up_all(&mut self.books);
     }
 
-    /// Ends the first instance at home whose port is closed for good and that has nothing more to do, or at which nothing stands
-    /// where the run was given up. Its port stays with it until the hub ends. `None` where no instance may end; behind a
-    /// call that answered `Fatal`, until the run is given up, it may also come where one may.
+    /// Ends the first instance at home whose port, if it has one, is closed for good and that has nothing more to do, or at which
+    /// nothing stands where the run was given up. Its port stays with it until the hub ends. `None` where no instance may end;
+    /// behind a call that answered `Fatal`, until the run is given up, it may also come where one may.
     pub fn retire(&mut self) -> Option<u32>
         requires hub { IsHub P.told self.old }
         ensures hub { IsHub P.told self.new }
@@ -83,7 +82,7 @@ fn give_up_all<P: Port>(books: &mut Books<P>)
     }
 }
 
-/// Gives up what stands at an instance, and closes its port for good, if it is at home.
+/// Gives up what stands at an instance, and closes its port, if it has one, for good, if the instance is at home.
 pub(crate) fn give_up_at<P: Port>(books: &mut Books<P>, i: u32)
     requires stands { Stands P.told books.old }
     requires within { i < length books.old.seats }
@@ -98,7 +97,7 @@ pub(crate) fn give_up_at<P: Port>(books: &mut Books<P>, i: u32)
     close_down(books, i);
 }
 
-/// Closes the port of an instance for good, unless that was done before.
+/// Closes the port of an instance for good, if it has one and that wasn't done before.
 fn close_down<P: Port>(books: &mut Books<P>, i: u32)
     requires stands { Stands P.told books.old }
     requires within { i < length books.old.seats }
@@ -107,7 +106,7 @@ fn close_down<P: Port>(books: &mut Books<P>, i: u32)
     requires over { abandoned books.old.log ≡ true }
     ensures { ClosesDown P.told i books.old books.new }
 {
-    if books.seats.get(i).facts.closed {
+    if !has_device(books, i) || books.seats.get(i).facts.closed {
         return;
     }
     books.seats.shut(i);
@@ -138,7 +137,7 @@ fn may_retire<P: Port>(books: &Books<P>, i: u32) -> bool
     ensures may { IsTrue result → MayRetire books.now.log i }
     ensures not { result ≡ false → IsWell books.now ⊎ (abandoned books.now.log ≡ true) → MayRetire books.now.log i → ⊥ }
 {
-    if !is_closing(books.seats.get(i)) {
+    if !is_closing(books, i) {
         return false;
     }
     if books.run.abandoned.is_some() {
@@ -150,10 +149,17 @@ fn may_retire<P: Port>(books: &Books<P>, i: u32) -> bool
     is_done(books, i)
 }
 
-/// Whether the task of a seat is at home, its port is closed for good, and its instance hasn't ended.
-fn is_closing<P>(seat: &Seat<P>) -> bool
-    ensures yes { IsTrue result → IsClosing seat.now }
-    ensures no { result ≡ false → IsClosing seat.now → ⊥ }
+/// Whether the task of an instance is at home, its port, if it has one, is closed for good, and it hasn't ended.
+fn is_closing<P: Port>(books: &Books<P>, i: u32) -> bool
+    requires stands { Stands P.told books.now }
+    requires within { i < length books.now.seats }
+    requires served { IsServed books.now }
+    ensures yes { IsTrue result → IsClosing books.now i }
+    ensures no { result ≡ false → IsClosing books.now i → ⊥ }
 {
-    seat.task.is_some() && seat.facts.closed && !seat.facts.retired
+    let seat = books.seats.get(i);
+    if !seat.task.is_some() || seat.facts.retired {
+        return false;
+    }
+    seat.facts.closed || !has_device(books, i)
 }

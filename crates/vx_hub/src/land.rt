@@ -1,5 +1,5 @@
 // How a task comes home.
-ghost use Rattle.std.specs.Prelude.{◌≡◌, ◌<◌, ◌||◌, true, false, length, Ok, IfErr, OnOk, OnErr};
+ghost use Rattle.std.specs.Prelude.{◌≡◌, ◌<◌, ◌||◌, is_err, true, false, length, Ok, IfErr, OnOk, OnErr};
 ghost use Rattle.vx_record.specs.Abandoning.{abandoned};
 ghost use Rattle.vx_record.specs.Ceasing.{cause_of};
 ghost use Rattle.vx_hub.specs.Ending.{IsGivenUp};
@@ -25,10 +25,10 @@ use vx_tasks::Landing;
 impl<P: Port> Hub<P> {
     /// Brings a task home with what was done, and notes it, whatever others did meanwhile.
     ///
-    /// `Fatal` comes where a birth found no numbers or no memory, or the work found no memory, in a run that wasn't given up. Each
-    /// entry that was made stands then, every copy that isn't spent is still held, and the instance is at home. In a run that goes on
-    /// its task stands there as it came, so that its port stays started. After an abandonment
-    /// no batch is born, and all that stands at the instance is spent as abandoned, and its port closed for good.
+    /// `Fatal` comes where a birth found no numbers or no memory, or the work or its answer found no memory, in a run that wasn't
+    /// given up. Each entry that was made stands then, every copy that isn't spent is still held, and the instance is at home. In a
+    /// run that goes on its task stands there as it came, so that its port stays started. After an abandonment no batch is born, and
+    /// all that stands at the instance is spent as abandoned, and its port, if it has one, closed for good.
     pub fn land(&mut self, landing: Landing<P>) -> Result<(), Fatal>
         requires hub { IsHub P.told self.old }
         requires within { landing.instance < length self.old.books.seats }
@@ -36,7 +36,7 @@ impl<P: Port> Hub<P> {
         requires room { IsHandOf self.old.books.log landing.instance landing.held.room }
         ensures hub { IsHub P.told self.new }
         ensures home { is_out self.new.books.log landing.instance ≡ false }
-        ensures noted { IsNotedSo landing self.old.books.log self.new.books.log }
+        ensures noted { IsNotedSo (is_err result || abandoned self.old.books.log) landing self.old.books.log self.new.books.log }
         ensures only { OnlyAdds (IsFor landing.instance) self.old.books.log self.new.books.log }
         ensures fatal { OnErr result (self.new.fatal ≡ true) }
         ensures reason { IfErr result (HasReason self.new.books.log) }

@@ -1,18 +1,18 @@
 ghost use Rattle.std.specs.Prelude.{◌≡◌, ◌<◌, ◌≤◌, length, true, false, max, None, IfSome, IfNone, IsSome};
 ghost use Rattle.vx_record.specs.Additions.{OnlyAdds};
-ghost use Rattle.vx_record.specs.Installs.{sink_at};
 ghost use Rattle.vx_record.specs.Makers.{IsBy};
+ghost use Rattle.vx_record.specs.Owing.{owes_discards, owes_answer};
 ghost use Rattle.vx_record.specs.Places.Place.{Held};
 ghost use Rattle.vx_places.specs.Views.{parcels_here};
 ghost use Rattle.vx_moves.specs.Rooms.{IsHandOf};
 ghost use Rattle.vx_moves.specs.Stands.{Stands};
 ghost use Rattle.vx_tasks.specs.Out.{HasLeft};
 ghost use Rattle.vx_ready.specs.Asking.{IsServed};
-ghost use Rattle.vx_hub.specs.Leases.{HasLeased, IsReadyFor, NoneHasWork, NoSinkFound, takes_first as takes_first_by, MayGather, HasGathered, HasHandedOut};
+ghost use Rattle.vx_hub.specs.Leases.{HasLeased, IsReadyFor, NoneHasWork, GoesFirst, takes_first as takes_first_by, ComesTo, HadWork, MayGather, HasGathered, HasHandedOut};
 ghost use Rattle.vx_landing.specs.Landings.{HasTask};
 ghost use Rattle.vx_hub.specs.Standing.{IsHub, IsWell, LentWhileOut, OthersKeep};
 
-use crate::collecting::{collect, decide};
+use crate::collecting::{collect, decide, take_inputs};
 use crate::hub::Hub;
 use crate::ready::{Ready, first_ready};
 use vx_ends::Port;
@@ -20,7 +20,8 @@ use vx_moves::Books;
 use vx_tasks::{Job, Work};
 
 impl<P: Port> Hub<P> {
-    /// Hands out the task of an instance that has work, a sink before a source, to a worker. Any number may be out. It takes no memory.
+    /// Hands out the task of an instance that has work, to a worker: a sink before a transform, and both before a source. Any number
+    /// may be out. It takes no memory.
     /// `None` exactly where no instance at home has work at that moment, or a call answered `Fatal`, or the run was given up;
     /// nothing has changed then.
     ///
@@ -36,11 +37,12 @@ impl<P: Port> Hub<P> {
         ensures only { OnlyAdds (IsBy worker) self.old.books.log self.new.books.log }
         ensures noted { IfSome result (λ work. HasLeased work.instance worker (max now self.old.books.run.latest) self.old.books.log self.new.books.log) }
         ensures latest { IfSome result (λ work. self.new.books.run.latest ≡ max now self.old.books.run.latest) }
+        ensures works { IfSome result (λ work. HadWork self.old.books.log (max now self.old.books.run.latest) work.instance work.job) }
         ensures had { IfSome result (λ work. HasTask self.old.books.seats work.instance work.task) }
         ensures others { IfSome result (λ work. OthersKeep work.instance self.old.books.seats self.new.books.seats) }
         ensures sound { self.old.fatal ≡ true → result ≡ None }
         ensures rest { self.new ≡ record self.old { books = self.new.books } }
-        ensures first { IfSome result (λ work. sink_at self.old.books.log work.instance ≡ false → NoSinkFound self.old.books (max now self.old.books.run.latest) (length self.old.books.seats)) }
+        ensures first { IfSome result (λ work. GoesFirst self.old.books (max now self.old.books.run.latest) work.instance) }
         ensures none { IfNone result (self.old.fatal ≡ false → NoneHasWork self.old.books.log (max now self.old.books.run.latest)) }
         ensures unchanged { IfNone result (self.new ≡ self.old) }
     {
@@ -57,7 +59,7 @@ impl<P: Port> Hub<P> {
     }
 }
 
-/// Leases an instance that has work, takes what a sink may take, and gives its task with what it holds.
+/// Leases an instance that has work, takes what it may take, and gives its task with what it holds.
 fn hand_out<P: Port>(books: &mut Books<P>, i: u32, job: Job, worker: u32, now: u64) -> Work<P>
     requires stands { Stands P.told books.old }
     requires served { IsServed books.old }
@@ -67,6 +69,7 @@ fn hand_out<P: Port>(books: &mut Books<P>, i: u32, job: Job, worker: u32, now: u
     requires ready { IsReadyFor books.old now i job }
     ensures out { HasHandedOut P.told i worker now books.old books.new result }
     ensures within { result.instance < length books.new.seats }
+    ensures comes { ComesTo job result.job }
 {
     let (task, positions) = books.lease(i, worker, now);
     let job = gather(books, i, job, now);
@@ -81,21 +84,26 @@ fn hand_out<P: Port>(books: &mut Books<P>, i: u32, job: Job, worker: u32, now: u
     }
 }
 
-/// Takes what a sink that was leased may take, and gives what is to be done then.
+/// Takes what an instance that was leased may take, and gives what is to be done then.
 fn gather<P: Port>(books: &mut Books<P>, i: u32, job: Job, now: u64) -> Job
     requires stands { Stands P.told books.old }
     requires served { IsServed books.old }
     requires within { i < length books.old.seats }
     requires kept { IsSome (parcels_here books.old.places (Held i)) }
     requires may { MayGather books.old i now job }
+    requires settled { owes_discards books.old.log i ≡ false }
+    requires untaken { owes_answer books.old.log i ≡ false }
     ensures gathered { HasGathered P.told i books.old books.new result }
+    ensures comes { ComesTo job result }
 {
     if takes_first(job) {
         collect(books, i, now);
-        decide(books, i, now)
-    } else {
-        job
+        return decide(books, i, now);
     }
+    if matches!(job, Job::Judge) {
+        take_inputs(books, i, now);
+    }
+    job
 }
 
 /// Whether a job is a sink's that takes before it leaves.

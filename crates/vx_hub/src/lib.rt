@@ -20,5 +20,5 @@ mod telling;
 pub use fatal::Fatal;
 pub use hub::Hub;
 pub use laws::engine_laws;
-pub use parts::{Named, NamedList, NewRefused, Numbered, NumberedList, Parts};
+pub use parts::{Named, NamedList, NewRefused, Numbered, NumberedList, Parts, PickerList};
 pub use remains::Remains;

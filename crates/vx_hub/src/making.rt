@@ -1,14 +1,15 @@
-ghost use Rattle.std.specs.Prelude.{◌≡◌, ◌<◌, ◌+◌, ◌^◌, length, true, false, IfOk, IfErr, OnOk, OnErr};
+ghost use Rattle.std.specs.Prelude.{◌≡◌, ◌<◌, ◌+◌, ◌^◌, length, true, false, slice_set, IfOk, IfErr, OnOk, OnErr};
+ghost use Rattle.vx_tasks.specs.declared.task.Role.{Role};
 ghost use Rattle.vx_plan.specs.Accepted.{IsPlan};
-ghost use Rattle.vx_plan.specs.Components.{batch_max_events};
+ghost use Rattle.vx_moves.specs.Rooms.{hand_of};
 ghost use Rattle.vx_record.specs.Wirings.{begun};
 ghost use Rattle.vx_places.specs.Views.{Same};
 ghost use Rattle.vx_places.specs.Rooms.{AddsRooms};
-ghost use Rattle.vx_hub.specs.Beginning.{HasRoomFor, HaveRooms, AreVacant, AreSeatedFrom, rooms_of};
-ghost use Rattle.vx_hub.specs.Making.{all_ported, AreUntouched};
+ghost use Rattle.vx_hub.specs.Beginning.{HasRoomFor, HaveRooms, AreVacant, AreRoledFrom, AreSeatedFrom, rooms_of};
+ghost use Rattle.vx_hub.specs.Making.{all_served, AreUntouched, ArePickers};
 ghost use Rattle.vx_hub.specs.Standing.{IsHub};
 
-use crate::beginning::{make_roles, make_seats, most_events, stage_rooms};
+use crate::beginning::{hand, make_roles, make_seats, stage_rooms};
 use crate::hub::Hub;
 use crate::parts::{Named, NewRefused, Numbered, Parts};
 use std::alloc::Global;
@@ -16,6 +17,7 @@ use vx_balance::Balance;
 use vx_ends::Port;
 use vx_history::History;
 use vx_moves::{Books, Run};
+use vx_pick::Picker;
 use vx_places::Places;
 use vx_plan::{Component, Plan};
 use vx_seats::{Seat, Seats};
@@ -40,7 +42,8 @@ impl<P: Port> Hub<P> {
         requires few { length parts.plan.components < 2 ^ 32 }
         requires untouched { AreUntouched P.told parts.plan.components parts.ports }
         requires accepted { IsPlan parts.plan }
-        requires ported { all_ported parts.plan.components ≡ true }
+        requires served { all_served parts.plan.components ≡ true }
+        requires pickers { ArePickers parts.plan.components parts.pickers }
         ensures hub { IfOk result (IsHub P.told) }
         ensures first { IfOk result (λ hub. hub.books.log ≡ begun parts.plan parts.once now) }
         ensures sound { IfOk result (λ hub. hub.fatal ≡ false) }
@@ -57,7 +60,7 @@ impl<P: Port> Hub<P> {
 
 /// What a hub needs memory for, for the instances of a plan.
 fn make_room<P: Port>(alloc: Global, plan: &Plan) -> Result<Room<P>, WantOfMemory>
-    requires { all_ported plan.now.components ≡ true }
+    requires { all_served plan.now.components ≡ true }
     ensures { IfOk result (HasRoomFor plan.now) }
 {
     let seats = make_seats(alloc, plan)?;
@@ -97,15 +100,11 @@ fn make_places(alloc: Global, plan: &Plan) -> Result<Places, WantOfMemory>
 fn add_place(alloc: Global, places: &mut Places, component: &Component) -> Result<(), WantOfMemory>
     ensures same { OnOk result (Same places.old places.new) }
     ensures size { OnOk result (length places.new ≡ length places.old + 1) }
-    ensures rooms { OnOk result (AddsRooms (rooms_of component.now) (batch_max_events component.now.settings) places.old places.new) }
+    ensures rooms { OnOk result (AddsRooms (rooms_of component.now) (hand_of component.now) places.old places.new) }
     ensures unchanged { OnErr result (places.new ≡ places.old) }
 {
     let rooms = stage_rooms(alloc, component)?;
-    places.add(
-        alloc,
-        rooms.as_slice(),
-        most_events(&component.settings) as usize,
-    )
+    places.add(alloc, rooms.as_slice(), hand(component) as usize)
 }
 
 /// The hub of some parts, whose record has their install. It takes no memory.
@@ -114,7 +113,8 @@ fn begin<P: Port>(alloc: Global, parts: Parts<P>, room: Room<P>, now: u64) -> Hu
     requires few { length parts.plan.components < 2 ^ 32 }
     requires untouched { AreUntouched P.told parts.plan.components parts.ports }
     requires accepted { IsPlan parts.plan }
-    requires ported { all_ported parts.plan.components ≡ true }
+    requires served { all_served parts.plan.components ≡ true }
+    requires pickers { ArePickers parts.plan.components parts.pickers }
     requires room { HasRoomFor parts.plan room }
     ensures hub { IsHub P.told result }
     ensures first { result.books.log ≡ begun parts.plan parts.once now }
@@ -122,7 +122,12 @@ fn begin<P: Port>(alloc: Global, parts: Parts<P>, room: Room<P>, now: u64) -> Hu
     ensures fed { result.books.run.short ≡ false }
     ensures latest { result.books.run.latest ≡ now }
 {
-    let Parts { plan, once, ports } = parts;
+    let Parts {
+        plan,
+        once,
+        ports,
+        pickers,
+    } = parts;
     let Room {
         seats,
         roles,
@@ -130,7 +135,7 @@ fn begin<P: Port>(alloc: Global, parts: Parts<P>, room: Room<P>, now: u64) -> Hu
         ports: berths,
         places,
     } = room;
-    let seats = Seats::new(seat_all(seats, roles, ports.into_vec()));
+    let seats = Seats::new(seat_all(seats, role_all(roles, pickers.into_vec()), ports.into_vec()));
     let mut log = History::new();
     log.note(&(&plan, once, now));
     let run = Run {
@@ -151,6 +156,30 @@ fn begin<P: Port>(alloc: Global, parts: Parts<P>, room: Room<P>, now: u64) -> Hu
         fatal: false,
         ports: berths,
     }
+}
+
+/// The roles, where each transform has what it picks by. It takes no memory.
+fn role_all(roles: Vec<Role>, pickers: Vec<Option<Picker>>) -> Vec<Role>
+    requires pickers { length pickers.items ≡ length roles.items }
+    ensures size { length result.items ≡ length roles.items }
+    ensures roles { AreRoledFrom 0 roles.items pickers.items result.items }
+{
+    let (mut roles, mut pickers) = (roles, pickers);
+    while let Some(picker) = pickers.pop() {
+        let i = pickers.len();
+        if let Some(picker) = picker {
+            pick_by(&mut roles, i, picker);
+        }
+    }
+    roles
+}
+
+/// Gives a transform what it picks by.
+fn pick_by(roles: &mut Vec<Role>, i: usize, picker: Picker)
+    requires { i < length roles.old.items }
+    ensures { roles.new.items ≡ slice_set roles.old.items i (Role.Transform picker) }
+{
+    roles[i] = Role::Transform(picker);
 }
 
 /// Gives each seat the role and the port in its place, the last first. It takes no memory.

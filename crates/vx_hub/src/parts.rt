@@ -1,3 +1,4 @@
+use vx_pick::Picker;
 use vx_plan::Plan;
 use vx_value::{ItemList, Text};
 
@@ -21,13 +22,17 @@ pub struct Numbered<P> {
 /// Some ports with their instances' numbers.
 pub type NumberedList<P> = ItemList<Numbered<P>>;
 
-/// What a hub is made of: the plan, and a port for each component that has a device, in the order of the components.
+/// What each component of a plan picks by, in their order, if it is a transform.
+pub type PickerList = ItemList<Option<Picker>>;
+
+/// What a hub is made of: the plan, and a port and what it picks by for each component, in the order of the components.
 #[derive(Drop)]
 pub struct Parts<P> {
     pub plan: Plan,
     /// Whether files end where they end now.
     pub once: bool,
     pub ports: NamedList<P>,
+    pub pickers: PickerList,
 }
 
 /// A hub that wasn't made for want of memory, and what it was to be made of.

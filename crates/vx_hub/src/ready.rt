@@ -1,13 +1,13 @@
 // Which instance has work.
 ghost use Rattle.std.specs.Prelude.{◌≡◌, ◌<◌, ◌≤◌, length, IfSome, IfNone, true, false};
-ghost use Rattle.vx_record.specs.Installs.{sink_at};
 ghost use Rattle.vx_moves.specs.Stands.{Stands};
 ghost use Rattle.vx_ready.specs.Asking.{IsServed};
-ghost use Rattle.vx_hub.specs.Leases.{IsReadyFor, NoneReady, NoneFoundAt, NoSinkFound};
+ghost use Rattle.vx_hub.specs.Leases.{IsReadyFor, NoneReady, NoneFoundAt, NoneFound, GoesFirst, class_test};
 
 use vx_ends::Port;
 use vx_moves::Books;
-use vx_ready::{first_job, is_sink};
+use vx_plan::Class;
+use vx_ready::{first_job, is_sink, is_source, is_transform};
 use vx_tasks::Job;
 
 /// An instance at home that has work.
@@ -17,50 +17,67 @@ pub(crate) struct Ready {
     pub job: Job,
 }
 
-/// The first instance that has work at a moment: a sink, or where none has, another. `None` where none at home has.
+/// The first instance that has work at a moment: a sink, or where none has, a transform, or where none has, another. `None` where none
+/// at home has.
 pub(crate) fn first_ready<P: Port>(books: &Books<P>, now: u64) -> Option<Ready>
     requires stands { Stands P.told books.now }
     requires served { IsServed books.now }
     requires latest { books.now.run.latest ≤ now }
     ensures some { IfSome result (λ ready. IsReadyFor books.now now ready.instance ready.job) }
-    ensures first { IfSome result (λ ready. sink_at books.now.log ready.instance ≡ false → NoSinkFound books.now now (length books.now.seats)) }
+    ensures first { IfSome result (λ ready. GoesFirst books.now now ready.instance) }
     ensures none { IfNone result (NoneReady books.now now) }
 {
-    match ready_sink(books, now) {
-        Some(ready) => Some(ready),
-        None => ready_any(books, now),
+    if let Some(ready) = first_of(books, Class::Sink, now) {
+        return Some(ready);
     }
+    if let Some(ready) = first_of(books, Class::Transform, now) {
+        return Some(ready);
+    }
+    ready_any(books, now)
 }
 
-/// The first sink that has work.
-fn ready_sink<P: Port>(books: &Books<P>, now: u64) -> Option<Ready>
+/// The first instance of a class that has work.
+fn first_of<P: Port>(books: &Books<P>, class: Class, now: u64) -> Option<Ready>
     requires stands { Stands P.told books.now }
     requires served { IsServed books.now }
     ensures some { IfSome result (λ ready. IsReadyFor books.now now ready.instance ready.job) }
-    ensures sink { IfSome result (λ ready. sink_at books.now.log ready.instance ≡ true) }
-    ensures none { IfNone result (NoSinkFound books.now now (length books.now.seats)) }
+    ensures class { IfSome result (λ ready. class_test class books.now.log ready.instance ≡ true) }
+    ensures none { IfNone result (NoneFound (class_test class) books.now now (length books.now.seats)) }
 {
     for i in 0..books.seats.len() as u32 {
-        if let Some(ready) = sink_ready(books, i, now) {
+        if let Some(ready) = ready_of(books, i, class, now) {
             return Some(ready);
         }
     }
     None
 }
 
-/// An instance, where it is a sink that has work.
-fn sink_ready<P: Port>(books: &Books<P>, i: u32, now: u64) -> Option<Ready>
+/// An instance, where it is of a class and has work.
+fn ready_of<P: Port>(books: &Books<P>, i: u32, class: Class, now: u64) -> Option<Ready>
     requires stands { Stands P.told books.now }
     requires within { i < length books.now.seats }
     requires served { IsServed books.now }
     ensures some { IfSome result (λ ready. IsReadyFor books.now now ready.instance ready.job) }
-    ensures sink { IfSome result (λ ready. sink_at books.now.log ready.instance ≡ true) }
-    ensures none { IfNone result (sink_at books.now.log i ≡ true → NoneFoundAt books.now now i) }
+    ensures class { IfSome result (λ ready. class_test class books.now.log ready.instance ≡ true) }
+    ensures none { IfNone result (class_test class books.now.log i ≡ true → NoneFoundAt books.now now i) }
 {
-    if is_sink(books, i) {
+    if is_of(books, i, class) {
         job_of(books, i, now)
     } else {
         None
+    }
+}
+
+/// Whether an instance is of a class.
+fn is_of<P: Port>(books: &Books<P>, i: u32, class: Class) -> bool
+    requires stands { Stands P.told books.now }
+    requires within { i < length books.now.seats }
+    ensures { result ≡ class_test class books.now.log i }
+{
+    match class {
+        Class::Source => is_source(books, i),
+        Class::Transform => is_transform(books, i),
+        Class::Sink => is_sink(books, i),
     }
 }
 

@@ -25,7 +25,8 @@ pub struct Remains<P> {
 }
 
 impl<P: Port> Hub<P> {
-    /// Ends a hub whose instances all ended. It takes no memory.
+    /// Ends a hub whose instances all ended. Each port is closed, as that of each instance with a device was before. It takes no
+    /// memory.
     pub fn end(self) -> Remains<P>
         requires hub { IsHub P.told self }
         requires over { IsOver self.books.log }
@@ -59,7 +60,7 @@ impl<P: Port> Hub<P> {
     }
 }
 
-/// The ports of instances that are all at home, with their numbers. It takes no memory.
+/// The ports of instances that are all at home, closed, with their numbers. It takes no memory.
 fn ports_of<P: Port>(seats: Seats<P>, berths: Vec<Numbered<P>>) -> NumberedList<P>
     requires few { length seats < 2 ^ 32 }
     requires home { AreHome seats }
@@ -67,14 +68,15 @@ fn ports_of<P: Port>(seats: Seats<P>, berths: Vec<Numbered<P>>) -> NumberedList<
     requires none { berths.items ≡ [] }
     ensures count { length result ≡ length seats }
     ensures numbers { AreNumbered 0 result }
-    ensures ports { ArePortsOf seats result }
+    ensures ports { ArePortsOf P.told seats result }
 {
     let (mut seats, mut berths) = (seats, berths);
     for i in 0..seats.len() as u32 {
         let Some((task, _)) = seats.leave(i) else {
             unreachable!();
         };
-        let Task { port, role: _ } = task;
+        let Task { mut port, role: _ } = task;
+        port.close();
         berths.push_reserved(Numbered { instance: i, port });
     }
     ItemList::from_vec(berths)

@@ -28,7 +28,7 @@ use Rattle.vx_record.specs.Copies.{count, joined}
 use Rattle.vx_record.specs.Encoding.{encoded, is_prefix}
 use Rattle.vx_record.specs.Ending.{MayClose}
 use Rattle.vx_record.specs.Generating.{IsGenerated}
-use Rattle.vx_record.specs.Installs.{component_of, device_at}
+use Rattle.vx_record.specs.Installs.{component_of, device_at, is_closed}
 use Rattle.vx_record.specs.Legal.{IsLegal}
 use Rattle.vx_record.specs.Lists.{held}
 use Rattle.vx_record.specs.Makers.{IsFor}
@@ -62,9 +62,9 @@ use Rattle.vx_moves.specs.Spends.{MaySpendAll, OnlySpends}
 use Rattle.vx_moves.specs.Stands.{Stands, Steps}
 use Rattle.vx_moves.proofs.Leaving.{rooms_both, each_both}
 use Rattle.vx_ready.specs.Asking.{IsServed}
-use Rattle.vx_ready.proofs.Done.{device_there}
 use Rattle.vx_landing.specs.Landings.{ComesBehind, HasNoted, HasNotedRead, outcome_of}
 use Rattle.vx_landing.proofs.Owing.{spends_keep, spends_wider, was_out}
+use Rattle.vx_landing.proofs.Serving.{sink_device, source_device}
 
 -- THE RUN
 -- whether it is given up, as the books know
@@ -169,15 +169,21 @@ module _ {P : Type 0} {told_by : P → Told} where
   home_still {i} spent = spends_keep (λ h. is_out h i ≡ false) (λ h c home. home) (λ h b status home. home) spent.only
 
   -- and its port may be closed then
-  pub may_shut : {i : ℕ} {old new : Books P} {seat : Seat P} → IsServed old → i < length old.seats → abandoned old.log ≡ true →
+  pub may_shut : {i : ℕ} {old new : Books P} {seat : Seat P} → device_at new.log i ≡ true → abandoned old.log ≡ true →
       OnlySpends told_by i Abandoned old new → slice_get new.seats i ≡ Some seat → seat.facts.closed ≡ false → MayClose new.log i
-  may_shut {i} {old} {new} {seat} served within over spent there unclosed =
+  may_shut {i} {old} {new} {seat} device over spent there unclosed =
       let known : IsKnown told_by seat new.log i = rw there at (spent.stands.seats.each i) in
       record {
-        device = device_there told_by new spent.stands (record { ported = rw spent.leaves.run served.ported; few = rw spent.size served.few }) i (rw spent.size within);
+        device = device;
         unclosed = sym known.facts.closed ∙ unclosed;
         over = inr (over_still spent over);
       }
+
+  -- as it is already where that is known
+  pub shut_so : (i : ℕ) {books : Books P} {seat : Seat P} → Stands told_by books → slice_get books.seats i ≡ Some seat → seat.facts.closed ≡ true →
+      is_closed books.log i ≡ true
+  shut_so i {books} {seat} stands there closed =
+      let known : IsKnown told_by seat books.log i = rw there at (stands.seats.each i) in sym known.facts.closed ∙ closed
 
 pub noted_read : {P : Type 0} (told_by : P → Told) {untold : Bool} {i : ℕ} {old new : Books P} (o : Option Reading) →
     IsSomeAnd o (λ reading. Steps told_by (Read i reading.stream reading.took) old new) → LeavesUntold untold i old new →
@@ -195,10 +201,7 @@ module _ {P : Type 0} {told_by : P → Told} {books : Books P} (stands : Stands 
       Stands told_by (record books { seats = seats; run = record books.run { short = true } })
   marked size knows = let off : true ≡ false → HaveReturned books.log = λ is. cc in assumption (off, stands.size ∙ sym size)
 
-  module _ {i : ℕ} (served : IsServed books) (within : i < length books.seats) where
-    device : device_at books.log i ≡ true
-    device = device_there told_by books stands served i within
-
+  module _ {i : ℕ} (served : IsServed books) where
     pub may_attempt : {all : Word} {sent : ℕ} {answer : Reply} → is_out books.log i ≡ true → list_any (is_attempt_of i) (since_lease books.log i) ≡ false →
         MayAttemptNow books.log i → all ≡ encoded books.log i (at books.log (Held i)) → (answer ≡ reply.Ok → sent ≡ length all) →
         MayAttempt books.log i (joined (held books.log i)) (take sent all) answer
@@ -213,7 +216,7 @@ module _ {P : Type 0} {told_by : P → Told} {books : Books P} (stands : Stands 
           waited = may.waited;
           given = rw is (taken_prefix sent all);
           whole = λ ok. rw (is, well ok) (take-length all);
-          swallowed = λ none. let has = device in cc;
+          swallowed = λ none. let has = sink_device stands served i may.sink in cc;
         }
 
     pub may_read : (cut : Option Cut) (o : Option Reading) → is_out books.log i ≡ true → list_any (is_turn_of i) (since_lease books.log i) ≡ false →
@@ -223,7 +226,7 @@ module _ {P : Type 0} {told_by : P → Told} {books : Books P} (stands : Stands 
     may_read cut (Some reading) out once may lines = record {
       row = record {
         turn = record { source = may.source; out = out; readable = may.readable; once = once };
-        generated = read_from_port books.log i reading.stream reading.took device;
+        generated = read_from_port books.log i reading.stream reading.took (source_device stands served i may.source);
       };
       left = left_out books.log i stands.legal out;
       lines = lines;

@@ -27,6 +27,7 @@ use Rattle.vx_record.specs.Turns.{is_out, at_lease}
 use Rattle.vx_record.proofs.Adding.{adds_none}
 use Rattle.vx_record.proofs.Ceasing.{unabandoned}
 use Rattle.vx_record.proofs.Shifting.{stands_at}
+use Rattle.vx_record.proofs.Untried.{spends_settled}
 use Rattle.vx_places.specs.Rooms.{SameRooms}
 use Rattle.vx_counts.proofs.Once.{itself}
 use Rattle.vx_sourcecore.specs.Abreast.{IsCutOf}
@@ -42,7 +43,7 @@ use Rattle.vx_tasks.specs.declared.task.Role.{Role}
 use Rattle.vx_tasks.specs.declared.task.Role.TheVariants as role
 use Rattle.vx_tasks.specs.declared.task.Task.{Task}
 use Rattle.vx_tasks.specs.Home.{HasCome}
-use Rattle.vx_tasks.specs.Out.{HasRoleTurned, is_unfit, lacks_cut, read_entry, turn_entry}
+use Rattle.vx_tasks.specs.Out.{HasRoleTurned, is_unfit, lacks_cut, read_entry, turn_entry, leaves_taken}
 use Rattle.vx_tasks.specs.Telling.{IsTold}
 use Rattle.vx_seats.specs.Calls.{IsBack, HasTaskBack}
 use Rattle.vx_seats.specs.declared.seat.Seat.{Seat}
@@ -61,7 +62,7 @@ use Rattle.vx_landing.specs.Landings.{ComesBehind, HasBorneCut, HasLanded, HasNo
 use Rattle.vx_landing.specs.Standing.{IsWellAt, IsFedAt}
 use Rattle.vx_landing.proofs.Answering.{adds_step, for_own, leaves_both, spends_behind}
 use Rattle.vx_landing.proofs.Lending.{kept_on}
-use Rattle.vx_landing.proofs.Owing.{lacks_birth, owes_attempted, owes_barren, owes_borne, settled_by, spends_keep, uncaused}
+use Rattle.vx_landing.proofs.Owing.{deeds_none, lacks_birth, owes_attempted, owes_barren, owes_borne, owes_none, settled_by, spends_keep, uncaused}
 use Rattle.vx_landing.proofs.Seating.{LeavesBe, NowOwes, NowStarves, be_both, be_here, be_stays, both_are, both_said, carried, carried_one, fed_well, lands, others_both, others_one, well_on}
 
 -- WHAT A TASK DOES
@@ -129,14 +130,14 @@ pub record IsArrived {P : Type 0} (told_by : P → Told) (h : Record) (i : ℕ) 
   pub fit : is_unfit task.role ≡ false
 
 -- what its instance owes isn't known any more
-record IsOwing {P : Type 0} (task : Task P) (seat : Seat P) : Type 0 where
-  owing : seat.facts.owing ≡ true
-  fed : seat.facts.starved ≡ false
-  fit : seat.facts.behind ≡ false → is_unfit task.role ≡ false
+pub record IsOwing {P : Type 0} (task : Task P) (seat : Seat P) : Type 0 where
+  pub owing : seat.facts.owing ≡ true
+  pub fed : seat.facts.starved ≡ false
+  pub fit : seat.facts.behind ≡ false → is_unfit task.role ≡ false
 
 module _ {P : Type 0} {told_by : P → Told} {i : ℕ} {task : Task P} {old : Books P} {outcome : Done}
     (stands : Stands told_by old) (within : i < length old.seats) (b : IsBackWith told_by old i task outcome) where
-  landed_by : {h : Record} {new : Books P} → new.log ≡ h → Stands told_by new → OnlyAdds (IsFor i) old.log new.log → LandsOn i old new → is_out h i ≡ true →
+  pub landed_by : {h : Record} {new : Books P} → new.log ≡ h → Stands told_by new → OnlyAdds (IsFor i) old.log new.log → LandsOn i old new → is_out h i ≡ true →
       HasTaskBack told_by new.seats h i task → (new.run.short ≡ false → IsReturned h i) → HasLanded told_by i task old new
   landed_by {h} {new} log now only leaves out back returned = record {
     stands = now;
@@ -149,7 +150,7 @@ module _ {P : Type 0} {told_by : P → Told} {i : ℕ} {task : Task P} {old : Bo
   }
 
   -- all is well
-  landed_well : {h : Record} {new : Books P} → new.log ≡ h → Stands told_by new → OnlyAdds (IsFor i) old.log new.log → LeavesBe i old new →
+  pub landed_well : {h : Record} {new : Books P} → new.log ≡ h → Stands told_by new → OnlyAdds (IsFor i) old.log new.log → LeavesBe i old new →
       IfSome (slice_get new.seats i) IsWellAt → IsArrived told_by h i task → (cause_of h ≡ None → owes h i ≡ false) → HasLanded told_by i task old new
   landed_well {h} {new} log now only be well arrived settled =
       landed_by log now only (lands be (fed_well (slice_get new.seats i) well)) arrived.out
@@ -161,7 +162,7 @@ module _ {P : Type 0} {told_by : P → Told} {i : ℕ} {task : Task P} {old : Bo
         shut = λ closed. arrived.shut (sym known.facts.closed ∙ closed);
         fit = λ counted unfit. let no = rw unfit at arrived.fit in cc;
       }))
-      (λ fed. record { settled = λ going. settled_by h i (settled (uncaused h going)) going; told = arrived.answered })
+      (λ fed. record { settled = λ going. settled_by h i (spends_settled h i (settled (uncaused h going))) going; told = arrived.answered })
 
   -- so it is behind one entry
   landed_noted : {e : Entry} {new : Books P} → HasNoted told_by i e old new → IsArrived told_by (e ∷ old.log) i task → owes (e ∷ old.log) i ≡ false →
@@ -169,7 +170,7 @@ module _ {P : Type 0} {told_by : P → Told} {i : ℕ} {task : Task P} {old : Bo
   landed_noted noted arrived none = landed_well noted.steps.noted noted.steps.stands noted.only (be_stays noted.leaves noted.steps.size) (well_on i noted.leaves b.well) arrived (λ going. none)
 
   -- memory was wanting
-  back_owing : {h : Record} {new : Books P} → new.log ≡ h → Stands told_by new → IsTold (told_by task.port) h i → HasCome h i task.role →
+  pub back_owing : {h : Record} {new : Books P} → new.log ≡ h → Stands told_by new → IsTold (told_by task.port) h i → HasCome h i task.role →
       is_closed h i ≡ false → IfSome (slice_get new.seats i) (IsOwing task) → HasTaskBack told_by new.seats h i task
   back_owing {h} {new} log now told come unclosed owing =
       both_said (λ seat. IsKnown told_by seat h i) (IsOwing task) (λ seat. IsBack told_by seat.facts h i task) (slice_get new.seats i)
@@ -196,12 +197,17 @@ module _ {P : Type 0} {told_by : P → Told} {i : ℕ} {task : Task P} {old : Bo
       })
       out back (λ fed. cc)
 
+-- it owes nothing before what was done, unless that is to be answered yet
+pub owes_before : {P : Type 0} {told_by : P → Told} {books : Books P} {i : ℕ} {task : Task P} {outcome : Done} → IsBackWith told_by books i task outcome →
+    leaves_taken outcome ≡ false → owes books.log i ≡ false
+owes_before {books = books} {i = i} b answered = owes_none books.log i b.settled (b.untaken answered)
+
 -- WHAT WAS DONE
 module _ {P : Type 0} {told_by : P → Told} {i : ℕ} {task : Task P} {old : Books P} (stands : Stands told_by old) (within : i < length old.seats) where
   pub landed_nothing : IsBackWith told_by old i task done.Nothing → HasLanded told_by i task old old
   landed_nothing b =
       landed_well stands within b refl stands (adds_none (IsFor i) old.log old.log refl) be_here b.well
-      (record { out = b.out; told = b.told; come = b.acted; answered = b.answered; shut = λ closed. cc; fit = b.fit }) (λ going. b.settled)
+      (record { out = b.out; told = b.told; come = b.acted; answered = b.answered; shut = λ closed. cc; fit = b.fit }) (λ going. owes_before b refl)
 
   pub landed_closed : {new : Books P} → IsBackWith told_by old i task done.Closed → HasNoted told_by i (entry.Closed i) old new →
       HasLanded told_by i task old new
@@ -210,7 +216,7 @@ module _ {P : Type 0} {told_by : P → Told} {i : ℕ} {task : Task P} {old : Bo
       let come = come_mute task.role old.log (entry.Closed i) i tt b.acted.come in
       landed_noted stands within b noted
       (record { out = b.out; told = told; come = come; answered = b.answered; shut = λ closed. b.acted.shut; fit = b.fit })
-      (owes_still old.log (entry.Closed i) i tt b.settled)
+      (owes_still old.log (entry.Closed i) i tt (owes_before b refl))
 
   -- a turn that took nothing
   landed_idle_by : {took : Turned} {failed : Bool} {new : Books P} → reading_of took ≡ None → is_unfit task.role ≡ false →
@@ -219,7 +225,7 @@ module _ {P : Type 0} {told_by : P → Told} {i : ℕ} {task : Task P} {old : Bo
   landed_idle_by {took} {failed} none fit told b noted =
       let come = come_under task.role old.log (entry.Idle i failed) i tt (role_idle task.role old.log i took none b.acted.come) in
       landed_noted stands within b noted (record { out = b.out; told = told; come = come; answered = b.answered; shut = λ closed. cc; fit = fit })
-      (owes_still old.log (entry.Idle i failed) i tt b.settled)
+      (owes_still old.log (entry.Idle i failed) i tt (owes_before b refl))
 
   pub landed_idle : {new : Books P} → IsBackWith told_by old i task (done.Read turned.Idle) → HasNoted told_by i (entry.Idle i false) old new →
       HasLanded told_by i task old new
@@ -236,7 +242,7 @@ module _ {P : Type 0} {told_by : P → Told} {i : ℕ} {task : Task P} {old : Bo
           let e = entry.SourceLost i (capped (bytes_taken old.log i)) at_start in
           let come = come_under task.role old.log e i tt (role_idle task.role old.log i (turned.Failed at_start) refl b.acted.come) in
           landed_noted stands within b noted (record { out = b.out; told = told; come = come; answered = b.answered; shut = λ closed. cc; fit = b.fit })
-          (owes_still old.log e i tt b.settled)
+          (owes_still old.log e i tt (owes_before b refl))
 
   -- memory was wanting for the confirm or the work, or in the midst of an attempt
   pub landed_short : {new : Books P} → IsBackWith told_by old i task done.Short → IsMarked told_by NowOwes i old new → HasLanded told_by i task old new
@@ -249,7 +255,7 @@ module _ {P : Type 0} {told_by : P → Told} {i : ℕ} {task : Task P} {old : Bo
   landed_starved b marked =
       landed_marked stands within b refl stands (adds_none (IsFor i) old.log old.log refl) be_here marked b.out
       (carried_one IsWellAt (λ seat. IsBack told_by seat.facts old.log i task) marked.seats b.well (λ was is now well. rw now (record {
-        settled = λ owing going. b.settled;
+        settled = λ owing going. owes_before b refl;
         answered = λ device owing going. b.answered;
         task_is = (b.told, b.acted.come);
         shut = λ closed. b.acted.shut;
@@ -265,7 +271,7 @@ module _ {P : Type 0} {told_by : P → Told} {i : ℕ} {task : Task P} {old : Bo
     arrived : IsArrived told_by spent.mid.log i task
     arrived = rw spent.noted.steps.noted (record {
       out = b.out;
-      told = rw (stands_at old.log (Held i) stands.legal, ← b.held) b.told;
+      told = rw (stands_at old.log (Held i) stands.legal, ← b.held.held) b.told;
       come = come_under task.role old.log (entry.Attempt i (joined (held old.log i)) (take sent all.value) answer) i tt b.acted.come;
       answered = b.answered;
       shut = λ closed. cc;
@@ -300,7 +306,7 @@ module _ {P : Type 0} {told_by : P → Told} {i : ℕ} {task : Task P} {old : Bo
               (λ h c is. let e = entry.Spent i c (outcome_of answer) in assumption (told_mute (told_by task.port) h e i tt is.told, come_mute task.role h e i tt is.come, is))
               (λ h batch status is. let e = entry.Notice batch status in assumption (told_mute (told_by task.port) h e i tt is.told, come_mute task.role h e i tt is.come, is))
               spends.only arrived;
-          settled = λ none. owes_attempted old.log new.log i (joined (held old.log i)) (take sent all.value) answer (outcome_of answer) b.settled
+          settled = λ none. owes_attempted old.log new.log i (joined (held old.log i)) (take sent all.value) answer (outcome_of answer) (owes_before b refl)
               (rw spent.noted.steps.noted at spends.only) spent.stands.legal (spent.none going);
           behind = rw spent.noted.steps.noted at (spends_behind spends);
         }
@@ -364,7 +370,7 @@ module _ {P : Type 0} {told_by : P → Told} {i : ℕ} {task : Task P} {old : Bo
 
       -- no batch was to be born
       unyielding : (cut.events ≡ []) ⊎ (abandoned mid.log ≡ true) → cause_of read ≡ None → owes read i ≡ false
-      unyielding (inl none) going = owes_barren old.log i found.0.stream found.0.took (sym taken.1.0.events ∙ none) b.settled
+      unyielding (inl none) going = owes_barren old.log i found.0.stream found.0.took (sym taken.1.0.events ∙ none) (owes_before b refl)
       unyielding (inr over) going = let not = unabandoned read going in let is = rw log at over in cc
 
       pub landed_cut : {stream : ℕ} {new : Books P} → HasBorneCut told_by i stream cut mid new → Leaves mid new → length new.seats ≡ length mid.seats →
@@ -385,7 +391,7 @@ module _ {P : Type 0} {told_by : P → Told} {i : ℕ} {task : Task P} {old : Bo
             shut = λ closed. cc;
             fit = taken.1.1;
           })
-          (λ going. owes_borne old.log i found.0.stream found.0.took next next (counting next (length cut.events)) cut.events (must_wait mid.log i) stream cut.end b.settled)
+          (λ going. owes_borne old.log i found.0.stream found.0.took next next (counting next (length cut.events)) cut.events (must_wait mid.log i) stream cut.end (owes_before b refl))
 
       pub well_cut : {new : Books P} → Leaves mid new → IsWellLanded i old new
       well_cut leaves = record { fed = ap (λ (r : Run). r.short) (leaves.run ∙ be.run); seat = well_on i leaves well_mid }
@@ -408,7 +414,7 @@ module _ {P : Type 0} {told_by : P → Told} {i : ℕ} {task : Task P} {old : Bo
           (back_owing stands within b (same ∙ log) now told taken.0 b.unclosed
           (carried Owes IsWellAt (IsOwing task) (slice_get mid.seats i) (slice_get new.seats i) marks well_mid
           (λ was is owes well. record { owing = owes.owing; fed = owes.fed ∙ well.fed; fit = λ counted. taken.1.1 })))
-          (λ fed. record { settled = settled_read old.log i found.0.stream found.0.took (settled_by old.log i b.settled); told = b.answered })
+          (λ fed. record { settled = settled_read old.log i found.0.stream found.0.took (settled_by old.log i (deeds_none old.log i b.settled).spends); told = b.answered })
 
       -- for which the run may be given up
       pub lacks : (stream : ℕ) {new : Record} (short : Short) → IsSomeAnd (reading_of took) (λ reading. reading.stream ≡ stream) → new ≡ mid.log →

@@ -1,10 +1,11 @@
 -- A task that was done comes home: first what it holds and its confirm, then what was done; and what is left of the books then.
-use Rattle.std.proofs.Common.{◌≡◌, ◌≢◌, ◌∙◌, ℕ, ◌<◌, true, false, ◌∷◌, ◌++◌, length, Option, Some, None, IfSome, IsSome, IsSomeAnd, refl, sym, ap, arith, inl, inr}
+use Rattle.std.proofs.Common.{◌≡◌, ◌≢◌, ◌∙◌, ℕ, ◌<◌, true, false, List, ◌∷◌, ◌++◌, length, Option, Some, None, IfSome, IsSome, IsSomeAnd, refl, sym, ap, arith, inl, inr}
 use Rattle.std.specs.Prelude.{is_some, slice_get, Result, OnOk}
 use Rattle.std.specs.List.{list_any}
 use Rattle.std.proofs.lemmas.Bool.{cases_Bool, cases_eq}
 use Rattle.std.proofs.lemmas.Result.{on_ok_weaker}
 use Rattle.vx_ends.specs.Told.{Told}
+use Rattle.vx_ledger.specs.declared.parcel.Parcel.{Parcel}
 use Rattle.vx_ledger.specs.declared.short.Short.{Short}
 use Rattle.vx_record.specs.declared.entry.Entry.{Entry}
 use Rattle.vx_record.specs.declared.entry.Entry.TheVariants as entry
@@ -15,17 +16,16 @@ use Rattle.vx_record.specs.Ceasing.{cause_of}
 use Rattle.vx_record.specs.Installs.{source_at, sink_at, device_at, is_closed}
 use Rattle.vx_record.specs.Legal.{Follows, IsLegal}
 use Rattle.vx_record.specs.Makers.{IsFor}
-use Rattle.vx_record.specs.Owing.{owes}
+use Rattle.vx_record.specs.Owing.{owes_answer}
 use Rattle.vx_record.specs.Places.Place.{Held}
-use Rattle.vx_record.specs.Shifts.{at}
 use Rattle.vx_record.specs.Turns.{is_out, since_lease, is_turn_of, is_attempt_of, is_confirm_of}
 use Rattle.vx_record.proofs.Answerers.{source_untransforming}
 use Rattle.vx_record.proofs.Adding.{carry}
 use Rattle.vx_record.proofs.Ceasing.{unabandoned}
 use Rattle.vx_record.proofs.TasksOut.{out_to_worker}
-use Rattle.vx_places.specs.Numbers.{numbers}
 use Rattle.vx_places.specs.Rooms.{LendsRoom}
 use Rattle.vx_places.specs.Views.{parcels_here}
+use Rattle.vx_places.proofs.Steps.{known_later}
 use Rattle.vx_counts.proofs.Once.{itself}
 use Rattle.vx_sourcecore.specs.declared.source.Turned.{Turned}
 use Rattle.vx_sourcecore.proofs.Keeping.{turned_under}
@@ -35,24 +35,23 @@ use Rattle.vx_tasks.specs.declared.landing.Done.TheVariants as done
 use Rattle.vx_tasks.specs.declared.landing.Landing.{Landing}
 use Rattle.vx_tasks.specs.declared.task.Role.{Role}
 use Rattle.vx_tasks.specs.declared.task.Role.TheVariants as role
-use Rattle.vx_tasks.specs.Out.{AreDue, HasDone, HasActed, HasRoleTurned, IsConfirmedSo, confirm_entries}
+use Rattle.vx_tasks.specs.Out.{AreDue, IsHeld, HasDone, HasActed, HasRoleTurned, IsConfirmedSo, confirm_entries, leaves_taken}
 use Rattle.vx_seats.specs.declared.seat.Seat.{Seat}
 use Rattle.vx_seats.specs.Staying.{EachSeat, SameFlags}
-use Rattle.vx_seats.proofs.Owing.{owes_still}
 use Rattle.vx_moves.specs.declared.books.Books.{Books}
 use Rattle.vx_moves.specs.declared.run.Run.{Run}
 use Rattle.vx_moves.specs.Leaving.{Leaves}
 use Rattle.vx_moves.specs.Stands.{Stands}
 use Rattle.vx_ready.specs.Asking.{IsServed}
-use Rattle.vx_ready.proofs.Done.{device_there, plain_there}
 use Rattle.vx_landing.specs.Failures.{LacksBirth}
-use Rattle.vx_landing.specs.Landings.{HasComeHome, IsAnswered, IsBackWith, IsConfirmable, IsGivenUp, IsWellLanded, LandsOn, OthersStay}
+use Rattle.vx_landing.specs.Landings.{HasComeHome, IsAnswered, IsBackWith, IsConfirmable, IsGivenUp, IsWellLanded, LandsOn, OthersStay, owes_entries}
 use Rattle.vx_landing.specs.Standing.{IsWellAt, IsWell, IsFedAt, IsFed, AwayIsWell, LentWhileOut}
 use Rattle.vx_landing.proofs.Landed.{come_under}
 use Rattle.vx_landing.proofs.Lending.{kept_on, lent_room, room_lent}
-use Rattle.vx_landing.proofs.Owing.{lacks_home, owes_out, uncaused}
+use Rattle.vx_landing.proofs.Owing.{entries_confirmed, lacks_home, owes_out, uncaused}
+use Rattle.vx_landing.proofs.Serving.{source_device}
 use Rattle.vx_landing.proofs.Seating.{LeavesBe, carried, not_same, others_both, well_on}
-use Rattle.vx_landing.proofs.ToldOut.{told_none, told_some}
+use Rattle.vx_landing.proofs.ToldOut.{told_never, told_none, told_some}
 
 -- ITS CONFIRM
 -- there is one only where it was due
@@ -89,21 +88,31 @@ acted_behind told h i r d (Some c) so acted = acted_some told h i r d c (due_if 
 
 -- and then it names what was due
 answered_behind : (h : Record) (i : ℕ) (d : Done) (confirmed : Option Confirmed) → IsLegal (confirm_entries i confirmed ++ h) → is_out h i ≡ true →
-    device_at h i ≡ true → list_any (is_confirm_of i) (since_lease h i) ≡ false → IsConfirmedSo h i d confirmed →
+    (source_at h i ≡ true → device_at h i ≡ true) → list_any (is_confirm_of i) (since_lease h i) ≡ false → IsConfirmedSo h i d confirmed →
     IsAnswered (confirm_entries i confirmed ++ h) i d
 answered_behind h i done.Short confirmed legal out device none so = tt
-answered_behind h i d None legal out device none so = told_none h i legal out device so none
+answered_behind h i d None legal out device none so = elim (cases_Bool (source_at h i)) [
+  | inl is ↦ told_none h i legal out (device is) so none
+  | inr other ↦ told_never h i legal other
+]
 answered_behind h i d (Some c) legal out device none so = told_some h i c.positions c.made legal.0
 
-owes_behind : (h : Record) (i : ℕ) (confirmed : Option Confirmed) → owes h i ≡ false → owes (confirm_entries i confirmed ++ h) i ≡ false
-owes_behind h i None none = none
-owes_behind h i (Some c) none = owes_still h (entry.Confirm i c.positions c.made) i tt none
+held_behind : (h : Record) (i : ℕ) (parcels : List Parcel) (c : Confirmed) → IsHeld h i parcels → IsHeld (entry.Confirm i c.positions c.made ∷ h) i parcels
+held_behind h i parcels c is = record {
+  held = is.held;
+  known = λ event copy among. known_later h (entry.Confirm i c.positions c.made) event copy refl (is.known event copy among);
+  filled = is.filled;
+}
 
 -- what a confirm doesn't change
 same_behind : (F : Record → Type 0) (h : Record) (i : ℕ) (confirmed : Option Confirmed) → ((c : Confirmed) → F h → F (entry.Confirm i c.positions c.made ∷ h)) →
     F h → F (confirm_entries i confirmed ++ h)
 same_behind F h i None same was = was
 same_behind F h i (Some c) same was = same c was
+
+-- a run that is given up is, and one that isn't isn't
+pub over_behind : (h : Record) (i : ℕ) (confirmed : Option Confirmed) → abandoned (confirm_entries i confirmed ++ h) ≡ abandoned h
+over_behind h i confirmed = same_behind (λ k. abandoned k ≡ abandoned h) h i confirmed (λ c same. same) refl
 
 module _ {P : Type 0} {told_by : P → Told} {old : Books P} {landing : Landing P} (stands : Stands told_by old) (served : IsServed old)
     (within : landing.instance < length old.seats) (back : HasDone told_by old.log landing) where
@@ -122,7 +131,9 @@ module _ {P : Type 0} {told_by : P → Told} {old : Books P} {landing : Landing 
     no_turn : list_any (is_turn_of i) (since_lease h i) ≡ false
     no_attempt : list_any (is_attempt_of i) (since_lease h i) ≡ false
     unclosed : is_closed h i ≡ false
-    held : numbers landing.held.items ≡ at h (Held i)
+    settled : owes_entries h i ≡ false
+    untaken : leaves_taken landing.done ≡ false → owes_answer h i ≡ false
+    held : IsHeld h i landing.held.items
 
   -- once both were noted
   pub back_with : {one two : Books P} → one.log ≡ old.log → one.seats ≡ old.seats → length one.places ≡ length one.seats →
@@ -131,16 +142,25 @@ module _ {P : Type 0} {told_by : P → Told} {old : Books P} {landing : Landing 
   back_with {one} {two} same seats rows kept after log leaves well =
       let c = landing.confirmed in
       let now : two.log ≡ confirm_entries i c ++ old.log = rw same at log in
-      let on = same_behind IsBackOn old.log i c (λ c on. assumption on) (assumption (out_now, back.idle, back.held)) in
+      let settled = owes_out old.log i stands.legal out_now back.idle.no_turn back.idle.no_attempt back.settled in
+      let on = same_behind IsBackOn old.log i c (λ c on. record {
+        out = on.out;
+        no_turn = on.no_turn;
+        no_attempt = on.no_attempt;
+        unclosed = on.unclosed;
+        settled = entries_confirmed old.log i c.positions c.made on.settled;
+        untaken = on.untaken;
+        held = held_behind old.log i landing.held.items c on.held;
+      }) (assumption (out_now, back.idle, settled, back.untaken, back.held)) in
       record {
         out = rw now on.out;
         no_turn = rw now on.no_turn;
         no_attempt = rw now on.no_attempt;
         unclosed = rw now on.unclosed;
-        settled = rw now (owes_behind old.log i c
-            (owes_out old.log i stands.legal out_now (plain_there told_by old stands served i within) back.idle.no_turn back.idle.no_attempt));
+        settled = rw now on.settled;
+        untaken = rw now on.untaken;
         answered = rw now (answered_behind old.log i landing.done c (rw now at after.legal) out_now
-            (device_there told_by old stands served i within) back.idle.no_confirm back.confirmed);
+            (source_device stands served i) back.idle.no_confirm back.confirmed);
         parcels = landing.held.items;
         held = rw now on.held;
         told = rw now back.told;
@@ -229,7 +249,7 @@ module _ {P : Type 0} {told_by : P → Told} {i room : ℕ} (old : Books P) {one
   pub came_home : (abandoned old.log ≡ true → IsGivenUp new.log i) → IsServed old → LentWhileOut old → AwayIsWell old → HasComeHome told_by i old new
   came_home over served lent away = record {
     stands = stands;
-    served = record { ported = rw run served.ported; few = rw size served.few };
+    served = record { served = rw run served.served; few = rw size served.few };
     size = size;
     only = only;
     run = run;

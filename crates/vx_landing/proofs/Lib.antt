@@ -1,7 +1,9 @@
 pub mod Answering
+pub mod Judging
 pub mod Landed
 pub mod LandedBooks
 pub mod Lending
 pub mod Owing
 pub mod Seating
+pub mod Serving
 pub mod ToldOut

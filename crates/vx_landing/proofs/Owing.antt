@@ -9,11 +9,13 @@ use Rattle.vx_value.specs.Texts.{Word, is_empty}
 use Rattle.vx_value.specs.declared.event.Event.{Event}
 use Rattle.vx_ledger.specs.declared.short.Short.{Short}
 use Rattle.vx_ledger.specs.declared.short.Short.TheVariants.{Numbers, WantOfMemory}
+use Rattle.vx_ends.specs.declared.position.Position.{Position}
 use Rattle.vx_ends.specs.declared.trouble.Reply.{Reply}
 use Rattle.vx_status.specs.declared.outcome.Outcome.{Outcome}
 use Rattle.vx_status.specs.declared.batch_status.BatchStatus.{BatchStatus}
 use Rattle.vx_record.specs.declared.entry.Entry.{Entry}
-use Rattle.vx_record.specs.declared.entry.Entry.TheVariants.{Install, Lease, Home, Read, Born, Take, Answer, Attempt, Spent, Notice, Abandon}
+use Rattle.vx_record.specs.declared.entry.Entry.TheVariants.{Install, Lease, Home, Read, Born, Answer, Attempt, Spent, Notice, Confirm, Abandon}
+use Rattle.vx_record.specs.declared.output.Output.{Output}
 use Rattle.vx_record.specs.declared.taken.Taken.{Taken}
 use Rattle.vx_record.specs.Records.{Record}
 use Rattle.vx_record.specs.Abandoning.{abandoned}
@@ -23,6 +25,7 @@ use Rattle.vx_record.specs.Confirms.{Birth, births, births_in}
 use Rattle.vx_record.specs.Copies.{count, contains, joined, all_of, next_copy, spends, times_spent}
 use Rattle.vx_record.specs.Installs.{transform_at}
 use Rattle.vx_record.specs.Legal.{IsLegal}
+use Rattle.vx_record.specs.Lists.{held}
 use Rattle.vx_record.specs.Owing.{fruitful, is_decided, unspent_of, decided, last_discarded, took_since, owes_birth, owes_spends_in, owes_discards, owes_answer, owes}
 use Rattle.vx_record.specs.Parcels.{first_copy}
 use Rattle.vx_record.specs.Places.Place.{Held}
@@ -32,18 +35,18 @@ use Rattle.vx_record.specs.SinkBatches.{attempts_with, attempts_allowed, failure
 use Rattle.vx_record.specs.Sourcing.{Yield, yield, yield_of}
 use Rattle.vx_record.specs.Turns.{is_out, since_lease, is_turn_of, is_attempt_of}
 use Rattle.vx_record.proofs.Adding.{adds_wider, carry}
-use Rattle.vx_record.proofs.Answerers.{unanswering}
 use Rattle.vx_record.proofs.Attempted.{attempted_held}
 use Rattle.vx_record.proofs.Counts.{count-append}
 use Rattle.vx_record.proofs.Further.{numbers_bounded}
+use Rattle.vx_record.proofs.Promises.{discarded_held}
 use Rattle.vx_record.proofs.Shifting.{stands_at}
-use Rattle.vx_record.proofs.Untried.{spends_settled, owed_spent}
+use Rattle.vx_record.proofs.Untried.{owed_spent}
 use Rattle.vx_counts.proofs.Once.{itself}
-use Rattle.vx_seats.proofs.Owing.{owes_far, owes_still}
 use Rattle.vx_moves.specs.Bearing.{IsBirthShort}
 use Rattle.vx_moves.specs.Returns.{AreSettled}
 use Rattle.vx_moves.specs.Spends.{IsSpendOf}
 use Rattle.vx_landing.specs.Failures.{LacksBirth}
+use Rattle.vx_landing.specs.Landings.{owes_entries}
 
 -- a run that wasn't given up has no cause
 pub uncaused : (h : Record) → abandoned h ≡ false → cause_of h ≡ None
@@ -57,32 +60,74 @@ was_out true c out = cc
 was_out false c out = out
 
 -- THE PARTS
--- what an instance may owe beside spends
-record OwesElse (h : Record) (i : ℕ) : Type 0 where
-  birth : owes_birth h i ≡ false
-  discards : owes_discards h i ≡ false
-  answer : owes_answer h i ≡ false
+-- what an instance may owe of what it did
+pub record OwesDeeds (h : Record) (i : ℕ) : Type 0 where
+  pub birth : owes_birth h i ≡ false
+  pub spends : owes_spends_in h h i ≡ false
 
-else_none : (h : Record) (i : ℕ) → owes h i ≡ false → OwesElse h i
-else_none h i none =
-    let all = or_parts (owes_birth h i || owes_spends_in h h i || owes_discards h i) (owes_answer h i) none in
-    let three = or_parts (owes_birth h i || owes_spends_in h h i) (owes_discards h i) all.0 in
-    record { birth = (or_parts (owes_birth h i) (owes_spends_in h h i) three.0).0; discards = three.1; answer = all.1 }
+pub deeds_none : (h : Record) (i : ℕ) → owes_entries h i ≡ false → OwesDeeds h i
+deeds_none h i none =
+    let two = or_parts (owes_birth h i) (owes_spends_in h h i) (or_parts (owes_birth h i || owes_spends_in h h i) (owes_discards h i) none).0 in
+    record { birth = two.0; spends = two.1 }
+
+-- with what it discarded, and what it took
+entries_none : (h : Record) (i : ℕ) → OwesDeeds h i → owes_discards h i ≡ false → owes_entries h i ≡ false
+entries_none h i deeds discards =
+    or_from (owes_birth h i || owes_spends_in h h i) (owes_discards h i) (or_from (owes_birth h i) (owes_spends_in h h i) deeds.birth deeds.spends) discards
+
+pub owes_none : (h : Record) (i : ℕ) → owes_entries h i ≡ false → owes_answer h i ≡ false → owes h i ≡ false
+owes_none h i entries answer = or_from (owes_entries h i) (owes_answer h i) entries answer
+
+owes_parts : (h : Record) (i : ℕ) → owes h i ≡ false → (owes_entries h i ≡ false) × (owes_answer h i ≡ false)
+owes_parts h i none = or_parts (owes_entries h i) (owes_answer h i) none
 
 -- what is owed, by how many were born and how many are to be, by what was decided and discarded, by what is spent, and by whether an answer is
 abbrev owing : ℕ → ℕ → List (List ℕ) → List ℕ → List ℕ → Bool → Bool
 owing born fruits settled discarded spent answer =
     nat_lt born fruits || list_any (λ copies. list_any (λ c. count c spent == 0) copies) settled || list_any (λ c. count c spent == 0) discarded || answer
 
+born_enough : (h : Record) (i : ℕ) → owes h i ≡ false → owes_birth h i ≡ false
+born_enough h i none = (deeds_none h i (owes_parts h i none).0).birth
+
 -- nothing is, where as much is spent and enough was born
 owing_none : (h : Record) (i born fruits : ℕ) (spent : List ℕ) (answer : Bool) → spent ≡ all_of spends h → nat_lt born fruits ≡ false →
     answer ≡ owes_answer h i → owes h i ≡ false → owing born fruits (decided h i) (last_discarded h i) spent answer ≡ false
-owing_none h i born fruits spent answer same enough alike none = rw (same, enough, alike) (rw (else_none h i none).birth at none)
+owing_none h i born fruits spent answer same enough alike none = rw (same, enough, alike) (rw (born_enough h i none) at none)
 
 -- so it is behind an entry that neither bears nor spends
 owing_next : (h : Record) (i fruits : ℕ) (answer : Bool) → nat_lt (length (births h i)) fruits ≡ false → answer ≡ owes_answer h i → owes h i ≡ false →
     owing (length (births h i ++ [])) fruits (decided h i) (last_discarded h i) (all_of spends h ++ []) answer ≡ false
 owing_next h i fruits answer enough = owing_none h i (length (births h i ++ [])) fruits (all_of spends h ++ []) answer (append-nil (all_of spends h)) (rw append-nil enough)
+
+-- what is spent stays so
+spent_more : (h : Record) (e : Entry) (c : ℕ) → (times_spent h c == 0) ≡ false → (times_spent (e ∷ h) c == 0) ≡ false
+spent_more h e c some = let few : times_spent (e ∷ h) c ≡ times_spent h c + count c (spends e) = count-append c (all_of spends h) (spends e) in grind (arith, nat_tests, some, few)
+
+unspent_less : (h : Record) (e : Entry) (copies : List ℕ) → unspent_of h copies ≡ false → unspent_of (e ∷ h) copies ≡ false
+unspent_less h e [] none = refl
+unspent_less h e (c ∷ cs) none =
+    let two = or_parts (times_spent h c == 0) (unspent_of h cs) none in
+    or_from (times_spent (e ∷ h) c == 0) (unspent_of (e ∷ h) cs) (spent_more h e c two.0) (unspent_less h e cs two.1)
+
+each_less : (h : Record) (e : Entry) (parcels : List (List ℕ)) → list_any (unspent_of h) parcels ≡ false → list_any (unspent_of (e ∷ h)) parcels ≡ false
+each_less h e [] none = refl
+each_less h e (p ∷ ps) none =
+    let two = or_parts (unspent_of h p) (list_any (unspent_of h) ps) none in
+    or_from (unspent_of (e ∷ h) p) (list_any (unspent_of (e ∷ h)) ps) (unspent_less h e p two.0) (each_less h e ps two.1)
+
+-- so an entry that neither bears, reads nor attempts leaves what is owed of what was done
+deeds_on : (h : Record) (e : Entry) (i : ℕ) → births_in i e ≡ [] → fruitful (e ∷ h) i ≡ fruitful h i → decided (e ∷ h) i ≡ decided h i → OwesDeeds h i → OwesDeeds (e ∷ h) i
+deeds_on h e i unborn read tried was = record { birth = rw (unborn, append-nil, read) was.birth; spends = rw tried (each_less h e (decided h i) was.spends) }
+
+-- and a confirm does what was discarded too
+pub entries_confirmed : (h : Record) (i : ℕ) (positions : List Position) (made : Bool) → owes_entries h i ≡ false → owes_entries (Confirm i positions made ∷ h) i ≡ false
+entries_confirmed h i positions made none =
+    let e = Confirm i positions made in
+    entries_none (e ∷ h) i (deeds_on h e i refl refl refl (deeds_none h i none))
+    (unspent_less h e (last_discarded h i) (or_parts (owes_birth h i || owes_spends_in h h i) (owes_discards h i) none).1)
+
+none_more : (n : ℕ) → n + 0 ≡ n
+none_more n = omega arith
 
 -- WHILE OUT
 -- a birth stands directly behind a turn of its source
@@ -94,35 +139,40 @@ unborn (Read k stream took ∷ h) i j y yields none = elim (cases_Bool (k == j))
 ]
 unborn (e ∷ h) i j y yields none = cc
 
--- what is out and took no turn nor made an attempt since its lease owes nothing, unless it is a transform
-pub owes_out : (h : Record) (i : ℕ) → IsLegal h → is_out h i ≡ true → transform_at h i ≡ false → list_any (is_turn_of i) (since_lease h i) ≡ false →
-    list_any (is_attempt_of i) (since_lease h i) ≡ false → owes h i ≡ false
-owes_out [] i legal out plain unturned untried = cc
-owes_out (Install version plan once instances now ∷ h) i legal out plain unturned untried =
+-- what others attempted doesn't count
+untold : {X : Type 0} (own done : Bool) (more before : X) → own ≡ false → (if own && done then more else before) ≡ before
+untold true done more before far = cc
+untold false done more before far = refl
+
+-- what is out and took no turn nor made an attempt since its lease owes nothing of what it did
+deeds_out : (h : Record) (i : ℕ) → IsLegal h → is_out h i ≡ true → list_any (is_turn_of i) (since_lease h i) ≡ false →
+    list_any (is_attempt_of i) (since_lease h i) ≡ false → OwesDeeds h i
+deeds_out [] i legal out unturned untried = cc
+deeds_out (Install version plan once instances now ∷ h) i legal out unturned untried =
     let none = rw legal.0.row.first at out in cc
-owes_out (Lease j worker now polls ∷ h) i legal out plain unturned untried =
-    let none : owes h i ≡ false = elim (cases_Bool (j == i)) [
-      | inl is ↦ rw (eqb-true j i is) at legal.0.row.settled
-      | inr far ↦ owes_out h i legal.1 (rw far at out) plain (rw far at unturned) (rw far at untried)
-    ] in owing_next h i (fruitful h i) (owes_answer h i) (else_none h i none).birth refl none
-owes_out (Home j ∷ h) i legal out plain unturned untried =
-    owes_still h (Home j) i tt (owes_out h i legal.1 (was_out (j == i) (is_out h i) out) plain unturned untried)
-owes_out (Read j stream took ∷ h) i legal out plain unturned untried =
+deeds_out (Lease j worker now polls ∷ h) i legal out unturned untried =
+    deeds_on h (Lease j worker now polls) i refl refl refl (elim (cases_Bool (j == i)) [
+      | inl is ↦ deeds_none h i (owes_parts h i (rw (eqb-true j i is) at legal.0.row.settled)).0
+      | inr far ↦ deeds_out h i legal.1 (rw far at out) (rw far at unturned) (rw far at untried)
+    ])
+deeds_out (Home j ∷ h) i legal out unturned untried =
+    deeds_on h (Home j) i refl refl refl (deeds_out h i legal.1 (was_out (j == i) (is_out h i) out) unturned untried)
+deeds_out (Read j stream took ∷ h) i legal out unturned untried =
     let turned = or_parts (j == i) (list_any (is_turn_of i) (since_lease h i)) unturned in
-    owes_far h (Read j stream took) i tt turned.0 (owes_out h i legal.1 out plain turned.1 untried)
-owes_out (Born j b place copies events waits stream end ∷ h) i legal out plain unturned untried =
-    owes_far h (Born j b place copies events waits stream end) i tt
-    (unborn h i j (record { events = events; stream = stream; end = end }) legal.0.row.yields unturned) (owes_out h i legal.1 out plain unturned untried)
-owes_out (Take j s copies ∷ h) i legal out plain unturned untried =
-    let none = owes_out h i legal.1 out plain unturned untried in
-    owing_next h i (fruitful h i) (transform_at h i && ((j == i) || took_since h i)) (else_none h i none).birth (rw plain refl) none
-owes_out (Answer j outputs discarded kept ∷ h) i legal out plain unturned untried =
-    owes_far h (Answer j outputs discarded kept) i tt (unanswering h i j outputs discarded kept legal plain) (owes_out h i legal.1 out plain unturned untried)
-owes_out (Attempt j copies bytes reply ∷ h) i legal out plain unturned untried =
+    deeds_on h (Read j stream took) i refl (rw turned.0 (none_more (fruitful h i))) refl (deeds_out h i legal.1 out turned.1 untried)
+deeds_out (Born j b place copies events waits stream end ∷ h) i legal out unturned untried =
+    let far = unborn h i j (record { events = events; stream = stream; end = end }) legal.0.row.yields unturned in
+    deeds_on h (Born j b place copies events waits stream end) i (rw far refl) refl refl (deeds_out h i legal.1 out unturned untried)
+deeds_out (Attempt j copies bytes reply ∷ h) i legal out unturned untried =
     let tried = or_parts (j == i) (list_any (is_attempt_of i) (since_lease h i)) untried in
-    owes_far h (Attempt j copies bytes reply) i tt tried.0 (owes_out h i legal.1 out plain unturned tried.1)
-owes_out (e ∷ h) i legal out plain unturned untried =
-    owes_still h e i tt (owes_out h i legal.1 out plain (or_parts (is_turn_of i e) (list_any (is_turn_of i) (since_lease h i)) unturned).1 untried)
+    deeds_on h (Attempt j copies bytes reply) i refl refl (untold (j == i) _ _ _ tried.0) (deeds_out h i legal.1 out unturned tried.1)
+deeds_out (e ∷ h) i legal out unturned untried =
+    deeds_on h e i refl refl refl (deeds_out h i legal.1 out (or_parts (is_turn_of i e) (list_any (is_turn_of i) (since_lease h i)) unturned).1 untried)
+
+-- nor anything but an answer, where all that it discarded is spent
+pub owes_out : (h : Record) (i : ℕ) → IsLegal h → is_out h i ≡ true → list_any (is_turn_of i) (since_lease h i) ≡ false →
+    list_any (is_attempt_of i) (since_lease h i) ≡ false → owes_discards h i ≡ false → owes_entries h i ≡ false
+owes_out h i legal out unturned untried discards = entries_none h i (deeds_out h i legal out unturned untried) discards
 
 -- SPENDS
 -- what is so of each spend of an instance and of each notice
@@ -143,18 +193,15 @@ pub spends_wider : {i : ℕ} {outcome : Outcome} {old new : Record} (Wider : Rec
     ((h : Record) (b : ℕ) (status : BatchStatus) → Wider h (Notice b status)) → OnlyAdds (IsSpendOf i outcome) old new → OnlyAdds Wider old new
 spends_wider {i} {outcome} {old} {new} Wider spent noticed = adds_wider (IsSpendOf i outcome) Wider (of_spends Wider spent noticed) old new
 
--- what owes nothing has spent what it attempted
-pub settled_by : (h : Record) (i : ℕ) → owes h i ≡ false → AreSettled h i
-settled_by h i none going c tried = owed_spent h h i c (spends_settled h i none) tried
+-- what owes no spends has spent what it attempted
+pub settled_by : (h : Record) (i : ℕ) → owes_spends_in h h i ≡ false → AreSettled h i
+settled_by h i none going c tried = owed_spent h h i c none tried
 
 -- READS AND BIRTHS
-none_more : (n : ℕ) → n + 0 ≡ n
-none_more n = omega arith
-
 -- behind a read that gives no event nothing is owed
 pub owes_barren : (h : Record) (i stream : ℕ) (took : Taken) → events_of h i stream took ≡ [] → owes h i ≡ false → owes (Read i stream took ∷ h) i ≡ false
 owes_barren h i stream took barren none =
-    owing_next h i (fruitful h i + (if (i == i) && not (is_empty (events_of h i stream took)) then 1 else 0)) (owes_answer h i) (rw (itself i, barren, none_more) (else_none h i none).birth) refl none
+    owing_next h i (fruitful h i + (if (i == i) && not (is_empty (events_of h i stream took)) then 1 else 0)) (owes_answer h i) (rw (itself i, barren, none_more) (born_enough h i none)) refl none
 
 -- what a read yields
 yielded : (h : Record) (i stream : ℕ) (took : Taken) (y : Yield) → yield (Read i stream took ∷ h) i ≡ Some y → yield_of h i stream took ≡ y
@@ -170,20 +217,22 @@ pub owes_borne : (h : Record) (i stream : ℕ) (took : Taken) (b place : ℕ) (c
 owes_borne h i stream took b place copies events waits of end none =
     owing_none h i (length ((births h i ++ []) ++ births_in i (Born i b place copies events waits of end))) (fruitful h i + (if (i == i) && not (is_empty (events_of h i stream took)) then 1 else 0))
     ((all_of spends h ++ []) ++ []) (owes_answer h i) (rw (append-nil, append-nil) refl)
-    (rw (itself i, append-nil) (enough (births h i) (record { batch = b; waits = waits; stream = of; end = end }) (fruitful h i) (not (is_empty (events_of h i stream took))) (else_none h i none).birth))
+    (rw (itself i, append-nil) (enough (births h i) (record { batch = b; waits = waits; stream = of; end = end }) (fruitful h i) (not (is_empty (events_of h i stream took))) (born_enough h i none)))
     refl none
 
 -- ATTEMPTS
-spent_more : (h : Record) (e : Entry) (c : ℕ) → (times_spent h c == 0) ≡ false → (times_spent (e ∷ h) c == 0) ≡ false
-spent_more h e c some = let few : times_spent (e ∷ h) c ≡ times_spent h c + count c (spends e) = count-append c (all_of spends h) (spends e) in grind (arith, nat_tests, some, few)
-
-unspent_less : (h : Record) (e : Entry) (copies : List ℕ) → unspent_of h copies ≡ false → unspent_of (e ∷ h) copies ≡ false
-unspent_less h e [] none = refl
-unspent_less h e (c ∷ cs) none =
-    let two = or_parts (times_spent h c == 0) (unspent_of h cs) none in
-    or_from (times_spent (e ∷ h) c == 0) (unspent_of (e ∷ h) cs) (spent_more h e c two.0) (unspent_less h e cs two.1)
-
 -- entries that neither bear, read, discard nor take leave what is owed beside spends
+record OwesElse (h : Record) (i : ℕ) : Type 0 where
+  birth : owes_birth h i ≡ false
+  discards : owes_discards h i ≡ false
+  answer : owes_answer h i ≡ false
+
+else_none : (h : Record) (i : ℕ) → owes h i ≡ false → OwesElse h i
+else_none h i none =
+    let all = owes_parts h i none in
+    let three = or_parts (owes_birth h i || owes_spends_in h h i) (owes_discards h i) all.0 in
+    record { birth = born_enough h i none; discards = three.1; answer = all.1 }
+
 else_on : (h : Record) (e : Entry) (i : ℕ) → births_in i e ≡ [] → fruitful (e ∷ h) i ≡ fruitful h i → last_discarded (e ∷ h) i ≡ last_discarded h i →
     owes_answer (e ∷ h) i ≡ owes_answer h i → OwesElse h i → OwesElse (e ∷ h) i
 else_on h e i unborn read discarded answer was = record {
@@ -218,10 +267,10 @@ each_unspent whole (p ∷ ps) each =
     (none_unspent whole p (λ c l. each c (rw count-append (omega (arith, l)))))
     (each_unspent whole ps (λ c l. each c (rw count-append (omega (arith, l)))))
 
--- what holds nothing has spent all that it attempted
-bare_spent : (h : Record) (i c : ℕ) → IsLegal h → at h (Held i) ≡ [] → 0 < attempts_with h i c → 0 < times_spent h c
-bare_spent h i c legal none tried =
-    let held : times_spent h c ≡ 0 → 0 < 0 = rw (stands_at h (Held i) legal ∙ none) at (attempted_held h i c legal tried) in
+-- what holds nothing has spent all that it holds until that is spent
+bare_spent : (h : Record) (i c : ℕ) → IsLegal h → at h (Held i) ≡ [] → (times_spent h c ≡ 0 → 0 < count c (joined (held h i))) → 0 < times_spent h c
+bare_spent h i c legal none until =
+    let held : times_spent h c ≡ 0 → 0 < 0 = rw (stands_at h (Held i) legal ∙ none) at until in
     elim (cases_lt 0 (times_spent h c)) [ inl some ↦ some | inr few ↦ absurd (omega (arith, held (omega (arith, few)))) ]
 
 -- behind an attempt and spends after which nothing is held nothing is owed
@@ -230,7 +279,23 @@ pub owes_attempted : (h new : Record) (i : ℕ) (copies : List ℕ) (bytes : Wor
 owes_attempted h new i copies bytes reply outcome none adds legal bare =
     let rest = spends_keep (λ k. OwesElse k i) (λ k c. else_on k (Spent i c outcome) i refl refl refl refl) (λ k b status. else_on k (Notice b status) i refl refl refl refl) adds
     (else_on h (Attempt i copies bytes reply) i refl refl refl refl (else_none h i none)) in
-    rw (rest.birth, each_unspent new (decided new i) (λ c some. bare_spent new i c legal bare (decided_tried new i c some)), rest.discards, rest.answer) refl
+    let settled = each_unspent new (decided new i) (λ c some. bare_spent new i c legal bare (attempted_held new i c legal (decided_tried new i c some))) in
+    owes_none new i (entries_none new i (record { birth = rest.birth; spends = settled }) rest.discards) rest.answer
+
+-- ANSWERS
+answered_took : (transform took own : Bool) → own ≡ true → (transform && (not own && took)) ≡ false
+answered_took transform took own is = grind arith
+
+-- behind an answer and spends after which nothing is held nothing is owed
+pub owes_answered : (h new : Record) (i : ℕ) (outputs : List Output) (discarded kept : List ℕ) (outcome : Outcome) → owes_entries h i ≡ false →
+    OnlyAdds (IsSpendOf i outcome) (Answer i outputs discarded kept ∷ h) new → IsLegal new → at new (Held i) ≡ [] → owes new i ≡ false
+owes_answered h new i outputs discarded kept outcome none adds legal bare =
+    let e = Answer i outputs discarded kept in
+    let rest = spends_keep (λ k. OwesDeeds k i × (owes_answer k i ≡ false))
+    (λ k c was. (deeds_on k (Spent i c outcome) i refl refl refl was.0, was.1)) (λ k b status was. (deeds_on k (Notice b status) i refl refl refl was.0, was.1)) adds
+    (deeds_on h e i refl refl refl (deeds_none h i none), answered_took (transform_at h i) (took_since h i) (i == i) (itself i)) in
+    let gone = none_unspent new (last_discarded new i) (λ c some. bare_spent new i c legal bare (discarded_held new i c legal some)) in
+    owes_none new i (entries_none new i rest.0 gone) rest.1
 
 -- THE BIRTHS THAT ARE OWED
 -- no more was born than reads gave events, and behind a read that did one less

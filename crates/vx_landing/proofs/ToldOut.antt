@@ -1,21 +1,26 @@
--- What an instance that is out confirmed last is what was due when it was leased, where it confirmed that or had nothing new to confirm.
-use Rattle.std.proofs.Common.{◌≡◌, ◌∙◌, ℕ, Bool, true, false, not, List, [], ◌∷◌, ◌++◌, refl, sym, ap, map, inl, inr}
+-- What an instance that is out confirmed last is what was due when it was leased, where it confirmed that or had nothing new to confirm;
+-- and of all but sources nothing is.
+use Rattle.std.proofs.Common.{◌≡◌, ◌∙◌, ℕ, Bool, true, false, not, List, [], ◌∷◌, ◌++◌, Option, Some, None, refl, sym, ap, map, inl, inr}
 use Rattle.std.specs.Prelude.{◌==◌, ◌&&◌, nat_lt, if◌then◌else◌}
 use Rattle.std.specs.List.{list_any}
 use Rattle.std.proofs.lemmas.Bool.{cases_Bool, eqb-true, or_parts}
+use Rattle.std.proofs.lemmas.List.{append-nil}
 use Rattle.vx_value.specs.Texts.{is_empty}
 use Rattle.vx_ends.specs.declared.position.Position.{Position}
-use Rattle.vx_record.specs.declared.entry.Entry.TheVariants.{Install, Lease, Home, Confirm}
+use Rattle.vx_plan.specs.declared.component.Component.{Component}
+use Rattle.vx_plan.specs.Options.{has_device}
+use Rattle.vx_record.specs.declared.entry.Entry.TheVariants.{Install, Lease, Read, Born, Confirm}
 use Rattle.vx_record.specs.Records.{Record}
-use Rattle.vx_record.specs.Confirms.{Birth, confirm_prefix, moved_to, last_of_each, position_of, due, last_confirm, same_positions, is_confirm_due}
-use Rattle.vx_record.specs.Installs.{device_at}
+use Rattle.vx_record.specs.Confirms.{Birth, births, confirm_prefix, moved_to, last_of_each, position_of, due, last_confirm, same_positions, is_confirm_due}
+use Rattle.vx_record.specs.Installs.{source_at, device_at}
 use Rattle.vx_record.specs.Legal.{IsLegal, Follows}
+use Rattle.vx_record.specs.Sourcing.{Yield, yield}
 use Rattle.vx_record.specs.Turns.{is_out, at_lease, since_lease, is_confirm_of}
 use Rattle.vx_record.proofs.Further.{prefix_grows}
 use Rattle.vx_record.proofs.Promises.{legal_lease}
 use Rattle.vx_sourcecore.proofs.Prefixing.{positions_equal}
 use Rattle.vx_counts.proofs.Once.{itself}
-use Rattle.vx_landing.proofs.Owing.{was_out}
+use Rattle.vx_landing.proofs.Serving.{component_lease}
 
 -- POSITIONS
 some_moved : (stream end : ℕ) (ps : List Position) → is_empty (moved_to stream end ps) ≡ false
@@ -48,17 +53,6 @@ lease_first (Lease j worker now polls ∷ h) i = elim (cases_Bool (j == i)) [
   | inr far ↦ let rest = lease_first h i in (Lease j worker now polls ∷ rest.0, rw far (ap (λ (k : Record). Lease j worker now polls ∷ k) rest.1))
 ]
 lease_first (e ∷ h) i = let rest = lease_first h i in (e ∷ rest.0, ap (λ (k : Record). e ∷ k) rest.1)
-
--- an instance that is out has a port where it had one when it was leased
-device_lease : (h : Record) (i : ℕ) → IsLegal h → is_out h i ≡ true → device_at (at_lease h i) i ≡ device_at h i
-device_lease [] i legal out = cc
-device_lease (Install version plan once instances now ∷ h) i legal out = let no = rw legal.0.row.first at out in cc
-device_lease (Lease j worker now polls ∷ h) i legal out = elim (cases_Bool (j == i)) [
-  | inl is ↦ rw is refl
-  | inr far ↦ rw far (device_lease h i legal.1 (rw far at out))
-]
-device_lease (Home j ∷ h) i legal out = device_lease h i legal.1 (was_out (j == i) (is_out h i) out)
-device_lease (e ∷ h) i legal out = device_lease h i legal.1 out
 
 -- what was confirmed last stays until a confirm
 last_since : (h : Record) (i : ℕ) → list_any (is_confirm_of i) (since_lease h i) ≡ false → last_confirm h i ≡ last_confirm (at_lease h i) i
@@ -105,9 +99,37 @@ told_undue h i legal device undue = go (is_empty (due h i)) refl (same_positions
 pub told_none : (h : Record) (i : ℕ) → IsLegal h → is_out h i ≡ true → device_at h i ≡ true → is_confirm_due (at_lease h i) i ≡ false →
     list_any (is_confirm_of i) (since_lease h i) ≡ false → last_confirm h i ≡ due (at_lease h i) i
 told_none h i legal out device undue none =
-    last_since h i none ∙ told_undue (at_lease h i) i (legal_lease h i legal) (device_lease h i legal out ∙ device) undue
+    let same = ap (λ (o : Option Component). elim o [ None ↦ false | Some c ↦ has_device c.settings ]) (component_lease h i legal out) in
+    last_since h i none ∙ told_undue (at_lease h i) i (legal_lease h i legal) (same ∙ device) undue
 
 -- a confirm tells it
 pub told_some : (h : Record) (i : ℕ) (positions : List Position) (made : Bool) → Follows h (Confirm i positions made) →
     last_confirm (Confirm i positions made ∷ h) i ≡ due (at_lease h i) i
 told_some h i positions made follows = rw (itself i) follows.row.all_due
+
+-- WHO BEARS
+-- who yields is a source
+yielder : (h : Record) (j : ℕ) (y : Yield) → IsLegal h → yield h j ≡ Some y → source_at h j ≡ true
+yielder [] j y legal yields = cc
+yielder (Read k stream took ∷ h) j y legal yields = elim (cases_Bool (k == j)) [
+  | inl is ↦ rw (eqb-true k j is) at legal.0.row.turn.source
+  | inr far ↦ let never = rw far at yields in cc
+]
+yielder (e ∷ h) j y legal yields = cc
+
+-- so others bear nothing
+unborne : (h : Record) (i : ℕ) → IsLegal h → source_at h i ≡ false → births h i ≡ []
+unborne [] i legal other = refl
+unborne (Install version plan once instances now ∷ h) i legal other = rw legal.0.row.first refl
+unborne (Born j b place copies events waits stream end ∷ h) i legal other = elim (cases_Bool (j == i)) [
+  | inl is ↦ let source = rw (eqb-true j i is) at (yielder h j (record { events = events; stream = stream; end = end }) legal.1 legal.0.row.yields) in cc
+  | inr far ↦ rw (far, append-nil) (unborne h i legal.1 other)
+]
+unborne (e ∷ h) i legal other = rw append-nil (unborne h i legal.1 other)
+
+-- and of them nothing is ever due, nor was confirmed
+pub told_never : (h : Record) (i : ℕ) → IsLegal h → source_at h i ≡ false → last_confirm h i ≡ due (at_lease h i) i
+told_never h i legal other =
+    let none : due h i ≡ [] = rw (unborne h i legal other) refl in
+    let first = lease_first h i in
+    none_told h i legal none ∙ sym (due_less first.0 (at_lease h i) i (rw first.1 at none))

@@ -1,12 +1,11 @@
 -- What the notes of a landing leave.
-use Rattle.std.specs.Prelude.{◌≡◌, ◌≢◌, ◌<◌, ◌⊎◌, ◌∷◌, ◌++◌, ◌==◌, if◌then◌else◌, take, ℕ, Bool, true, false, List, [], length, Option, Some, is_some, IfSome, IsSome, IsSomeAnd, slice_get}
+use Rattle.std.specs.Prelude.{◌≡◌, ◌≢◌, ◌<◌, ◌⊎◌, ◌∷◌, ◌++◌, ◌||◌, if◌then◌else◌, take, ℕ, Bool, true, false, List, [], length, Option, Some, is_some, IfSome, IsSome, IsSomeAnd, slice_get}
 use Rattle.std.specs.List.{list_any}
 use Rattle.vx_status.specs.declared.outcome.Outcome.{Outcome}
-use Rattle.vx_status.specs.declared.outcome.Outcome.TheVariants.{Delivered, Attempts, Refusal}
+use Rattle.vx_status.specs.declared.outcome.Outcome.TheVariants.{Delivered, Attempts, Refusal, Filtered}
 use Rattle.vx_ends.specs.Told.{Told}
 use Rattle.vx_ends.specs.declared.trouble.Reply.{Reply}
 use Rattle.vx_ends.specs.declared.trouble.Reply.TheVariants.{Ok, Failed, Refused}
-use Rattle.vx_record.specs.declared.output.Output.{Output}
 use Rattle.vx_record.specs.declared.entry.Entry.{Entry}
 use Rattle.vx_record.specs.declared.entry.Entry.TheVariants as entry
 use Rattle.vx_record.specs.Abandoning.{abandoned}
@@ -15,28 +14,27 @@ use Rattle.vx_record.specs.Makers.{IsFor}
 use Rattle.vx_record.specs.Places.{Place, owner}
 use Rattle.vx_record.specs.Places.Place.{Held}
 use Rattle.vx_record.specs.Shifts.{at}
-use Rattle.vx_places.specs.Numbers.{numbers}
 use Rattle.vx_places.specs.Views.{parcels_here}
 use Rattle.vx_seats.specs.declared.seat.Seat.{Seat}
 use Rattle.vx_ledger.specs.declared.parcel.Parcel.{Parcel}
 use Rattle.vx_record.specs.Copies.{joined}
 use Rattle.vx_tasks.specs.declared.landing.Landing.{Landing}
 use Rattle.vx_record.specs.Confirms.{last_confirm, due}
-use Rattle.vx_record.specs.Installs.{is_closed}
-use Rattle.vx_record.specs.Owing.{owes}
-use Rattle.vx_record.specs.Parcels.{parcel_event}
+use Rattle.vx_record.specs.Installs.{device_at, is_closed}
+use Rattle.vx_record.specs.Owing.{owes_birth, owes_spends_in, owes_discards, owes_answer}
 use Rattle.vx_record.specs.Records.{Record}
 use Rattle.vx_record.specs.Turns.{is_out, at_lease, since_lease, is_turn_of, is_attempt_of, is_confirm_of}
 use Rattle.vx_places.specs.Rooms.{SameRooms}
 use Rattle.vx_sourcecore.specs.declared.source.Cut.{Cut}
 use Rattle.vx_sourcecore.specs.declared.source.Turned.{Turned}
+use Rattle.vx_moves.specs.Answering.{answer_by}
 use Rattle.vx_moves.specs.Bearing.{HasBorne}
 use Rattle.vx_sourcecore.specs.Turns.{reading_of}
 use Rattle.vx_tasks.specs.declared.confirming.Confirmed.{Confirmed}
 use Rattle.vx_tasks.specs.declared.landing.Done.{Done}
 use Rattle.vx_tasks.specs.declared.landing.Done.TheVariants as done
 use Rattle.vx_tasks.specs.declared.task.Task.{Task}
-use Rattle.vx_tasks.specs.Out.{AreDue, TellsDone, HasActed, is_unfit, lacks_cut, leaves_unfit, turn_entry, confirm_entries}
+use Rattle.vx_tasks.specs.Out.{AreDue, IsHeld, TellsDone, HasActed, is_unfit, lacks_cut, leaves_unfit, leaves_taken, turn_entry, confirm_entries}
 use Rattle.vx_seats.specs.Calls.{HasTaskBack}
 use Rattle.vx_seats.specs.Staying.{OneSeat, SameFlags}
 use Rattle.vx_moves.specs.Returns.{IsReturned}
@@ -76,6 +74,14 @@ pub record HasSpentBy {P : Type 0} (told_by : P → Told) (i : ℕ) (e : Entry) 
   pub stands : Stands told_by new
   pub only : OnlyAdds (IsFor i) old.log new.log
 
+-- an answer was noted, and all that it discarded was spent as filtered; or the run is given up, and nothing was noted
+pub record HasAnsweredBy {P : Type 0} (told_by : P → Told) (i : ℕ) (ports : List ℕ) (old new : Books P) : Type 0 where
+  pub mid : Books P
+  pub noted : abandoned old.log ≡ false → HasNoted told_by i (answer_by old.log i ports) old mid
+  pub spent : abandoned old.log ≡ false → OnlySpends told_by i Filtered mid new
+  pub over : abandoned old.log ≡ true → new ≡ old
+  pub none : abandoned old.log ≡ false → at new.log (Held i) ≡ []
+
 -- memory was wanting: what came home needn't have returned, and of the one seat that is known less
 pub record IsMarked {P : Type 0} (told_by : P → Told) (Marks : Seat P → Seat P → Type 0) (i : ℕ) (old new : Books P) : Type 0 where
   pub stands : Stands told_by new
@@ -89,6 +95,10 @@ abbrev pub IsAnswered : Record → ℕ → Done → Type 0
 IsAnswered h i done.Short = Unit {0}
 IsAnswered h i outcome = last_confirm h i ≡ due (at_lease h i) i
 
+-- whether an instance owes anything but an answer
+abbrev pub owes_entries : Record → ℕ → Bool
+owes_entries h i = owes_birth h i || owes_spends_in h h i || owes_discards h i
+
 -- a task that comes home, once its confirm was noted: its port tells what the record will have behind what was done, which is still
 -- to be noted
 pub record IsBackWith {P : Type 0} (told_by : P → Told) (books : Books P) (i : ℕ) (task : Task P) (outcome : Done) : Type 0 where
@@ -96,10 +106,11 @@ pub record IsBackWith {P : Type 0} (told_by : P → Told) (books : Books P) (i :
   pub no_turn : list_any (is_turn_of i) (since_lease books.log i) ≡ false
   pub no_attempt : list_any (is_attempt_of i) (since_lease books.log i) ≡ false
   pub unclosed : is_closed books.log i ≡ false
-  pub settled : owes books.log i ≡ false
+  pub settled : owes_entries books.log i ≡ false
+  pub untaken : leaves_taken outcome ≡ false → owes_answer books.log i ≡ false
   pub answered : IsAnswered books.log i outcome
   pub parcels : List Parcel
-  pub held : numbers parcels ≡ at books.log (Held i)
+  pub held : IsHeld books.log i parcels
   pub told : TellsDone (told_by task.port) books.log i parcels outcome
   pub acted : HasActed (told_by task.port) books.log i task.role outcome
   pub fit : is_unfit task.role ≡ leaves_unfit outcome
@@ -159,10 +170,10 @@ pub record IsOwingNow {P : Type 0} (i : ℕ) (old new : List (Seat P)) : Type 0 
   pub one : IsSomeAnd (slice_get old i) (λ was. IsSomeAnd (slice_get new i) (λ is. Owes was is))
   pub others : OthersStay i old new
 
--- nothing stands at an instance, and its port is closed for good
+-- nothing stands at an instance, and its port, if it has one, is closed for good
 pub record IsGivenUp (h : Record) (i : ℕ) : Type 0 where
   pub bare : (p : Place) → owner p ≡ i → at h p ≡ []
-  pub closed : is_closed h i ≡ true
+  pub closed : device_at h i ≡ true → is_closed h i ≡ true
 
 -- an instance came home: the books stand, and what is out, what is lent and what isn't known of the seats is what it was but for it
 pub record HasComeHome {P : Type 0} (told_by : P → Told) (i : ℕ) (old new : Books P) : Type 0 where
@@ -182,36 +193,23 @@ pub record HasComeHome {P : Type 0} (told_by : P → Told) (i : ℕ) (old new : 
 abbrev pub HasTask : {P : Type 0} → List (Seat P) → ℕ → Task P → Type 0
 HasTask seats i task = IsSomeAnd (slice_get seats i) (λ seat. seat.task ≡ Some task)
 
--- what an answer puts out of the parcels that its instance holds, by the ports of each
-abbrev pub put_out_of : Record → List ℕ → List (List ℕ) → List Output
-put_out_of h [] parcels = []
-put_out_of h (ports ∷ more) [] = []
-put_out_of h (ports ∷ more) (copies ∷ parcels) =
-    let rest = put_out_of h more parcels in
-    if ports == 0 then rest else record { ports = ports; copies = copies; event = parcel_event h copies } ∷ rest
-
--- and the copies of the others
-abbrev pub refused_of : List ℕ → List (List ℕ) → List ℕ
-refused_of [] parcels = []
-refused_of (ports ∷ more) [] = []
-refused_of (ports ∷ more) (copies ∷ parcels) = let rest = refused_of more parcels in if ports == 0 then copies ++ rest else rest
-
--- the entries that tell what was done: those that went through the port, an answer, and the port's close
-abbrev pub done_entries : Record → ℕ → Done → List Entry
-done_entries h i done.Nothing = []
-done_entries h i (done.Read took) = turn_entry h i took ∷ []
-done_entries h i (done.Attempted all sent answer) = entry.Attempt i (joined (at h (Held i))) (take sent all.value) answer ∷ []
-done_entries h i (done.Judged ports) = entry.Answer i (put_out_of h ports (at h (Held i))) (refused_of ports (at h (Held i))) [] ∷ []
-done_entries h i done.Closed = entry.Closed i ∷ []
-done_entries h i done.Short = []
-done_entries h i done.Starved = []
+-- the entries that tell what was done: those that went through the port, an answer, but where that can't be noted, and the port's
+-- close
+abbrev pub done_entries : Bool → Record → ℕ → Done → List Entry
+done_entries unanswered h i done.Nothing = []
+done_entries unanswered h i (done.Read took) = turn_entry h i took ∷ []
+done_entries unanswered h i (done.Attempted all sent answer) = entry.Attempt i (joined (at h (Held i))) (take sent all.value) answer ∷ []
+done_entries unanswered h i (done.Judged ports) = if unanswered then [] else answer_by h i ports ∷ []
+done_entries unanswered h i done.Closed = entry.Closed i ∷ []
+done_entries unanswered h i done.Short = []
+done_entries unanswered h i done.Starved = []
 
 -- with the entry of the confirm before it, they stand on a record
-abbrev pub told_on : {P : Type 0} → Landing P → Record → Record
-told_on landing h =
+abbrev pub told_on : {P : Type 0} → Bool → Landing P → Record → Record
+told_on unanswered landing h =
     let i = landing.instance in
     let before = confirm_entries i landing.confirmed ++ h in
-    done_entries before i landing.done ++ before
+    done_entries unanswered before i landing.done ++ before
 
 -- what comes behind that: the birth of what was read, spends of the instance's copies, notices, the way home, and where the run is
 -- given up the close of its port
@@ -223,9 +221,10 @@ ComesBehind i h (entry.Home j) = j ≡ i
 ComesBehind i h (entry.Closed j) = (j ≡ i) × (abandoned h ≡ true)
 ComesBehind i h other = ⊥
 
--- a landing was noted as it was, and nothing else
-abbrev pub IsNotedSo : {P : Type 0} → Landing P → Record → Record → Type 0
-IsNotedSo landing old new = OnlyAdds (ComesBehind landing.instance) (told_on landing old) new
+-- a landing was noted as it was, and nothing else; what was judged isn't answered where the run is given up, or no memory was found
+-- for what is put out
+abbrev pub IsNotedSo : {P : Type 0} → Bool → Landing P → Record → Record → Type 0
+IsNotedSo unanswered landing old new = OnlyAdds (ComesBehind landing.instance) (told_on unanswered landing old) new
 
 -- whether a landing carries want of memory: for its confirm or its work, or for what was read
 abbrev pub wants_memory : Done → Bool

@@ -3,7 +3,7 @@ ghost use Rattle.std.specs.Prelude.{◌≡◌, ◌<◌, [], ◌∷◌, length, i
 ghost use Rattle.vx_record.specs.declared.entry.Entry.TheVariants.{Home};
 ghost use Rattle.vx_record.specs.Abandoning.{abandoned};
 ghost use Rattle.vx_record.specs.Additions.{OnlyAdds};
-ghost use Rattle.vx_record.specs.Installs.{is_closed};
+ghost use Rattle.vx_record.specs.Installs.{device_at, is_closed};
 ghost use Rattle.vx_record.specs.Makers.{IsFor};
 ghost use Rattle.vx_record.specs.Places.{Place, owner};
 ghost use Rattle.vx_record.specs.Places.Place.{Held};
@@ -23,9 +23,11 @@ ghost use Rattle.vx_landing.specs.Landings.{ComesBehind, HasTask};
 
 use vx_ends::Port;
 use vx_moves::Books;
+use vx_ready::has_device;
 use vx_tasks::Task;
 
-// Gives up all that stands at an instance that is at home, its port shut, where the run is given up, and closes its port for good.
+// Gives up all that stands at an instance that is at home, its port shut, where the run is given up, and closes its port, if it has
+// one, for good.
 pub(crate) fn cease<P: Port>(books: &mut Books<P>, i: u32)
     requires stands { Stands P.told books.old }
     requires within { i < length books.old.seats }
@@ -40,10 +42,10 @@ pub(crate) fn cease<P: Port>(books: &mut Books<P>, i: u32)
     ensures size { length books.new.seats ≡ length books.old.seats }
     ensures home { is_out books.new.log i ≡ false }
     ensures bare { (p : Place) → owner p ≡ i → at books.new.log p ≡ [] }
-    ensures closed { is_closed books.new.log i ≡ true }
+    ensures closed { device_at books.new.log i ≡ true → is_closed books.new.log i ≡ true }
 {
     books.give_up(i);
-    if !books.seats.get(i).facts.closed {
+    if has_device(books, i) && !books.seats.get(i).facts.closed {
         books.close(i);
     }
 }
@@ -87,7 +89,7 @@ pub(crate) fn come_home<P: Port>(books: &mut Books<P>, i: u32, task: Task<P>)
     ensures home { is_out books.new.log i ≡ false }
     ensures noted { abandoned books.old.log ≡ false → books.new.log ≡ Home i ∷ books.old.log }
     ensures bare { abandoned books.old.log ≡ true → (p : Place) → owner p ≡ i → at books.new.log p ≡ [] }
-    ensures closed { abandoned books.old.log ≡ true → is_closed books.new.log i ≡ true }
+    ensures closed { abandoned books.old.log ≡ true → device_at books.new.log i ≡ true → is_closed books.new.log i ≡ true }
     ensures task { is_some books.old.run.abandoned ≡ false → HasTask books.new.seats i task }
 {
     if books.run.abandoned.is_none() {

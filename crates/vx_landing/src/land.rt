@@ -1,5 +1,5 @@
 // How a task comes home.
-ghost use Rattle.std.specs.Prelude.{◌≡◌, ◌<◌, ◌∷◌, ◌++◌, ◌||◌, is_some, true, false, length, None, Ok, IfErr, OnOk};
+ghost use Rattle.std.specs.Prelude.{◌≡◌, ◌<◌, ◌∷◌, ◌++◌, ◌||◌, is_some, is_err, true, false, length, None, Ok, IfErr, OnOk};
 ghost use Rattle.vx_record.specs.Abandoning.{abandoned};
 ghost use Rattle.vx_record.specs.Additions.{OnlyAdds};
 ghost use Rattle.vx_record.specs.Makers.{IsFor};
@@ -15,8 +15,8 @@ ghost use Rattle.vx_landing.specs.Standing.{IsWell, AwayIsWell, LentWhileOut};
 
 use crate::ceasing::come_home;
 use crate::landing::{
-    bear_cut, into_cut, land_attempt, mark_short, mark_starved, note_closed, note_confirm,
-    note_failed, note_idle, note_read,
+    bear_cut, into_cut, land_attempt, land_judged, mark_short, mark_starved, note_closed,
+    note_confirm, note_failed, note_idle, note_read,
 };
 use std::alloc::Global;
 use vx_ends::Port;
@@ -26,9 +26,10 @@ use vx_sourcecore::Turned;
 use vx_tasks::{Confirmed, Done, Landing, Task};
 
 /// Brings a task home: takes back what its instance holds, notes its confirm and what was done, and that it is home. Where the run is
-/// given up, all that stands at the instance is spent as abandoned, and its port closed for good.
+/// given up, all that stands at the instance is spent as abandoned, and its port, if it has one, closed for good.
 ///
-/// It is short of numbers or memory where a birth found none, or the work found no memory: each entry that was made stands then.
+/// It is short of numbers or memory where a birth found none, or the work or its answer found no memory: each entry that was made
+/// stands then.
 pub fn bring_home<P: Port>(
     books: &mut Books<P>,
     alloc: Global,
@@ -42,7 +43,7 @@ pub fn bring_home<P: Port>(
     requires done { HasDone P.told books.old.log landing }
     requires room { IsHandOf books.old.log landing.instance landing.held.room }
     ensures home { HasComeHome P.told landing.instance books.old books.new }
-    ensures noted { IsNotedSo landing books.old.log books.new.log }
+    ensures noted { IsNotedSo (is_err result || abandoned books.old.log) landing books.old.log books.new.log }
     ensures marked { books.new.run.short ≡ (wants_memory landing.done || books.old.run.short) }
     ensures well { OnOk result (IsWell books.old → IsWell books.new) }
     ensures reason { IfErr result (λ short. abandoned books.new.log ≡ false → LacksBirth books.new.log short) }
@@ -80,7 +81,7 @@ fn note_confirmed<P: Port>(books: &mut Books<P>, i: u32, confirmed: &Option<Conf
     }
 }
 
-// Notes what was done. No transform was leased.
+// Notes what was done.
 fn note_done<P: Port>(
     books: &mut Books<P>,
     alloc: Global,
@@ -93,7 +94,7 @@ fn note_done<P: Port>(
     requires served { IsServed books.old }
     requires back { IsBackWith P.told books.old i task.now done }
     ensures landed { HasLanded P.told i task.now books.old books.new }
-    ensures noted { OnlyAdds (ComesBehind i) (done_entries books.old.log i done ++ books.old.log) books.new.log }
+    ensures noted { OnlyAdds (ComesBehind i) (done_entries (is_err result || abandoned books.old.log) books.old.log i done ++ books.old.log) books.new.log }
     ensures marked { books.new.run.short ≡ (wants_memory done || books.old.run.short) }
     ensures well { OnOk result (IsWellLanded i books.old books.new) }
     ensures reason { IfErr result (LacksBirth books.new.log) }
@@ -105,7 +106,7 @@ fn note_done<P: Port>(
             land_attempt(books, i, &all, sent, reply);
             Ok(())
         }
-        Done::Judged(_) => unreachable!(),
+        Done::Judged(ports) => land_judged(books, alloc, i, &ports),
         Done::Closed => {
             note_closed(books, i);
             Ok(())

@@ -3,6 +3,7 @@ ghost use Rattle.std.specs.Prelude.{◌≡◌, ◌<◌, ◌≤◌, ◌&&◌, nat
 ghost use Rattle.std.specs.Option.{is_none};
 ghost use Rattle.std.specs.List.{list_any};
 ghost use Rattle.vx_record.specs.declared.entry.Entry.TheVariants.{Read, Confirm, Idle, SourceLost, Attempt, Closed};
+ghost use Rattle.vx_record.specs.Abandoning.{abandoned};
 ghost use Rattle.vx_record.specs.Copies.{joined};
 ghost use Rattle.vx_record.specs.Encoding.{encoded};
 ghost use Rattle.vx_record.specs.Installs.{is_closed};
@@ -26,10 +27,12 @@ ghost use Rattle.vx_record.specs.Additions.{OnlyAdds};
 ghost use Rattle.vx_record.specs.Makers.{IsFor};
 ghost use Rattle.vx_places.specs.Rooms.{SameRooms};
 ghost use Rattle.vx_seats.specs.Staying.{EachSeat, Stays};
+ghost use Rattle.vx_ledger.specs.declared.short.Short.TheVariants.{WantOfMemory as NoMemory};
+ghost use Rattle.vx_moves.specs.Answering.{MayAnswerNow};
 ghost use Rattle.vx_moves.specs.Bearing.{IsBirthShort};
 ghost use Rattle.vx_moves.specs.Stands.{Stands};
 ghost use Rattle.vx_ready.specs.Asking.{IsServed};
-ghost use Rattle.vx_landing.specs.Landings.{HasNoted, HasNotedRead, HasSpentBy, HasBorneCut, IsOwingNow, IsMarked, outcome_of as outcome_by};
+ghost use Rattle.vx_landing.specs.Landings.{HasNoted, HasNotedRead, HasSpentBy, HasAnsweredBy, HasBorneCut, IsOwingNow, IsMarked, outcome_of as outcome_by};
 
 use std::alloc::Global;
 use std::snapshot::Snapshot;
@@ -38,8 +41,8 @@ use vx_ledger::Short;
 use vx_moves::Books;
 use vx_sourcecore::{Cut, Turned};
 use vx_status::Outcome;
-use vx_tasks::Confirmed;
-use vx_value::Bytes;
+use vx_tasks::{Confirmed, PortsList};
+use vx_value::{Bytes, WantOfMemory};
 
 // Notes a confirm that names what was due when the instance was leased.
 pub(crate) fn note_confirm<P: Port>(books: &mut Books<P>, i: u32, confirmed: &Confirmed)
@@ -218,6 +221,43 @@ pub(crate) fn land_attempt<P: Port>(
     note_attempt(books, i, all, sent, reply);
     if books.run.abandoned.is_none() {
         books.spend_all_held(i, outcome_of(reply));
+    }
+}
+
+// Notes what a transform answers that judged all that it holds, and spends what it discards as filtered, unless the run is given up.
+// Where no memory was found for what is put out, what the instance owes isn't known any more.
+pub(crate) fn land_judged<P: Port>(
+    books: &mut Books<P>,
+    alloc: Global,
+    i: u32,
+    ports: &PortsList,
+) -> Result<(), Short>
+    requires stands { Stands P.told books.old }
+    requires within { i < length books.old.seats }
+    requires kept { IsSome (parcels_here books.old.places (Held i)) }
+    requires may { abandoned books.old.log ≡ false → MayAnswerNow books.old.log i ports.now }
+    ensures stands { Stands P.told books.new }
+    ensures kept { IsSome (parcels_here books.new.places (Held i)) }
+    ensures size { length books.new.seats ≡ length books.old.seats }
+    ensures rooms { SameRooms books.old.places books.new.places }
+    ensures run { books.new.run ≡ books.old.run }
+    ensures answered { OnOk result (HasAnsweredBy P.told i ports.now books.old books.new) }
+    ensures owing { OnErr result (IsOwingNow i books.old.seats books.new.seats) }
+    ensures short { IfErr result (λ short. short ≡ NoMemory) }
+    ensures unnoted { OnErr result (books.new.log ≡ books.old.log) }
+{
+    if books.run.abandoned.is_some() {
+        return Ok(());
+    }
+    match books.answer(alloc, i, ports) {
+        Ok(()) => {
+            books.spend_all_held(i, Outcome::Filtered);
+            Ok(())
+        }
+        Err(WantOfMemory) => {
+            books.seats.owed(i);
+            Err(Short::WantOfMemory)
+        }
     }
 }
 

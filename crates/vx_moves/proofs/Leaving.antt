@@ -1,13 +1,24 @@
 -- What several calls leave, one after the other.
-use Rattle.std.proofs.Common.{◌∙◌, List, Option, Some, None, IfSome}
+use Rattle.std.proofs.Common.{◌∙◌, ℕ, List, Option, Some, None, IfSome, inl, inr, sym}
 use Rattle.std.specs.Prelude.{IsSomeAnd, slice_get}
+use Rattle.std.proofs.lemmas.Bool.{cases_eq}
 use Rattle.vx_places.specs.declared.row.Row.{Row}
-use Rattle.vx_places.specs.Rooms.{SameRooms}
+use Rattle.vx_places.specs.Rooms.{LendsRoom, SameRooms}
 use Rattle.vx_seats.specs.declared.seat.Seat.{Seat}
 use Rattle.vx_seats.specs.Staying.{EachSeat, Stays}
 
 pub rooms_both : (a b c : List Row) → SameRooms a b → SameRooms b c → SameRooms a c
 rooms_both a b c first second i = ((second i).0 ∙ (first i).0, (second i).1 ∙ (first i).1)
+
+-- a room that was lent comes back
+pub rooms_back : (i room : ℕ) (a b c d : List Row) → LendsRoom i room a b → SameRooms b c → LendsRoom i room d c → SameRooms a d
+rooms_back i room a b c d lent same back j = (
+  sym (back.stages j) ∙ (same j).0 ∙ lent.stages j,
+  elim (cases_eq j i) [
+    | inl here ↦ rw here (back.was ∙ sym lent.was)
+    | inr other ↦ sym (back.others j other) ∙ (same j).1 ∙ lent.others j other
+  ],
+)
 
 module _ {P : Type 0} where
   pub each_stays : (seats : List (Seat P)) → EachSeat Stays seats seats

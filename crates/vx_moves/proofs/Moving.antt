@@ -59,7 +59,7 @@ use Rattle.vx_seats.specs.Knowing.{Knows}
 use Rattle.vx_seats.proofs.Aside.{aside_known}
 use Rattle.vx_moves.specs.declared.books.Books.{Books}
 use Rattle.vx_moves.specs.Bearing.{paired, HasBorne, MayBearNow}
-use Rattle.vx_moves.specs.Rooms.{AreRooms, IsHandOf, planned_batch}
+use Rattle.vx_moves.specs.Rooms.{AreRooms, IsHandOf}
 use Rattle.vx_moves.specs.Splitting.{HasSplit, IsSplitShort, oldest_readers}
 use Rattle.vx_moves.specs.Stands.{Stands, Steps, KeptAtHome}
 use Rattle.vx_moves.proofs.Outlets.{outlets_read}
@@ -139,8 +139,8 @@ module _ {P : Type 0} {told_by : P → Told} {old : Books P} {entry : List ℕ �
 
 -- WHAT IS HELD
 -- where fewer are held than a batch may have, it isn't full
-below_full : (h : Record) (i room : ℕ) → length (held h i) < room → (sink_at h i ≡ true → room ≡ planned_batch h i) → sink_at h i ≡ true → is_full_batch h i ≡ false
-below_full h i room below planned sink = let are = planned sink in grind (arith, nat_tests, below, are)
+below_full : (h : Record) (i room : ℕ) → length (held h i) < room → IsHandOf h i room → sink_at h i ≡ true → is_full_batch h i ≡ false
+below_full h i room below hand sink = grind (arith, nat_tests, below, hand, sink)
 
 -- a sink that has room for one more parcel holds no full batch
 pub unfull : (h : Record) (rows : List Row) (i : ℕ) → IsLegal h → Holds rows h → AreRooms rows h → HasHeldRoom rows i → sink_at h i ≡ true →

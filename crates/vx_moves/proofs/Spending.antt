@@ -16,8 +16,8 @@ use Rattle.vx_record.specs.declared.entry.Entry.TheVariants.{Spent, Notice}
 use Rattle.vx_record.specs.Records.{Record}
 use Rattle.vx_record.specs.Abandoning.{abandoned, gives_up}
 use Rattle.vx_record.specs.Additions.{OnlyAdds}
-use Rattle.vx_record.specs.Ceasing.{no_answer}
 use Rattle.vx_record.specs.Copies.{all_of, count, joined, next_copy, spends, times_spent, IsLive}
+use Rattle.vx_record.specs.Judges.{OnlyJudges}
 use Rattle.vx_record.specs.Legal.{IsLegal, Follows}
 use Rattle.vx_record.specs.Lists.{contents, outputs, shrunk, waiting}
 use Rattle.vx_record.specs.Places.{Place, Put, owner, same_place}
@@ -36,7 +36,7 @@ use Rattle.vx_balance.proofs.Sums.{sum_point}
 use Rattle.vx_counts.specs.Spends.{StandsAt, WasPutIn, IsOne, AllOnes}
 use Rattle.vx_counts.proofs.Dropping.{first_of_taken}
 use Rattle.vx_counts.proofs.Passing.{unspent_none}
-use Rattle.vx_counts.proofs.Singles.{ones}
+use Rattle.vx_counts.proofs.Judges.{judges_ones}
 use Rattle.vx_counts.proofs.SpentFrom.{legal_place, stands_put}
 use Rattle.vx_places.specs.declared.row.Row.{Row}
 use Rattle.vx_places.specs.Calls.{IsOldestFor, NoneBefore, HasSome, Loses, NothingToLose, NothingToSpend, left_of}
@@ -128,7 +128,7 @@ spent_falls h i c outcome live =
 notice_keeps : (h : Record) (b : ℕ) (status : BatchStatus) → unspent (Notice b status ∷ h) ≡ unspent h
 notice_keeps h b status = let same : next_copy h + 0 ≡ next_copy h = omega arith in simp (same, append-nil)
 
--- WHERE COPIES STAND: without answers each parcel has one, which comes first in it
+-- WHERE COPIES STAND: where each transform judges each event by itself, each parcel has one, which comes first in it
 one_among : (before : List Put) (put : Put) (after : List Put) → AllOnes (before ++ put ∷ after) → IsOne put.copies
 one_among [] put after all = all.0
 one_among (x ∷ xs) put after all = one_among xs put after all.1
@@ -139,15 +139,15 @@ alone c (d ∷ []) one l = ap (λ n. n ∷ []) (only_one d c l)
 alone c (d ∷ x ∷ xs) one l = absurd one
 
 -- a copy that stands somewhere was put there alone
-pub put_alone : (h : Record) (p : Place) (c : ℕ) → IsLegal h → no_answer h ≡ true → 0 < count c (joined (at h p)) → WasPutIn h p (c ∷ []) c
-put_alone h p c legal plain l =
+pub put_alone : (h : Record) (p : Place) (c : ℕ) → IsLegal h → OnlyJudges h → 0 < count c (joined (at h p)) → WasPutIn h p (c ∷ []) c
+put_alone h p c legal only l =
     let put = stands_put h p c (rw (stands_at h p legal) l) in
-    let all = rw put.1.put.2 at (ones h legal plain) in
+    let all = rw put.1.put.2 at (judges_ones h legal only) in
     rw (alone c put.0 (one_among put.1.put.0 (record { place = p; copies = put.0 }) put.1.put.1 all) put.1.has) at put.1
 
 -- and it comes first in what an instance took
-pub comes_first : (h : Record) (i c : ℕ) → IsLegal h → no_answer h ≡ true → 0 < count c (joined (at h (Held i))) → true ≡ is_first h i c
-comes_first h i c legal plain l = sym (first_of_taken h i c [] legal (put_alone h (Held i) c legal plain l).put).0
+pub comes_first : (h : Record) (i c : ℕ) → IsLegal h → OnlyJudges h → 0 < count c (joined (at h (Held i))) → true ≡ is_first h i c
+comes_first h i c legal only l = sym (first_of_taken h i c [] legal (put_alone h (Held i) c legal only l).put).0
 
 -- of a copy that isn't spent none was spent so or so
 pub none_before : (h : Record) (test : Outcome → Bool) (c : ℕ) → times_spent h c ≡ 0 → true ≡ not (any_copy test h (c ∷ []))

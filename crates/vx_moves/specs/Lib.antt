@@ -7,4 +7,5 @@ pub mod Reading
 pub mod Taking
 pub mod Splitting
 pub mod Bearing
+pub mod Answering
 pub mod Spends

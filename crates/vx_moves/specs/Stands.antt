@@ -1,10 +1,11 @@
 -- What the books stand for, and how one entry changes them.
-use Rattle.std.specs.Prelude.{◌≡◌, ℕ, ◌≤◌, true, false, List, ◌∷◌, length, Some, IsSome}
+use Rattle.std.specs.Prelude.{◌≡◌, ℕ, ◌≤◌, false, List, ◌∷◌, length, Some, IsSome}
 use Rattle.vx_ends.specs.Told.{Told}
 use Rattle.vx_record.specs.declared.entry.Entry.{Entry}
 use Rattle.vx_record.specs.Records.{Record}
 use Rattle.vx_record.specs.Installs.{in_force}
-use Rattle.vx_record.specs.Ceasing.{cause_of, no_answer}
+use Rattle.vx_record.specs.Ceasing.{cause_of}
+use Rattle.vx_record.specs.Judges.{OnlyJudges}
 use Rattle.vx_record.specs.Turns.{is_out, worker_now}
 use Rattle.vx_record.specs.Legal.{IsLegal, Follows}
 use Rattle.vx_record.specs.Places.Place.{Held}
@@ -18,13 +19,13 @@ use Rattle.vx_moves.specs.Rooms.{AreRooms}
 use Rattle.vx_moves.specs.declared.run.Run.{Run}
 use Rattle.vx_moves.specs.declared.books.Books.{Books}
 
--- what is known of the run is what the record has; no transform answered yet; what came home had returned, but where memory was
--- wanting
+-- what is known of the run is what the record has; each transform judges each event by itself; what came home had returned, but
+-- where memory was wanting
 pub record IsRun (run : Run) (h : Record) : Type 0 where
   pub installed : in_force h ≡ Some run.plan
   pub cause : run.abandoned ≡ cause_of h
   pub later : (worker : ℕ) → worker_now h worker ≤ run.latest
-  pub plain : no_answer h ≡ true
+  pub judging : OnlyJudges h
   pub returned : run.short ≡ false → HaveReturned h
 
 -- what an instance holds is not lent while the instance is at home

@@ -2,11 +2,13 @@
 #![tactic(auto)]
 
 mod abandon;
+mod answer;
 mod attempt;
 mod bear;
 mod books;
 mod close;
 mod confirm;
+mod divide;
 mod give_up;
 mod hands;
 mod home;

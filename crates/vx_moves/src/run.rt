@@ -8,7 +8,7 @@ pub struct Run {
     pub plan: Plan,
     /// Why the run was abandoned.
     pub abandoned: Option<AbandonCause>,
-    /// No lease was later than this moment, in milliseconds.
+    /// The moment of the Install, and from the first lease on that of the last one, in milliseconds.
     pub latest: u64,
     /// Whether the caller marked the run as short of memory. Until then, what came home had done what it was asked to.
     pub short: bool,

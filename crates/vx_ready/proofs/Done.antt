@@ -7,11 +7,12 @@ use Rattle.vx_value.specs.Texts.{is_empty}
 use Rattle.vx_ledger.specs.declared.parcel.Parcel.{Parcel}
 use Rattle.vx_record.specs.Records.{Record}
 use Rattle.vx_record.specs.Confirms.{is_confirm_due}
-use Rattle.vx_record.specs.Installs.{source_at, device_at, transform_at}
+use Rattle.vx_record.specs.Installs.{source_at, transform_at, sink_at, device_at}
 use Rattle.vx_record.specs.Lists.{buffered, held}
 use Rattle.vx_record.specs.Owing.{owes, all_noticed, is_source_done, is_worker_done, is_done}
 use Rattle.vx_record.specs.Places.Place.{Held}
 use Rattle.vx_record.specs.Routing.{is_dry, is_sent, is_ending}
+use Rattle.vx_record.proofs.Answerers.{source_untransforming, sink_untransforming}
 use Rattle.vx_places.specs.Calls.{IsKept}
 use Rattle.vx_places.specs.Looks.{HasEmptyBuffer, HoldsMany}
 use Rattle.vx_places.specs.Views.{parcels_here}
@@ -22,7 +23,7 @@ use Rattle.vx_moves.specs.declared.books.Books.{Books}
 use Rattle.vx_moves.specs.Stands.{Stands}
 use Rattle.vx_ready.specs.Asking.{IsServed, IsSettled}
 use Rattle.vx_ready.proofs.Knowing.{at_home, owes_none, seat_there}
-use Rattle.vx_ready.proofs.Naming.{device_is, plain_is}
+use Rattle.vx_ready.proofs.Naming.{device_is}
 use Rattle.vx_ready.proofs.Testing.{same_tests, empty_tests}
 
 -- what an instance at home holds isn't lent
@@ -37,13 +38,16 @@ kept_at told_by books stands i seat at within settled =
 pub kept_there : {P : Type 0} (told_by : P → Told) (books : Books P) (stands : Stands told_by books) (i : ℕ) → i < length books.seats → IsSettled books i → IsKept books.places i
 kept_there told_by books stands i within settled = let there = seat_there books.seats i within in kept_at told_by books stands i there.0 there.1 within settled
 
--- each works with a port
-pub device_there : {P : Type 0} (told_by : P → Told) (books : Books P) (stands : Stands told_by books) (served : IsServed books) (i : ℕ) → i < length books.seats → device_at books.log i ≡ true
-device_there told_by books stands served i within = let there = seat_there books.seats i within in device_is told_by books stands served i there.0 there.1
+-- all but transforms work with a port
+module _ {P : Type 0} (told_by : P → Told) (books : Books P) (stands : Stands told_by books) (served : IsServed books) (i : ℕ) (within : i < length books.seats) where
+  pub device_there : device_at books.log i ≡ not (transform_at books.log i)
+  device_there = let there = seat_there books.seats i within in device_is told_by books stands served i there.0 there.1
 
--- and none is a transform
-pub plain_there : {P : Type 0} (told_by : P → Told) (books : Books P) (stands : Stands told_by books) (served : IsServed books) (i : ℕ) → i < length books.seats → transform_at books.log i ≡ false
-plain_there told_by books stands served i within = let there = seat_there books.seats i within in plain_is told_by books stands served i there.0 there.1
+  pub source_device : source_at books.log i ≡ true → device_at books.log i ≡ true
+  source_device is = device_there ∙ ap not (source_untransforming books.log i is)
+
+  pub sink_device : sink_at books.log i ≡ true → device_at books.log i ≡ true
+  sink_device is = device_there ∙ ap not (sink_untransforming books.log i is)
 
 pub unbuffered_is : {P : Type 0} (told_by : P → Told) (books : Books P) (i : ℕ) (empty : Bool) → Stands told_by books → (empty ≡ true) ↔ HasEmptyBuffer books.places i → empty ≡ is_empty (buffered books.log i)
 unbuffered_is told_by books i empty stands says =
@@ -76,19 +80,19 @@ source_done_is told_by books stands i within settled dry sent noticed due over c
     result_is ∙ ap (λ b. b && confirmed) over_so ∙ ap (λ b. (is_dry books.log i && is_sent books.log i) && b) confirmed_so
     ∙ source_tests (is_dry books.log i) (owes books.log i) (is_sent books.log i) (all_noticed books.log i) (is_confirm_due books.log i) (owes_none told_by books stands i there.0 there.1 settled)
 
--- SINKS
-sink_tests : (ending buffer sent none : Bool) → (((buffer && sent) && none) && ending) ≡ (ending && buffer && sent && none)
-sink_tests true true true none = go none
+-- TRANSFORMS AND SINKS
+worker_tests : (ending buffer sent none : Bool) → (((buffer && sent) && none) && ending) ≡ (ending && buffer && sent && none)
+worker_tests true true true none = go none
   where
     go : (n : Bool) → (n && true) ≡ n
     go true = refl
     go false = refl
-sink_tests true true false none = refl
-sink_tests true false sent none = refl
-sink_tests false true true true = refl
-sink_tests false true true false = refl
-sink_tests false true false none = refl
-sink_tests false false sent none = refl
+worker_tests true true false none = refl
+worker_tests true false sent none = refl
+worker_tests false true true true = refl
+worker_tests false true true false = refl
+worker_tests false true false none = refl
+worker_tests false false sent none = refl
 
 pub vacant_is : (h : Record) (i n : ℕ) (empty sent both result : Bool) → empty ≡ is_empty (buffered h i) → sent ≡ is_sent h i → n ≡ length (held h i) → both ≡ (empty && sent) → result ≡ (both && (n == 0)) →
     result ≡ (is_empty (buffered h i) && is_sent h i && is_empty (held h i))
@@ -99,11 +103,11 @@ vacant_is h i n empty sent both result empty_is sent_is many both_is result_is =
 pub worker_done_is : (h : Record) (i : ℕ) (vacant ending : Bool) → vacant ≡ (is_empty (buffered h i) && is_sent h i && is_empty (held h i)) → ending ≡ is_ending h i → (vacant && ending) ≡ is_worker_done h i
 worker_done_is h i vacant ending vacant_is ending_is =
     ap (λ b. b && ending) vacant_is ∙ ap (λ b. (is_empty (buffered h i) && is_sent h i && is_empty (held h i)) && b) ending_is
-    ∙ sink_tests (is_ending h i) (is_empty (buffered h i)) (is_sent h i) (is_empty (held h i))
+    ∙ worker_tests (is_ending h i) (is_empty (buffered h i)) (is_sent h i) (is_empty (held h i))
 
 -- an instance is a source, or not
 pub done_source : (h : Record) (i : ℕ) → source_at h i ≡ true → is_source_done h i ≡ is_done h i
 done_source h i is = sym (ap (λ b. if b then is_source_done h i else is_worker_done h i) is)
 
-pub done_sink : (h : Record) (i : ℕ) → source_at h i ≡ false → is_worker_done h i ≡ is_done h i
-done_sink h i is = sym (ap (λ b. if b then is_source_done h i else is_worker_done h i) is)
+pub done_worker : (h : Record) (i : ℕ) → source_at h i ≡ false → is_worker_done h i ≡ is_done h i
+done_worker h i is = sym (ap (λ b. if b then is_source_done h i else is_worker_done h i) is)

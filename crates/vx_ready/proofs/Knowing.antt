@@ -6,12 +6,12 @@ use Rattle.vx_ends.specs.Told.{Told}
 use Rattle.vx_plan.specs.declared.class.Class.{Class}
 use Rattle.vx_plan.specs.declared.class.Class.TheVariants.{Source, Transform, Sink}
 use Rattle.vx_plan.specs.declared.component.Component.{Component}
-use Rattle.vx_plan.specs.Components.{is_source, is_sink}
+use Rattle.vx_plan.specs.Components.{is_source, is_transform, is_sink}
 use Rattle.vx_record.specs.Records.{Record}
 use Rattle.vx_record.specs.declared.entry.Entry.TheVariants.{SourceLost}
 use Rattle.vx_record.specs.Ceasing.{lost_at, cause_of}
 use Rattle.vx_record.specs.Confirms.{is_confirm_due}
-use Rattle.vx_record.specs.Installs.{component_of, source_at, sink_at, device_at, is_marked}
+use Rattle.vx_record.specs.Installs.{component_of, source_at, transform_at, sink_at, device_at, is_marked}
 use Rattle.vx_record.specs.Owing.{owes, all_noticed}
 use Rattle.vx_record.specs.Reads.{all_ended, is_lost}
 use Rattle.vx_record.specs.Ready.{reading_moment, is_heir, can_read}
@@ -26,7 +26,7 @@ use Rattle.vx_seats.specs.Knowing.{IsFittedTo, IsKnown, HasHome}
 use Rattle.vx_seats.proofs.Aside.{noticed_all, confirm_due}
 use Rattle.vx_moves.specs.declared.books.Books.{Books}
 use Rattle.vx_moves.specs.Stands.{Stands}
-use Rattle.vx_ready.specs.Asking.{source_class, sink_class, IsHome, IsSettled}
+use Rattle.vx_ready.specs.Asking.{source_class, transform_class, sink_class, IsHome, IsSettled}
 use Rattle.vx_ready.proofs.Heirs.{heir}
 use Rattle.vx_ready.proofs.Testing.{same_tests, or_false, and_true}
 
@@ -40,6 +40,11 @@ pub source_runs : (h : Record) (i : ℕ) (class : Class) → Runs h i class → 
 source_runs h i class runs =
     ap (λ (o : Option Component). elim o [ None ↦ false | Some c ↦ is_source c ]) runs.there
     ∙ ap (λ (x : Class). elim x [ Source ↦ true | Transform ↦ false | Sink ↦ false ]) (sym runs.class_is)
+
+pub transform_runs : (h : Record) (i : ℕ) (class : Class) → Runs h i class → transform_at h i ≡ transform_class class
+transform_runs h i class runs =
+    ap (λ (o : Option Component). elim o [ None ↦ false | Some c ↦ is_transform c ]) runs.there
+    ∙ ap (λ (x : Class). elim x [ Source ↦ false | Transform ↦ true | Sink ↦ false ]) (sym runs.class_is)
 
 pub sink_runs : (h : Record) (i : ℕ) (class : Class) → Runs h i class → sink_at h i ≡ sink_class class
 sink_runs h i class runs =
@@ -80,6 +85,9 @@ module _ {P : Type 0} (told_by : P → Told) (books : Books P) (stands : Stands 
 
   pub source_is : source_class seat.class ≡ source_at books.log i
   source_is = sym (source_runs books.log i seat.class runs)
+
+  pub transform_is : transform_class seat.class ≡ transform_at books.log i
+  transform_is = sym (transform_runs books.log i seat.class runs)
 
   pub sink_is : sink_class seat.class ≡ sink_at books.log i
   sink_is = sym (sink_runs books.log i seat.class runs)

@@ -7,4 +7,5 @@ pub mod Naming
 pub mod Done
 pub mod Untried
 pub mod Closed
+pub mod Emptied
 pub mod Working

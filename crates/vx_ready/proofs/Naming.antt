@@ -1,9 +1,8 @@
 -- Which instances name which, and what is ending.
 use Rattle.std.proofs.Common.{◌≡◌, ◌∙◌, inl, inr, ℕ, zero, suc, ◌+◌, ◌-◌, ◌<◌, ◌≤◌, Bool, true, false, ◌&&◌, ◌||◌, List, [], ◌∷◌, ◌++◌, length, Option, Some, None, refl, sym, ap, arith}
-use Rattle.std.specs.Prelude.{◌↔◌, map, not, slice_get, if◌then◌else◌}
+use Rattle.std.specs.Prelude.{◌↔◌, map, not, nat_le, slice_get, if◌then◌else◌}
 use Rattle.std.proofs.lemmas.Bool.{cases_eq, or_from, or_left, or_right}
 use Rattle.std.proofs.lemmas.Bool.Decides.{nat_tests}
-use Rattle.std.proofs.lemmas.Bool.{not-true as is_not}
 use Rattle.vx_ends.specs.Told.{Told}
 use Rattle.vx_value.specs.Texts.{Word, is_empty}
 use Rattle.vx_plan.specs.declared.class.Class.{Class}
@@ -14,7 +13,8 @@ use Rattle.vx_plan.specs.Components.{component_named, is_source, is_transform, p
 use Rattle.vx_plan.specs.Options.{has_device, transform_ports}
 use Rattle.vx_record.specs.Records.{Record}
 use Rattle.vx_record.specs.Copies.{contains, count, counting, joined}
-use Rattle.vx_record.specs.Installs.{Wiring, wiring, wired, told, source_at, device_at, is_marked, transform_at}
+use Rattle.vx_record.specs.Installs.{Wiring, wiring, wired, told, source_at, transform_at, device_at, is_marked}
+use Rattle.vx_record.specs.Judges.{is_judging}
 use Rattle.vx_record.specs.Lists.{waiting}
 use Rattle.vx_record.specs.Routing.{wired_targets, drains, is_dry, all_dry, is_sent, routes, all_ports, is_named, is_ending}
 use Rattle.vx_record.proofs.Ceasing.{unmarked}
@@ -27,15 +27,28 @@ use Rattle.vx_seats.specs.declared.seat.Seat.{Seat}
 use Rattle.vx_seats.specs.Knowing.{outlets_at, wired_outlets}
 use Rattle.vx_moves.specs.declared.books.Books.{Books}
 use Rattle.vx_moves.specs.Stands.{Stands}
-use Rattle.vx_ready.specs.Asking.{is_among, goes_on, goes_to, is_ported, all_ported, IsServed}
+use Rattle.vx_ready.specs.Asking.{transform_class, is_among, goes_on, goes_to, has_few_ports, is_served, all_served, IsServed}
 use Rattle.vx_ready.proofs.Counting.{any_contains, counted}
 use Rattle.vx_ready.proofs.Knowing.{Runs, undraining, known, runs, seat_there}
 use Rattle.vx_ready.proofs.Testing.{same_tests}
 
-ported_at : (components : List Component) (k : ℕ) (c : Component) → all_ported components ≡ true → slice_get components k ≡ Some c → is_ported c ≡ true
-ported_at [] k c all at = cc
-ported_at (d ∷ rest) zero c all at = let same : d ≡ c = cc in ap is_ported (sym same) ∙ and_left (is_ported d) (all_ported rest) all
-ported_at (d ∷ rest) (suc k) c all at = ported_at rest k c (and_right (is_ported d) (all_ported rest) all) at
+-- WHAT IS SERVED
+served_at : (components : List Component) (k : ℕ) (c : Component) → all_served components ≡ true → slice_get components k ≡ Some c → is_served c ≡ true
+served_at [] k c all at = cc
+served_at (d ∷ rest) zero c all at = let same : d ≡ c = cc in ap is_served (sym same) ∙ and_left (is_served d) (all_served rest) all
+served_at (d ∷ rest) (suc k) c all at = served_at rest k c (and_right (is_served d) (all_served rest) all) at
+
+-- it works with a port unless it is a transform, and such a one puts out on few ports
+served_tests : (device transform judging few : Bool) → ((device && not transform) || (transform && judging && not device && few)) ≡ true → (device ≡ not transform) × ((not transform || few) ≡ true)
+served_tests true true true few is = cc
+served_tests true true false few is = cc
+served_tests true false judging few is = (refl, refl)
+served_tests false true true few is = (refl, is)
+served_tests false true false few is = cc
+served_tests false false judging few is = cc
+
+served_so : (c : Component) → is_served c ≡ true → (has_device c.settings ≡ not (is_transform c)) × ((not (is_transform c) || has_few_ports c) ≡ true)
+served_so c = served_tests (has_device c.settings) (is_transform c) (is_judging c.settings) (has_few_ports c)
 
 -- TARGETS
 or_contains : (xs ys : List ℕ) (i : ℕ) → (contains xs i || contains ys i) ≡ contains (xs ++ ys) i
@@ -92,41 +105,29 @@ length_map : {X Y : Type 0} (f : X → Y) (xs : List X) → length (map f xs) �
 length_map f [] = refl
 length_map f (x ∷ xs) = ap suc (length_map f xs)
 
-plain_ports : (class : Class) (settings : Settings) → (elim class as (λ _. Bool) [ Source ↦ false | Transform ↦ true | Sink ↦ false ]) ≡ false →
-    length (elim class as (λ _. List Word) [ Source ↦ [] ∷ [] | Transform ↦ transform_ports settings | Sink ↦ [] ]) ≤ 65
-plain_ports Source settings plain = omega arith
-plain_ports Transform settings plain = cc
-plain_ports Sink settings plain = omega arith
+abbrev ports_by : Class → Settings → List Word
+ports_by class settings = elim class [ Source ↦ [] ∷ [] | Transform ↦ transform_ports settings | Sink ↦ [] ]
+
+few_by : (class : Class) (settings : Settings) → (not (transform_class class) || nat_le (length (ports_by class settings)) 65) ≡ true → length (ports_by class settings) ≤ 65
+few_by Source settings few = omega arith
+few_by Transform settings few = grind (arith, nat_tests, few)
+few_by Sink settings few = omega arith
 
 module _ {P : Type 0} (told_by : P → Told) (books : Books P) (stands : Stands told_by books) (served : IsServed books) (j : ℕ) (seat : Seat P) (at : slice_get books.seats j ≡ Some seat) where
-  ported : is_ported (runs told_by books stands j seat at).component ≡ true
-  ported =
+  served_is : is_served (runs told_by books stands j seat at).component ≡ true
+  served_is =
       let run = runs told_by books stands j seat at in
-      ported_at books.run.plan.components j run.component served.ported
+      served_at books.run.plan.components j run.component served.served
       (sym (component_in_place books.log books.run.plan j stands.legal stands.run.installed) ∙ run.there)
 
-  pub device_is : device_at books.log j ≡ true
+  -- all but transforms work with a port
+  pub device_is : device_at books.log j ≡ not (transform_at books.log j)
   device_is =
       let run = runs told_by books stands j seat at in
-      ap (λ (o : Option Component). elim o [ None ↦ false | Some c ↦ has_device c.settings ]) run.there
-      ∙ and_left (has_device run.component.settings) (not (is_transform run.component)) ported
+      ap (λ (o : Option Component). elim o [ None ↦ false | Some c ↦ has_device c.settings ]) run.there ∙ (served_so run.component served_is).0
+      ∙ sym (ap (λ (o : Option Component). not (elim o [ None ↦ false | Some c ↦ is_transform c ])) run.there)
 
-  pub plain_is : transform_at books.log j ≡ false
-  plain_is =
-      let run = runs told_by books stands j seat at in
-      ap (λ (o : Option Component). elim o [ None ↦ false | Some c ↦ is_transform c ]) run.there
-      ∙ is_not (is_transform run.component) (and_right (has_device run.component.settings) (not (is_transform run.component)) ported)
-
-  pub untransformed : seat.class ≡ Transform → ⊥
-  untransformed is =
-      let run = runs told_by books stands j seat at in
-      let no = is_not (is_transform run.component) (and_right (has_device run.component.settings) (not (is_transform run.component)) ported) in
-      let yes : is_transform run.component ≡ true =
-      ap (λ (x : Class). elim x [ Source ↦ false | Transform ↦ true | Sink ↦ false ]) (sym run.class_is ∙ is) in
-      let contrary : true ≡ false = sym yes ∙ no in
-      cc
-
-  -- the ports of an instance are few, as long as it is no transform
+  -- the ports on which an instance puts out are few
   pub few_ports : length seat.outlet ≤ 65
   few_ports =
       let run = runs told_by books stands j seat at in
@@ -135,9 +136,8 @@ module _ {P : Type 0} (told_by : P → Told) (books : Books P) (stands : Stands 
       let many : length seat.outlet ≡ length (port_names run.component) =
       ap length ((known told_by books stands j seat at).fitted.outlet ∙ outlets_are books.log j) ∙ length_map (λ port. wired [] (wired_targets port) books.log j) (all_ports books.log j)
       ∙ ap length all ∙ counted 0 (length (port_names run.component)) in
-      let no = is_not (is_transform run.component) (and_right (has_device run.component.settings) (not (is_transform run.component)) ported) in
-      let one = plain_ports run.component.class run.component.settings no in
-      omega (arith, many, one)
+      let few = few_by run.component.class run.component.settings (served_so run.component served_is).1 in
+      omega (arith, many, few)
 
   pub sends_is : (i : ℕ) → (not (is_dry books.log j && is_sent books.log j) && goes_to i seat.outlet) ≡ contains (routes books.log j (all_ports books.log j)) i
   sends_is i = sent_to books.log j i (is_dry books.log j && is_sent books.log j) seat.outlet (known told_by books stands j seat at).fitted.outlet

@@ -1,17 +1,22 @@
 -- What the looks need of the books.
-use Rattle.std.specs.Prelude.{◌≡◌, ℕ, ◌<◌, ◌^◌, ◌==◌, Bool, true, false, ◌&&◌, not, List, [], ◌∷◌, length, Some, None, IsSome, IsSomeAnd, slice_get}
+use Rattle.std.specs.Prelude.{◌≡◌, ℕ, ◌<◌, ◌^◌, ◌==◌, Bool, true, false, ◌&&◌, ◌||◌, not, nat_le, List, [], ◌∷◌, length, Some, None, IsSome, IsSomeAnd, slice_get}
 use Rattle.std.specs.List.{list_any}
 use Rattle.vx_plan.specs.declared.class.Class.{Class}
 use Rattle.vx_plan.specs.declared.class.Class.TheVariants.{Source, Transform, Sink}
 use Rattle.vx_plan.specs.declared.component.Component.{Component}
-use Rattle.vx_plan.specs.Components.{is_transform}
+use Rattle.vx_plan.specs.Components.{is_transform, port_names}
 use Rattle.vx_plan.specs.Options.{has_device}
+use Rattle.vx_record.specs.Judges.{is_judging}
 use Rattle.vx_seats.specs.declared.seat.Seat.{Seat}
 use Rattle.vx_moves.specs.declared.books.Books.{Books}
 
 -- whether a class is that of sources
 abbrev pub source_class : Class → Bool
 source_class class = elim class [ Source ↦ true | Transform ↦ false | Sink ↦ false ]
+
+-- whether it is that of transforms
+abbrev pub transform_class : Class → Bool
+transform_class class = elim class [ Source ↦ false | Transform ↦ true | Sink ↦ false ]
 
 -- whether it is that of sinks
 abbrev pub sink_class : Class → Bool
@@ -33,14 +38,26 @@ goes_to i ports = list_any (is_among i) ports
 abbrev pub is_ported : Component → Bool
 is_ported c = has_device c.settings && not (is_transform c)
 
--- whether each of some does
-abbrev pub all_ported : List Component → Bool
-all_ported [] = true
-all_ported (c ∷ rest) = is_ported c && all_ported rest
+-- whether it puts out on at most 65 ports, as a route of 64 ways does
+abbrev pub has_few_ports : Component → Bool
+has_few_ports c = nat_le (length (port_names c)) 65
 
--- each component of the plan works with a port and is no transform, and there are fewer than 2^32 instances
+-- whether it is a transform that judges each event by itself, without a port of its own, and puts out on few
+abbrev pub is_judge : Component → Bool
+is_judge c = is_transform c && is_judging c.settings && not (has_device c.settings) && has_few_ports c
+
+-- whether it is one of the two
+abbrev pub is_served : Component → Bool
+is_served c = is_ported c || is_judge c
+
+-- whether each of some is
+abbrev pub all_served : List Component → Bool
+all_served [] = true
+all_served (c ∷ rest) = is_served c && all_served rest
+
+-- each component of the plan works with a port or judges each event by itself, and there are fewer than 2^32 instances
 pub record IsServed {P : Type 0} (books : Books P) : Type 0 where
-  pub ported : all_ported books.run.plan.components ≡ true
+  pub served : all_served books.run.plan.components ≡ true
   pub few : length books.seats < 2 ^ 32
 
 -- a seat whose task is at home, where memory was never wanting for what it owes

@@ -3,7 +3,10 @@ use Rattle.std.specs.Prelude.{◌≡◌, ◌⊎◌, ℕ, ◌+◌, ◌≤◌, Boo
 use Rattle.vx_record.specs.Records.{Record, capped}
 use Rattle.vx_record.specs.Abandoning.{abandoned}
 use Rattle.vx_record.specs.Confirms.{is_confirm_due}
-use Rattle.vx_record.specs.Installs.{source_at, sink_at, device_at}
+use Rattle.vx_record.specs.Installs.{source_at, transform_at, sink_at, device_at}
+use Rattle.vx_record.specs.Lists.{buffered}
+use Rattle.vx_record.specs.Routing.{is_sent}
+use Rattle.vx_value.specs.Texts.{is_empty}
 use Rattle.vx_record.specs.Ready.{can_read, is_close_due, is_attempt_due, can_take}
 use Rattle.vx_record.specs.Starting.{MayLease}
 use Rattle.vx_record.specs.Turns.{worker_now}
@@ -18,7 +21,7 @@ pub record IsLeasable {P : Type 0} (books : Books P) (i now : ℕ) : Type 0 wher
   pub may : (worker : ℕ) → worker_now books.log worker ≤ now → MayLease books.log i worker now 0
   pub going : abandoned books.log ≡ false
   pub fit : IsFitAt books.seats i
-  pub device : device_at books.log i ≡ true
+  pub device : source_at books.log i ≡ true → device_at books.log i ≡ true
 
 -- so many parcels are as many as a batch may have, or the oldest of them has waited long enough
 abbrev pub is_full_or_old : Option Batching → ℕ → ℕ → ℕ → Bool
@@ -43,6 +46,16 @@ IsSinkJob h i now Attempt = is_attempt_due h i now ≡ true
 IsSinkJob h i now Judge = ⊥
 IsSinkJob h i now Close = is_close_due h i ≡ true
 
+-- a transform has this to do: it judges what is buffered, once all that it put out is on its way
+abbrev pub IsTransformJob : Record → ℕ → Job → Type 0
+IsTransformJob h i Read = ⊥
+IsTransformJob h i Confirm = ⊥
+IsTransformJob h i Collect = ⊥
+IsTransformJob h i Attempt = ⊥
+IsTransformJob h i Judge = (is_sent h i ≡ true) × (is_empty (buffered h i) ≡ false)
+IsTransformJob h i Close = ⊥
+
 -- an instance has this to do at a moment
 abbrev pub IsJob : Record → ℕ → ℕ → Job → Type 0
-IsJob h i now job = ((source_at h i ≡ true) × IsSourceJob h i now job) ⊎ ((sink_at h i ≡ true) × IsSinkJob h i now job)
+IsJob h i now job =
+    ((source_at h i ≡ true) × IsSourceJob h i now job) ⊎ (((transform_at h i ≡ true) × IsTransformJob h i job) ⊎ ((sink_at h i ≡ true) × IsSinkJob h i now job))

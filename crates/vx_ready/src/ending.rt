@@ -14,8 +14,8 @@ use vx_ledger::Outlet;
 use vx_moves::Books;
 use vx_value::NumberList;
 
-/// Whether an instance is a sink that nothing more can reach: every source is dry, and no instance that hasn't ended sends to it or
-/// has a child that waits for it.
+/// Whether an instance is a transform or a sink that nothing more can reach: every source is dry, and no instance that hasn't ended
+/// sends to it or has a child that waits for it.
 pub fn is_ending<P: Port>(books: &Books<P>, i: u32) -> bool
     requires stands { Stands P.told books.now }
     requires within { i < length books.now.seats }

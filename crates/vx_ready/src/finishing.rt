@@ -1,5 +1,6 @@
 // Whether an instance has nothing more to do.
-ghost use Rattle.std.specs.Prelude.{◌≡◌, ◌<◌, ◌&&◌, length};
+ghost use Rattle.std.specs.Prelude.{◌≡◌, ◌<◌, ◌&&◌, length, true};
+ghost use Rattle.vx_record.specs.Installs.{source_at};
 ghost use Rattle.vx_record.specs.Lists.{buffered, held};
 ghost use Rattle.vx_record.specs.Owing.{is_source_done as is_source_done_at, is_worker_done as is_worker_done_at, is_done as is_done_at};
 ghost use Rattle.vx_record.specs.Routing.{is_sent as is_sent_at};
@@ -23,7 +24,7 @@ pub fn is_done<P: Port>(books: &Books<P>, i: u32) -> bool
     if is_source(books, i) {
         is_source_done(books, i)
     } else {
-        is_sink_done(books, i)
+        is_worker_done(books, i)
     }
 }
 
@@ -33,6 +34,7 @@ fn is_source_done<P: Port>(books: &Books<P>, i: u32) -> bool
     requires within { i < length books.now.seats }
     requires served { IsServed books.now }
     requires settled { IsSettled books.now i }
+    requires source { source_at books.now.log i ≡ true }
     ensures { result ≡ is_source_done_at books.now.log i }
 {
     let sent = both(is_dry(books, i), is_sent(books, i));
@@ -40,8 +42,8 @@ fn is_source_done<P: Port>(books: &Books<P>, i: u32) -> bool
     both(sent, confirmed)
 }
 
-/// Whether nothing more comes to a sink, and nothing stands at it.
-fn is_sink_done<P: Port>(books: &Books<P>, i: u32) -> bool
+/// Whether nothing more comes to a transform or a sink, and nothing stands at it.
+fn is_worker_done<P: Port>(books: &Books<P>, i: u32) -> bool
     requires stands { Stands P.told books.now }
     requires within { i < length books.now.seats }
     requires served { IsServed books.now }

@@ -1,14 +1,14 @@
 // What an instance has to do.
 ghost use Rattle.std.specs.Prelude.{◌≡◌, ◌<◌, ℕ, length, true, false, IfSome, IfNone, IsTrue};
-ghost use Rattle.vx_record.specs.Installs.{sink_at};
-ghost use Rattle.vx_record.specs.Ready.{is_close_due as is_close_due_at, is_source_ready, is_sink_ready, is_ready};
+ghost use Rattle.vx_record.specs.Installs.{source_at, transform_at, sink_at, device_at};
+ghost use Rattle.vx_record.specs.Ready.{is_close_due as is_close_due_at, is_source_ready, is_sink_ready, is_transform_ready, is_ready};
 ghost use Rattle.vx_moves.specs.Stands.{Stands};
 ghost use Rattle.vx_ready.specs.Asking.{IsServed, IsHome, IsSettled, IsUsable, IsOpen};
-ghost use Rattle.vx_ready.specs.Jobs.{IsLeasable, IsJob, IsSourceJob, IsSinkJob};
+ghost use Rattle.vx_ready.specs.Jobs.{IsLeasable, IsJob, IsSourceJob, IsTransformJob, IsSinkJob};
 
 use crate::batches::is_batch_closed;
 use crate::finishing::{is_done, is_unbuffered};
-use crate::sources::{can_read, is_confirm_due};
+use crate::sources::{can_read, is_confirm_due, is_sent};
 use vx_ends::Port;
 use vx_moves::Books;
 use vx_plan::Class;
@@ -16,9 +16,10 @@ use vx_seats::Seat;
 use vx_tasks::Job;
 
 /// What an instance has to do at a moment, in milliseconds: a source is read while it can be, and what is to be confirmed is
-/// confirmed first once it can't; a sink attempts its batch once that is closed, and takes more before. An instance that has nothing
-/// more to do is closed. `None` where there is nothing to do, where the instance isn't at home, or may owe something for want of
-/// memory, where its port is closed for good or may have given what no entry tells, where it ended, and where the run was given up.
+/// confirmed first once it can't; a transform judges what is buffered, once all that it put out is on its way; a sink attempts its
+/// batch once that is closed, and takes more before. An instance with a port that has nothing more to do is closed. `None` where
+/// there is nothing to do, where the instance isn't at home, or may owe something for want of memory, where its port is closed for
+/// good or may have given what no entry tells, where it ended, and where the run was given up.
 pub fn first_job<P: Port>(books: &Books<P>, i: u32, now: u64) -> Option<Job>
     requires stands { Stands P.told books.now }
     requires within { i < length books.now.seats }
@@ -36,7 +37,7 @@ pub fn first_job<P: Port>(books: &Books<P>, i: u32, now: u64) -> Option<Job>
     }
     match books.seats.get(i).class {
         Class::Source => source_job(books, i),
-        Class::Transform => None,
+        Class::Transform => transform_job(books, i),
         Class::Sink => sink_job(books, i, now),
     }
 }
@@ -82,6 +83,7 @@ fn source_job<P: Port>(books: &Books<P>, i: u32) -> Option<Job>
     requires served { IsServed books.now }
     requires settled { IsSettled books.now i }
     requires open { IsOpen books.now i }
+    requires source { source_at books.now.log i ≡ true }
     ensures some { (now : ℕ) → IfSome result (λ job. IsSourceJob books.now.log i now job) }
     ensures none { (now : ℕ) → IfNone result (is_source_ready books.now.log i now ≡ false) }
 {
@@ -95,6 +97,24 @@ fn source_job<P: Port>(books: &Books<P>, i: u32) -> Option<Job>
         return Some(Job::Close);
     }
     None
+}
+
+/// What a transform has to do.
+fn transform_job<P: Port>(books: &Books<P>, i: u32) -> Option<Job>
+    requires stands { Stands P.told books.now }
+    requires within { i < length books.now.seats }
+    requires settled { IsSettled books.now i }
+    requires transform { transform_at books.now.log i ≡ true }
+    ensures some { IfSome result (λ job. IsTransformJob books.now.log i job) }
+    ensures none { IfNone result (is_transform_ready books.now.log i ≡ false) }
+{
+    if !is_sent(books, i) {
+        return None;
+    }
+    if is_unbuffered(books, i) {
+        return None;
+    }
+    Some(Job::Judge)
 }
 
 /// What a sink has to do at a moment.
@@ -120,13 +140,14 @@ fn sink_job<P: Port>(books: &Books<P>, i: u32, now: u64) -> Option<Job>
     None
 }
 
-/// Whether an instance whose port isn't closed has nothing more to do.
+/// Whether an instance with a port that isn't closed has nothing more to do.
 fn is_close_due<P: Port>(books: &Books<P>, i: u32) -> bool
     requires stands { Stands P.told books.now }
     requires within { i < length books.now.seats }
     requires served { IsServed books.now }
     requires settled { IsSettled books.now i }
     requires open { IsOpen books.now i }
+    requires device { device_at books.now.log i ≡ true }
     ensures { result ≡ is_close_due_at books.now.log i }
 {
     is_done(books, i)

@@ -11,4 +11,7 @@ pub use batches::is_batch_closed;
 pub use ending::is_ending;
 pub use finishing::is_done;
 pub use jobs::{first_job, is_open, is_settled};
-pub use sources::{all_noticed, can_read, is_confirm_due, is_dry, is_sent, is_sink, is_source};
+pub use sources::{
+    all_noticed, can_read, has_device, is_confirm_due, is_dry, is_sent, is_sink, is_source,
+    is_transform,
+};

@@ -1,12 +1,12 @@
 // What is asked of an instance by itself.
 ghost use Rattle.std.specs.Prelude.{◌≡◌, ◌<◌, ◌&&◌, ◌||◌, ℕ, true, length};
-ghost use Rattle.vx_record.specs.Installs.{source_at, sink_at, device_at};
+ghost use Rattle.vx_record.specs.Installs.{source_at, transform_at, sink_at, device_at};
 ghost use Rattle.vx_record.specs.Confirms.{is_confirm_due as is_confirm_due_at};
 ghost use Rattle.vx_record.specs.Owing.{all_noticed as all_noticed_at};
 ghost use Rattle.vx_record.specs.Ready.{can_read as can_read_at};
 ghost use Rattle.vx_record.specs.Routing.{is_sent as is_sent_at, is_dry as is_dry_at};
 ghost use Rattle.vx_moves.specs.Stands.{Stands};
-ghost use Rattle.vx_ready.specs.Asking.{source_class, sink_class, IsSettled};
+ghost use Rattle.vx_ready.specs.Asking.{source_class, transform_class, sink_class, IsServed, IsSettled};
 
 use vx_ends::Port;
 use vx_moves::Books;
@@ -30,11 +30,37 @@ pub fn is_sink<P: Port>(books: &Books<P>, i: u32) -> bool
     is_sink_class(books.seats.get(i).class)
 }
 
+/// Whether an instance is a transform.
+pub fn is_transform<P: Port>(books: &Books<P>, i: u32) -> bool
+    requires stands { Stands P.told books.now }
+    requires within { i < length books.now.seats }
+    ensures { result ≡ transform_at books.now.log i }
+{
+    is_transform_class(books.seats.get(i).class)
+}
+
+/// Whether an instance works with a port, as all do but transforms.
+pub fn has_device<P: Port>(books: &Books<P>, i: u32) -> bool
+    requires stands { Stands P.told books.now }
+    requires within { i < length books.now.seats }
+    requires served { IsServed books.now }
+    ensures { result ≡ device_at books.now.log i }
+{
+    !is_transform(books, i)
+}
+
 /// Whether a class is that of sources.
 fn is_source_class(class: Class) -> bool
     ensures { result ≡ source_class class }
 {
     matches!(class, Class::Source)
+}
+
+/// Whether a class is that of transforms.
+fn is_transform_class(class: Class) -> bool
+    ensures { result ≡ transform_class class }
+{
+    matches!(class, Class::Transform)
 }
 
 /// Whether a class is that of sinks.

@@ -33,7 +33,7 @@ none_noticed = record {
 nothing : HasEnded 0 []
 nothing = record {
   legal = tt;
-  ported = tt;
+  served = tt;
   finished = nothing_left;
   places = no_place;
   spent = none_spent;

@@ -20,6 +20,7 @@ use Rattle.vx_status.specs.Tables.{status_of, batch_update}
 use Rattle.vx_plan.specs.declared.component.Component.{Component}
 use Rattle.vx_plan.specs.declared.plan.Plan.{Plan}
 use Rattle.vx_plan.specs.Components.{is_source, is_sink}
+use Rattle.vx_reading.specs.Conditions.{NoneRefusable}
 use Rattle.vx_reading.specs.Reading.{IsReading}
 use Rattle.vx_reading.specs.declared.plan_fault.PlanFault.{PlanFault}
 use Rattle.vx_reading.specs.declared.plan_fault.PlanFault.TheVariants as plan_fault
@@ -58,7 +59,7 @@ use Rattle.vx_cli.specs.declared.command.Command.TheVariants.{Run, Validate}
 use Rattle.vx_cli.specs.declared.fault.Fault.{Fault}
 use Rattle.vx_cli.specs.declared.fault.Fault.TheVariants.{Usage, ConfigRead, ConfigRefused, Numbers, SourceFailed, ConfirmFailed, PrintFailed, WantOfMemory}
 use Rattle.vx_run.specs.Answers.{IsAnswer, IsRefused, WentOn}
-use Rattle.vx_run.specs.Completeness.{NoneFailed, NumbersSuffice, IsFaultless, HasEndedWell, ErroredBlames, RejectedBlames, NoneDueAtEnd, has_failed, has_refused}
+use Rattle.vx_run.specs.Completeness.{NoneFailed, NumbersSuffice, IsFaultless, IsRefusedAnew, HasEndedWell, ErroredBlames, RejectedBlames, NoneDueAtEnd, has_failed, has_refused}
 use Rattle.vx_run.specs.Running.{Began, HasAll, IsInstalled, IsOnlyJudged, IsUnbegun, NoneMissing}
 
 -- WHAT IS BLAMED
@@ -349,7 +350,7 @@ within_plan h plan i name legal force named = elim (below_or i (length plan.comp
 
 module _ {P : Type 0} (told_by : P → Told) (words : List Word) (environment : List Variable) (configs : List Config) (before now : ℕ) (h : Record) (ports : List (Numbered P))
     (one : (all : List Word) (a b : Command) → IsCommand all a → IsCommand all b → a ≡ b) (apart : (all : List Word) (command : Command) → IsNoCommand all → IsCommand all command → ⊥)
-    (reads_apart : (around : List Variable) (bytes : Word) (plan : Plan) (fault : PlanFault) → IsReading around bytes (Ok plan) → IsReading around bytes (Err fault) → fault ≡ plan_fault.WantOfMemory)
+    (reads_apart : (around : List Variable) (bytes : Word) (plan : Plan) (fault : PlanFault) → NoneRefusable plan.components → IsReading around bytes (Ok plan) → IsReading around bytes (Err fault) → fault ≡ plan_fault.WantOfMemory)
     (faultless : IsFaultless told_by words environment configs before now h ports) (legal : IsLegal h) (told : AreToldButGiven told_by h ports) (numbers : AreNumbered 0 ports) where
   counts_none : (i : ℕ) (name : Word) → IsNameOf h i name → IsSomeAnd (in_force h) (HasAll ports) → fault_count h i ≡ 0
   counts_none i name named all = go (in_force h) refl all
@@ -363,25 +364,26 @@ module _ {P : Type 0} (told_by : P → Told) (words : List Word) (environment : 
   same_file : (file : Word) → IsCommand words (Run file) → file ≡ faultless.file
   same_file file asked = let same : Run file ≡ Run faultless.file = one words (Run file) (Run faultless.file) asked faultless.asked in cc
 
-  unrefused : (fault : PlanFault) → IsRefused words environment (Some configs) fault → ⊥
-  unrefused fault refused = go refused.asked
+  unrefused : NoneRefusable faultless.plan.components → (fault : PlanFault) → IsRefused words environment (Some configs) fault → ⊥
+  unrefused sure fault refused = go refused.asked
     where
       same_text : refused.file ≡ faultless.file → ⊥
       same_text same =
           let here : Some refused.refused.bytes ≡ Some faultless.bytes = sym refused.refused.text ∙ ap (text_at configs) same ∙ faultless.text in
           let bytes : refused.refused.bytes ≡ faultless.bytes = cc in
-          refused.refused.found (reads_apart environment faultless.bytes faultless.plan fault faultless.read (subst (λ (w : Word). IsReading environment w (Err fault)) bytes refused.refused.read))
+          refused.refused.found (reads_apart environment faultless.bytes faultless.plan fault sure faultless.read (subst (λ (w : Word). IsReading environment w (Err fault)) bytes refused.refused.read))
 
       go : IsCommand words (Run refused.file) ⊎ IsCommand words (Validate refused.file) → ⊥
       go (inl run) = same_text (same_file refused.file run)
       go (inr judge) = let no : Validate refused.file ≡ Run faultless.file = one words (Validate refused.file) (Run faultless.file) judge faultless.asked in cc
 
-  pub answers_well : (fault : Option Fault) → IsAnswer words environment (Some configs) before now h fault → NoneMissing words environment (Some configs) h ports fault → (fault ≡ None) ⊎ (fault ≡ Some WantOfMemory)
+  pub answers_well : (fault : Option Fault) → IsAnswer words environment (Some configs) before now h fault → NoneMissing words environment (Some configs) h ports fault →
+      (fault ≡ None) ⊎ ((fault ≡ Some WantOfMemory) ⊎ IsRefusedAnew faultless.plan.components fault)
   answers_well None answer missing = inl refl
-  answers_well (Some WantOfMemory) answer missing = inr refl
+  answers_well (Some WantOfMemory) answer missing = inr (inl refl)
   answers_well (Some Usage) answer missing = absurd (apart words (Run faultless.file) answer faultless.asked)
   answers_well (Some (ConfigRead path)) answer missing = absurd (faultless.reads answer.1)
-  answers_well (Some (ConfigRefused fault)) answer missing = absurd (unrefused fault answer)
+  answers_well (Some (ConfigRefused fault)) answer missing = inr (inr (λ sure. unrefused sure fault answer))
   answers_well (Some (Numbers next wanted)) answer missing = absurd (numbers_suffice h next wanted legal answer faultless.numbers)
   answers_well (Some (SourceFailed name at)) answer missing =
       let lost = answer.1.1 in

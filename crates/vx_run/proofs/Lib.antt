@@ -8,5 +8,7 @@ pub mod Closing
 pub mod Completing
 pub mod Counting
 pub mod Pacing
-pub mod Ported
+pub mod Picking
+pub mod Served
+pub mod There
 pub mod Tallied

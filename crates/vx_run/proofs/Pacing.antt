@@ -1,6 +1,6 @@
 -- What a run adds to its record is of moments that its clock gave.
 use Rattle.std.proofs.Common.{◌≡◌, ◌∙◌, ◌⊎◌, inl, inr, ℕ, Bool, true, false, ◌∷◌, ◌++◌, Option, Some, None, refl, sym, subst, arith}
-use Rattle.std.specs.Prelude.{max, ◌&&◌, nat_lt, if◌then◌else◌}
+use Rattle.std.specs.Prelude.{max, ◌&&◌, nat_lt, if◌then◌else◌, IfSome, IfNone}
 use Rattle.vx_record.specs.declared.abandon_cause.AbandonCause.{AbandonCause}
 use Rattle.vx_record.specs.declared.abandon_cause.AbandonCause.TheVariants.{Grace}
 use Rattle.vx_record.specs.declared.entry.Entry.{Entry}
@@ -20,6 +20,7 @@ use Rattle.vx_tasks.specs.declared.landing.Done.{Done}
 use Rattle.vx_tasks.specs.declared.landing.Done.TheVariants as done
 use Rattle.vx_tasks.specs.declared.landing.Landing.{Landing}
 use Rattle.vx_tasks.specs.Out.{confirm_entries, turn_entry}
+use Rattle.vx_moves.specs.Answering.{answer_by}
 use Rattle.vx_landing.specs.Landings.{ComesBehind, IsNotedSo, done_entries, told_on}
 use Rattle.vx_hub.specs.Collecting.{IsTakeOf}
 use Rattle.vx_hub.specs.Ending.{GivesUp}
@@ -84,26 +85,34 @@ confirm_on : (i : ℕ) (confirmed : Option Confirmed) (h : Record) → IsLegal (
 confirm_on i None h legal = adds_none IsTimeless h h refl
 confirm_on i (Some c) h legal = one_on IsTimeless h (entry.Confirm i c.positions c.made) legal tt
 
-done_on : (i : ℕ) (was : Done) (h : Record) → IsLegal (done_entries h i was ++ h) → OnlyAdds IsTimeless h (done_entries h i was ++ h)
-done_on i done.Nothing h legal = adds_none IsTimeless h h refl
-done_on i (done.Read took) h legal = one_on IsTimeless h (turn_entry h i took) legal (turn_timeless h i took)
-done_on i (done.Attempted all sent answer) h legal = one_on IsTimeless h _ legal tt
-done_on i (done.Judged ports) h legal = one_on IsTimeless h _ legal tt
-done_on i done.Closed h legal = one_on IsTimeless h (entry.Closed i) legal tt
-done_on i done.Short h legal = adds_none IsTimeless h h refl
-done_on i done.Starved h legal = adds_none IsTimeless h h refl
+done_on : (unanswered : Bool) (i : ℕ) (was : Done) (h : Record) → IsLegal (done_entries unanswered h i was ++ h) → OnlyAdds IsTimeless h (done_entries unanswered h i was ++ h)
+done_on unanswered i done.Nothing h legal = adds_none IsTimeless h h refl
+done_on unanswered i (done.Read took) h legal = one_on IsTimeless h (turn_entry h i took) legal (turn_timeless h i took)
+done_on unanswered i (done.Attempted all sent answer) h legal = one_on IsTimeless h _ legal tt
+done_on true i (done.Judged ports) h legal = adds_none IsTimeless h h refl
+done_on false i (done.Judged ports) h legal = one_on IsTimeless h (answer_by h i ports) legal tt
+done_on unanswered i done.Closed h legal = one_on IsTimeless h (entry.Closed i) legal tt
+done_on unanswered i done.Short h legal = adds_none IsTimeless h h refl
+done_on unanswered i done.Starved h legal = adds_none IsTimeless h h refl
 
-pub landed_on : {P : Type 0} (landing : Landing P) (old new : Record) → IsLegal new → IsNotedSo landing old new → OnlyAdds IsTimeless old new
-landed_on landing old new legal noted =
+pub landed_on : {P : Type 0} (unanswered : Bool) (landing : Landing P) (old new : Record) → IsLegal new → IsNotedSo unanswered landing old new → OnlyAdds IsTimeless old new
+landed_on unanswered landing old new legal noted =
     let i = landing.instance in
     let before = confirm_entries i landing.confirmed ++ old in
-    let told = told_on landing old in
+    let told = told_on unanswered landing old in
     let told_legal : IsLegal told = legal_before noted.added told (subst IsLegal noted.is legal) in
     adds_both IsTimeless old told new
     (adds_both IsTimeless old before told
-    (confirm_on i landing.confirmed old (legal_before (done_entries before i landing.done) before told_legal))
-    (done_on i landing.done before told_legal))
+    (confirm_on i landing.confirmed old (legal_before (done_entries unanswered before i landing.done) before told_legal))
+    (done_on unanswered i landing.done before told_legal))
     (adds_wider (ComesBehind i) IsTimeless (behind_timeless i) told new noted)
+
+-- an instance ended, or nothing was done
+pub retired_on : {Same : Type 0} (ended : Option ℕ) (old new : Record) → IsLegal new → IfSome ended (λ i. new ≡ entry.Retired i ∷ old) → IfNone ended Same → (Same → new ≡ old) → OnlyAdds IsTimeless old new
+retired_on None old new legal noted same is = adds_none IsTimeless old new (is same)
+retired_on (Some i) old new legal noted same is =
+    let all : IsLegal (entry.Retired i ∷ old) = subst IsLegal noted legal in
+    adds_one IsTimeless old old new (entry.Retired i) (adds_none IsTimeless old old refl) all.0 tt noted
 
 -- MOMENTS THAT WERE GIVEN
 max_is : (a b : ℕ) → (max a b ≡ a) ⊎ (max a b ≡ b)
@@ -140,11 +149,6 @@ module _ (Gave : ℕ → Type 0) where
       adds_both (IsTimely Gave) old (lease ∷ old) new
       (one_on (IsTimely Gave) old lease (legal_before leased.added (lease ∷ old) (subst IsLegal leased.is legal)) (gave, refl))
       (adds_wider (IsTakeOf i) (IsTimely Gave) (takes i) (lease ∷ old) new leased)
-
-  pub ended_on : (old new : Record) (i : ℕ) → IsLegal new → new ≡ entry.Retired i ∷ old → OnlyAdds (IsTimely Gave) old new
-  ended_on old new i legal is =
-      let all : IsLegal (entry.Retired i ∷ old) = subst IsLegal is legal in
-      adds_one (IsTimely Gave) old old new (entry.Retired i) (adds_none (IsTimely Gave) old old refl) all.0 tt is
 
   pub timely_both : (old mid new : Record) → OnlyAdds (IsTimely Gave) old mid → OnlyAdds (IsTimely Gave) mid new → OnlyAdds (IsTimely Gave) old new
   timely_both = adds_both (IsTimely Gave)

@@ -1,14 +1,19 @@
 -- What a legal record says of its sources.
-use Rattle.std.proofs.Common.{◌≡◌, ℕ, ◌<◌, ◌≤◌, Bool, true, false, not, ◌||◌, List, [], ◌∷◌, length, Some, IsSome, refl, sym, subst, arith}
-use Rattle.std.specs.Prelude.{◌==◌, nat_lt, if◌then◌else◌}
-use Rattle.std.proofs.lemmas.Bool.{eqb-true}
+use Rattle.std.proofs.Common.{◌≡◌, ℕ, ◌<◌, ◌≤◌, Bool, true, false, not, ◌||◌, ◌&&◌, zero, suc, List, [], ◌∷◌, length, Option, Some, None, IfSome, IsSome, refl, sym, subst, arith}
+use Rattle.std.specs.Prelude.{◌==◌, nat_lt, if◌then◌else◌, slice_get}
+use Rattle.std.proofs.lemmas.Bool.{and_parts, eqb-true}
 use Rattle.std.proofs.lemmas.Bool.Decides.{nat_tests}
 use Rattle.vx_plan.specs.Components.{is_source}
+use Rattle.vx_plan.specs.Options.{has_device}
+use Rattle.vx_plan.specs.declared.class.Class.{Class}
+use Rattle.vx_plan.specs.declared.class.Class.TheVariants.{Source, Transform, Sink}
+use Rattle.vx_plan.specs.declared.component.Component.{Component}
 use Rattle.vx_plan.specs.declared.plan.Plan.{Plan}
 use Rattle.vx_record.specs.Ceasing.{lost_at, TakesNoMore}
 use Rattle.vx_record.specs.Confirms.{is_unconfirmed}
 use Rattle.vx_record.specs.Copies.{count, counting}
-use Rattle.vx_record.specs.Installs.{in_force, source_at, started, is_closed}
+use Rattle.vx_record.specs.Installs.{component_of, in_force, source_at, device_at, started, is_closed}
+use Rattle.vx_record.specs.Judges.{is_judging}
 use Rattle.vx_record.specs.Legal.{IsLegal}
 use Rattle.vx_record.specs.Records.{Record}
 use Rattle.vx_record.specs.declared.entry.Entry.TheVariants.{Install, SourceLost, Confirm, Closed}
@@ -16,7 +21,38 @@ use Rattle.vx_record.proofs.Ceasing.{more_on}
 use Rattle.vx_record.proofs.Counts.{counting_after}
 use Rattle.vx_record.proofs.Promises.{closed_takes_no_more}
 use Rattle.vx_record.proofs.Senders.{started_told}
+use Rattle.vx_record.proofs.Wired.{component_in_place}
+use Rattle.vx_ready.specs.Asking.{has_few_ports, is_served, all_served}
 use Rattle.vx_ready.proofs.Counting.{started_are}
+
+-- WHO WORKS WITH A PORT
+served_in : (components : List Component) (i : ℕ) → all_served components ≡ true → IfSome (slice_get components i) (λ c. is_served c ≡ true)
+served_in [] i all = tt
+served_in (c ∷ rest) zero all = (and_parts (is_served c) (all_served rest) all).0
+served_in (c ∷ rest) (suc i) all = served_in rest i (and_parts (is_served c) (all_served rest) all).1
+
+source_ported : (c : Component) → is_source c ≡ true → is_served c ≡ true → has_device c.settings ≡ true
+source_ported c is served =
+    plain (has_device c.settings)
+    (subst (λ (b : Bool). ((has_device c.settings && not b) || (b && is_judging c.settings && not (has_device c.settings) && has_few_ports c)) ≡ true) (classes c.class is) served)
+  where
+    classes : (k : Class) → (elim k [ Source ↦ true | Transform ↦ false | Sink ↦ false ]) ≡ true → (elim k [ Source ↦ false | Transform ↦ true | Sink ↦ false ]) ≡ false
+    classes Source is = refl
+    classes Transform is = cc
+    classes Sink is = cc
+
+    plain : (device : Bool) → ((device && true) || false) ≡ true → device ≡ true
+    plain true is = refl
+    plain false is = cc
+
+-- a source does
+pub source_device : (h : Record) (plan : Plan) (i : ℕ) → IsLegal h → in_force h ≡ Some plan → all_served plan.components ≡ true → source_at h i ≡ true → device_at h i ≡ true
+source_device h plan i legal force served source =
+    go (component_of h i) (subst (λ (o : Option Component). IfSome o (λ c. is_served c ≡ true)) (sym (component_in_place h plan i legal force)) (served_in plan.components i served)) source
+  where
+    go : (o : Option Component) → IfSome o (λ c. is_served c ≡ true) → (elim o [ None ↦ false | Some c ↦ is_source c ]) ≡ true → (elim o [ None ↦ false | Some c ↦ has_device c.settings ]) ≡ true
+    go None all is = is
+    go (Some c) all is = source_ported c is all
 
 -- a source is one of the instances
 pub source_within : (h : Record) (plan : Plan) (i : ℕ) → IsLegal h → in_force h ≡ Some plan → source_at h i ≡ true → i < length (started h)

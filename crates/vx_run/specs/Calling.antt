@@ -49,7 +49,7 @@ abbrev pub HasCalledFor : List Variable → Option (List ConfigAt) → Word → 
 HasCalledFor environment texts file old new WantOfMemory = HasBegunFor environment texts file old new
 HasCalledFor environment texts file old new fault = Grows old new (Config file ∷ [])
 
--- a run of the words' file read it, and made a port for each component of the plan that it installed, in order, and asked for
+-- a run of the words' file read it, and made a port for each component that needs one of the plan that it installed, in order, and asked for
 -- nothing else
 pub record HasCalledAll (words : List Word) (old new : Option (List Call)) (h : Record) : Type 0 where
   pub file : Word

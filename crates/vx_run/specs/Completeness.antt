@@ -1,12 +1,14 @@
 -- What a run says in which nothing failed and nothing was refused.
-use Rattle.std.specs.Prelude.{◌≡◌, ◌⊎◌, ◌+◌, ◌≤◌, ◌^◌, ℕ, Bool, true, false, ◌||◌, List, [], ◌∷◌, ◌++◌, Some, None, Ok}
+use Rattle.std.specs.Prelude.{◌≡◌, ◌⊎◌, ◌+◌, ◌≤◌, ◌^◌, ℕ, Bool, true, false, ◌||◌, List, [], ◌∷◌, ◌++◌, Option, Some, None, Ok}
 use Rattle.vx_value.specs.Texts.{Word}
 use Rattle.vx_value.specs.declared.variable.Variable.{Variable}
 use Rattle.vx_ends.specs.Told.{Told, Rose}
 use Rattle.vx_ends.specs.Texts.{text_at}
 use Rattle.vx_ends.specs.declared.world.Config.{Config}
 use Rattle.vx_status.specs.declared.batch_status.BatchStatus.TheVariants.{Errored, Rejected}
+use Rattle.vx_plan.specs.declared.component.Component.{Component}
 use Rattle.vx_plan.specs.declared.plan.Plan.{Plan}
+use Rattle.vx_reading.specs.Conditions.{NoneRefusable}
 use Rattle.vx_reading.specs.Reading.{IsReading}
 use Rattle.vx_record.specs.declared.entry.Entry.TheVariants.{Attempt, Notice, Retired}
 use Rattle.vx_record.specs.Records.{Record}
@@ -19,6 +21,8 @@ use Rattle.vx_record.specs.PortCounts.{is_refused}
 use Rattle.vx_record.specs.SinkBatches.{is_failed}
 use Rattle.vx_hub.specs.Remains.{AreNumbered, AreToldButGiven}
 use Rattle.vx_hub.specs.declared.parts.Numbered.{Numbered}
+use Rattle.vx_cli.specs.declared.fault.Fault.{Fault}
+use Rattle.vx_cli.specs.declared.fault.Fault.TheVariants.{ConfigRefused}
 use Rattle.vx_cli.specs.Commands.{IsCommand}
 use Rattle.vx_cli.specs.declared.command.Command.TheVariants.{Run}
 use Rattle.vx_run.specs.Answers.{IsAnswer, WentOn}
@@ -45,6 +49,12 @@ pub record IsFaultless {P : Type 0} (told_by : P → Told) (words : List Word) (
   pub reads : Rose before now → ⊥
   pub none_failed : NoneFailed told_by ports
   pub numbers : NumbersSuffice h
+
+-- the configuration was refused, though its text stands for a plan of these components: a condition of these has a pattern, and
+-- `regex` may refuse one at any time
+abbrev pub IsRefusedAnew : List Component → Option Fault → Type 0
+IsRefusedAnew components (Some (ConfigRefused fault)) = NoneRefusable components → ⊥
+IsRefusedAnew components other = ⊥
 
 -- whether an attempt failed
 abbrev pub has_failed : Record → Bool

@@ -1,12 +1,12 @@
 -- What a run leaves behind.
-use Rattle.std.specs.Prelude.{◌≡◌, ◌⊎◌, ℕ, true, false, List, [], length, Option, Some, None, IsSome, IsSomeAnd}
+use Rattle.std.specs.Prelude.{◌≡◌, ◌⊎◌, ℕ, true, false, List, [], ◌∷◌, length, Option, Some, None, IsSome, IsSomeAnd}
 use Rattle.vx_value.specs.Texts.{Word}
 use Rattle.vx_value.specs.declared.variable.Variable.{Variable}
 use Rattle.vx_ends.specs.Told.{Told}
 use Rattle.vx_ends.specs.declared.world.Config.{Config}
 use Rattle.vx_plan.specs.declared.plan.Plan.{Plan}
 use Rattle.vx_record.specs.Records.{Record}
-use Rattle.vx_record.specs.Installs.{in_force, source_at}
+use Rattle.vx_record.specs.Installs.{in_force, source_at, device_at}
 use Rattle.vx_record.specs.Wirings.{begun}
 use Rattle.vx_record.specs.Reads.{all_ended}
 use Rattle.vx_record.specs.TallyLists.{tallies_of}
@@ -24,6 +24,11 @@ use Rattle.vx_cli.specs.declared.fault.Fault.TheVariants.{Usage, ConfigRead, Con
 pub record IsTrueTo {P : Type 0} (told_by : P → Told) (h : Record) (ports : List (Numbered P)) (fault : Option Fault) : Type 0 where
   pub whole : ButForMemory (AreTold told_by h ports) fault
   pub rest : AreToldButGiven told_by h ports
+
+-- each instance with a device has its port
+abbrev pub AreThere : {P : Type 0} → Record → List (Numbered (Option P)) → Type 0
+AreThere h [] = Unit {0}
+AreThere h (n ∷ ns) = (device_at h n.instance ≡ true → IsSome n.port) × AreThere h ns
 
 -- but for want of memory, each instance that came home had returned
 abbrev pub AllReturned : Record → Option Fault → Type 0
@@ -76,7 +81,7 @@ IsReadOut h other = WentOn h → AllReadOrLost h
 abbrev pub IsUnbegun : {P : Type 0} → Record → List (Numbered P) → Type 0
 IsUnbegun h ports = (h ≡ []) × (ports ≡ [])
 
--- there is a port for each component of a plan
+-- there are as many ports as a plan has components
 abbrev pub HasAll : {P : Type 0} → List (Numbered P) → Plan → Type 0
 HasAll ports plan = length ports ≡ length plan.components
 

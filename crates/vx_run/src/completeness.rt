@@ -16,19 +16,20 @@ ghost use Rattle.vx_hub.specs.declared.parts.Numbered.{Numbered};
 ghost use Rattle.vx_cli.specs.declared.fault.Fault.{Fault};
 ghost use Rattle.vx_cli.specs.declared.fault.Fault.TheVariants.{WantOfMemory};
 ghost use Rattle.vx_run.specs.Answers.{IsAnswer, WentOn, AllConfirmed};
-ghost use Rattle.vx_run.specs.Completeness.{IsFaultless, HasEndedWell, ErroredBlames, RejectedBlames, NoneDueAtEnd};
+ghost use Rattle.vx_run.specs.Completeness.{IsFaultless, IsRefusedAnew, HasEndedWell, ErroredBlames, RejectedBlames, NoneDueAtEnd};
 ghost use Rattle.vx_run.specs.Running.{AllRead, IsReadOut, NoneMissing};
 
 use vx_cli::one_command;
 use vx_ends::Port;
 use vx_reading::one_answer;
 
-/// A run in which nothing failed and nothing was refused ends well, or for want of memory.
+/// A run in which nothing failed and nothing was refused ends well, or for want of memory; or its text was refused, though it stands
+/// for a plan, since a condition of that has a pattern.
 pub fn faultless_answers<P: Port>()
     ensures { (words : List Word) (environment : List Variable) (configs : List Config) (before now : ℕ) (h : Record) (ports : List (Numbered P)) (fault : Option Fault)
-        → IsFaultless P.told words environment configs before now h ports → IsLegal h → IsAnswer words environment (Some configs) before now h fault
+        → (faultless : IsFaultless P.told words environment configs before now h ports) → IsLegal h → IsAnswer words environment (Some configs) before now h fault
         → AreToldButGiven P.told h ports → AreNumbered 0 ports → NoneMissing words environment (Some configs) h ports fault
-        → (fault ≡ None) ⊎ (fault ≡ Some WantOfMemory) }
+        → (fault ≡ None) ⊎ ((fault ≡ Some WantOfMemory) ⊎ IsRefusedAnew faultless.plan.components fault) }
 {
     one_command();
     one_answer();

@@ -33,7 +33,7 @@ pub(crate) fn drive<R: Wait, P: Port, C: Clock>(rt: &R, alloc: Global, hub: &mut
     }
 }
 
-/// One turn: ends an instance, moves parcels, or does an instance's work.
+/// One turn: moves parcels, or does an instance's work, or ends an instance where there is neither.
 fn turn<P: Port, C: Clock>(alloc: Global, hub: &mut Hub<P>, clock: &C)
     requires hub { IsHub P.told hub.old }
     requires moment { C.gave clock.now hub.old.books.run.latest }
@@ -41,9 +41,6 @@ fn turn<P: Port, C: Clock>(alloc: Global, hub: &mut Hub<P>, clock: &C)
     ensures on { OnlyAdds (IsTimely (C.gave clock.now)) hub.old.books.log hub.new.books.log }
     ensures moment { C.gave clock.now hub.new.books.run.latest }
 {
-    if let Some(_ended) = hub.retire() {
-        return;
-    }
     match hub.pending() {
         Some(instance) => push(hub, instance),
         None => lease(alloc, hub, clock),
@@ -63,7 +60,7 @@ fn push<P: Port>(hub: &mut Hub<P>, instance: u32)
     }
 }
 
-/// Hands out a task, if one has work, does its work, and brings it home.
+/// Hands out a task, if one has work, does its work, and brings it home. Where none has, ends an instance that may end.
 fn lease<P: Port, C: Clock>(alloc: Global, hub: &mut Hub<P>, clock: &C)
     requires hub { IsHub P.told hub.old }
     requires moment { C.gave clock.now hub.old.books.run.latest }
@@ -71,9 +68,20 @@ fn lease<P: Port, C: Clock>(alloc: Global, hub: &mut Hub<P>, clock: &C)
     ensures on { OnlyAdds (IsTimely (C.gave clock.now)) hub.old.books.log hub.new.books.log }
     ensures moment { C.gave clock.now hub.new.books.run.latest }
 {
-    if let Some(work) = hub.lease(WORKER, clock.now()) {
-        land(alloc, hub, work, clock);
+    match hub.lease(WORKER, clock.now()) {
+        Some(work) => land(alloc, hub, work, clock),
+        None => retire(hub),
     }
+}
+
+/// Ends an instance, if one may end.
+fn retire<P: Port>(hub: &mut Hub<P>)
+    requires hub { IsHub P.told hub.old }
+    ensures hub { IsHub P.told hub.new }
+    ensures on { OnlyAdds IsTimeless hub.old.books.log hub.new.books.log }
+    ensures latest { hub.new.books.run.latest ≡ hub.old.books.run.latest }
+{
+    let _ended = hub.retire();
 }
 
 /// Does the work of a task that was handed out, and brings it home.

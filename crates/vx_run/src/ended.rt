@@ -16,8 +16,9 @@ pub struct Ended<W: World> {
     /// What each instance counted, in the order of their numbers. It is empty where the run didn't begin, and may be
     /// where no memory was found.
     pub tallies: TallyList,
-    /// The port of each instance, in the order of their numbers. It is empty where the run didn't begin.
-    pub ports: NumberedList<W::Port>,
+    /// The port of each instance, in the order of their numbers; `None` for one that has no device. It is empty where the run didn't
+    /// begin.
+    pub ports: NumberedList<Option<W::Port>>,
     /// The world that the run was given.
     pub world: W,
 }

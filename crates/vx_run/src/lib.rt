@@ -16,6 +16,7 @@ pub use completeness::{
     well_ended,
 };
 pub use ended::Ended;
+pub use preparing::prepare;
 pub use top::vector;
 pub use validating::valid_text;
 pub use vx_cli::{Fault, fault_text};

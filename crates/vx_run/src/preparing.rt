@@ -1,64 +1,79 @@
-ghost use Rattle.std.specs.Prelude.{◌≡◌, ◌≢◌, ◌↔◌, ◌<◌, ◌^◌, [], ◌∷◌, length, true, false, Ok, Err, Some, IfOk, IfErr, IfSome, IsSomeAnd, OnOk, OnErr};
+ghost use Rattle.std.specs.Prelude.{◌≡◌, ◌≢◌, ◌↔◌, ◌<◌, ◌^◌, [], ◌∷◌, length, map, true, false, Ok, Err, Some, IfOk, IfErr, IfSome, IsSomeAnd, OnOk, OnErr};
 ghost use Rattle.vx_ends.specs.Texts.{IsTextAt};
+ghost use Rattle.std.specs.List.{list_all};
+ghost use Rattle.vx_value.specs.Texts.{Word};
+ghost use Rattle.vx_ends.specs.Silent.{told_if};
 ghost use Rattle.vx_ends.specs.Told.{Grows, Rose};
 ghost use Rattle.vx_ends.specs.declared.call.Call.TheVariants as call;
 ghost use Rattle.vx_plan.specs.Accepted.{IsPlan};
-ghost use Rattle.vx_plan.specs.Options.{has_device};
 ghost use Rattle.vx_plan.specs.Ports.{port_of};
-ghost use Rattle.vx_hub.specs.Making.{IsUntouched, AreUntouched, all_ported};
+ghost use Rattle.vx_hub.specs.Making.{IsUntouched, AreUntouched, IsPickerFor, ArePickers, all_served};
+ghost use Rattle.vx_pick.specs.declared.picker.Picker.TheVariants as Picker;
+ghost use Rattle.vx_reading.specs.Answers.{HasConditions};
+ghost use Rattle.vx_reading.specs.Conditions.{conditions_by};
+ghost use Rattle.vx_reading.specs.Made.{is_made};
 ghost use Rattle.vx_reading.specs.Reading.{IsReading};
 ghost use Rattle.vx_run.specs.Answers.{IsPlanAt, IsUnready, IsUnread, IsMisread};
 ghost use Rattle.vx_run.specs.Calling.{HasBegun, HasCalledFor, call_of, port_calls, run_calls};
 
 use std::alloc::Global;
 use vx_cli::Fault;
+use vx_condition::ConditionList;
 use vx_ends::{Port, PortSpec, Trouble, World};
-use vx_hub::{Named, NamedList, Parts};
-use vx_plan::{Component, Plan};
-use vx_reading::{PlanFault, read_plan};
+use vx_hub::{Named, NamedList, Parts, PickerList};
+use vx_pick::{Filter, Picker, Route};
+use vx_plan::{Component, Plan, Settings};
+use vx_reading::{ConditionLists, PlanFault, ReadPlan, read_plan};
 use vx_value::{Bytes, Text, VariableList, WantOfMemory};
 
-/// What a run of a configuration is made of: its plan, and a port for each component.
-pub(crate) fn prepare<W: World>(
+/// What a run of the configuration at a path is made of: its plan, a port for each component that has a device, and what each transform
+/// picks by. Where there is none, a fault tells why.
+pub fn prepare<W: World>(
     alloc: Global,
     file: &Text,
     environment: &VariableList,
     world: &mut W,
-) -> Result<Parts<W::Port>, Fault>
+) -> Result<Parts<Option<W::Port>>, Fault>
     ensures stands { IfOk result (λ parts. IsPlanAt environment.now (W.texts world.old) file.now parts.plan) }
     ensures once { IfOk result (λ parts. parts.once ≡ false) }
     ensures few { IfOk result (λ parts. length parts.plan.components < 2 ^ 32) }
     ensures accepted { IfOk result (λ parts. IsPlan parts.plan) }
-    ensures ported { IfOk result (λ parts. all_ported parts.plan.components ≡ true) }
+    ensures served { IfOk result (λ parts. all_served parts.plan.components ≡ true) }
+    ensures pickers { IfOk result (λ parts. ArePickers parts.plan.components parts.pickers) }
     ensures ports { IfOk result (λ parts. length parts.ports ≡ length parts.plan.components) }
-    ensures untouched { IfOk result (λ parts. AreUntouched W.Port.told parts.plan.components parts.ports) }
+    ensures untouched { IfOk result (λ parts. AreUntouched (told_if W.Port.told) parts.plan.components parts.ports) }
     ensures unready { IfErr result (IsUnready environment.now (W.texts world.old) file.now (W.faults world.old) (W.faults world.new)) }
     ensures called { IfOk result (λ parts. Grows (W.calls world.old) (W.calls world.new) (run_calls file.now parts.plan)) }
     ensures begun { IfErr result (HasCalledFor environment.now (W.texts world.old) file.now (W.calls world.old) (W.calls world.new)) }
     ensures texts { W.texts world.new ≡ W.texts world.old }
 {
-    let plan = plan_at(alloc, file, environment, world)?;
+    let ReadPlan { plan, conditions } = plan_at(alloc, file, environment, world)?;
+    let Ok(pickers) = pickers(alloc, &plan, conditions) else {
+        return Err(Fault::WantOfMemory);
+    };
     match ports(alloc, &plan, world) {
         Ok(ports) => Ok(Parts {
             plan,
             once: false,
             ports,
+            pickers,
         }),
         Err(WantOfMemory) => Err(Fault::WantOfMemory),
     }
 }
 
-/// The plan of the configuration at a path.
+/// The plan of the configuration at a path, with its conditions.
 pub(crate) fn plan_at<W: World>(
     alloc: Global,
     file: &Text,
     environment: &VariableList,
     world: &mut W,
-) -> Result<Plan, Fault>
-    ensures stands { IfOk result (IsPlanAt environment.now (W.texts world.old) file.now) }
-    ensures few { IfOk result (λ plan. length plan.components < 2 ^ 32) }
-    ensures accepted { IfOk result (λ plan. IsPlan plan) }
-    ensures ported { IfOk result (λ plan. all_ported plan.components ≡ true) }
+) -> Result<ReadPlan, Fault>
+    ensures stands { IfOk result (λ read. IsPlanAt environment.now (W.texts world.old) file.now read.plan) }
+    ensures conditions { IfOk result HasConditions }
+    ensures few { IfOk result (λ read. length read.plan.components < 2 ^ 32) }
+    ensures accepted { IfOk result (λ read. IsPlan read.plan) }
+    ensures made { IfOk result (λ read. list_all is_made read.plan.components ≡ true) }
     ensures unready { IfErr result (IsUnready environment.now (W.texts world.old) file.now (W.faults world.old) (W.faults world.new)) }
     ensures called { Grows (W.calls world.old) (W.calls world.new) (call.Config file.now ∷ []) }
     ensures texts { W.texts world.new ≡ W.texts world.old }
@@ -85,30 +100,82 @@ fn config<W: World>(alloc: Global, file: &Text, world: &mut W) -> Result<Bytes, 
     }
 }
 
-/// The plan of a configuration's bytes.
-fn plan_of(alloc: Global, bytes: &Bytes, environment: &VariableList) -> Result<Plan, Fault>
-    ensures read { IfOk result (λ plan. IsReading environment.now bytes.now (Ok plan)) }
-    ensures few { IfOk result (λ plan. length plan.components < 2 ^ 32) }
-    ensures accepted { IfOk result (λ plan. IsPlan plan) }
-    ensures ported { IfOk result (λ plan. all_ported plan.components ≡ true) }
+/// The plan of a configuration's bytes, with its conditions.
+fn plan_of(alloc: Global, bytes: &Bytes, environment: &VariableList) -> Result<ReadPlan, Fault>
+    ensures read { IfOk result (λ read. IsReading environment.now bytes.now (Ok read.plan)) }
+    ensures conditions { IfOk result HasConditions }
+    ensures few { IfOk result (λ read. length read.plan.components < 2 ^ 32) }
+    ensures accepted { IfOk result (λ read. IsPlan read.plan) }
+    ensures made { IfOk result (λ read. list_all is_made read.plan.components ≡ true) }
     ensures refused { IfErr result (IsMisread environment.now bytes.now) }
 {
     match read_plan(alloc, bytes.as_slice(), environment) {
-        Ok(plan) => Ok(plan),
+        Ok(read) => Ok(read),
         Err(PlanFault::WantOfMemory) => Err(Fault::WantOfMemory),
         Err(fault) => Err(Fault::ConfigRefused(fault)),
     }
 }
 
-/// A port for each component of a plan, in order.
+/// What each component of a plan picks by, in order, if it is a transform.
+fn pickers(
+    alloc: Global,
+    plan: &Plan,
+    conditions: ConditionLists,
+) -> Result<PickerList, WantOfMemory>
+    requires conditions { conditions ≡ map conditions_by plan.now.components }
+    requires made { list_all is_made plan.now.components ≡ true }
+    ensures { IfOk result (ArePickers plan.now.components) }
+{
+    let mut conditions = conditions.into_vec();
+    conditions.as_mut_slice().reverse();
+    let mut pickers = PickerList::new(alloc);
+    for component in plan.components.as_slice() {
+        let Some(list) = conditions.pop() else {
+            unreachable!();
+        };
+        match pickers.push(picker_of(component, list)) {
+            Ok(()) => {}
+            Err(_) => return Err(WantOfMemory),
+        }
+    }
+    Ok(pickers)
+}
+
+/// What a component picks by that has these conditions, if it is a transform.
+fn picker_of(component: &Component, conditions: ConditionList) -> Option<Picker>
+    requires conditions { conditions ≡ conditions_by component.now }
+    requires made { is_made component.now ≡ true }
+    ensures { IsPickerFor component.now result }
+{
+    match &component.settings {
+        Settings::Filter { .. } => first_of(conditions),
+        Settings::Route {
+            reroute_unmatched,
+            ..
+        } => Some(Picker::Route(Route::new(conditions, *reroute_unmatched))),
+        _ => None,
+    }
+}
+
+/// The filter by the last of some conditions, if there is one.
+fn first_of(conditions: ConditionList) -> Option<Picker>
+    ensures { (text : Word) → conditions ≡ text ∷ [] → result ≡ Some (Picker.Filter text) }
+{
+    let mut conditions = conditions;
+    match conditions.pop() {
+        Some(condition) => Some(Picker::Filter(Filter::new(condition))),
+        None => None,
+    }
+}
+
+/// A port for each component of a plan that has a device, in order, and none for another.
 fn ports<W: World>(
     alloc: Global,
     plan: &Plan,
     world: &mut W,
-) -> Result<NamedList<W::Port>, WantOfMemory>
-    requires { all_ported plan.now.components ≡ true }
+) -> Result<NamedList<Option<W::Port>>, WantOfMemory>
     ensures count { IfOk result (λ ports. length ports ≡ length plan.now.components) }
-    ensures untouched { IfOk result (λ ports. AreUntouched W.Port.told plan.now.components ports) }
+    ensures untouched { IfOk result (λ ports. AreUntouched (told_if W.Port.told) plan.now.components ports) }
     ensures called { OnOk result (Grows (W.calls world.old) (W.calls world.new) (port_calls plan.now.components)) }
     ensures begun { OnErr result (HasBegun (W.calls world.old) (W.calls world.new) (port_calls plan.now.components)) }
     ensures texts { W.texts world.new ≡ W.texts world.old }
@@ -125,14 +192,13 @@ fn ports<W: World>(
     Ok(ports)
 }
 
-/// The port of a component, and the component's name.
+/// The port of a component, if it has a device, and the component's name.
 fn port<W: World>(
     alloc: Global,
     component: &Component,
     world: &mut W,
-) -> Result<Named<W::Port>, WantOfMemory>
-    requires { has_device component.now.settings ≡ true }
-    ensures untouched { IfOk result (λ named. IsUntouched (port_of component.now) (W.Port.told named.port)) }
+) -> Result<Named<Option<W::Port>>, WantOfMemory>
+    ensures untouched { IfOk result (λ named. IsUntouched (port_of component.now) (told_if W.Port.told named.port)) }
     ensures called { OnOk result (Grows (W.calls world.old) (W.calls world.new) (call_of (port_of component.now))) }
     ensures begun { OnErr result (HasBegun (W.calls world.old) (W.calls world.new) (call_of (port_of component.now))) }
     ensures texts { W.texts world.new ≡ W.texts world.old }
@@ -142,8 +208,8 @@ fn port<W: World>(
     match component.port(alloc)? {
         Some(spec) => Ok(Named {
             name,
-            port: world.port(&spec)?,
+            port: Some(world.port(&spec)?),
         }),
-        None => unreachable!(),
+        None => Ok(Named { name, port: None }),
     }
 }

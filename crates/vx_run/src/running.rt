@@ -1,8 +1,9 @@
 ghost use Rattle.std.specs.Prelude.{◌≡◌, ◌≢◌, ◌⊎◌, List, ◌<◌, ◌^◌, [], length, true, false, Some, IfOk};
+ghost use Rattle.vx_ends.specs.Silent.{told_if};
 ghost use Rattle.vx_plan.specs.Accepted.{IsPlan};
 ghost use Rattle.vx_record.specs.Installs.{started};
 ghost use Rattle.vx_record.specs.TallyLists.{tallies_of};
-ghost use Rattle.vx_hub.specs.Making.{AreUntouched, all_ported};
+ghost use Rattle.vx_hub.specs.Making.{AreUntouched, ArePickers, all_served};
 ghost use Rattle.vx_hub.specs.Remains.{HasEnded, AreNumbered, AreClosed};
 ghost use Rattle.vx_hub.specs.Standing.{IsHub, IsSameRun, GoesOn};
 ghost use Rattle.vx_value.specs.Texts.{Word};
@@ -45,16 +46,16 @@ pub(crate) fn perform<R: Wait, W: World, C: Clock, P: Printer>(
     world: &mut W,
     clock: &C,
     out: &mut P,
-) -> Outcome<W::Port>
+) -> Outcome<Option<W::Port>>
     ensures answer { IsAnswer words.now environment.now (W.texts world.old) (W.faults world.old) (W.faults world.new) result.history result.fault }
     ensures shown { IsShown words.now environment.now (W.texts world.old) (out.new ≡ out.old) (P.printed out.old) (P.printed out.new) (P.faults out.old) (P.faults out.new) result.fault }
-    ensures told { IsTrueTo W.Port.told result.history result.ports result.fault }
+    ensures told { IsTrueTo (told_if W.Port.told) result.history result.ports result.fault }
     ensures returned { AllReturned result.history result.fault }
     ensures installed { HasInstalled words.now environment.now (W.texts world.old) result.history result.fault }
     ensures ended { HasEnded (length result.ports) result.history }
     ensures read { IsReadOut result.history result.fault }
     ensures counted { IsCounted result.history (length result.ports) result.tallies result.fault }
-    ensures closed { AreClosed W.Port.told result.ports }
+    ensures closed { AreClosed (told_if W.Port.told) result.ports }
     ensures numbers { AreNumbered 0 result.ports }
     ensures none_missing { NoneMissing words.now environment.now (W.texts world.old) result.history result.ports result.fault }
     ensures moments { AreTimely (C.gave clock.now) result.history }
@@ -79,15 +80,15 @@ fn run<R: Wait, W: World, C: Clock>(
     environment: &VariableList,
     world: &mut W,
     clock: &C,
-) -> Outcome<W::Port>
+) -> Outcome<Option<W::Port>>
     ensures answer { (words : List Word) → IsCommand words (Run file.now) → IsAnswer words environment.now (W.texts world.old) (W.faults world.old) (W.faults world.new) result.history result.fault }
-    ensures told { IsTrueTo W.Port.told result.history result.ports result.fault }
+    ensures told { IsTrueTo (told_if W.Port.told) result.history result.ports result.fault }
     ensures returned { AllReturned result.history result.fault }
     ensures installed { (words : List Word) → IsCommand words (Run file.now) → HasInstalled words environment.now (W.texts world.old) result.history result.fault }
     ensures ended { HasEnded (length result.ports) result.history }
     ensures read { IsReadOut result.history result.fault }
     ensures counted { IsCounted result.history (length result.ports) result.tallies result.fault }
-    ensures closed { AreClosed W.Port.told result.ports }
+    ensures closed { AreClosed (told_if W.Port.told) result.ports }
     ensures numbers { AreNumbered 0 result.ports }
     ensures none_missing { (words : List Word) → IsCommand words (Run file.now) → NoneMissing words environment.now (W.texts world.old) result.history result.ports result.fault }
     ensures unprinted { result.fault ≢ Some Fault.PrintFailed }
@@ -132,7 +133,8 @@ fn begin<R: Wait, P: Port, C: Clock>(
     requires ports { length parts.ports ≡ length parts.plan.components }
     requires untouched { AreUntouched P.told parts.plan.components parts.ports }
     requires accepted { IsPlan parts.plan }
-    requires ported { all_ported parts.plan.components ≡ true }
+    requires served { all_served parts.plan.components ≡ true }
+    requires pickers { ArePickers parts.plan.components parts.pickers }
     ensures judged { IsJudged result.history result.fault }
     ensures told { IsTrueTo P.told result.history result.ports result.fault }
     ensures returned { AllReturned result.history result.fault }

@@ -1,12 +1,13 @@
 ghost use Rattle.std.specs.Prelude.{◌≡◌, length};
 ghost use Rattle.vx_record.specs.Legal.{IsLegal, IsClosed};
-ghost use Rattle.vx_hub.specs.Making.{ArePorted};
+ghost use Rattle.vx_ends.specs.Silent.{told_if};
+ghost use Rattle.vx_hub.specs.Making.{AreServed};
 ghost use Rattle.vx_hub.specs.Remains.{AreNumbered, AreClosed, HasOnePlace, AllSpent, HasNotices, HasEnds};
 ghost use Rattle.vx_run.specs.Answers.{IsAnswer};
 ghost use Rattle.vx_cli.specs.Statuses.{ended_status};
 ghost use Rattle.vx_run.specs.Calling.{HasCalled};
 ghost use Rattle.vx_run.specs.Moments.{AreTimely};
-ghost use Rattle.vx_run.specs.Running.{IsTrueTo, AllReturned, HasInstalled, IsReadOut, IsCounted, NoneMissing};
+ghost use Rattle.vx_run.specs.Running.{IsTrueTo, AreThere, AllReturned, HasInstalled, IsReadOut, IsCounted, NoneMissing};
 ghost use Rattle.vx_run.specs.Showing.{IsShown};
 ghost use Rattle.vx_run.specs.Telling.{IsSaid};
 
@@ -32,7 +33,7 @@ pub fn vector<R: Wait, W: World, C: Clock, P: Printer, L: Printer>(
     out: &mut P,
     err: &mut L,
 ) -> Ended<W>
-    ensures told { IsTrueTo W.Port.told result.history result.ports result.fault }
+    ensures told { IsTrueTo (told_if W.Port.told) result.history result.ports result.fault }
     ensures returned { AllReturned result.history result.fault }
     ensures installed { HasInstalled words.now environment.now (W.texts world) result.history result.fault }
     ensures copies { HasOnePlace result.history }
@@ -41,10 +42,11 @@ pub fn vector<R: Wait, W: World, C: Clock, P: Printer, L: Printer>(
     ensures read { IsReadOut result.history result.fault }
     ensures ended { HasEnds (length result.ports) result.history }
     ensures legal { IsLegal result.history }
-    ensures ported { ArePorted result.history }
+    ensures served { AreServed result.history }
+    ensures there { AreThere result.history result.ports }
     ensures complete { IsClosed result.history }
     ensures counted { IsCounted result.history (length result.ports) result.tallies result.fault }
-    ensures closed { AreClosed W.Port.told result.ports }
+    ensures closed { AreClosed (told_if W.Port.told) result.ports }
     ensures numbers { AreNumbered 0 result.ports }
     ensures none_missing { NoneMissing words.now environment.now (W.texts world) result.history result.ports result.fault }
     ensures answer { IsAnswer words.now environment.now (W.texts world) (W.faults world) (W.faults result.world) result.history result.fault }

@@ -23,11 +23,11 @@ pub(crate) fn validate<W: World, P: Printer>(
     ensures called { Grows (W.calls world.old) (W.calls world.new) (call.Config file.now ∷ []) }
     ensures texts { W.texts world.new ≡ W.texts world.old }
 {
-    let plan = match plan_at(alloc, file, environment, world) {
-        Ok(plan) => plan,
+    let read = match plan_at(alloc, file, environment, world) {
+        Ok(read) => read,
         Err(fault) => return Some(fault),
     };
-    let Ok(text) = valid_text(alloc, &plan) else {
+    let Ok(text) = valid_text(alloc, &read.plan) else {
         return Some(Fault::WantOfMemory);
     };
     match out.print(text.as_str().as_bytes()) {

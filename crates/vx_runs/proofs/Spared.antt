@@ -20,7 +20,7 @@ use Rattle.vx_record.proofs.Adding.{adds_none, adds_both, adds_narrower, adds_wi
 use Rattle.vx_record.proofs.OwnTurns.{worker_own}
 use Rattle.vx_record.proofs.TasksOut.{out_to_worker, workers_spare, tasks_spare, spared_stays}
 use Rattle.vx_record.proofs.Wired.{component_in_place}
-use Rattle.vx_moves.specs.Rooms.{IsHandOf, planned_batch}
+use Rattle.vx_moves.specs.Rooms.{IsHandOf, hand_of}
 use Rattle.vx_tasks.specs.declared.landing.Landing.{Landing}
 use Rattle.vx_tasks.specs.declared.work.Work.{Work}
 use Rattle.vx_tasks.proofs.Kept.{left_kept, done_kept}
@@ -98,11 +98,7 @@ module _ {P : Type 0} (told_by : P → Told) (old new : Hub P) (was : IsHub told
       ∙ sym (component_in_place old.books.log plan i was.stands.legal was.stands.run.installed)
 
   room_stays : (i room : ℕ) → IsSameRun old.books.log new.books.log → IsHandOf old.books.log i room → IsHandOf new.books.log i room
-  room_stays i room same hand sink =
-      let component = component_stays i same in
-      let sinks : sink_at new.books.log i ≡ sink_at old.books.log i = ap (λ (o : Option Component). elim o [ None ↦ false | Some c ↦ is_sink c ]) component in
-      let batches : planned_batch new.books.log i ≡ planned_batch old.books.log i = ap (λ (o : Option Component). elim o [ None ↦ 0 | Some c ↦ batch_max_events c.settings ]) component in
-      hand (sym sinks ∙ sink) ∙ sym batches
+  room_stays i room same hand = hand ∙ sym (ap (λ (o : Option Component). elim o [ None ↦ 0 | Some c ↦ hand_of c ]) (component_stays i same))
 
   -- what spares a task that is out keeps it as it left
   pub away_kept : (work : Work P) → OnlyAdds (Spares work.instance) old.books.log new.books.log → IsAway told_by old.books.log work → IsAway told_by new.books.log work

@@ -1,30 +1,27 @@
 //! The engine driven by hand: three tasks are out at once, and come home in each order, with parcels moved between.
 ghost use Rattle.std.specs.Prelude.{◌≡◌, ◌<◌, ◌^◌, length, true, None, IfOk};
-ghost use Rattle.vx_plan.specs.Accepted.{IsPlan};
-ghost use Rattle.vx_plan.specs.Options.{has_device};
-ghost use Rattle.vx_plan.specs.Ports.{port_of};
+ghost use Rattle.vx_ends.specs.Silent.{told_if};
 ghost use Rattle.vx_record.specs.Additions.{OnlyAdds};
 ghost use Rattle.vx_record.specs.Ceasing.{cause_of};
 ghost use Rattle.vx_record.specs.Makers.{IsBy, IsFor};
 ghost use Rattle.vx_record.specs.Installs.{started};
 ghost use Rattle.vx_hub.specs.Ending.{IsOver};
-ghost use Rattle.vx_hub.specs.Making.{IsUntouched, AreUntouched, all_ported};
 ghost use Rattle.vx_hub.specs.Standing.{IsHub};
 ghost use Rattle.vx_runs.specs.ByHand.{IsAway, IsBack, AreBack, SparesEach, SparesOthers};
 
-use crate::fixtures::{Play, add, script, steps};
+use crate::fixtures::{Play, add, config, script, steps};
 use crate::plans::TWO_SINKS;
 use crate::tallies::NOTHING;
 use std::alloc::Global;
 use std::process::Abort;
 use std::test::Fail;
 use vx_ends::{Clock, ConfigList, MemoryClock, MemoryPort, MemoryWorld, Port, ScriptedList, World};
-use vx_hub::{Hub, Named, NamedList, NumberedList, Parts, Remains};
-use vx_plan::{Class, Component, Plan};
-use vx_reading::read_plan;
+use vx_hub::{Hub, Numbered, NumberedList, Remains};
+use vx_plan::Class;
 use vx_record::{AbandonCause, Tally};
+use vx_run::prepare;
 use vx_tasks::{Landing, Work};
-use vx_value::{VariableList, WantOfMemory};
+use vx_value::{Text, VariableList, WantOfMemory};
 
 /// In which order three tasks come home: the letters stand for those that were leased first, second and third.
 #[derive(Clone, Copy, Debug)]
@@ -306,69 +303,13 @@ fn given_up<R: Abort, P: Port, C: Clock>(
     ports
 }
 
-/// The plan of a configuration.
-fn plan_of(alloc: Global, text: &str) -> Result<Plan, WantOfMemory>
-    ensures few { IfOk result (λ plan. length plan.components < 2 ^ 32) }
-    ensures accepted { IfOk result (λ plan. IsPlan plan) }
-    ensures ported { IfOk result (λ plan. all_ported plan.components ≡ true) }
+/// The hub of the configuration of a world, between its ports.
+fn hub_of<W: World>(alloc: Global, world: &mut W) -> Result<Hub<Option<W::Port>>, WantOfMemory>
+    ensures { IfOk result (IsHub (told_if W.Port.told)) }
 {
-    let environment = VariableList::new(alloc);
-    match read_plan(alloc, text.as_bytes(), &environment) {
-        Ok(plan) => Ok(plan),
-        Err(_) => Err(WantOfMemory),
-    }
-}
-
-/// A port for each component of a plan, in order.
-fn ports<W: World>(
-    alloc: Global,
-    plan: &Plan,
-    world: &mut W,
-) -> Result<NamedList<W::Port>, WantOfMemory>
-    requires { all_ported plan.now.components ≡ true }
-    ensures count { IfOk result (λ ports. length ports ≡ length plan.now.components) }
-    ensures untouched { IfOk result (λ ports. AreUntouched W.Port.told plan.now.components ports) }
-{
-    let mut ports = NamedList::new(alloc);
-    for component in plan.components.as_slice() {
-        let port = port(alloc, component, world)?;
-        match ports.push(port) {
-            Ok(()) => {}
-            Err(_) => return Err(WantOfMemory),
-        }
-    }
-    Ok(ports)
-}
-
-/// The port of a component, and the component's name.
-fn port<W: World>(
-    alloc: Global,
-    component: &Component,
-    world: &mut W,
-) -> Result<Named<W::Port>, WantOfMemory>
-    requires { has_device component.now.settings ≡ true }
-    ensures { IfOk result (λ named. IsUntouched (port_of component.now) (W.Port.told named.port)) }
-{
-    let name = component.name.copy(alloc)?;
-    match component.port(alloc)? {
-        Some(spec) => Ok(Named {
-            name,
-            port: world.port(&spec)?,
-        }),
-        None => unreachable!(),
-    }
-}
-
-/// The hub of a configuration, between ports of a world.
-fn hub_of<W: World>(alloc: Global, text: &str, world: &mut W) -> Result<Hub<W::Port>, WantOfMemory>
-    ensures { IfOk result (IsHub W.Port.told) }
-{
-    let plan = plan_of(alloc, text)?;
-    let ports = ports(alloc, &plan, world)?;
-    let parts = Parts {
-        plan,
-        once: false,
-        ports,
+    let file = Text::copy_of(alloc, "first.toml")?;
+    let Ok(parts) = prepare(alloc, &file, &VariableList::new(alloc), world) else {
+        return Err(WantOfMemory);
     };
     match Hub::new(alloc, parts, 0) {
         Ok(hub) => Ok(hub),
@@ -376,26 +317,38 @@ fn hub_of<W: World>(alloc: Global, text: &str, world: &mut W) -> Result<Hub<W::P
     }
 }
 
-/// A world whose `in` gives two lines, and two more.
+/// A world with a configuration of two sinks, whose `in` gives two lines, and two more.
 fn world(alloc: Global) -> Result<MemoryWorld, WantOfMemory> {
     let pieces = steps(alloc, &[Play::Piece(0, "a\nb\n"), Play::Piece(0, "c\nd\n")])?;
     let mut scripts = ScriptedList::new(alloc);
     add(&mut scripts, script(alloc, "in", pieces, &[])?)?;
-    Ok(MemoryWorld::new(alloc, ConfigList::new(alloc), scripts))
+    let mut configs = ConfigList::new(alloc);
+    add(&mut configs, config(alloc, "first.toml", TWO_SINKS)?)?;
+    Ok(MemoryWorld::new(alloc, configs, scripts))
 }
 
 /// Checks what a sink's port was given.
-fn was_given(rt: &impl Abort, ports: &NumberedList<MemoryPort>, instance: usize, wanted: &[u8]) {
+fn was_given(
+    rt: &impl Abort,
+    ports: &NumberedList<Option<MemoryPort>>,
+    instance: usize,
+    wanted: &[u8],
+) {
     match ports.get(instance) {
-        Some(end) => assert!(rt; end.port.given() == wanted),
-        None => assert!(rt; false),
+        Some(
+            Numbered {
+                port: Some(port),
+                ..
+            },
+        ) => assert!(rt; port.given() == wanted),
+        _ => assert!(rt; false),
     }
 }
 
 /// Drives a run in which three tasks come home in an order, and checks what its sinks were given.
 fn comes_home<R: Abort>(rt: &R, alloc: Global, order: Order) -> Result<(), Fail> {
     let mut world = world(alloc)?;
-    let hub = hub_of(alloc, TWO_SINKS, &mut world)?;
+    let hub = hub_of(alloc, &mut world)?;
     let ports = by_hand(rt, alloc, hub, &MemoryClock::new(), order);
     was_given(rt, &ports, 1, b"a\nb\nc\nd\n");
     was_given(rt, &ports, 2, b"a\nb\nc\nd\n");
@@ -423,7 +376,7 @@ fn the_source_before_the_sinks(rt: HostRuntime) -> Result<(), Fail> {
 #[test]
 fn two_sinks_out_when_the_run_is_given_up(rt: HostRuntime) -> Result<(), Fail> {
     let mut world = world(rt.alloc())?;
-    let hub = hub_of(rt.alloc(), TWO_SINKS, &mut world)?;
+    let hub = hub_of(rt.alloc(), &mut world)?;
     let ports = given_up(&rt, rt.alloc(), hub, &MemoryClock::new());
     was_given(&rt, &ports, 1, b"a\n");
     was_given(&rt, &ports, 2, b"a\n");

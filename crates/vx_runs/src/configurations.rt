@@ -90,7 +90,7 @@ fn batches_wait_for_sinks_that_acknowledge(rt: HostRuntime) -> Result<(), Fail> 
 /// The plan of a text that is one.
 fn plan(alloc: Global, text: &str) -> Result<Plan, Fail> {
     match read_plan(alloc, text.as_bytes(), &VariableList::new(alloc)) {
-        Ok(plan) => Ok(plan),
+        Ok(read) => Ok(read.plan),
         Err(_) => Err(Fail::new("refused")),
     }
 }

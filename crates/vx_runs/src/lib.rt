@@ -28,4 +28,6 @@ mod runs;
 #[cfg(test)]
 mod tallies;
 #[cfg(test)]
+mod transforms;
+#[cfg(test)]
 mod validates;

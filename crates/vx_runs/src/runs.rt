@@ -130,10 +130,13 @@ pub(crate) fn played<R: Wait + Abort>(
     Ok(ended)
 }
 
-/// What the port of an instance was given.
+/// What the port of an instance was given; nothing where it has none.
 pub(crate) fn given(ended: &Ended<MemoryWorld>, instance: usize) -> &[u8] {
     match ended.ports.get(instance) {
-        Some(end) => end.port.given(),
+        Some(end) => match &end.port {
+            Some(port) => port.given(),
+            None => "".as_bytes(),
+        },
         None => "no port".as_bytes(),
     }
 }

@@ -21,14 +21,17 @@ use Rattle.vx_tasks.specs.declared.landing.Done.TheVariants as done
 use Rattle.vx_tasks.specs.declared.landing.Landing.{Landing}
 use Rattle.vx_tasks.specs.declared.task.Role.{Role}
 use Rattle.vx_tasks.specs.declared.task.Role.TheVariants as role
-use Rattle.vx_tasks.specs.Jobs.{KeepsRole}
+use Rattle.vx_tasks.specs.Jobs.{DoesJob, KeepsRole}
+use Rattle.vx_tasks.proofs.Judges.{no_source, no_sink}
+use Rattle.vx_tasks.specs.Home.{HasCome}
+use Rattle.vx_record.specs.Owing.{owes_answer}
 use Rattle.vx_tasks.specs.declared.work.Job.{Job}
 use Rattle.vx_tasks.specs.declared.work.Job.TheVariants as job
 use Rattle.vx_tasks.specs.declared.work.Work.{Work}
 use Rattle.vx_tasks.specs.Telling.{IsTold, GoesBeyond, IsToldBeyond}
 use Rattle.vx_tasks.specs.Laws.{StarvedBeyond}
 use Rattle.vx_tasks.specs.Doing.{MayAct}
-use Rattle.vx_tasks.specs.Out.{IsIdle, MayReadNow, IsGiven, AreDue, HasLeft, confirm_entries, IsConfirmedSo, TellsDone, HasActed, is_unfit, leaves_unfit, HasDone}
+use Rattle.vx_tasks.specs.Out.{IsIdle, MayReadNow, IsGiven, AreDue, HasLeft, confirm_entries, IsConfirmedSo, TellsDone, HasActed, is_unfit, leaves_unfit, leaves_taken, HasDone}
 
 -- a source that isn't dry wasn't told the end of all
 read_unended : (h : Record) (i worker : ℕ) → IsLegal h → out_to h i ≡ Some worker → IsIdle h i → MayReadNow h i → all_ended h i ≡ false
@@ -76,6 +79,21 @@ fit_of told h i (role.Transform picker) (role.Source _) d fit keeps acted = absu
 fit_of told h i (role.Transform picker) (role.Sink _) d fit keeps acted = absurd keeps
 fit_of told h i (role.Transform picker) role.Unfit d fit keeps acted = absurd keeps
 
+-- what an instance took it has answered, unless it was judged, or no memory was found
+untaken_of : (h : Record) (i : ℕ) (wanted : Job) (does : Role) (d : Done) → IsLegal h → IsGiven h i wanted → HasCome h i does → is_unfit does ≡ false →
+    ((wanted ≡ job.Judge → ⊥) → owes_answer h i ≡ false) → DoesJob wanted does d → leaves_taken d ≡ false → owes_answer h i ≡ false
+untaken_of h i job.Judge (role.Source core) d legal given come fit was does left = absurd (no_source h i legal given.transform core come)
+untaken_of h i job.Judge (role.Sink codec) d legal given come fit was does left = absurd (no_sink h i legal given.transform codec come)
+untaken_of h i job.Judge (role.Transform picker) (done.Judged ports) legal given come fit was does left = cc
+untaken_of h i job.Judge (role.Transform picker) done.Short legal given come fit was does left = cc
+untaken_of h i job.Judge (role.Transform picker) other legal given come fit was does left = absurd does
+untaken_of h i job.Judge role.Unfit d legal given come fit was does left = cc
+untaken_of h i job.Read r d legal given come fit was does left = was (λ is. cc)
+untaken_of h i job.Confirm r d legal given come fit was does left = was (λ is. cc)
+untaken_of h i job.Collect r d legal given come fit was does left = was (λ is. cc)
+untaken_of h i job.Attempt r d legal given come fit was does left = was (λ is. cc)
+untaken_of h i job.Close r d legal given come fit was does left = was (λ is. cc)
+
 module _ {P : Type 0} (told_by : P → Told) (h : Record) (work : Work P) (legal : IsLegal h) (left : HasLeft told_by h work) where
   -- what was confirmed, and then done
   pub done_of : (mid port : P) (role : Role) (confirmed : Option Confirmed) (done : Done) →
@@ -83,9 +101,10 @@ module _ {P : Type 0} (told_by : P → Told) (h : Record) (work : Work P) (legal
       ((k : Record) (i : ℕ) (d : Done) → AreDue k i work.positions → IsConfirmedSo k i d confirmed) →
       ((k : Record) (i : ℕ) → IsTold (told_by mid) k i → TellsDone (told_by port) k i work.held.items done) →
       ((k : Record) (i : ℕ) → MayAct (told_by mid) k i work.task.role work.held.items work.job → HasActed (told_by port) k i role done) →
+      DoesJob work.job work.task.role done →
       KeepsRole work.task.role role done →
       HasDone told_by h (landed work port role confirmed done)
-  done_of mid port role confirmed done confirms due tells acts keeps =
+  done_of mid port role confirmed done confirms due tells acts does keeps =
       let told = confirms h work.instance left.home.told in
       let acted : HasActed (told_by port) h work.instance role done = acts h work.instance (record {
         given = left.job;
@@ -102,6 +121,8 @@ module _ {P : Type 0} (told_by : P → Told) (h : Record) (work : Work P) (legal
         confirmed = due h work.instance done left.asked;
         told = tells (confirm_entries work.instance confirmed ++ h) work.instance told;
         acted = acted;
+        settled = left.settled;
+        untaken = untaken_of h work.instance work.job work.task.role done legal left.job left.home.come left.fit left.untaken does;
         fit = fit_of (told_by port) h work.instance work.task.role role done left.fit keeps acted;
       }
 
@@ -115,6 +136,8 @@ module _ {P : Type 0} (told_by : P → Told) (h : Record) (work : Work P) (legal
     confirmed = tt;
     told = same h work.instance left.home.told;
     acted = left.home.come;
+    settled = left.settled;
+    untaken = λ is. cc;
     fit = left.fit;
   }
 

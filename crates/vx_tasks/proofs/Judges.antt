@@ -27,6 +27,7 @@ use Rattle.vx_record.specs.Legal.{IsLegal}
 use Rattle.vx_record.specs.Judges.{is_judging, judge_at}
 use Rattle.vx_record.proofs.Judged.{judge_rule}
 use Rattle.vx_sourcecore.specs.Abreast.{IsMadeFor}
+use Rattle.vx_sourcecore.specs.declared.source.SourceCore.{SourceCore}
 use Rattle.vx_tasks.specs.declared.task.Role.{Role}
 use Rattle.vx_tasks.specs.declared.task.Role.TheVariants as role
 use Rattle.vx_tasks.specs.Home.{HasCome}
@@ -77,12 +78,12 @@ by_class c fit is =
 
 -- WHO JUDGES
 -- a transform neither decodes nor encodes
-decodes_none : (s : Settings) (how : Decoding) → settings_class s ≡ Transform → decoding s ≡ Some how → is_judging s ≡ true
+decodes_none : (s : Settings) (how : Decoding) → settings_class s ≡ Transform → decoding s ≡ Some how → ⊥
 decodes_none (settings.Stdin max_length codec) how of is = cc
 decodes_none (settings.DemoLogs demo interval) how of is = cc
 decodes_none other how of is = cc
 
-encodes_none : (s : Settings) (codec : Codec) → settings_class s ≡ Transform → encoding s ≡ Some codec → is_judging s ≡ true
+encodes_none : (s : Settings) (codec : Codec) → settings_class s ≡ Transform → encoding s ≡ Some codec → ⊥
 encodes_none (settings.Console target how sink) codec of is = cc
 encodes_none other codec of is = cc
 
@@ -104,12 +105,26 @@ module _ (h : Record) (i : ℕ) (legal : IsLegal h) (transform : transform_at h 
       go None fit p t = absurd p
       go (Some c) fit p t = and_from (is_transform c) (is_judging c.settings) t (each c (by_class c (fit c refl) t) p)
 
+  refutes : (P : Component → Type 0) → ((c : Component) → settings_class c.settings ≡ Transform → P c → ⊥) → IsSomeAnd (component_of h i) P → ⊥
+  refutes P none is = go (component_of h i) (λ c runs. fits h i c legal runs) is transform
+    where
+      go : (o : Option Component) → ((c : Component) → o ≡ Some c → fits_class c ≡ true) → IsSomeAnd o P →
+          (elim o [ None ↦ false | Some c ↦ is_transform c ]) ≡ true → ⊥
+      go None fit p t = absurd p
+      go (Some c) fit p t = none c (by_class c (fit c refl) t) p
+
+  -- so it isn't what a source or a sink does
+  pub no_source : (core : SourceCore) → HasCome h i (role.Source core) → ⊥
+  no_source core is =
+      refutes (λ (c : Component). IsMadeFor c.settings core) (λ c of made. decodes_none c.settings core.decoding of made.decoding_is) is.made_for
+
+  pub no_sink : (codec : Codec) → HasCome h i (role.Sink codec) → ⊥
+  no_sink codec is =
+      refutes (λ (c : Component). encoding c.settings ≡ Some codec) (λ c of writes. encodes_none c.settings codec of writes) is
+
   pub come_judges : (r : Role) → is_unfit r ≡ false → HasCome h i r → judge_at h i ≡ true
-  come_judges (role.Source core) fit is =
-      judges_by (λ (c : Component). IsMadeFor c.settings core)
-      (λ c of made. decodes_none c.settings core.decoding of made.decoding_is) is.made_for
-  come_judges (role.Sink codec) fit is =
-      judges_by (λ (c : Component). encoding c.settings ≡ Some codec) (λ c of writes. encodes_none c.settings codec of writes) is
+  come_judges (role.Source core) fit is = absurd (no_source core is)
+  come_judges (role.Sink codec) fit is = absurd (no_sink codec is)
   come_judges (role.Transform picker) fit is =
       judges_by (λ (c : Component). Picks c.settings picker) (λ c of picks. picker_judges c.settings picker picks) is
   come_judges role.Unfit fit is = cc

@@ -16,13 +16,13 @@ use Rattle.vx_record.specs.Legal.{IsLegal}
 use Rattle.vx_record.specs.Places.Place.{Held}
 use Rattle.vx_record.specs.Shifts.{at}
 use Rattle.vx_record.specs.Turns.{at_lease, lease_now, since_lease, is_turn_of, is_attempt_of, is_confirm_of}
-use Rattle.vx_record.specs.Installs.{component_of, source_at, is_closed}
+use Rattle.vx_record.specs.Installs.{component_of, source_at, transform_at, is_closed}
 use Rattle.vx_record.specs.Parcels.{parcel_event}
 use Rattle.vx_record.specs.Encoding.{given, bytes_for, encoded}
 use Rattle.vx_record.specs.Reads.{bytes_taken}
 use Rattle.vx_record.specs.Sourcing.{failed_starts}
 use Rattle.vx_record.specs.Confirms.{due, is_confirm_due}
-use Rattle.vx_record.specs.Owing.{took_since, owes_discards, is_done}
+use Rattle.vx_record.specs.Owing.{took_since, owes_discards, owes_answer, is_done}
 use Rattle.vx_record.specs.Transforms.{Rule, judges, RunsBy, port_bits}
 use Rattle.vx_record.specs.Ready.{can_read}
 use Rattle.vx_record.specs.Tasks.{is_of, mine, out_to}
@@ -196,6 +196,9 @@ module _ (old new : Record) (i worker : ℕ) (legal : IsLegal old) (adds : OnlyA
     settled = settled_kept may.settled;
   }
 
+  untaken_kept : owes_answer old i ≡ false → owes_answer new i ≡ false
+  untaken_kept is = ap (λ (b : Bool). b && took_since new i) (told_by false is_transform new old i run) ∙ ap (λ (b : Bool). transform_at old i && b) (stays took_since took_own old new i same) ∙ is
+
   given_kept : (wanted : Job) → IsGiven old i wanted → IsGiven new i wanted
   given_kept job.Read is = read_kept is
   given_kept job.Confirm is = tt
@@ -289,6 +292,8 @@ left_kept told old new work legal adds left =
       held = held_stays work.held.items old new i adds legal left.held;
       asked = due_kept old new i w legal adds left.out work.positions left.asked;
       job = given_kept old new i w legal adds left.out work.job left.job;
+      settled = settled_kept old new i w legal adds left.out left.settled;
+      untaken = λ no. untaken_kept old new i w legal adds left.out (left.untaken no);
       fit = left.fit;
     }
 
@@ -304,5 +309,7 @@ done_kept told old new landing legal adds back =
       confirmed = so_kept old new i w legal adds back.out landing.done landing.confirmed back.confirmed;
       told = tells_behind (told landing.task.port) old new i (same old new i w legal adds back.out) (run old new i w legal adds back.out) landing.confirmed landing.held.items landing.done back.told;
       acted = acted_kept old new i w legal adds back.out (told landing.task.port) landing.task.role landing.held.items landing.done back.held now back.acted;
+      settled = settled_kept old new i w legal adds back.out back.settled;
+      untaken = λ no. untaken_kept old new i w legal adds back.out (back.untaken no);
       fit = back.fit;
     }

@@ -3,8 +3,7 @@ use Rattle.std.proofs.Common.{◌≡◌, inl, inr, ◌≤◌, ℕ, ◌+◌, Bool
 use Rattle.std.specs.Prelude.{◌==◌, ◌⊎◌, ◌&&◌, ◌||◌, not, nat_lt, if◌then◌else◌}
 use Rattle.std.proofs.lemmas.List.{append-nil}
 use Rattle.std.proofs.lemmas.Bool.Decides.{nat_tests}
-use Rattle.vx_ends.specs.Told.{Told, Rose, Grows, SameBytes, Happened, Counts, CountsBy, nothing, raised}
-use Rattle.vx_ends.specs.declared.port_spec.PortSpec.{PortSpec}
+use Rattle.vx_ends.specs.Told.{Told, Rose, Grows, SameBytes, Happened, Counts, CountsBy, nothing, raised, Made, Fits}
 use Rattle.vx_ends.specs.declared.position.Position.{Position}
 use Rattle.vx_ends.specs.declared.trouble.Reply.{Reply}
 use Rattle.vx_ends.specs.declared.trouble.Reply.TheVariants as reply
@@ -85,8 +84,8 @@ told_said e h i old new says told = record {
   taken = λ stream. subst (λ (w : List ℕ). IfSome (new.taken stream) (λ bytes. bytes ≡ w)) (sym (taken_grows e h i stream))
       (grown (old.taken stream) (new.taken stream) (taken_in i stream e) (taken_of h i stream) (says.taken stream) (told.taken stream));
   given = grown old.given new.given (given_in i e) (given h i) says.given told.given;
-  spec = subst (λ (o : Option PortSpec). IfSome o (λ spec. spec_of (component_of (e ∷ h) i) ≡ Some spec)) (sym says.spec)
-      (subst (λ (c : Option Component). IfSome old.spec (λ spec. spec_of c ≡ Some spec)) (sym says.runs) told.spec);
+  spec = subst (λ (for : Made). Fits (spec_of (component_of (e ∷ h) i)) for) (sym says.spec)
+      (subst (λ (c : Option Component). Fits (spec_of c) old.spec) (sym says.runs) told.spec);
   confirmed = grown old.confirmed new.confirmed (confirmed_in i e) (confirmed h i) says.confirmed told.confirmed;
   ended = says.ended ∙ ap (λ (xs : List ℕ). xs ++ ended_by i e) told.ended;
   over = says.over told.over;
@@ -227,7 +226,7 @@ pub told_unmoved : (old new : Told) (h : Record) (i : ℕ) (what : Happened) →
 told_unmoved old new h i what same quiet counts told = record {
   taken = λ stream. subst (λ (f : ℕ → Option (List ℕ)). IfSome (f stream) (λ bytes. bytes ≡ taken_of h i stream)) (sym same.taken) (told.taken stream);
   given = subst (λ (o : Option (List ℕ)). IfSome o (λ bytes. bytes ≡ given h i)) (sym same.given) told.given;
-  spec = subst (λ (o : Option PortSpec). IfSome o (λ spec. spec_of (component_of h i) ≡ Some spec)) (sym same.spec) told.spec;
+  spec = subst (λ (for : Made). Fits (spec_of (component_of h i)) for) (sym same.spec) told.spec;
   confirmed = subst (λ (o : Option (List Position)). IfSome o (λ positions. positions ≡ confirmed h i)) (sym same.confirmed) told.confirmed;
   ended = same.ended ∙ told.ended;
   over = λ over. same.left (told.over over);

@@ -4,7 +4,7 @@ use Rattle.std.specs.Prelude.{◌==◌, is_some, if◌then◌else◌}
 use Rattle.std.proofs.lemmas.Bool.{eqb-true}
 use Rattle.std.proofs.lemmas.Bool.Decides.{nat_tests}
 use Rattle.vx_value.specs.declared.event.Event.{Event}
-use Rattle.vx_ends.specs.Told.{Told}
+use Rattle.vx_ends.specs.Told.{Told, Fits}
 use Rattle.vx_ends.specs.declared.position.Position.{Position}
 use Rattle.vx_ledger.specs.Copies.{Copy}
 use Rattle.vx_ledger.specs.declared.parcel.Parcel.{Parcel}
@@ -69,7 +69,7 @@ pub told_same : (told : Told) (old new : Record) (i : ℕ) → mine new i ≡ mi
 told_same told old new i same run is = record {
   taken = λ stream. subst (λ (w : List ℕ). IfSome (told.taken stream) (λ bytes. bytes ≡ w)) (sym (stays (λ h k. taken h k stream) (taken_own stream) old new i same)) (is.taken stream);
   given = subst (λ (w : List ℕ). IfSome told.given (λ bytes. bytes ≡ w)) (sym (stays given given_own old new i same)) is.given;
-  spec = subst (λ (c : Option Component). IfSome told.spec (λ spec. spec_of c ≡ Some spec)) (sym run) is.spec;
+  spec = subst (λ (c : Option Component). Fits (spec_of c) told.spec) (sym run) is.spec;
   confirmed = subst (λ (ps : List Position). IfSome told.confirmed (λ positions. positions ≡ ps)) (sym (stays confirmed confirmed_own old new i same)) is.confirmed;
   ended = is.ended ∙ sym (stays ended_streams ended_own old new i same);
   over = λ over. is.over (sym (stays all_ended end_own old new i same) ∙ over);

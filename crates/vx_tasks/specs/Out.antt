@@ -22,7 +22,7 @@ use Rattle.vx_record.specs.Reads.{bytes_taken}
 use Rattle.vx_record.specs.Sourcing.{failed_starts}
 use Rattle.vx_record.specs.SinkBatches.{is_full_batch, is_timed_out, is_last_batch, was_attempted, is_batch_closed, retry_from}
 use Rattle.vx_record.specs.Encoding.{given, encoded}
-use Rattle.vx_record.specs.Owing.{took_since, owes_discards, is_done}
+use Rattle.vx_record.specs.Owing.{took_since, owes_discards, owes_answer, is_done}
 use Rattle.vx_record.specs.Parcels.{parcel_event}
 use Rattle.vx_record.specs.Transforms.{Judge, judges, RunsBy, port_bits}
 use Rattle.vx_record.specs.Ready.{can_read}
@@ -46,7 +46,6 @@ use Rattle.vx_tasks.specs.declared.work.Job.TheVariants as job
 use Rattle.vx_tasks.specs.declared.work.Work.{Work}
 use Rattle.vx_tasks.specs.Telling.{IsTold, IsToldButGiven, GoesBeyond}
 use Rattle.vx_tasks.specs.Home.{HasCome, IsAtHome}
-use Rattle.vx_tasks.specs.Judging.{put_out_on, refused_on}
 
 -- since it was leased an instance took no turn, made no attempt and confirmed nothing, and its port isn't closed for good
 pub record IsIdle (h : Record) (i : ℕ) : Type 0 where
@@ -118,13 +117,15 @@ is_unfit (role.Sink codec) = false
 is_unfit (role.Transform picker) = false
 is_unfit role.Unfit = true
 
--- a task as it left
+-- a task as it left; all that its instance discarded is spent, and a transform that isn't to judge has answered what it took
 pub record HasLeft {P : Type 0} (told_by : P → Told) (h : Record) (work : Work P) : Type 0 where
   pub out : out_to h work.instance ≡ Some work.worker
   pub idle : IsIdle h work.instance
   pub home : IsAtHome told_by h work.instance work.task
   pub held : IsHeld h work.instance work.held.items
   pub asked : AreDue h work.instance work.positions
+  pub settled : owes_discards h work.instance ≡ false
+  pub untaken : (work.job ≡ job.Judge → ⊥) → owes_answer h work.instance ≡ false
   pub job : IsGiven h work.instance work.job
   pub fit : is_unfit work.task.role ≡ false
 
@@ -142,12 +143,12 @@ turn_entry h i (turned.Lines stream n room cut) = read_entry i (reading_of (turn
 turn_entry h i (turned.StreamEnded stream cut) = read_entry i (reading_of (turned.StreamEnded stream cut))
 turn_entry h i (turned.AllEnded stream cut) = read_entry i (reading_of (turned.AllEnded stream cut))
 
--- the entries that tell what was done: a turn, an attempt with the parcels that the instance holds, or an answer to these
+-- the entries that tell what was done with the port: a turn, or an attempt with the parcels that the instance holds
 abbrev pub deeds : Record → ℕ → List Parcel → Done → List Entry
 deeds h i parcels done.Nothing = []
 deeds h i parcels (done.Read turned) = turn_entry h i turned ∷ []
 deeds h i parcels (done.Attempted all sent answer) = entry.Attempt i (joined (numbers parcels)) (take sent all.value) answer ∷ []
-deeds h i parcels (done.Judged ports) = entry.Answer i (put_out_on ports parcels) (refused_on ports parcels) [] ∷ []
+deeds h i parcels (done.Judged ports) = []
 deeds h i parcels done.Closed = []
 deeds h i parcels done.Short = []
 deeds h i parcels done.Starved = []
@@ -176,6 +177,16 @@ lacks_cut turned = is_some (reading_of turned) && is_none (cut_of turned)
 abbrev pub leaves_unfit : Done → Bool
 leaves_unfit (done.Read turned) = lacks_cut turned
 leaves_unfit other = false
+
+-- whether an instance may come home with what it took and hasn't answered: it was judged, or no memory was found
+abbrev pub leaves_taken : Done → Bool
+leaves_taken done.Nothing = false
+leaves_taken (done.Read turned) = false
+leaves_taken (done.Attempted all sent answer) = false
+leaves_taken (done.Judged ports) = true
+leaves_taken done.Closed = false
+leaves_taken done.Short = true
+leaves_taken done.Starved = false
 
 -- what a source does comes back as far as its turn says
 abbrev pub HasRoleTurned : Record → ℕ → Role → Turned → Type 0
@@ -246,4 +257,6 @@ pub record HasDone {P : Type 0} (told_by : P → Told) (h : Record) (landing : L
   pub confirmed : IsConfirmedSo h landing.instance landing.done landing.confirmed
   pub told : TellsDone (told_by landing.task.port) (confirm_entries landing.instance landing.confirmed ++ h) landing.instance landing.held.items landing.done
   pub acted : HasActed (told_by landing.task.port) h landing.instance landing.task.role landing.done
+  pub settled : owes_discards h landing.instance ≡ false
+  pub untaken : leaves_taken landing.done ≡ false → owes_answer h landing.instance ≡ false
   pub fit : is_unfit landing.task.role ≡ leaves_unfit landing.done

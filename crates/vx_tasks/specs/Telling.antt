@@ -1,7 +1,7 @@
 -- When a port tells what a record has of its instance.
 use Rattle.std.specs.Prelude.{◌≡◌, ℕ, ◌<◌, ◌≤◌, ◌++◌, length, take, Bool, true, Option, Some, None, IfSome}
 use Rattle.vx_value.specs.Texts.{Word}
-use Rattle.vx_ends.specs.Told.{Told}
+use Rattle.vx_ends.specs.Told.{Told, Fits}
 use Rattle.vx_ends.specs.declared.port_spec.PortSpec.{PortSpec}
 use Rattle.vx_plan.specs.declared.component.Component.{Component}
 use Rattle.vx_plan.specs.Ports.{port_of}
@@ -23,12 +23,13 @@ pub record HasCounted (exact : Bool) (count : ℕ) (told : ℕ) : Type 0 where
   pub least : capped count ≤ told
   pub exactly : exact ≡ true → told ≡ capped count
 
--- what a port tells is what the record has of its instance: bytes, confirmed positions and ends, what it is made for, and at
+-- what a port tells is what the record has of its instance: bytes, confirmed positions and ends, what it is made for, or that there
+-- is none, and at
 -- least as many failures, refusals, idle takes, finishes and confirms, and not one more where its counts are exact
 pub record IsTold (told : Told) (h : Record) (i : ℕ) : Type 0 where
   pub taken : (stream : ℕ) → IfSome (told.taken stream) (λ bytes. bytes ≡ taken h i stream)
   pub given : IfSome told.given (λ bytes. bytes ≡ given h i)
-  pub spec : IfSome told.spec (λ spec. spec_of (component_of h i) ≡ Some spec)
+  pub spec : Fits (spec_of (component_of h i)) told.spec
   pub confirmed : IfSome told.confirmed (λ positions. positions ≡ confirmed h i)
   pub ended : told.ended ≡ ended_streams h i
   pub over : all_ended h i ≡ true → NothingLeft told

@@ -1,27 +1,29 @@
 use Rattle.std.proofs.Common.{◌∙◌, inl, sym}
+use Rattle.vx_ready.proofs.Knowing.{seat_there}
 use Rattle.vx_hub.proofs.Endings.{closing_so, may_end, bare_may, bare_not, unsettled_not, undone_not}
 use Rattle.vx_hub.proofs.ending.may_retire.Goals as goal
 
 pub returns-then-not-is_closing-clause-not : goal.returns-then-not-is_closing-clause-not
-returns-then-not-is_closing-clause-not g c off well may =
-    c.is_closing.ensures.no c.if-not-is_closing.true (closing_so c.requires.stands c.args.i c.get.ensures c.requires.served c.requires.within may)
+returns-then-not-is_closing-clause-not g c off well may = let there = seat_there c.args.books.now.seats c.args.i c.requires.within in
+    c.is_closing.ensures.no c.if-not-is_closing.true (closing_so c.requires.stands c.args.i there.1 may)
 
 pub returns-then-is_some-clause-may : goal.returns-then-is_some-clause-may
-returns-then-is_some-clause-may g c bare = bare_may c.requires.stands c.args.i c.get.ensures c.requires.served c.requires.within
-    (c.is_closing.ensures.yes c.if-not-is_closing.false) (sym c.is_some.ensures ∙ c.if-is_some.true) (c.is_bare.ensures.bare.0 bare)
+returns-then-is_some-clause-may g c bare = let there = seat_there c.args.books.now.seats c.args.i c.requires.within in
+    bare_may c.requires.stands c.args.i there.1 (c.is_closing.ensures.yes c.if-not-is_closing.false) (sym c.is_some.ensures ∙ c.if-is_some.true) (c.is_bare.ensures.bare.0 bare)
 
 pub returns-then-is_some-clause-not : goal.returns-then-is_some-clause-not
-returns-then-is_some-clause-not g c off well =
-    bare_not c.requires.stands c.args.i c.get.ensures c.requires.served c.requires.within (λ bare. let on = c.is_bare.ensures.bare.1 bare in cc)
+returns-then-is_some-clause-not g c off well = let there = seat_there c.args.books.now.seats c.args.i c.requires.within in
+    bare_not c.requires.stands c.args.i there.1 c.requires.within (λ bare. let on = c.is_bare.ensures.bare.1 bare in cc)
 
 pub returns-then-not-is_settled-clause-not : goal.returns-then-not-is_settled-clause-not
-returns-then-not-is_settled-clause-not g c off well may = unsettled_not c.requires.stands c.args.i c.get.ensures c.requires.served c.requires.within
-    (sym c.is_some.ensures ∙ c.if-is_some.false) (c.is_closing.ensures.yes c.if-not-is_closing.false) (c.is_settled.ensures.not c.if-not-is_settled.true) well
+returns-then-not-is_settled-clause-not g c off well may = let there = seat_there c.args.books.now.seats c.args.i c.requires.within in
+    unsettled_not c.requires.stands c.args.i there.1 (sym c.is_some.ensures ∙ c.if-is_some.false) (c.is_closing.ensures.yes c.if-not-is_closing.false)
+    (c.is_settled.ensures.not c.if-not-is_settled.true) well
 
 pub returns-clause-may : goal.returns-clause-may
-returns-clause-may g c done = may_end c.requires.stands c.args.i c.get.ensures
-    (c.is_closing.ensures.yes c.if-not-is_closing.false) (inl (sym c.is_done.ensures ∙ done))
+returns-clause-may g c done = let there = seat_there c.args.books.now.seats c.args.i c.requires.within in
+    may_end c.requires.stands c.args.i there.1 (c.is_closing.ensures.yes c.if-not-is_closing.false) (inl (sym c.is_done.ensures ∙ done))
 
 pub returns-clause-not : goal.returns-clause-not
-returns-clause-not g c off well = undone_not c.requires.stands c.args.i c.get.ensures c.requires.served c.requires.within
-    (sym c.is_some.ensures ∙ c.if-is_some.false) (sym c.is_done.ensures ∙ off)
+returns-clause-not g c off well = let there = seat_there c.args.books.now.seats c.args.i c.requires.within in
+    undone_not c.requires.stands c.args.i there.1 (sym c.is_some.ensures ∙ c.if-is_some.false) (sym c.is_done.ensures ∙ off)

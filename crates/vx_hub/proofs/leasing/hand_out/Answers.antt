@@ -1,4 +1,4 @@
-use Rattle.vx_hub.proofs.Leases.{leased_gathers, out_two, handed}
+use Rattle.vx_hub.proofs.Leases.{leased_gathers, leased_settled, out_two, handed}
 use Rattle.vx_hub.proofs.leasing.hand_out.Goals as goal
 
 pub gather-job-requires-clause-kept : goal.gather-job-requires-clause-kept
@@ -6,6 +6,12 @@ gather-job-requires-clause-kept g c = (leased_gathers c.lease-task.ensures.lent 
 
 pub gather-job-requires-clause-may : goal.gather-job-requires-clause-may
 gather-job-requires-clause-may g c = (leased_gathers c.lease-task.ensures.lent c.requires.stands c.requires.latest c.requires.ready).1
+
+pub gather-job-requires-clause-settled : goal.gather-job-requires-clause-settled
+gather-job-requires-clause-settled g c = (leased_settled c.lease-task.ensures.lent c.requires.stands c.requires.latest c.requires.ready).0
+
+pub gather-job-requires-clause-untaken : goal.gather-job-requires-clause-untaken
+gather-job-requires-clause-untaken g c = (leased_settled c.lease-task.ensures.lent c.requires.stands c.requires.latest c.requires.ready).1
 
 pub lend-held-requires-clause-out : goal.lend-held-requires-clause-out
 lend-held-requires-clause-out g c = out_two c.lease-task.ensures.lent c.gather-job.ensures.gathered.only

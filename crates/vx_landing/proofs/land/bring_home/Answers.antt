@@ -2,7 +2,7 @@ use Rattle.std.proofs.Common.{refl}
 use Rattle.std.proofs.lemmas.Result.{MatchResult-weaker, on_ok_weaker}
 use Rattle.vx_record.specs.Makers.{IsFor}
 use Rattle.vx_record.proofs.Adding.{adds_both}
-use Rattle.vx_landing.proofs.LandedBooks.{back_with, came_home, came_short, confirmable, out_now, over_stays, well_behind}
+use Rattle.vx_landing.proofs.LandedBooks.{back_with, came_home, came_short, confirmable, out_now, over_behind, over_stays, well_behind}
 use Rattle.vx_landing.proofs.Seating.{LeavesBe, be_stays}
 use Rattle.vx_landing.proofs.land.bring_home.Goals as goal
 
@@ -36,7 +36,7 @@ returns g c =
     record {
       home = came_home c.args.books.now back.rooms back.seats back.run first done.landed.leaves last home.flags only home.home home.stands
           (λ over. let mid = over_stays (IsFor i) _ _ landed over in record { bare = home.bare mid; closed = home.closed mid }) r.served r.lent r.away;
-      noted = adds_both _ _ _ _ (rw (confirmed.log, back.log) at done.noted) home.behind;
+      noted = adds_both _ _ _ _ (rw (confirmed.log, back.log, over_behind c.args.books.now.log i c.args.landing.confirmed) at done.noted) home.behind;
       marked = rw (home.run, done.marked, confirmed.leaves.run, back.run) refl;
       well = on_ok_weaker c.note_done-landed.result (well_behind c.args.books.now back.rooms back.seats back.run first done.landed.leaves last home.flags only home.home home.stands) done.well;
       reason = MatchResult-weaker c.note_done-landed.result done.reason (λ x is. is) (λ short lacks going. came_short short home.only home.noted lacks going);

@@ -1,5 +1,6 @@
+use Rattle.std.proofs.lemmas.Result.{IfErr-weaker}
 use Rattle.vx_landing.proofs.Landed.{attempt_behind, landed_attempted, landed_closed, landed_nothing, landed_short, landed_starved, well_attempted}
-use Rattle.vx_ready.proofs.Done.{plain_there}
+use Rattle.vx_landing.proofs.Judging.{judged_behind, judged_well, lacks_memory, landed_judged, may_answer}
 use Rattle.vx_landing.proofs.land.note_done.Goals as goal
 
 pub returns-in-Nothing-clause-landed : goal.returns-in-Nothing-clause-landed
@@ -26,8 +27,25 @@ pub returns-in-Attempted-clause-noted : goal.returns-in-Attempted-clause-noted
 returns-in-Attempted-clause-noted g c =
     let r = c.requires in rw c.in-Attempted.is (attempt_behind r.stands r.within (rw c.in-Attempted.is at r.back) c.land_attempt.ensures)
 
-pub unreachable-requires : goal.unreachable-requires
-unreachable-requires g c =
+pub land_judged-requires-clause-may : goal.land_judged-requires-clause-may
+land_judged-requires-clause-may g c = let r = c.requires in may_answer r.stands (rw c.in-Judged.is at r.back)
+
+pub returns-in-Judged-clause-landed : goal.returns-in-Judged-clause-landed
+returns-in-Judged-clause-landed g c =
     let r = c.requires in
-    let no = plain_there g.P.Port.told c.args.books.now r.stands r.served c.args.i r.within in
-    let yes = (rw c.in-Judged.is at r.back).acted.may.transform in cc
+    let e = c.land_judged.ensures in
+    landed_judged r.stands (rw c.in-Judged.is at r.back) r.within c.land_judged.result e.answered e.stands e.size e.rooms e.run e.owing e.unnoted
+
+pub returns-in-Judged-clause-noted : goal.returns-in-Judged-clause-noted
+returns-in-Judged-clause-noted g c =
+    let r = c.requires in
+    let e = c.land_judged.ensures in
+    rw c.in-Judged.is (judged_behind r.stands (rw c.in-Judged.is at r.back) c.land_judged.new.books c.land_judged.result e.answered e.unnoted)
+
+pub returns-in-Judged-clause-well : goal.returns-in-Judged-clause-well
+returns-in-Judged-clause-well g c =
+    let r = c.requires in judged_well r.stands (rw c.in-Judged.is at r.back) c.land_judged.new.books c.land_judged.result c.land_judged.ensures.answered
+
+pub returns-in-Judged-clause-reason : goal.returns-in-Judged-clause-reason
+returns-in-Judged-clause-reason g c =
+    IfErr-weaker c.land_judged.result _ _ (λ short is. lacks_memory c.land_judged.new.books.log short is) c.land_judged.ensures.short

@@ -1,3 +1,7 @@
+use Rattle.std.proofs.Common.{subst}
+use Rattle.vx_record.specs.Additions.{OnlyAdds}
+use Rattle.vx_hub.specs.declared.hub.Hub.{Hub}
+use Rattle.vx_run.specs.Moments.{IsTimely}
 use Rattle.vx_run.proofs.Pacing.{latest_of, latest_kept, leased_on, timely_on, timely_both}
 use Rattle.vx_run.proofs.driver.lease.Goals as goal
 
@@ -14,3 +18,9 @@ pub returns-in-Some-clause-moment : goal.returns-in-Some-clause-moment
 returns-in-Some-clause-moment g c =
     latest_kept (g.C.Clock.gave c.args.clock.now) c.now.result c.args.hub.now.books.run.latest c.lease.new.self.books.run.latest c.land.new.hub.books.run.latest
     c.in-Some.ensures.latest c.land.ensures.latest c.now.ensures c.requires.moment
+
+pub returns-in-None-clause-on : goal.returns-in-None-clause-on
+returns-in-None-clause-on g c =
+    let gave = g.C.Clock.gave c.args.clock.now in
+    subst (λ (hub : Hub g.row.P.Denot). OnlyAdds (IsTimely gave) hub.books.log c.retire.new.hub.books.log) c.in-None.ensures.unchanged
+    (timely_on gave c.lease.new.self.books.log c.retire.new.hub.books.log c.retire.ensures.on)

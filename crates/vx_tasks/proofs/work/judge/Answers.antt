@@ -5,13 +5,12 @@ use Rattle.vx_tasks.specs.declared.task.Role.TheVariants.{Transform}
 use Rattle.vx_tasks.specs.Home.{HasCome}
 use Rattle.vx_tasks.specs.Out.{TellsDone, HasActed}
 use Rattle.vx_tasks.proofs.Judging.{all_judged, held_meant}
-use Rattle.vx_tasks.proofs.Saying.{answer_told}
 use Rattle.vx_tasks.proofs.work.judge.Goals as goal
 use Rattle.vx_tasks.proofs.work.judge.Goals.{in-Ok, in-Err}
 
 pub returns-clause-told : goal.returns-clause-told
 returns-clause-told c told h i is = elim c.match-judge_all.branch [
-  | in-Ok w ↦ subst (λ (d : Done). TellsDone told h i c.args.held.now.items d) (sym w.done-is) (answer_told told h i _ _ _ is)
+  | in-Ok w ↦ subst (λ (d : Done). TellsDone told h i c.args.held.now.items d) (sym w.done-is) is
   | in-Err w ↦ subst (λ (d : Done). TellsDone told h i c.args.held.now.items d) (sym w.done-is) is
 ]
 

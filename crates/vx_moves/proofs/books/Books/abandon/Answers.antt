@@ -12,7 +12,7 @@ returns-clause-steps g c =
     let e = Abandon c.args.cause in
     step s c.requires.may (never_both c.requires.may.first) c.note.ensures (λ legal. record {
       places = still e d.places d.log tt legal s.places;
-      run = record { installed = s.run.installed; cause = refl; later = s.run.later; plain = s.run.plain; returned = s.run.returned };
+      run = record { installed = s.run.installed; cause = refl; later = s.run.later; judging = s.run.judging; returned = s.run.returned };
       kept = s.kept;
       rooms = assumption s.rooms;
     }) (λ legal. aside_known g.P.Port.told e d.log d.seats tt legal s.seats) (λ _. aside_kept d.balance d.log e tt s.balance) refl refl

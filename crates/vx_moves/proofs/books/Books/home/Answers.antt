@@ -15,7 +15,7 @@ returns-clause-steps g c =
         installed = s.run.installed;
         cause = s.run.cause;
         later = s.run.later;
-        plain = s.run.plain;
+        judging = s.run.judging;
         returned = λ fed. (c.requires.returned fed, s.run.returned fed);
       };
       kept = home_kept d.places d.log c.args.i s.kept c.requires.kept;

@@ -14,7 +14,7 @@ settle-requires g c =
     let n = c.in-Some.copy.number in
     let is = spendable c.requires.stands c.requires.may c.in-Some.ensures.loses in
     let so = held_so h c.args.i n c.args.outcome is.legal is.there in
-    let first = comes_first h c.args.i n is.legal.1 c.requires.stands.run.plain is.there in
+    let first = comes_first h c.args.i n is.legal.1 c.requires.stands.run.judging is.there in
     assumption (is, c.spent.ensures.knows h n so.0 so.1 first c.requires.stands.seats is.legal)
 
 pub returns-clause-spent : goal.returns-clause-spent

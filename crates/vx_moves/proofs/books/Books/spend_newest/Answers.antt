@@ -15,7 +15,7 @@ settle-requires g c =
     let h = c.args.self.now.log in
     let n = c.in-Some.copy.number in
     let is = spendable c.requires.stands c.requires.may c.in-Some.ensures.loses in
-    let put = put_alone h (Waiting c.args.i c.args.target) n is.legal.1 c.requires.stands.run.plain is.there in
+    let put = put_alone h (Waiting c.args.i c.args.target) n is.legal.1 c.requires.stands.run.judging is.there in
     assumption (is, c.dropped.ensures.knows h c.args.i n (n ∷ []) put (none_before h is_newest n is.live.2) c.requires.stands.seats is.legal)
 
 pub returns : goal.returns

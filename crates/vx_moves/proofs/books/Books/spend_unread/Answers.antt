@@ -10,7 +10,7 @@ settle-requires g c =
     let h = c.args.self.now.log in
     let n = c.in-Some.copy.number in
     let is = spendable c.requires.stands c.requires.may c.in-Some.ensures.loses in
-    let put = put_alone h (Outputs c.args.i) n is.legal.1 c.requires.stands.run.plain is.there in
+    let put = put_alone h (Outputs c.args.i) n is.legal.1 c.requires.stands.run.judging is.there in
     assumption (is, c.unread.ensures.knows h n (n ∷ []) put (none_before h is_unread n is.live.2) c.requires.stands.seats is.legal)
 
 pub returns-clause-spent : goal.returns-clause-spent

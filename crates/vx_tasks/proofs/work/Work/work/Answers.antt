@@ -18,7 +18,7 @@ returns-clause-done g c h legal left =
       | in-Ok w ↦
           subst (λ (both : Option Confirmed × Deed). HasDone told h (landed work c.match-confirm.port both.1.role both.0 both.1.done)) (sym w.confirmed-is)
           (subst (λ (port : g.row.P.Denot). HasDone told h (landed work port w.act.result.role w.in-Ok.confirmed w.act.result.done)) (sym w.port-is)
-          (done_of told h work legal left c.confirm.new.port w.act.new.port w.act.result.role w.in-Ok.confirmed w.act.result.done w.in-Ok.ensures.told w.in-Ok.ensures.due w.act.ensures.told w.act.ensures.acted w.act.ensures.keeps))
+          (done_of told h work legal left c.confirm.new.port w.act.new.port w.act.result.role w.in-Ok.confirmed w.act.result.done w.in-Ok.ensures.told w.in-Ok.ensures.due w.act.ensures.told w.act.ensures.acted w.act.ensures.does w.act.ensures.keeps))
       | in-Err w ↦
           subst (λ (both : Option Confirmed × Deed). HasDone told h (landed work c.match-confirm.port both.1.role both.0 both.1.done)) (sym w.confirmed-is)
           (subst (λ (port : g.row.P.Denot). HasDone told h (landed work port work.task.role None Short)) (sym w.port-is)

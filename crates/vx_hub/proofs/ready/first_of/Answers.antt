@@ -1,12 +1,11 @@
 use borrow.Author.Count.{below_more}
 use Rattle.std.proofs.Common.{◌≡◌, true, arith}
-use Rattle.vx_record.specs.Installs.{sink_at}
-use Rattle.vx_hub.specs.Leases.{NoneFoundAt}
-use Rattle.vx_hub.proofs.ready.ready_sink.Goals as goal
+use Rattle.vx_hub.specs.Leases.{NoneFoundAt, class_test}
+use Rattle.vx_hub.proofs.ready.first_of.Goals as goal
 
 pub returns-clause-none : goal.returns-clause-none
 returns-clause-none g c i within = c.loop-i.invariant i (omega (arith, within))
 
 pub loop-i-preserved : goal.loop-i-preserved
-loop-i-preserved g c = below_more (λ k. sink_at c.args.books.now.log k ≡ true → NoneFoundAt c.args.books.now
+loop-i-preserved g c = below_more (λ k. class_test c.args.class c.args.books.now.log k ≡ true → NoneFoundAt c.args.books.now
     c.args.now k) c.loop-i.i c.loop-i.invariant c.in_default.ensures.none

@@ -1,0 +1,12 @@
+use Rattle.std.proofs.Common.{refl}
+use Rattle.std.proofs.lemmas.Result.{IfOk-weaker}
+use Rattle.vx_hub.specs.Beginning.{IsRoleBut, IsWorkerFor}
+use Rattle.vx_hub.proofs.Begun.{worker_but}
+use Rattle.vx_hub.proofs.beginning.make_role.Goals as goal
+
+pub returns-in-Transform : goal.returns-in-Transform
+returns-in-Transform c = rw c.in-Transform.is refl
+
+pub returns-in-Source : goal.returns-in-Source
+returns-in-Source c = let component = c.args.component.now in
+    IfOk-weaker c.make_worker.result (IsWorkerFor component.settings) (λ role. IsRoleBut role component) (λ role. worker_but role component) c.make_worker.ensures

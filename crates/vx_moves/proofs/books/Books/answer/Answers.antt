@@ -1,0 +1,70 @@
+use Rattle.std.proofs.Common.{◌≡◌, ◌∙◌, [], length, refl, sym, ap, arith}
+use Rattle.std.specs.Prelude.{count_by}
+use Rattle.vx_record.specs.Records.{capped}
+use Rattle.vx_record.specs.Places.Place.{Held}
+use Rattle.vx_record.specs.Shifts.{at}
+use Rattle.vx_record.specs.Tallies.{is_first}
+use Rattle.vx_tasks.specs.Out.{IsHeld}
+use Rattle.vx_moves.specs.Answering.{put_out_of, refused_of, MayAnswerNow}
+use Rattle.vx_moves.proofs.Answering.{answer_held, answer_step, each_judged, many_dropped, many_sent, room_for}
+use Rattle.vx_moves.proofs.Leaving.{each_stays, rooms_back, rooms_both}
+use Rattle.vx_moves.proofs.Stepping.{same_stands}
+use Rattle.vx_moves.proofs.books.Books.answer.Goals as goal
+
+pub returns-in_default-clause-leaves : goal.returns-in_default-clause-leaves
+returns-in_default-clause-leaves g c = record {
+  seats = rw (c.give_back.ensures.seats, c.lend-held.ensures.seats) (each_stays c.args.self.now.seats);
+  rooms = rooms_back c.args.i c.lend-held.result.room c.args.self.now.places c.lend-held.new.self.places c.reserve_outputs.new.self c.give_back.new.self.places
+      c.lend-held.ensures.rooms c.reserve_outputs.ensures.rooms c.give_back.ensures.rooms;
+  run = c.give_back.ensures.run ∙ c.lend-held.ensures.run;
+}
+
+pub divide-passed-requires-clause-each : goal.divide-passed-requires-clause-each
+divide-passed-requires-clause-each g c = each_judged c.requires.stands c.requires.may c.lend-held.ensures.held
+
+pub divide-passed-requires-clause-room : goal.divide-passed-requires-clause-room
+divide-passed-requires-clause-room g c =
+    let each = divide-passed-requires-clause-each g c in
+    omega (arith, each, c.len-n.ensures, c.in_ok-room.ensures.capacity)
+
+pub put_out-requires-clause-room : goal.put_out-requires-clause-room
+put_out-requires-clause-room g c =
+    rw c.divide-passed.ensures.passed
+    (room_for c.reserve_outputs.new.self c.args.i c.args.ports.now c.lend-held.result.items (rw c.len-n.ensures at c.in-Ok.ensures.room))
+
+pub give_back-requires-2-clause-stands : goal.give_back-requires-2-clause-stands
+give_back-requires-2-clause-stands g c =
+    let mid = c.lend-held.new.self in
+    let i = c.args.i in
+    let ports = c.args.ports.now in
+    let parcels = c.lend-held.result.items in
+    let room = c.reserve_outputs.ensures in
+    let lent = c.lend-held.ensures in
+    let held : IsHeld mid.log i parcels = rw lent.log lent.held in
+    let may : MayAnswerNow mid.log i ports = rw lent.log c.requires.may in
+    let stood = same_stands lent.stands room.same lent.stands.seats refl room.size refl room.rooms in
+    let passes = c.len.ensures ∙ ap length c.divide-passed.ensures.passed ∙ sym (many_sent lent.stands may held) in
+    let stays = c.len-2.ensures ∙ ap length c.divide-passed.ensures.stopped ∙ sym (many_dropped lent.stands may held) in
+    let sent : c.len.result ≡ capped (length (put_out_of mid.log ports (at mid.log (Held i)))) = omega (arith, passes) in
+    let dropped : c.len-2.result ≡ capped (count_by (is_first mid.log i) (refused_of ports (at mid.log (Held i)))) = omega (arith, stays) in
+    (answer_step stood may held (room.same.here (Held i) ∙ lent.lent) (rw c.divide-passed.ensures.passed at c.put_out.ensures.puts)
+    (c.answered.ensures.knows mid.log (put_out_of mid.log ports (at mid.log (Held i))) (refused_of ports (at mid.log (Held i))) [] sent dropped lent.stands.seats)
+    c.note_answer.ensures c.put_out.ensures.size c.answered.ensures.size c.put_out.ensures.rooms).stands
+
+pub give_back-requires-2-clause-lent : goal.give_back-requires-2-clause-lent
+give_back-requires-2-clause-lent g c = c.put_out.ensures.puts.put.others (Held c.args.i) refl ∙ c.reserve_outputs.ensures.same.here (Held c.args.i) ∙ c.lend-held.ensures.lent
+
+pub give_back-requires-2-clause-held : goal.give_back-requires-2-clause-held
+give_back-requires-2-clause-held g c =
+    rw (c.note_answer.ensures, c.lend-held.ensures.log, c.divide-passed.ensures.stopped)
+    (answer_held c.requires.stands c.requires.may c.lend-held.ensures.held)
+
+pub returns-clause-leaves : goal.returns-clause-leaves
+returns-clause-leaves g c = record {
+  seats = rw (c.give_back-2.ensures.seats, ← c.lend-held.ensures.seats) c.answered.ensures.stays;
+  rooms = rooms_back c.args.i c.lend-held.result.room c.args.self.now.places c.lend-held.new.self.places c.put_out.new.self c.give_back-2.new.self.places
+      c.lend-held.ensures.rooms
+      (rooms_both c.lend-held.new.self.places c.reserve_outputs.new.self c.put_out.new.self c.reserve_outputs.ensures.rooms c.put_out.ensures.rooms)
+      (rw c.divide-passed.ensures.room at c.give_back-2.ensures.rooms);
+  run = c.give_back-2.ensures.run ∙ c.lend-held.ensures.run;
+}
