@@ -10,26 +10,15 @@ import subprocess
 import sys
 import tempfile
 import time
-from pathlib import Path
 
-TOP = Path(__file__).resolve().parent.parent
+from program import TOP, lines_file
+
 ROUNDS = 5
 PROGRAMS = {
     "vector": [str(TOP / "crates/vector/out/vector"), "--config", str(TOP / "examples/first.toml")],
     "jq -cR .": ["jq", "-cR", "."],
     "mawk 1": ["mawk", "1"],
 }
-
-
-def lines_file(count):
-    """The path of a file of so many lines, each of 100 bytes with its line feed."""
-    folder = TOP / "bench" / "out"
-    folder.mkdir(parents=True, exist_ok=True)
-    path = folder / f"{count}.txt"
-    if not path.exists() or path.stat().st_size != 100 * count:
-        with path.open("wb") as out:
-            out.writelines(b"%099d\n" % k for k in range(count))
-    return path
 
 
 def measure(words, path):
