@@ -9,5 +9,6 @@ pub mod Leases
 pub mod Moving
 pub mod Remaining
 pub mod Running
+pub mod Waiting
 pub mod Wiring
 mod Tasks

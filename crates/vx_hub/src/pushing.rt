@@ -48,10 +48,12 @@ impl<P: Port> Hub<P> {
         if self.fatal {
             return None;
         }
-        for i in 0..self.books.seats.len() as u32 {
-            if is_pending(&self.books, i) {
-                return Some(i);
+        let mut from = 0;
+        while let Some(i) = self.books.places.next_unsent(from) {
+            if is_pending(&self.books, i as u32) {
+                return Some(i as u32);
             }
+            from = i + 1;
         }
         None
     }

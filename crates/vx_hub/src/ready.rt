@@ -1,5 +1,6 @@
 // Which instance has work.
 ghost use Rattle.std.specs.Prelude.{◌≡◌, ◌<◌, ◌≤◌, length, IfSome, IfNone, true, false};
+ghost use Rattle.vx_record.specs.Installs.{sink_at};
 ghost use Rattle.vx_moves.specs.Stands.{Stands};
 ghost use Rattle.vx_ready.specs.Asking.{IsServed};
 ghost use Rattle.vx_hub.specs.Leases.{IsReadyFor, NoneReady, NoneFoundAt, NoneFound, GoesFirst, class_test};
@@ -27,6 +28,9 @@ pub(crate) fn first_ready<P: Port>(books: &Books<P>, now: u64) -> Option<Ready>
     ensures first { IfSome result (λ ready. GoesFirst books.now now ready.instance) }
     ensures none { IfNone result (NoneReady books.now now) }
 {
+    if let Some(ready) = filled_sink(books, now) {
+        return Some(ready);
+    }
     if let Some(ready) = first_of(books, Class::Sink, now) {
         return Some(ready);
     }
@@ -34,6 +38,23 @@ pub(crate) fn first_ready<P: Port>(books: &Books<P>, now: u64) -> Option<Ready>
         return Some(ready);
     }
     ready_any(books, now)
+}
+
+/// The first sink that has work, among those in whose buffer or hand something stands.
+fn filled_sink<P: Port>(books: &Books<P>, now: u64) -> Option<Ready>
+    requires stands { Stands P.told books.now }
+    requires served { IsServed books.now }
+    ensures some { IfSome result (λ ready. IsReadyFor books.now now ready.instance ready.job) }
+    ensures sink { IfSome result (λ ready. sink_at books.now.log ready.instance ≡ true) }
+{
+    let mut from = 0;
+    while let Some(i) = books.places.next_filled(from) {
+        if let Some(ready) = ready_of(books, i as u32, Class::Sink, now) {
+            return Some(ready);
+        }
+        from = i + 1;
+    }
+    None
 }
 
 /// The first instance of a class that has work.

@@ -7,3 +7,4 @@ pub mod Spending
 pub mod Looking
 pub mod Recorded
 pub mod Firsts
+pub mod Marking

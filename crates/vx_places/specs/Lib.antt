@@ -4,4 +4,5 @@ pub mod Rooms
 pub mod Holding
 pub mod Calls
 pub mod Looks
+pub mod Marks
 pub mod Laws

@@ -5,6 +5,7 @@
 mod laws;
 mod line;
 mod looks;
+mod marks;
 mod places;
 mod row;
 mod rows;

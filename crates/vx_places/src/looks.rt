@@ -159,7 +159,7 @@ fn is_none_held(held: &Option<Line<Parcel>>) -> bool
 }
 
 // Whether no stage of an instance's buffer has a parcel, and nothing is held, nor lent.
-fn is_unfilled(rows: &[Row], i: usize) -> bool
+pub(crate) fn is_unfilled(rows: &[Row], i: usize) -> bool
     requires { i < length rows.now }
     ensures { IsTrue result ↔ (HasEmptyBuffer rows.now i × (parcels_here rows.now (Held i) ≡ Some [])) }
 {

@@ -1,12 +1,14 @@
-ghost use Rattle.std.specs.Prelude.{◌≡◌, ◌+◌, ◌<◌, ℕ, [], ◌↔◌, length, OnOk, OnErr, IfSome, IfNone, IsTrue, Some, false};
+ghost use Rattle.std.specs.Prelude.{◌≡◌, ◌+◌, ◌<◌, ◌≤◌, ℕ, [], ◌↔◌, length, OnOk, OnErr, IfSome, IfNone, IsTrue, Some, false};
 ghost use Rattle.vx_record.specs.declared.entry.Entry.TheVariants.{Push, Take};
 ghost use Rattle.vx_record.specs.Places.Place.{Outputs, Waiting, Contents, Held};
 ghost use Rattle.vx_places.specs.Views.{Same, parcels_here};
 ghost use Rattle.vx_places.specs.Rooms.{SameRooms, LendsRoom, AddsRooms};
 ghost use Rattle.vx_places.specs.Calls.{Takes, TakesOutput, Lends, Loses, IsRow, IsNew, Moves, PutsOut, Divides, IsThere, HasOutputRoom, HasOutputRoomFor, NoneWaits, IsOldestFor, HasRoom, HasSome, IsKept, IsLent, HasHeldRoom, NothingToSpend};
+ghost use Rattle.vx_places.specs.Marks.{IsBefore, IsUnfilled};
 ghost use Rattle.vx_places.specs.Looks.{HasOutput, HasWaiting, HasSent, HasEmptyBuffer, ManyWait, HoldsMany, IsHeldFull, IsBare, IsFirstRoom, IsFirstFilled, AreBare};
 
 use crate::line::Line;
+use crate::marks::{self, Marks};
 use crate::row::{Row, make_row};
 use crate::{looks, rows};
 use std::alloc::Global;
@@ -22,6 +24,7 @@ use vx_value::{ItemList, WantOfMemory};
 /// out.
 pub struct Places {
     rows: Vec<Row>,
+    marks: Marks,
 }
 
 impl Model for Places {
@@ -29,12 +32,15 @@ impl Model for Places {
     ghost use Rattle.std.specs.Coded.{codes};
     ghost use Rattle.vx_value.specs.DatumCode.{coded_datum};
     ghost use Rattle.vx_places.specs.declared.row.Row.{Row};
+    ghost use Rattle.vx_places.specs.Marks.{AreMarked};
 
     ghost Value = { List Row };
 
     ghost coded = { Prim.hlevel (codes, coded_datum) };
 
     ghost view = { λ p. p.rows.items };
+
+    ghost invariant = { λ p. AreMarked p.rows.items p.marks };
 }
 
 impl Places {
@@ -44,6 +50,10 @@ impl Places {
     {
         Places {
             rows: Vec::new(alloc),
+            marks: Marks {
+                unsent: Vec::new(alloc),
+                filled: Vec::new(alloc),
+            },
         }
     }
 
@@ -64,8 +74,12 @@ impl Places {
         ensures unchanged { OnErr result (self.new ≡ self.old) }
     {
         self.rows.reserve(1)?;
+        self.marks.unsent.reserve(1)?;
+        self.marks.filled.reserve(1)?;
         let row = make_row(alloc, rooms, held)?;
         self.rows.push_reserved(row);
+        self.marks.unsent.push_reserved(0);
+        self.marks.filled.push_reserved(0);
         Ok(())
     }
 
@@ -195,6 +209,24 @@ impl Places {
         looks::oldest_at(&self.rows, instance as usize, child)
     }
 
+    /// The next instance, from a number on, that may have an output or a waiting child. `None` where none may.
+    pub fn next_unsent(&self, from: usize) -> Option<usize>
+        requires { from ≤ length self.now }
+        ensures some { IfSome result (λ i. (from ≤ i) × (i < length self.now)) }
+        ensures sent { (i : ℕ) → from ≤ i → i < length self.now → IsBefore i result → HasSent self.now i }
+    {
+        marks::next_marked(&self.marks.unsent, from)
+    }
+
+    /// The next instance, from a number on, in whose buffer or hand something may stand. `None` where none may.
+    pub fn next_filled(&self, from: usize) -> Option<usize>
+        requires { from ≤ length self.now }
+        ensures some { IfSome result (λ i. (from ≤ i) × (i < length self.now)) }
+        ensures unfilled { (i : ℕ) → from ≤ i → i < length self.now → IsBefore i result → IsUnfilled self.now i }
+    {
+        marks::next_marked(&self.marks.filled, from)
+    }
+
     /// Makes room for so many outputs more of an instance. For want of memory nothing has changed.
     pub fn reserve_outputs(&mut self, instance: u32, n: usize) -> Result<(), WantOfMemory>
         requires { IsThere self.old instance }
@@ -216,6 +248,7 @@ impl Places {
         ensures rooms { SameRooms self.old self.new }
     {
         rows::append_outputs(&mut self.rows, instance as usize, outputs);
+        marks::mark(&self.rows, &mut self.marks, instance as usize);
     }
 
     /// Takes the oldest output of an instance, to split it. `None` where there is none.
@@ -229,7 +262,9 @@ impl Places {
         ensures none { IfNone result (self.new ≡ self.old) }
         ensures empty { IfNone result (parcels_here self.old (Outputs instance) ≡ Some []) }
     {
-        rows::pop_output(&mut self.rows, instance as usize)
+        let output = rows::pop_output(&mut self.rows, instance as usize)?;
+        marks::mark(&self.rows, &mut self.marks, instance as usize);
+        Some(output)
     }
 
     /// Puts an output back that was taken and not split. It takes no memory.
@@ -242,6 +277,7 @@ impl Places {
         ensures rooms { SameRooms self.old self.new }
     {
         rows::unpop_output(&mut self.rows, instance as usize, output);
+        marks::mark(&self.rows, &mut self.marks, instance as usize);
     }
 
     /// Lets the children of an output that was taken wait for their targets, where none waits. It takes no memory.
@@ -253,6 +289,7 @@ impl Places {
         ensures rooms { SameRooms self.old self.new }
     {
         rows::put_children(&mut self.rows, instance as usize, children);
+        marks::mark(&self.rows, &mut self.marks, instance as usize);
     }
 
     /// Moves a waiting child of an instance, the oldest for its target, into a stage of the target's buffer. It takes no memory.
@@ -266,7 +303,9 @@ impl Places {
         ensures rooms { SameRooms self.old self.new }
     {
         let parcel = rows::take_child(&mut self.rows, instance as usize, child, target);
+        marks::mark(&self.rows, &mut self.marks, instance as usize);
         rows::push_stage(&mut self.rows, target as usize, stage, parcel);
+        marks::mark(&self.rows, &mut self.marks, target as usize);
     }
 
     /// Moves the oldest parcel of a stage of an instance's buffer behind those that it holds, for which there is room. It takes no
@@ -281,6 +320,7 @@ impl Places {
     {
         let parcel = rows::pop_stage(&mut self.rows, instance as usize, stage);
         rows::hold(&mut self.rows, instance as usize, parcel);
+        marks::mark(&self.rows, &mut self.marks, instance as usize);
     }
 
     /// Lends what an instance holds, as to attempt it elsewhere. It takes no memory.
@@ -292,7 +332,9 @@ impl Places {
         ensures size { length self.new ≡ length self.old }
         ensures rooms { LendsRoom instance result.room self.old self.new }
     {
-        rows::lend(&mut self.rows, instance as usize)
+        let held = rows::lend(&mut self.rows, instance as usize);
+        marks::mark(&self.rows, &mut self.marks, instance as usize);
+        held
     }
 
     /// Takes what was lent back. It takes no memory.
@@ -305,6 +347,7 @@ impl Places {
         ensures rooms { LendsRoom instance held.room self.new self.old }
     {
         rows::give_back(&mut self.rows, instance as usize, held);
+        marks::mark(&self.rows, &mut self.marks, instance as usize);
     }
 
     /// Takes the last copy of an instance's oldest output, to spend it. `None` exactly where there is no output, or the oldest has
@@ -317,7 +360,9 @@ impl Places {
         ensures none { IfNone result (self.new ≡ self.old) }
         ensures empty { IfNone result (NothingToSpend (Outputs instance) self.old) }
     {
-        rows::spend_output(&mut self.rows, instance as usize)
+        let copy = rows::spend_output(&mut self.rows, instance as usize)?;
+        marks::mark(&self.rows, &mut self.marks, instance as usize);
+        Some(copy)
     }
 
     /// Takes the last copy of the oldest parcel that an instance holds, to spend it. `None` exactly where it holds none, or the
@@ -332,7 +377,9 @@ impl Places {
         ensures none { IfNone result (self.new ≡ self.old) }
         ensures empty { IfNone result (NothingToSpend (Held instance) self.old) }
     {
-        rows::spend_held(&mut self.rows, instance as usize)
+        let copy = rows::spend_held(&mut self.rows, instance as usize)?;
+        marks::mark(&self.rows, &mut self.marks, instance as usize);
+        Some(copy)
     }
 
     /// Takes the last copy of the oldest parcel in a stage of an instance's buffer, to spend it. `None` exactly where the stage has
@@ -345,7 +392,9 @@ impl Places {
         ensures none { IfNone result (self.new ≡ self.old) }
         ensures empty { IfNone result (NothingToSpend (Contents instance stage) self.old) }
     {
-        rows::spend_stage(&mut self.rows, instance as usize, stage)
+        let copy = rows::spend_stage(&mut self.rows, instance as usize, stage)?;
+        marks::mark(&self.rows, &mut self.marks, instance as usize);
+        Some(copy)
     }
 
     /// Takes the last copy of a waiting child of an instance, the oldest for its target, to spend it; the child is gone where that
@@ -359,14 +408,16 @@ impl Places {
         ensures none { IfNone result (self.new ≡ self.old) }
         ensures empty { IfNone result (NothingToSpend (Waiting instance target) self.old) }
     {
-        rows::spend_child(&mut self.rows, instance as usize, child, target)
+        let copy = rows::spend_child(&mut self.rows, instance as usize, child, target)?;
+        marks::mark(&self.rows, &mut self.marks, instance as usize);
+        Some(copy)
     }
 
     /// Ends the places, where nothing stands at any instance and nothing is lent. It takes no memory.
     pub fn end(self)
         requires { AreBare self }
     {
-        let Places { rows } = self;
+        let Places { rows, marks: _ } = self;
         rows::end_rows(rows);
     }
 }

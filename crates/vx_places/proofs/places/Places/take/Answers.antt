@@ -1,7 +1,9 @@
 use Rattle.std.proofs.Common.{refl}
-use Rattle.vx_record.specs.Places.Place.{Held}
 use Rattle.vx_places.proofs.Written.{same_rooms_then}
 use Rattle.vx_places.proofs.Steps.{take_moves}
+use Rattle.std.proofs.Common.{◌∙◌}
+use Rattle.vx_record.specs.Places.Place.{Contents, Held}
+use Rattle.vx_places.proofs.Marking.{other_place, still_but}
 use Rattle.vx_places.proofs.places.Places.take.Goals as goal
 
 pub hold-requires-clause-room : goal.hold-requires-clause-room
@@ -16,3 +18,7 @@ pub returns-clause-rooms : goal.returns-clause-rooms
 returns-clause-rooms c = rw c.self.view_is at
     (same_rooms_then c.self.inside.rows.items c.pop_stage-parcel.new.rows.items c.hold.new.rows.items
     c.pop_stage-parcel.ensures.rooms c.hold.ensures.rooms)
+
+pub mark-requires-clause-others : goal.mark-requires-clause-others
+mark-requires-clause-others c = rw c.deref.ensures.value (still_but (c.hold.ensures.size ∙ c.pop_stage-parcel.ensures.size) c.self.invariant c.args.instance
+    (λ p other. c.hold.ensures.puts.others p (other_place (Held c.args.instance) p other) ∙ c.pop_stage-parcel.ensures.takes.others p (other_place (Contents c.args.instance c.args.stage) p other)))

@@ -1,0 +1,6 @@
+use Rattle.vx_record.specs.Places.Place.{Outputs}
+use Rattle.vx_places.proofs.Marking.{still_at}
+use Rattle.vx_places.proofs.places.Places.take_output.Goals as goal
+
+pub mark-requires-clause-others : goal.mark-requires-clause-others
+mark-requires-clause-others c = rw c.deref.ensures.value (still_at c.in_ok-output.ensures.size c.self.invariant (Outputs c.args.instance) c.in_ok-output.ensures.takes.others)
