@@ -47,7 +47,7 @@ use Rattle.vx_hub.specs.declared.making.Room.{Room}
 use Rattle.vx_hub.specs.declared.parts.Named.{Named}
 use Rattle.vx_hub.specs.Beginning.{IsBegun, IsWorkerFor, IsRoleFor, IsRoleBut, AreFor, HasRoomFor, HaveRooms, AreVacant, AreRoledFrom, AreSeatedFrom}
 use Rattle.vx_hub.specs.Making.{IsUntouched, AreUntouched, IsPickerFor, ArePickers, is_served, all_served}
-use Rattle.vx_hub.specs.Standing.{IsHub}
+use Rattle.vx_hub.specs.Standing.{AreSources, IsHub}
 use Rattle.vx_hub.proofs.Resting.{with_some, if_there, pushed}
 use Rattle.vx_hub.proofs.Served.{serves, served_at}
 
@@ -328,8 +328,8 @@ module _ {P : Type 0} {told_by : P → Told} {plan : Plan} {once : Bool} {now : 
   }
 
   pub hub_first : (hub : Hub P) {log : Record} → log ≡ begun plan once now → hub.books ≡ books_first log →
-      length seats ≤ vec_capacity hub.ports → hub.ports.items ≡ [] → IsHub told_by hub
-  hub_first hub first is berths none = record {
+      length seats ≤ vec_capacity hub.ports → hub.ports.items ≡ [] → AreSources plan.components (length seats) hub.sources.items → IsHub told_by hub
+  hub_first hub first is berths none sources = record {
     stands = rw (is, first) stands_first;
     served = rw (is, first) (record { served = served; few = let same = fresh.size in omega (arith, same, few) });
     lent = rw (is, first) (λ i l out. cc);
@@ -339,4 +339,5 @@ module _ {P : Type 0} {told_by : P → Told} {plan : Plan} {once : Bool} {now : 
     away = rw (is, first) (λ i out. cc);
     berths = rw is berths;
     none = none;
+    sources = rw is sources;
   }

@@ -471,6 +471,7 @@ module _ {P : Type 0} {told_by : P → Told} {i worker now : ℕ} {task : Task P
       only = rw log made;
       noted = rw (log, ← lent.steps.noted) gathered.only;
       latest = ap (λ (r : Run). r.latest) (run ∙ gathered.leaves.run ∙ lent.run);
+      plan = ap (λ (r : Run). r.plan) (run ∙ gathered.leaves.run ∙ lent.run);
       had = had_task task (slice_get old.seats i) (slice_get mid.seats i) lent.seats.one;
       others = λ j other. rw seats (rw (lent.seats.others j other) at (keeps_task (slice_get mid.seats j) (slice_get two.seats j) (gathered.leaves.seats j)));
     }

@@ -6,9 +6,11 @@ mod Resting
 pub mod Begun
 pub mod Coming
 pub mod Leases
+pub mod Listing
 pub mod Moving
 pub mod Remaining
 pub mod Running
+pub mod Unready
 pub mod Waiting
 pub mod Wiring
 mod Tasks

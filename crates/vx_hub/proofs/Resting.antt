@@ -1,5 +1,5 @@
 -- What rests in the books leaves the hub standing for its record.
-use Rattle.std.proofs.Common.{◌≡◌, ◌∙◌, inl, inr, ℕ, zero, suc, ◌≤◌, Bool, true, false, List, [], ◌∷◌, ◌++◌, Option, Some, None, IfSome, length, refl, sym, arith}
+use Rattle.std.proofs.Common.{◌≡◌, ◌∙◌, inl, inr, ℕ, zero, suc, ◌≤◌, Bool, true, false, List, [], ◌∷◌, ◌++◌, Option, Some, None, IfSome, length, refl, sym, arith, ap}
 use Rattle.std.specs.Prelude.{◌||◌, IsSomeAnd, slice_get, vec_capacity, Result, Ok, Err, is_err, OnOk}
 use Rattle.std.proofs.lemmas.Bool.{cases_Bool}
 use Rattle.vx_ends.specs.Told.{Told}
@@ -22,7 +22,8 @@ use Rattle.vx_landing.proofs.Lending.{lent_room, room_lent}
 use Rattle.vx_landing.proofs.Seating.{each_flags}
 use Rattle.vx_hub.specs.declared.hub.Hub.{Hub}
 use Rattle.vx_hub.specs.Ending.{Rests}
-use Rattle.vx_hub.specs.Standing.{IsHub, IsWell, IsFed}
+use Rattle.vx_moves.specs.declared.run.Run.{Run}
+use Rattle.vx_hub.specs.Standing.{AreSources, IsHub, IsWell, IsFed}
 
 -- OPTIONS AND LISTS
 -- what is said of what an option has
@@ -125,6 +126,7 @@ module _ {P : Type 0} where
           away = λ i out. well_flags (slice_get hub.books.seats i) (slice_get books.seats i) (rests.flags i) (is.away i (sym (rests.out i) ∙ out));
           berths = omega (arith, size, berths);
           none = is.none;
+          sources = rw (rests.plan, size) is.sources;
         }
 
     -- so it does when a task came home
@@ -134,4 +136,5 @@ module _ {P : Type 0} where
         let size = home.size in let room = is.berths in
         let berths : length books.seats ≤ vec_capacity hub.ports = omega (arith, size, room) in
         let fed : IsFed books = home.fed is.fed in
-        assumption (berths, fed, well, home, is)
+        let sources : AreSources books.run.plan.components (length books.seats) hub.sources.items = rw (ap (λ (r : Run). r.plan) home.run, home.size) is.sources in
+        assumption (berths, fed, well, sources, home, is)

@@ -1,6 +1,6 @@
 -- An instance that has sent all that it put out has nothing to move on.
-use Rattle.std.proofs.Common.{◌≡◌, ◌∙◌, ◌⊎◌, ℕ, zero, suc, ◌+◌, ◌<◌, ◌≤◌, Bool, true, false, List, [], ◌∷◌, length, Option, Some, None, inl, inr, refl, sym, ap, subst, arith}
-use Rattle.std.specs.Prelude.{◌≢◌, ◌==◌, if◌then◌else◌, IsSomeAnd}
+use Rattle.std.proofs.Common.{◌≡◌, ◌⊎◌, ℕ, zero, suc, ◌+◌, ◌<◌, ◌≤◌, Bool, true, false, List, [], ◌∷◌, length, Option, Some, None, inl, inr, refl, subst, arith}
+use Rattle.std.specs.Prelude.{◌==◌, if◌then◌else◌, IsSomeAnd}
 use Rattle.std.proofs.lemmas.Bool.{cases_eq}
 use Rattle.std.proofs.lemmas.Bool.Decides.{nat_tests}
 use Rattle.vx_ledger.specs.declared.child.Child.{Child}
@@ -11,7 +11,7 @@ use Rattle.vx_places.specs.declared.row.Row.{Row}
 use Rattle.vx_places.specs.Numbers.{for_target}
 use Rattle.vx_places.specs.Views.{row_at, here_if, parcels_here}
 use Rattle.vx_places.specs.Calls.{IsOldestFor, NoneBefore}
-use Rattle.vx_places.specs.Looks.{HasOutput, HasSent}
+use Rattle.vx_places.specs.Looks.{HasSent}
 use Rattle.vx_places.specs.Marks.{IsBefore}
 use Rattle.vx_moves.specs.declared.books.Books.{Books}
 use Rattle.vx_hub.specs.Pushing.{CanMove, NoneMovesBelow}

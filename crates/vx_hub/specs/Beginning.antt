@@ -25,6 +25,7 @@ use Rattle.vx_seats.specs.declared.seat.Seat.{Seat}
 use Rattle.vx_seats.specs.Beginning.{AreNew, HasBorneNone}
 use Rattle.vx_seats.specs.Knowing.{IsFittedTo}
 use Rattle.vx_moves.specs.Rooms.{hand_of}
+use Rattle.vx_hub.specs.Standing.{AreSources}
 use Rattle.vx_hub.specs.declared.making.Room.{Room}
 use Rattle.vx_hub.specs.declared.parts.Named.{Named}
 
@@ -108,6 +109,7 @@ pub record HasRoomFor {P : Type 0} (plan : Plan) (room : Room P) : Type 0 where
   pub places_size : length room.places ≡ length plan.components
   pub berths : length plan.components ≤ vec_capacity room.ports
   pub none : room.ports.items ≡ []
+  pub sources : AreSources plan.components (length plan.components) room.sources.items
 
 -- a seat has the role and the port in its place, and else is as it was
 abbrev pub IsSeated : {P : Type 0} → List (Seat P) → List Role → List (Named P) → ℕ → Seat P → Type 0

@@ -1,5 +1,5 @@
 -- What a lease rests on, and what it leaves out.
-use Rattle.std.specs.Prelude.{◌≡◌, ◌<◌, ◌∷◌, ℕ, Bool, true, false, length, None, IsSome}
+use Rattle.std.specs.Prelude.{◌≡◌, ◌<◌, ◌⊎◌, ◌∷◌, ℕ, Bool, true, false, length, None, IsSome}
 use Rattle.vx_ends.specs.Told.{Told}
 use Rattle.vx_record.specs.declared.entry.Entry.TheVariants.{Lease}
 use Rattle.vx_record.specs.Additions.{OnlyAdds}
@@ -7,6 +7,7 @@ use Rattle.vx_record.specs.Makers.{IsBy}
 use Rattle.vx_record.specs.Places.Place.{Held}
 use Rattle.vx_plan.specs.declared.class.Class.{Class}
 use Rattle.vx_plan.specs.declared.class.Class.TheVariants.{Source, Transform, Sink}
+use Rattle.vx_places.specs.Marks.{IsUnfilled}
 use Rattle.vx_places.specs.Views.{parcels_here}
 use Rattle.vx_tasks.specs.declared.work.Job.TheVariants as job
 use Rattle.vx_tasks.specs.declared.work.Work.{Work}
@@ -45,11 +46,22 @@ NoneFoundAt books now i = IsSettled books i → IsOpen books i → is_ready book
 abbrev pub NoneFound : {P : Type 0} → (Record → ℕ → Bool) → Books P → ℕ → ℕ → Type 0
 NoneFound is_of books now n = (i : ℕ) → i < n → is_of books.log i ≡ true → NoneFoundAt books now i
 
+-- each instance below a number that is of a class was asked, or nothing stands in its buffer or its hand
+abbrev pub NoneFilled : {P : Type 0} → (Record → ℕ → Bool) → Books P → ℕ → ℕ → Type 0
+NoneFilled is_of books now n = (i : ℕ) → i < n → IsUnfilled books.places i ⊎ (is_of books.log i ≡ true → NoneFoundAt books now i)
+
 -- the test of a class
 abbrev pub class_test : Class → Record → ℕ → Bool
 class_test Source = source_at
 class_test Transform = transform_at
 class_test Sink = sink_at
+
+-- a sink at home has something to do at a moment
+pub record HasReadySink {P : Type 0} (books : Books P) (now : ℕ) : Type 0 where
+  pub sink : ℕ
+  pub todo : Job
+  pub is : sink_at books.log sink ≡ true
+  pub ready : IsReadyFor books now sink todo
 
 -- an instance goes first: a sink before a transform, and both before a source
 pub record GoesFirst {P : Type 0} (books : Books P) (now i : ℕ) : Type 0 where
@@ -125,5 +137,6 @@ pub record HasHandedOut {P : Type 0} (told_by : P → Told) (i worker now : ℕ)
   pub only : OnlyAdds (IsBy worker) old.log new.log
   pub noted : HasLeased i worker now old.log new.log
   pub latest : new.run.latest ≡ now
+  pub plan : new.run.plan ≡ old.run.plan
   pub had : HasTask old.seats work.instance work.task
   pub others : OthersKeep work.instance old.seats new.seats

@@ -1,6 +1,8 @@
 -- What a hub stands for.
-use Rattle.std.specs.Prelude.{◌≡◌, ◌≢◌, ◌≤◌, ℕ, false, List, [], length, IsSome, IfSome, IsSomeAnd, slice_get, vec_capacity}
+use Rattle.std.specs.Prelude.{◌≡◌, ◌≢◌, ◌<◌, ◌≤◌, ℕ, true, false, List, [], length, Some, IsSome, IfSome, IsSomeAnd, slice_get, vec_capacity}
 use Rattle.vx_ends.specs.Told.{Told}
+use Rattle.vx_plan.specs.Components.{is_source}
+use Rattle.vx_plan.specs.declared.component.Component.{Component}
 use Rattle.vx_record.specs.Additions.{OnlyAdds}
 use Rattle.vx_record.specs.Installs.{in_force, started}
 use Rattle.vx_record.specs.Legal.{IsLegal}
@@ -10,6 +12,15 @@ use Rattle.vx_moves.specs.Stands.{Stands}
 use Rattle.vx_ready.specs.Asking.{IsServed}
 use Rattle.vx_hub.specs.declared.hub.Hub.{Hub}
 pub use Rattle.vx_landing.specs.Standing.{IsWellAt, IsWell, LentWhileOut, IsFedAt, IsFed, AwayIsWell}
+
+-- a number is among some
+abbrev pub IsAmong : List ℕ → ℕ → Type 0
+IsAmong numbers i = (k : ℕ) × (slice_get numbers k ≡ Some i)
+
+-- these are the sources among components, each of which is one of so many instances
+pub record AreSources (components : List Component) (n : ℕ) (sources : List ℕ) : Type 0 where
+  pub all : (i : ℕ) → IfSome (slice_get components i) (λ c. is_source c ≡ true → IsAmong sources i)
+  pub only : (k : ℕ) → IfSome (slice_get sources k) (λ i. (i < n) × IsSomeAnd (slice_get components i) (λ c. is_source c ≡ true))
 
 -- the hub stands for its record: its books do, what is held is lent while it is out, and all is well unless a call answered
 -- `Fatal`; there is room for the ports at the end
@@ -22,6 +33,7 @@ pub record IsHub {P : Type 0} (told_by : P → Told) (hub : Hub P) : Type 0 wher
   pub away : AwayIsWell hub.books
   pub berths : length hub.books.seats ≤ vec_capacity hub.ports
   pub none : hub.ports.items ≡ []
+  pub sources : AreSources hub.books.run.plan.components (length hub.books.seats) hub.sources.items
 
 -- a seat has the task that it had, or still none
 abbrev pub SameTask : {P : Type 0} → Seat P → Seat P → Type 0

@@ -13,4 +13,6 @@ pub struct Hub<P: Port> {
     pub fatal: bool,
     /// Room for the ports at the end.
     pub ports: Vec<Numbered<P>>,
+    /// The instances that are sources.
+    pub sources: Vec<u32>,
 }

@@ -1,5 +1,6 @@
-ghost use Rattle.std.specs.Prelude.{◌≡◌, ◌<◌, ◌≤◌, length, true, false, max, None, IfSome, IfNone, IsSome};
+ghost use Rattle.std.specs.Prelude.{◌≡◌, ◌<◌, ◌≤◌, length, true, false, max, None, IfSome, IfNone, IsSome, IsTrue};
 ghost use Rattle.vx_record.specs.Additions.{OnlyAdds};
+ghost use Rattle.vx_record.specs.Installs.{sink_at};
 ghost use Rattle.vx_record.specs.Makers.{IsBy};
 ghost use Rattle.vx_record.specs.Owing.{owes_discards, owes_answer};
 ghost use Rattle.vx_record.specs.Places.Place.{Held};
@@ -8,18 +9,33 @@ ghost use Rattle.vx_moves.specs.Rooms.{IsHandOf};
 ghost use Rattle.vx_moves.specs.Stands.{Stands};
 ghost use Rattle.vx_tasks.specs.Out.{HasLeft};
 ghost use Rattle.vx_ready.specs.Asking.{IsServed};
-ghost use Rattle.vx_hub.specs.Leases.{HasLeased, IsReadyFor, NoneHasWork, GoesFirst, takes_first as takes_first_by, ComesTo, HadWork, MayGather, HasGathered, HasHandedOut};
+ghost use Rattle.vx_hub.specs.Leases.{HasLeased, IsReadyFor, HasReadySink, NoneFilled, NoneHasWork, GoesFirst, takes_first as takes_first_by, ComesTo, HadWork, MayGather, HasGathered, HasHandedOut};
 ghost use Rattle.vx_landing.specs.Landings.{HasTask};
 ghost use Rattle.vx_hub.specs.Standing.{IsHub, IsWell, LentWhileOut, OthersKeep};
 
 use crate::collecting::{collect, decide, take_inputs};
 use crate::hub::Hub;
-use crate::ready::{Ready, first_ready};
+use crate::ready::{Ready, filled_of, first_ready};
 use vx_ends::Port;
 use vx_moves::Books;
+use vx_plan::Class;
 use vx_tasks::{Job, Work};
 
 impl<P: Port> Hub<P> {
+    /// Whether a sink in whose buffer or hand something may stand has something to do at a moment. It holds nowhere after a call that
+    /// answered `Fatal`. Where it doesn't hold, a sink may have to be closed still.
+    pub fn has_ready_sink(&self, now: u64) -> bool
+        requires { IsHub P.told self.now }
+        ensures some { IsTrue result → HasReadySink self.now.books (max now self.now.books.run.latest) }
+        ensures sound { IsTrue result → self.now.fatal ≡ false }
+        ensures none { result ≡ false → self.now.fatal ≡ false → NoneFilled sink_at self.now.books (max now self.now.books.run.latest) (length self.now.books.seats) }
+    {
+        match filled_of(&self.books, Class::Sink, now.max(self.books.run.latest)) {
+            Some(_ready) => !self.fatal,
+            None => false,
+        }
+    }
+
     /// Hands out the task of an instance that has work, to a worker: a sink before a transform, and both before a source. Any number
     /// may be out. It takes no memory.
     /// `None` exactly where no instance at home has work at that moment, or a call answered `Fatal`, or the run was given up;
@@ -50,7 +66,7 @@ impl<P: Port> Hub<P> {
             return None;
         }
         let now = now.max(self.books.run.latest);
-        match first_ready(&self.books, now) {
+        match first_ready(&self.books, &self.sources, now) {
             Some(Ready { instance, job }) => {
                 Some(hand_out(&mut self.books, instance, job, worker, now))
             }

@@ -7,7 +7,8 @@ ghost use Rattle.vx_places.specs.Views.{Same};
 ghost use Rattle.vx_places.specs.Rooms.{AddsRooms};
 ghost use Rattle.vx_hub.specs.Beginning.{HasRoomFor, HaveRooms, AreVacant, AreRoledFrom, AreSeatedFrom, rooms_of};
 ghost use Rattle.vx_hub.specs.Making.{all_served, AreUntouched, ArePickers};
-ghost use Rattle.vx_hub.specs.Standing.{IsHub};
+ghost use Rattle.vx_ready.specs.Asking.{source_class};
+ghost use Rattle.vx_hub.specs.Standing.{AreSources, IsHub};
 
 use crate::beginning::{hand, make_roles, make_seats, stage_rooms};
 use crate::hub::Hub;
@@ -19,7 +20,7 @@ use vx_history::History;
 use vx_moves::{Books, Run};
 use vx_pick::Picker;
 use vx_places::Places;
-use vx_plan::{Component, Plan};
+use vx_plan::{Class, Component, Plan};
 use vx_seats::{Seat, Seats};
 use vx_tasks::{Role, Task};
 use vx_value::WantOfMemory;
@@ -31,6 +32,7 @@ pub struct Room<P> {
     pub balance: Balance,
     pub ports: Vec<Numbered<P>>,
     pub places: Places,
+    pub sources: Vec<u32>,
 }
 
 impl<P: Port> Hub<P> {
@@ -60,13 +62,15 @@ impl<P: Port> Hub<P> {
 
 /// What a hub needs memory for, for the instances of a plan.
 fn make_room<P: Port>(alloc: Global, plan: &Plan) -> Result<Room<P>, WantOfMemory>
-    requires { all_served plan.now.components ≡ true }
+    requires served { all_served plan.now.components ≡ true }
+    requires few { length plan.now.components < 2 ^ 32 }
     ensures { IfOk result (HasRoomFor plan.now) }
 {
     let seats = make_seats(alloc, plan)?;
     let roles = make_roles(alloc, plan)?;
     let balance = Balance::new(alloc)?;
     let ports = Vec::with_capacity(alloc, plan.components.len())?;
+    let sources = make_sources(alloc, plan)?;
     let places = make_places(alloc, plan)?;
     Ok(Room {
         seats,
@@ -74,7 +78,33 @@ fn make_room<P: Port>(alloc: Global, plan: &Plan) -> Result<Room<P>, WantOfMemor
         balance,
         ports,
         places,
+        sources,
     })
+}
+
+/// The instances of a plan that are sources, in order.
+fn make_sources(alloc: Global, plan: &Plan) -> Result<Vec<u32>, WantOfMemory>
+    requires { length plan.now.components < 2 ^ 32 }
+    ensures { IfOk result (λ sources. AreSources plan.now.components (length plan.now.components) sources.items) }
+{
+    let mut sources = Vec::new(alloc);
+    let components = plan.components.as_slice();
+    for i in 0..components.len() {
+        if is_source(components[i].class) {
+            match sources.push(i as u32) {
+                Ok(()) => {}
+                Err(_) => return Err(WantOfMemory),
+            }
+        }
+    }
+    Ok(sources)
+}
+
+/// Whether a class is that of sources.
+fn is_source(class: Class) -> bool
+    ensures { result ≡ source_class class }
+{
+    matches!(class, Class::Source)
 }
 
 /// The places of the instances of a plan, at which nothing stands.
@@ -134,6 +164,7 @@ fn begin<P: Port>(alloc: Global, parts: Parts<P>, room: Room<P>, now: u64) -> Hu
         balance,
         ports: berths,
         places,
+        sources,
     } = room;
     let seats = Seats::new(seat_all(seats, role_all(roles, pickers.into_vec()), ports.into_vec()));
     let mut log = History::new();
@@ -155,6 +186,7 @@ fn begin<P: Port>(alloc: Global, parts: Parts<P>, room: Room<P>, now: u64) -> Hu
         },
         fatal: false,
         ports: berths,
+        sources,
     }
 }
 

@@ -1,14 +1,15 @@
 // Which instance has work.
-ghost use Rattle.std.specs.Prelude.{◌≡◌, ◌<◌, ◌≤◌, length, IfSome, IfNone, true, false};
-ghost use Rattle.vx_record.specs.Installs.{sink_at};
+ghost use Rattle.std.specs.Prelude.{◌≡◌, ◌<◌, ◌≤◌, ℕ, length, slice_get, IfSome, IfNone, true, false};
+ghost use Rattle.vx_record.specs.Routing.{all_dry};
 ghost use Rattle.vx_moves.specs.Stands.{Stands};
 ghost use Rattle.vx_ready.specs.Asking.{IsServed};
-ghost use Rattle.vx_hub.specs.Leases.{IsReadyFor, NoneReady, NoneFoundAt, NoneFound, GoesFirst, class_test};
+ghost use Rattle.vx_hub.specs.Leases.{IsReadyFor, NoneReady, NoneFoundAt, NoneFound, NoneFilled, GoesFirst, class_test};
+ghost use Rattle.vx_hub.specs.Standing.{AreSources};
 
 use vx_ends::Port;
 use vx_moves::Books;
 use vx_plan::Class;
-use vx_ready::{first_job, is_sink, is_source, is_transform};
+use vx_ready::{first_job, is_dry, is_sink, is_source, is_transform};
 use vx_tasks::Job;
 
 /// An instance at home that has work.
@@ -19,8 +20,30 @@ pub(crate) struct Ready {
 }
 
 /// The first instance that has work at a moment: a sink, or where none has, a transform, or where none has, another. `None` where none
-/// at home has.
-pub(crate) fn first_ready<P: Port>(books: &Books<P>, now: u64) -> Option<Ready>
+/// at home has. While a source may give more, nobody is asked but sources and those in whose buffer or hand something may stand.
+pub(crate) fn first_ready<P: Port>(books: &Books<P>, sources: &[u32], now: u64) -> Option<Ready>
+    requires stands { Stands P.told books.now }
+    requires served { IsServed books.now }
+    requires sources { AreSources books.now.run.plan.components (length books.now.seats) sources.now }
+    requires latest { books.now.run.latest ≤ now }
+    ensures some { IfSome result (λ ready. IsReadyFor books.now now ready.instance ready.job) }
+    ensures first { IfSome result (λ ready. GoesFirst books.now now ready.instance) }
+    ensures none { IfNone result (NoneReady books.now now) }
+{
+    if let Some(ready) = filled_of(books, Class::Sink, now) {
+        return Some(ready);
+    }
+    if are_dry(books, sources) {
+        return ready_at_end(books, now);
+    }
+    if let Some(ready) = filled_of(books, Class::Transform, now) {
+        return Some(ready);
+    }
+    ready_source(books, sources, now)
+}
+
+/// The same, where nothing more may come.
+fn ready_at_end<P: Port>(books: &Books<P>, now: u64) -> Option<Ready>
     requires stands { Stands P.told books.now }
     requires served { IsServed books.now }
     requires latest { books.now.run.latest ≤ now }
@@ -28,9 +51,6 @@ pub(crate) fn first_ready<P: Port>(books: &Books<P>, now: u64) -> Option<Ready>
     ensures first { IfSome result (λ ready. GoesFirst books.now now ready.instance) }
     ensures none { IfNone result (NoneReady books.now now) }
 {
-    if let Some(ready) = filled_sink(books, now) {
-        return Some(ready);
-    }
     if let Some(ready) = first_of(books, Class::Sink, now) {
         return Some(ready);
     }
@@ -40,19 +60,51 @@ pub(crate) fn first_ready<P: Port>(books: &Books<P>, now: u64) -> Option<Ready>
     ready_any(books, now)
 }
 
-/// The first sink that has work, among those in whose buffer or hand something stands.
-fn filled_sink<P: Port>(books: &Books<P>, now: u64) -> Option<Ready>
+/// The first instance of a class that has work, among those in whose buffer or hand something may stand.
+pub(crate) fn filled_of<P: Port>(books: &Books<P>, class: Class, now: u64) -> Option<Ready>
     requires stands { Stands P.told books.now }
     requires served { IsServed books.now }
     ensures some { IfSome result (λ ready. IsReadyFor books.now now ready.instance ready.job) }
-    ensures sink { IfSome result (λ ready. sink_at books.now.log ready.instance ≡ true) }
+    ensures class { IfSome result (λ ready. class_test class books.now.log ready.instance ≡ true) }
+    ensures none { IfNone result (NoneFilled (class_test class) books.now now (length books.now.seats)) }
 {
     let mut from = 0;
     while let Some(i) = books.places.next_filled(from) {
-        if let Some(ready) = ready_of(books, i as u32, Class::Sink, now) {
+        if let Some(ready) = ready_of(books, i as u32, class, now) {
             return Some(ready);
         }
         from = i + 1;
+    }
+    None
+}
+
+/// Whether each source takes no more.
+fn are_dry<P: Port>(books: &Books<P>, sources: &[u32]) -> bool
+    requires stands { Stands P.told books.now }
+    requires sources { AreSources books.now.run.plan.components (length books.now.seats) sources.now }
+    ensures { result ≡ false → all_dry books.now.log ≡ false }
+{
+    for k in 0..sources.len() {
+        if !is_dry(books, sources[k]) {
+            return false;
+        }
+    }
+    true
+}
+
+/// The first source that has work.
+fn ready_source<P: Port>(books: &Books<P>, sources: &[u32], now: u64) -> Option<Ready>
+    requires stands { Stands P.told books.now }
+    requires served { IsServed books.now }
+    requires sources { AreSources books.now.run.plan.components (length books.now.seats) sources.now }
+    ensures some { IfSome result (λ ready. IsReadyFor books.now now ready.instance ready.job) }
+    ensures none { IfNone result ((k : ℕ) → IfSome (slice_get sources.now k) (NoneFoundAt books.now now)) }
+{
+    for k in 0..sources.len() {
+        let source = sources[k];
+        if let Some(ready) = job_of(books, source, now) {
+            return Some(ready);
+        }
     }
     None
 }

@@ -44,6 +44,7 @@ impl<P: Port> Hub<P> {
             books,
             fatal: _,
             ports,
+            sources: _,
         } = self;
         let Books {
             places,
