@@ -153,6 +153,10 @@ module _ (Gave : ℕ → Type 0) where
   pub timely_both : (old mid new : Record) → OnlyAdds (IsTimely Gave) old mid → OnlyAdds (IsTimely Gave) mid new → OnlyAdds (IsTimely Gave) old new
   timely_both = adds_both (IsTimely Gave)
 
+  -- what one turn adds
+  pub turned_on : (old drained moved new : Record) → OnlyAdds (IsTimely Gave) old drained → OnlyAdds IsTimeless drained moved → OnlyAdds (IsTimely Gave) moved new → OnlyAdds (IsTimely Gave) old new
+  turned_on old drained moved new first next last = timely_both old drained new first (timely_both drained moved new (timely_on drained moved next) last)
+
   -- and a whole record
   pub all_timely : (old new : Record) → AreTimely Gave old → OnlyAdds (IsTimely Gave) old new → AreTimely Gave new
   all_timely old new first adds = carry (IsTimely Gave) (AreTimely Gave) (λ h e follows kind keep. (kind, keep)) old new adds first

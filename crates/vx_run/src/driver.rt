@@ -17,6 +17,12 @@ use vx_tasks::Work;
 /// The number of the only worker.
 const WORKER: u32 = 0;
 
+/// How many tasks of sinks are worked in one turn at the most, before parcels are moved on.
+const TASKS: u32 = 64;
+
+/// How often parcels are moved on in one turn at the most.
+const MOVES: u32 = 64;
+
 /// Turns a hub until each of its instances ended.
 pub(crate) fn drive<R: Wait, P: Port, C: Clock>(rt: &R, alloc: Global, hub: &mut Hub<P>, clock: &C)
     requires hub { IsHub P.told hub.old }
@@ -33,7 +39,10 @@ pub(crate) fn drive<R: Wait, P: Port, C: Clock>(rt: &R, alloc: Global, hub: &mut
     }
 }
 
-/// One turn: moves parcels, or does an instance's work, or ends an instance where there is neither.
+/// One turn: drains sinks, and then moves parcels on. Where there are none to move, it does an instance's work, or ends an instance where
+/// none has work.
+///
+/// A source is so read only where nothing waits that can move, since a read may wait for long.
 fn turn<P: Port, C: Clock>(alloc: Global, hub: &mut Hub<P>, clock: &C)
     requires hub { IsHub P.told hub.old }
     requires moment { C.gave clock.now hub.old.books.run.latest }
@@ -41,10 +50,46 @@ fn turn<P: Port, C: Clock>(alloc: Global, hub: &mut Hub<P>, clock: &C)
     ensures on { OnlyAdds (IsTimely (C.gave clock.now)) hub.old.books.log hub.new.books.log }
     ensures moment { C.gave clock.now hub.new.books.run.latest }
 {
-    match hub.pending() {
-        Some(instance) => push(hub, instance),
-        None => lease(alloc, hub, clock),
+    drain(alloc, hub, clock);
+    if move_parcels(hub) {
+        return;
     }
+    if !lease(alloc, hub, clock, clock.now()) {
+        retire(hub);
+    }
+}
+
+/// Lets sinks take and write what they have, though parcels wait to be moved: a look at all that wait behind full buffers costs.
+fn drain<P: Port, C: Clock>(alloc: Global, hub: &mut Hub<P>, clock: &C)
+    requires hub { IsHub P.told hub.old }
+    requires moment { C.gave clock.now hub.old.books.run.latest }
+    ensures hub { IsHub P.told hub.new }
+    ensures on { OnlyAdds (IsTimely (C.gave clock.now)) hub.old.books.log hub.new.books.log }
+    ensures moment { C.gave clock.now hub.new.books.run.latest }
+{
+    for _ in 0..TASKS {
+        let now = clock.now();
+        if !hub.has_ready_sink(now) {
+            return;
+        }
+        let _leased = lease(alloc, hub, clock, now);
+    }
+}
+
+/// Moves parcels on, while an instance has some that can move. Tells whether one had.
+fn move_parcels<P: Port>(hub: &mut Hub<P>) -> bool
+    requires hub { IsHub P.told hub.old }
+    ensures hub { IsHub P.told hub.new }
+    ensures on { OnlyAdds IsTimeless hub.old.books.log hub.new.books.log }
+    ensures latest { hub.new.books.run.latest ≡ hub.old.books.run.latest }
+{
+    for moved in 0..MOVES {
+        match hub.pending() {
+            Some(instance) => push(hub, instance),
+            None => return moved > 0,
+        }
+    }
+    true
 }
 
 /// Splits and pushes what an instance has made.
@@ -60,17 +105,21 @@ fn push<P: Port>(hub: &mut Hub<P>, instance: u32)
     }
 }
 
-/// Hands out a task, if one has work, does its work, and brings it home. Where none has, ends an instance that may end.
-fn lease<P: Port, C: Clock>(alloc: Global, hub: &mut Hub<P>, clock: &C)
+/// Hands out a task at a moment, if one has work, does its work, and brings it home. Tells whether one had.
+fn lease<P: Port, C: Clock>(alloc: Global, hub: &mut Hub<P>, clock: &C, now: u64) -> bool
     requires hub { IsHub P.told hub.old }
+    requires given { C.gave clock.now now }
     requires moment { C.gave clock.now hub.old.books.run.latest }
     ensures hub { IsHub P.told hub.new }
     ensures on { OnlyAdds (IsTimely (C.gave clock.now)) hub.old.books.log hub.new.books.log }
     ensures moment { C.gave clock.now hub.new.books.run.latest }
 {
-    match hub.lease(WORKER, clock.now()) {
-        Some(work) => land(alloc, hub, work, clock),
-        None => retire(hub),
+    match hub.lease(WORKER, now) {
+        Some(work) => {
+            land(alloc, hub, work, clock);
+            true
+        }
+        None => false,
     }
 }
 

@@ -1,5 +1,5 @@
-use Rattle.std.proofs.Common.{subst}
-use Rattle.vx_record.specs.Additions.{OnlyAdds}
+use Rattle.std.proofs.Common.{ap}
+use Rattle.vx_record.proofs.Adding.{adds_none}
 use Rattle.vx_hub.specs.declared.hub.Hub.{Hub}
 use Rattle.vx_run.specs.Moments.{IsTimely}
 use Rattle.vx_run.proofs.Pacing.{latest_of, latest_kept, leased_on, timely_on, timely_both}
@@ -11,16 +11,14 @@ returns-in-Some-clause-on g c =
     let old = c.args.hub.now.books in
     let mid = c.lease.new.self.books.log in
     timely_both gave old.log mid c.land.new.hub.books.log
-    (leased_on gave c.in-Some.work.instance _ old.log mid (latest_of gave c.now.result old.run.latest c.now.ensures c.requires.moment) c.in-Some.ensures.hub.stands.legal c.in-Some.ensures.noted)
+    (leased_on gave c.in-Some.work.instance _ old.log mid (latest_of gave c.args.now old.run.latest c.requires.given c.requires.moment) c.in-Some.ensures.hub.stands.legal c.in-Some.ensures.noted)
     (timely_on gave mid c.land.new.hub.books.log c.land.ensures.on)
 
 pub returns-in-Some-clause-moment : goal.returns-in-Some-clause-moment
 returns-in-Some-clause-moment g c =
-    latest_kept (g.C.Clock.gave c.args.clock.now) c.now.result c.args.hub.now.books.run.latest c.lease.new.self.books.run.latest c.land.new.hub.books.run.latest
-    c.in-Some.ensures.latest c.land.ensures.latest c.now.ensures c.requires.moment
+    latest_kept (g.C.Clock.gave c.args.clock.now) c.args.now c.args.hub.now.books.run.latest c.lease.new.self.books.run.latest c.land.new.hub.books.run.latest
+    c.in-Some.ensures.latest c.land.ensures.latest c.requires.given c.requires.moment
 
 pub returns-in-None-clause-on : goal.returns-in-None-clause-on
 returns-in-None-clause-on g c =
-    let gave = g.C.Clock.gave c.args.clock.now in
-    subst (λ (hub : Hub g.row.P.Denot). OnlyAdds (IsTimely gave) hub.books.log c.retire.new.hub.books.log) c.in-None.ensures.unchanged
-    (timely_on gave c.lease.new.self.books.log c.retire.new.hub.books.log c.retire.ensures.on)
+    adds_none (IsTimely (g.C.Clock.gave c.args.clock.now)) c.args.hub.now.books.log c.lease.new.self.books.log (ap (λ (hub : Hub g.row.P.Denot). hub.books.log) c.in-None.ensures.unchanged)

@@ -1,0 +1,11 @@
+use Rattle.vx_record.specs.Additions.{OnlyAdds}
+use Rattle.vx_hub.specs.Standing.{IsHub}
+use Rattle.vx_run.specs.Moments.{IsTimely}
+use Rattle.vx_run.proofs.driver.drain.Given as goal
+
+abbrev pub invariant-loop : goal.invariant-loop
+invariant-loop g l = record {
+  hub : IsHub g.P.Port.told l.hub;
+  on : OnlyAdds (IsTimely (g.C.Clock.gave l.clock)) l.fn.hub.books.log l.hub.books.log;
+  moment : g.C.Clock.gave l.clock l.hub.books.run.latest;
+}
