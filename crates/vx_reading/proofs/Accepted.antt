@@ -1,6 +1,6 @@
 -- The plan of an accepted configuration may be installed.
 use Rattle.std.proofs.Common.{◌≡◌, Bool, true, false, List, [], ◌∷◌, ◌++◌, Option, Some, None, Result, Ok, Err, IfOk, refl, sym, ◌∙◌, ap, subst}
-use Rattle.std.specs.Prelude.{not, ◌&&◌, ◌||◌, option_and_then}
+use Rattle.std.specs.Prelude.{map, not, ◌&&◌, ◌||◌, option_and_then}
 use Rattle.std.specs.List.{AllByRecursion, list_any, list_all, flat_map}
 use Rattle.toml.specs.Data.{Data, as_str}
 use Rattle.vx_value.specs.Texts.{Word, same_text, is_empty}
@@ -14,6 +14,7 @@ use Rattle.vx_plan.specs.declared.class.Class.TheVariants.{Source, Transform, Si
 use Rattle.vx_plan.specs.declared.component.Component.{Component}
 use Rattle.vx_plan.specs.declared.global.Global.{Global as Options}
 use Rattle.vx_plan.specs.declared.plan.Plan.{Plan}
+use Rattle.vx_plan.specs.declared.stage.Stage.{Stage}
 use Rattle.vx_plan.proofs.Tests.{or_there, and_made, and_both, passing}
 use Rattle.vx_reading.specs.declared.kind.Kind.{Kind}
 use Rattle.vx_reading.specs.declared.kind.Kind.TheVariants.{Stdin, Filter, Route, Console}
@@ -22,6 +23,7 @@ use Rattle.vx_reading.specs.Components.{Part, parts, kind_of, type_in}
 use Rattle.vx_reading.specs.Names.{AreApart, names_of, AreApartByClass}
 use Rattle.vx_reading.specs.Options.{kinds, kind_class, kind_name, kind_named}
 use Rattle.vx_reading.specs.Plans.{component, component_of, global_of}
+use Rattle.vx_reading.specs.Stages.{stages_of, stage_of, or_default}
 use Rattle.vx_reading.specs.declared.reading.ReadPlan.{ReadPlan}
 use Rattle.vx_reading.specs.Answers.{plan_in}
 use Rattle.vx_reading.specs.Reading.{IsPlanOf, IsJudged}
@@ -56,6 +58,11 @@ kind_fits whole part Console same = and_made (same_class Sink part.class) (not (
     go Transform e = refl
     go Sink e = refl
 
+-- a buffer has some stage
+some_stage : (stages : List Stage) → not (is_empty (or_default stages)) ≡ true
+some_stage [] = refl
+some_stage (stage ∷ rest) = refl
+
 -- and a stage, if it is a sink
 kind_staged : (whole : Options) (part : Part) (kind : Kind) → same_class (kind_class kind) part.class ≡ true → has_stage (component whole part kind) ≡ true
 kind_staged whole part Stdin same = go part.class same
@@ -81,7 +88,7 @@ kind_staged whole part Console same = go part.class same
     go : (class : Class) → same_class Sink class ≡ true → has_stage (record (component whole part Console) { class = class }) ≡ true
     go Source e = refl
     go Transform e = refl
-    go Sink e = refl
+    go Sink e = some_stage (map stage_of (stages_of part.value))
 
 -- the type of a component is one of its class
 pub kind_class_of : (part : Part) (kind : Kind) → kind_of part ≡ Some kind → same_class (kind_class kind) part.class ≡ true

@@ -20,7 +20,7 @@ use Rattle.vx_reading.specs.declared.finding.Finding.{Finding}
 use Rattle.vx_reading.specs.declared.kind.Kind.{Kind}
 use Rattle.vx_reading.specs.declared.plan_fault.PlanFault.{PlanFault}
 use Rattle.vx_reading.specs.Components.{Part, part_in, parts_in, parts, section, kind_of, has_part, is_taken, is_name, first_stdin}
-use Rattle.vx_reading.specs.Findings.{findings, global_findings, count_findings, all_section_findings, part_finding, part_findings}
+use Rattle.vx_reading.specs.Findings.{findings, global_findings, count_findings, room_findings, all_section_findings, part_finding, part_findings}
 use Rattle.vx_reading.specs.Judging.{Pair, pairs_of, pairs_in, is_table}
 use Rattle.vx_reading.specs.Names.{AreApart, names_of, part_names, pair_names, AreApartByClass}
 use Rattle.vx_reading.specs.Plans.{component, component_of, global_of}
@@ -147,7 +147,7 @@ neither false b is = (refl, is)
 -- so the components of a document without faults have different names
 parts_apart : (root : Data) → AreApartByClass root → findings root ≡ [] → AreApart (part_names (parts root))
 parts_apart root apart none =
-    let of_parts = none_right (all_section_findings root) _ (none_right (count_findings root) _ (none_right (global_findings root) _ none)) in
+    let of_parts = none_right (all_section_findings root) _ (none_right (room_findings root) _ (none_right (count_findings root) _ (none_right (global_findings root) _ none))) in
     let all = all_free root (first_stdin root) (parts root) of_parts in
     let s = parts_in root Source in
     let t = parts_in root Transform in

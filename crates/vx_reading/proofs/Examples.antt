@@ -1,5 +1,5 @@
 -- Closed texts, and what the definitions say of them.
-use Rattle.std.proofs.Common.{◌≡◌, pos, Bool, true, false, List, [], ◌∷◌, ◌++◌, Some, None, map, codes, refl}
+use Rattle.std.proofs.Common.{◌≡◌, ℕ, pos, Bool, true, false, List, [], ◌∷◌, ◌++◌, Some, None, map, codes, refl}
 use Rattle.vx_value.specs.declared.variable.Variable.{Variable}
 use Rattle.vx_value.specs.Texts.{Word}
 use Rattle.toml.proofs.OnLiterals.{toml_on_literals}
@@ -7,12 +7,13 @@ use Rattle.toml.specs.Data.{Data, string, integer, boolean, array, table, item, 
 use Rattle.toml.specs.Parse.{parse_document}
 use Rattle.vx_subst.specs.Pieces.{Bare, pieces_after, piece_of, form_of, bare, braced, with_default, behind}
 use Rattle.vx_subst.specs.Replaced.{replaced, first_lacking, becomes, lacks, text_of, lacking}
-use Rattle.vx_plan.specs.Components.{acknowledges}
+use Rattle.vx_plan.specs.Components.{acknowledges, stages}
 use Rattle.vx_plan.specs.First.{first_configuration, first_plan}
+use Rattle.vx_plan.specs.declared.when_full.WhenFull.TheVariants.{Block, Overflow}
 use Rattle.vx_reading.specs.Findings.{findings, found, whole, precedes}
 use Rattle.vx_reading.specs.declared.finding.Finding.{Finding}
 use Rattle.vx_reading.specs.declared.trouble.Trouble.{Trouble}
-use Rattle.vx_reading.specs.declared.trouble.Trouble.TheVariants.{UnknownKind, UnknownOption, MissingOption, BadValue}
+use Rattle.vx_reading.specs.declared.trouble.Trouble.TheVariants.{UnknownKind, UnknownOption, MissingOption, BadValue, TooMany}
 use Rattle.vx_reading.specs.Plans.{plan_of}
 
 -- the document of the first configuration
@@ -137,3 +138,76 @@ source_says : findings (one_option (codes "sources") (one_option (codes "in")
     (table (member (codes "acknowledgements") (boolean true) (member (codes "type") (string (codes "stdin")) no_members)))))
     ≡ found (record { section = 1; name = codes "in" }) (codes "sources.in.acknowledgements") UnknownOption ∷ []
 source_says = refl
+
+-- a document whose one sink has a buffer
+abbrev buffered : Data → Data
+buffered value =
+    one_option (codes "sinks") (one_option (codes "out") (table
+    (member (codes "buffer") value
+    (member (codes "encoding") (table (member (codes "codec") (string (codes "text")) no_members))
+    (member (codes "type") (string (codes "console")) no_members)))))
+
+-- a stage, and one that passes on what it has no room for
+abbrev stage_for : ℕ → Data
+stage_for room = one_option (codes "max_events") (integer (pos room))
+
+abbrev passing_on : ℕ → Data
+passing_on room = table (member (codes "max_events") (integer (pos room)) (member (codes "when_full") (string (codes "overflow")) no_members))
+
+abbrev two_stages : Data → Data → Data
+two_stages first second = array (item first (item second no_items))
+
+-- the spelling of two stages
+spelled_as_list : parse_document (codes "[[sinks.out.buffer]]\nmax_events = 100\nwhen_full = \"overflow\"\n\n[[sinks.out.buffer]]\nmax_events = 400\n")
+    ≡ Some (member (codes "sinks") (one_option (codes "out") (one_option (codes "buffer") (two_stages (passing_on 100) (stage_for 400)))) no_members)
+unfolding toml_on_literals
+spelled_as_list = refl
+
+-- they are read in order, and so is one that stands alone
+two_are_read : (findings (buffered (two_stages (passing_on 100) (stage_for 400))) ≡ [])
+    × (map stages (plan_of (buffered (two_stages (passing_on 100) (stage_for 400)))).components
+    ≡ (record { max_events = 100; when_full = Overflow } ∷ record { max_events = 400; when_full = Block } ∷ []) ∷ [])
+two_are_read = (refl, refl)
+
+one_is_read : (findings (buffered (stage_for 7)) ≡ [])
+    × (map stages (plan_of (buffered (stage_for 7))).components ≡ (record { max_events = 7; when_full = Block } ∷ []) ∷ [])
+one_is_read = (refl, refl)
+
+-- a fault at the buffer of the sink
+abbrev buffer_fault : Word → Trouble → Finding
+buffer_fault path trouble = found (record { section = 3; name = codes "out" }) (codes "sinks.out.buffer" ++ path) trouble
+
+-- the last stage passes nothing on, and each before it does
+last_passes_on : findings (buffered (passing_on 100)) ≡ buffer_fault (codes ".when_full") BadValue ∷ []
+last_passes_on = refl
+
+first_blocks : findings (buffered (two_stages (stage_for 100) (stage_for 400))) ≡ buffer_fault (codes ".when_full") BadValue ∷ []
+first_blocks = refl
+
+-- a list without stages, a value that is none, and a list with one that is none
+no_stage : findings (buffered (array no_items)) ≡ buffer_fault [] BadValue ∷ []
+no_stage = refl
+
+no_buffer : findings (buffered (boolean true)) ≡ buffer_fault [] BadValue ∷ []
+no_buffer = refl
+
+half_a_buffer : findings (buffered (two_stages (passing_on 100) (boolean true))) ≡ buffer_fault [] BadValue ∷ []
+half_a_buffer = refl
+
+-- nine stages
+nine_stages : findings (buffered (array
+    (item (passing_on 1) (item (passing_on 1) (item (passing_on 1) (item (passing_on 1)
+    (item (passing_on 1) (item (passing_on 1) (item (passing_on 1) (item (passing_on 1) (item (stage_for 1) no_items)))))))))))
+    ≡ buffer_fault [] (TooMany 9 8) ∷ []
+nine_stages = refl
+
+-- an unknown option of a stage, and a stage for no event
+unknown_in_stage : findings (buffered (one_option (codes "max_size") (integer (pos 1)))) ≡ buffer_fault (codes ".max_size") UnknownOption ∷ []
+unknown_in_stage = refl
+
+no_room : findings (buffered (stage_for 0)) ≡ buffer_fault (codes ".max_events") BadValue ∷ []
+no_room = refl
+
+-- stages with too much room together
+much_room : findings (buffered (two_stages (passing_on 600000) (stage_for 600000))) ≡ found (record { section = 3; name = [] }) (codes "sinks") (TooMany 1200000 1000000) ∷ []
+much_room = refl

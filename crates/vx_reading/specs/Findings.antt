@@ -1,7 +1,7 @@
 -- Every fault of a document, and which is the first.
 use Rattle.std.specs.Prelude.{◌≡◌, ℕ, Bool, false, not, ◌&&◌, ◌||◌, ◌==◌, Option, Some, None, List, [], ◌∷◌, ◌++◌, All, Contains, length, codes, if◌then◌else◌, nat_lt, filter}
 use Rattle.std.specs.List.{flat_map}
-use Rattle.vx_value.specs.Texts.{Word, same_text, text_lt}
+use Rattle.vx_value.specs.Texts.{Word, same_text, is_empty, text_lt}
 use Rattle.toml.specs.Data.{Data, as_str}
 use Rattle.vx_plan.specs.declared.class.Class.{Class}
 use Rattle.vx_plan.specs.declared.class.Class.TheVariants.{Source, Transform, Sink}
@@ -13,7 +13,8 @@ use Rattle.vx_reading.specs.declared.trouble.Trouble.{Trouble}
 use Rattle.vx_reading.specs.declared.trouble.Trouble.TheVariants.{UnknownKind, UnknownOption, MissingOption, BadValue, TooMany}
 use Rattle.vx_reading.specs.Components.{Part, section_name, section, parts, part_path, is_name, is_taken, type_in, first_stdin, is_later_stdin}
 use Rattle.vx_reading.specs.Judging.{Pair, pairs_in, is_table, Given, given, is_given, count_given, judged}
-use Rattle.vx_reading.specs.Options.{Row, dot, place_path, most_at, global_rows, rows_of, kind_named}
+use Rattle.vx_reading.specs.Options.{Row, dot, place_path, most_at, global_rows, rows_of, stage_rows, most_room, kind_named}
+use Rattle.vx_reading.specs.Stages.{stages_for, when_full_of, is_misplaced, room_of_all}
 
 -- the part of a document to which a fault belongs: 0 for the whole, 1 to 3 for the three tables, and a component's name
 pub record Owner : Type 0 where
@@ -97,11 +98,33 @@ type_path part = part_path part ++ dot ∷ codes "type"
 abbrev pub later_findings : Option Word → Part → List Finding
 later_findings first part = if is_later_stdin first part then found (owner_of part) (type_path part) BadValue ∷ [] else []
 
+-- what leads to the options of a component, and to those of a stage of its buffer
+abbrev pub part_lead : Part → Word
+part_lead part = part_path part ++ dot ∷ []
+
+abbrev pub buffer_lead : Part → Word
+buffer_lead part = part_lead part ++ codes "buffer."
+
+-- the fault of a stage that stands where it may not, by whether it is the last
+abbrev pub misplaced : Owner → Word → Bool → Data → List Finding
+misplaced owner lead last stage = if is_misplaced last (when_full_of stage) then found owner (lead ++ codes "when_full") BadValue ∷ [] else []
+
+-- the faults of a stage
+abbrev pub stage_findings : Owner → Word → Bool → Data → List Finding
+stage_findings owner lead last stage =
+    option_findings owner lead stage_rows (given stage_rows (pairs_in stage)) ++ misplaced owner lead last stage
+
+-- the faults of the stages of a buffer, in order
+abbrev pub buffer_findings : Owner → Word → List Data → List Finding
+buffer_findings owner lead [] = []
+buffer_findings owner lead (stage ∷ rest) = stage_findings owner lead (is_empty rest) stage ++ buffer_findings owner lead rest
+
 -- the faults of a component whose type is known
 abbrev pub kind_findings : Option Word → Part → Kind → List Finding
 kind_findings first part kind =
     later_findings first part
-    ++ option_findings (owner_of part) (part_path part ++ dot ∷ []) (rows_of kind) (given (rows_of kind) (pairs_in part.value))
+    ++ (option_findings (owner_of part) (part_lead part) (rows_of kind) (given (rows_of kind) (pairs_in part.value))
+    ++ buffer_findings (owner_of part) (buffer_lead part) (stages_for kind part.value))
 
 -- the same by what its type is called
 abbrev pub named_findings : Option Word → Part → Option Kind → List Finding
@@ -133,6 +156,12 @@ count_findings root =
     if nat_lt most_parts (length (parts root))
     then found whole (section_name Source) (TooMany (length (parts root)) most_parts) ∷ [] else []
 
+-- the fault of stages of sinks that have too much room together
+abbrev pub room_findings : Data → List Finding
+room_findings root =
+    if nat_lt most_room (room_of_all (parts root))
+    then found (record { section = section_number Sink; name = [] }) (section_name Sink) (TooMany (room_of_all (parts root)) most_room) ∷ [] else []
+
 -- the faults of the options of the whole
 abbrev pub global_findings : Data → List Finding
 global_findings root = option_findings whole [] global_rows (global_given root)
@@ -144,8 +173,8 @@ all_section_findings root = section_findings root Source ++ (section_findings ro
 -- every fault of a document
 abbrev pub findings : Data → List Finding
 findings root =
-    global_findings root ++ (count_findings root
-    ++ (all_section_findings root ++ flat_map (part_findings root (first_stdin root)) (parts root)))
+    global_findings root ++ (count_findings root ++ (room_findings root
+    ++ (all_section_findings root ++ flat_map (part_findings root (first_stdin root)) (parts root))))
 
 -- the place of a trouble among the kinds
 abbrev pub rank : Trouble → ℕ

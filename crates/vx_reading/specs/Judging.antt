@@ -1,11 +1,11 @@
 -- What a table gives, and how each value of it is judged.
 use Rattle.std.specs.Prelude.{ℕ, ℤ, pos, negsuc, Bool, false, true, not, ◌&&◌, ◌||◌, Option, Some, None, option_and_then, List, [], ◌∷◌, length, map, find, count_by, codes, if◌then◌else◌, nat_lt, nat_le}
 use Rattle.std.specs.List.{list_any, flat_map}
-use Rattle.vx_value.specs.Texts.{Word, same_text}
+use Rattle.vx_value.specs.Texts.{Word, same_text, is_empty}
 use Rattle.toml.specs.Data.{Data, Items, no_items, item, Members, no_members, member, get, as_table, as_array, as_str, as_integer, as_bool}
 use Rattle.vx_reading.specs.declared.trouble.Trouble.{Trouble}
 use Rattle.vx_reading.specs.declared.trouble.Trouble.TheVariants.{UnknownOption, BadValue, TooMany}
-use Rattle.vx_reading.specs.Options.{Place, Alone, Within, Either, Each, Shape, Truth, AnyText, OneOf, Texts, Whole, Condition, Row, covers, fits_place}
+use Rattle.vx_reading.specs.Options.{Place, Alone, Within, Either, Each, Shape, Truth, AnyText, OneOf, Texts, Whole, Condition, Stages, Row, covers, fits_place}
 
 -- a name and the value under it
 pub record Pair : Type 0 where
@@ -108,6 +108,16 @@ has_text (Some value) = is_text value
 abbrev pub is_vrl : Data → Bool
 is_vrl value = names_vrl (get (codes "type") value) && has_text (get (codes "source") value)
 
+-- the stages that a value gives: a table is one, and a list has one in each place
+abbrev pub stages_in : Data → List Data
+stages_in value = elim (as_array value) [ None ↦ (if is_table value then value ∷ [] else []) | Some items ↦ items_in items ]
+
+-- what is wrong with stages, at most so many: there is none, or one is no table
+abbrev pub fits_stages : ℕ → List Data → Option Trouble
+fits_stages most stages =
+    if is_empty stages || list_any (λ d. not (is_table d)) stages then Some BadValue
+    else (if nat_lt most (length stages) then Some (TooMany (length stages) most) else None)
+
 -- what is wrong with a value, by what it has to be
 abbrev pub fits : Shape → Data → Option Trouble
 fits Truth value = if is_truth value then None else Some BadValue
@@ -116,6 +126,7 @@ fits (OneOf texts) value = if is_one_of texts value then None else Some BadValue
 fits (Texts most) value = elim (as_array value) [ None ↦ Some BadValue | Some items ↦ fits_texts most (items_in items) ]
 fits (Whole least most) value = elim (whole_in least most value) [ None ↦ Some BadValue | Some n ↦ None ]
 fits Condition value = if is_text value || is_vrl value then None else Some BadValue
+fits (Stages most) value = fits_stages most (stages_in value)
 
 -- the row of what is given at a place
 abbrev pub row_at : List Row → Place → Option Row

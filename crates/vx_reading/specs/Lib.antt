@@ -2,6 +2,7 @@ pub mod Options
 pub mod Judging
 pub mod Components
 pub mod Names
+pub mod Stages
 pub mod Findings
 pub mod Plans
 pub mod Conditions

@@ -17,7 +17,7 @@ pub data Place : Type 0 where
   Each : Word → ℕ → Place
 
 -- what a value has to be: a truth, a text, one of some texts, a list of texts, at most so many, a whole number between two, both
--- among them, or a condition
+-- among them, a condition, or the stages of a buffer, at most so many
 pub data Shape : Type 0 where
   Truth : Shape
   AnyText : Shape
@@ -25,6 +25,7 @@ pub data Shape : Type 0 where
   Texts : ℕ → Shape
   Whole : ℕ → ℕ → Shape
   Condition : Shape
+  Stages : ℕ → Shape
 
 -- an option: where it stands, what its value has to be, and whether it has to be there
 pub record Row : Type 0 where
@@ -114,6 +115,26 @@ length_row = record { place = Alone (codes "max_length"); shape = Whole 1 most_l
 abbrev pub decoding_row : Row
 decoding_row = record { place = Within (codes "decoding") (codes "codec"); shape = OneOf (codes "bytes" ∷ codes "json" ∷ []); required = false }
 
+-- how many stages a buffer may have
+abbrev pub most_stages : ℕ
+most_stages = 8
+
+-- the stages of a sink's buffer
+abbrev pub buffer_row : Row
+buffer_row = record { place = Alone (codes "buffer"); shape = Stages most_stages; required = false }
+
+-- for how many events a stage may have room, and all stages of all sinks together
+abbrev pub most_room : ℕ
+most_room = 1000000
+
+-- the options of a stage
+abbrev pub stage_rows : List Row
+stage_rows =
+    record { place = Alone (codes "type"); shape = OneOf (codes "memory" ∷ []); required = false }
+    ∷ record { place = Alone (codes "max_events"); shape = Whole 1 most_room; required = false }
+    ∷ record { place = Alone (codes "when_full"); shape = OneOf (codes "block" ∷ codes "drop_newest" ∷ codes "overflow" ∷ []); required = false }
+    ∷ []
+
 -- what a filter passes
 abbrev pub condition_row : Row
 condition_row = record { place = Alone (codes "condition"); shape = Condition; required = true }
@@ -135,7 +156,7 @@ abbrev pub rows_of : Kind → List Row
 rows_of Stdin = type_row ∷ length_row ∷ decoding_row ∷ []
 rows_of Filter = type_row ∷ inputs_row ∷ condition_row ∷ []
 rows_of Route = type_row ∷ inputs_row ∷ route_row ∷ reroute_row ∷ []
-rows_of Console = type_row ∷ inputs_row ∷ target_row ∷ codec_row ∷ acknowledgements_row ∷ []
+rows_of Console = type_row ∷ inputs_row ∷ target_row ∷ codec_row ∷ acknowledgements_row ∷ buffer_row ∷ []
 
 -- the types, each with the table in which it stands and its name
 abbrev pub kinds : List Kind

@@ -16,13 +16,13 @@ use Rattle.vx_plan.specs.declared.route.Route.{Route as Way}
 use Rattle.vx_plan.specs.declared.settings.Settings.{Settings}
 use Rattle.vx_plan.specs.declared.settings.Settings.TheVariants as settings
 use Rattle.vx_plan.specs.declared.sink_settings.SinkSettings.{SinkSettings}
-use Rattle.vx_plan.specs.declared.when_full.WhenFull.TheVariants.{Block}
 pub use Rattle.vx_plan.specs.Graphs.{nodes_of}
 use Rattle.vx_reading.specs.declared.kind.Kind.{Kind}
 use Rattle.vx_reading.specs.declared.kind.Kind.TheVariants.{Stdin, Filter, Route, Console}
 use Rattle.vx_reading.specs.Components.{Part, parts, kind_of}
 use Rattle.vx_reading.specs.Judging.{Pair, pairs_in, items_in, whole_in}
 use Rattle.vx_reading.specs.Options.{most_length}
+use Rattle.vx_reading.specs.Stages.{default_stage, buffer_of}
 
 -- a text, or another where it isn't given
 abbrev pub text_or : Word → Option Word → Word
@@ -115,7 +115,7 @@ is_rerouted value = unwrap_or (truth_at (codes "reroute_unmatched") value) true
 abbrev pub sink_defaults : SinkSettings
 sink_defaults = record {
   acknowledgements = false;
-  buffer = record { max_events = 500; when_full = Block } ∷ [];
+  buffer = default_stage ∷ [];
   batch_max_events = 1;
   batch_timeout_secs = 1;
   request_retry_attempts = 2 ^ 63 - 1;
@@ -125,7 +125,8 @@ sink_defaults = record {
 
 -- the options that every sink has: it acknowledges as the whole says where it doesn't say itself
 abbrev pub sink_of : Global → Data → SinkSettings
-sink_of global value = record sink_defaults { acknowledgements = acknowledgements_of global.acknowledgements value }
+sink_of global value =
+    record sink_defaults { acknowledgements = acknowledgements_of global.acknowledgements value; buffer = buffer_of value }
 
 -- the settings of a component of a type
 abbrev pub settings_of : Global → Data → Kind → Settings

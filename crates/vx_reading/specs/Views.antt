@@ -13,7 +13,7 @@ use Rattle.vx_reading.specs.declared.shape.Shape.TheVariants as shapes
 use Rattle.vx_reading.specs.Components.{Part}
 use Rattle.vx_reading.specs.Findings.{Owner}
 use Rattle.vx_reading.specs.Judging.{Given, Pair}
-use Rattle.vx_reading.specs.Options.{Place, Alone, Within, Either, Each, Shape, Truth, AnyText, OneOf, Texts, Whole, Condition, Row}
+use Rattle.vx_reading.specs.Options.{Place, Alone, Within, Either, Each, Shape, Truth, AnyText, OneOf, Texts, Whole, Condition, Stages, Row}
 
 abbrev pub place_view : place.Place → Place
 place_view (places.Alone name) = Alone name.now
@@ -28,6 +28,7 @@ shape_view (shapes.OneOf texts) = OneOf (map (λ t. t.now) texts.now)
 shape_view (shapes.Texts most) = Texts most
 shape_view (shapes.Whole least most) = Whole least most
 shape_view shapes.Condition = Condition
+shape_view (shapes.Stages most) = Stages most
 
 abbrev pub row_view : row.Row → Row
 row_view r = record { place = place_view r.place; shape = shape_view r.shape; required = r.required }

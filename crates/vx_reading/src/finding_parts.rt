@@ -2,18 +2,23 @@ ghost use Rattle.std.specs.Prelude.{◌≡◌, ◌++◌, Some, OnOk};
 ghost use Rattle.std.specs.Option.{option_map};
 ghost use Rattle.toml.specs.View.{view};
 ghost use Rattle.vx_reading.specs.Components.{type_in};
-ghost use Rattle.vx_reading.specs.Findings.{owner_of, part_finding, later_findings, kind_findings, text_findings, type_findings, part_findings};
+ghost use Rattle.vx_reading.specs.Findings.{owner_of, part_finding, part_lead as part_lead_of, buffer_lead as buffer_lead_of, later_findings, option_findings, buffer_findings, kind_findings, text_findings, type_findings, part_findings};
+ghost use Rattle.vx_reading.specs.Judging.{given, pairs_in as pairs_in_view};
+ghost use Rattle.vx_reading.specs.Options.{rows_of as rows_for};
+ghost use Rattle.vx_reading.specs.Stages.{stages_for as stages_given};
 ghost use Rattle.vx_reading.specs.Views.{owner_view, part_view};
 
 use crate::finding::{FindingList, push};
 use crate::finding_options::push_options;
+use crate::finding_stages::push_stages;
 use crate::given::{given_in, is_table};
 use crate::kind::Kind;
 use crate::options::{kind_named, rows_of, section_number};
 use crate::owner::Owner;
 use crate::pair::pairs_in;
 use crate::part::{Part, is_later_stdin, is_taken};
-use crate::paths::{part_lead, part_path, type_path};
+use crate::paths::{buffer_lead, part_lead, part_path, type_path};
+use crate::stages::stages_for;
 use crate::texts::is_name;
 use crate::trouble::Trouble;
 use std::alloc::Global;
@@ -63,17 +68,16 @@ fn push_later(
     }
 }
 
-/// Adds the faults of a component whose type is known.
-fn push_kind(
+/// Adds the faults of the options of a component of a type.
+fn push_own(
     alloc: Global,
     findings: &mut FindingList,
-    first: Option<&str>,
     part: Part<'_>,
     kind: Kind,
 ) -> Result<(), WantOfMemory>
-    ensures { OnOk result (findings.new ≡ findings.old ++ kind_findings (option_map (λ name. name.now) first.entry) (part_view part.entry) kind) }
+    ensures { OnOk result (findings.new
+        ≡ findings.old ++ option_findings (owner_of (part_view part.entry)) (part_lead_of (part_view part.entry)) (rows_for kind) (given (rows_for kind) (pairs_in_view (part_view part.entry).value))) }
 {
-    push_later(alloc, findings, first, part)?;
     let rows = rows_of(kind);
     let pairs = pairs_in(alloc, part.value)?;
     let all = given_in(alloc, rows, pairs.as_slice())?;
@@ -86,6 +90,41 @@ fn push_kind(
         rows,
         all.as_slice(),
     )
+}
+
+/// Adds the faults of the stages of the buffer of a component of a type.
+fn push_buffer(
+    alloc: Global,
+    findings: &mut FindingList,
+    part: Part<'_>,
+    kind: Kind,
+) -> Result<(), WantOfMemory>
+    ensures { OnOk result (findings.new
+        ≡ findings.old ++ buffer_findings (owner_of (part_view part.entry)) (buffer_lead_of (part_view part.entry)) (stages_given kind (part_view part.entry).value)) }
+{
+    let lead = buffer_lead(alloc, part)?;
+    push_stages(
+        alloc,
+        findings,
+        owner_of(part),
+        lead.as_str(),
+        stages_for(kind, part.value),
+    )
+}
+
+/// Adds the faults of a component whose type is known.
+fn push_kind(
+    alloc: Global,
+    findings: &mut FindingList,
+    first: Option<&str>,
+    part: Part<'_>,
+    kind: Kind,
+) -> Result<(), WantOfMemory>
+    ensures { OnOk result (findings.new ≡ findings.old ++ kind_findings (option_map (λ name. name.now) first.entry) (part_view part.entry) kind) }
+{
+    push_later(alloc, findings, first, part)?;
+    push_own(alloc, findings, part, kind)?;
+    push_buffer(alloc, findings, part, kind)
 }
 
 /// Adds the faults of a component by what its type is called.

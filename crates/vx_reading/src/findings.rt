@@ -3,7 +3,7 @@ ghost use Rattle.std.specs.Option.{option_map};
 ghost use Rattle.std.specs.List.{flat_map};
 ghost use Rattle.toml.specs.View.{view};
 ghost use Rattle.vx_reading.specs.Components.{parts, first_stdin};
-ghost use Rattle.vx_reading.specs.Findings.{is_section, global_given, section_findings, count_findings, part_findings, findings, global_findings, all_section_findings};
+ghost use Rattle.vx_reading.specs.Findings.{is_section, global_given, section_findings, count_findings, room_findings, part_findings, findings, global_findings, all_section_findings};
 ghost use Rattle.vx_reading.specs.Judging.{Pair as SpecPair};
 ghost use Rattle.vx_reading.specs.Views.{pairs_view, givens_view, parts_view};
 
@@ -11,10 +11,11 @@ use crate::finding::{FindingList, push};
 use crate::finding_options::push_options;
 use crate::finding_parts::push_part;
 use crate::given::{Given, given_in, is_table};
-use crate::options::{global_rows, is_section, section_name, section_number};
+use crate::options::{MOST_ROOM, global_rows, is_section, section_name, section_number};
 use crate::owner::Owner;
 use crate::pair::{Pair, pairs_in};
 use crate::part::{Part, first_stdin};
+use crate::stages::room_of_all;
 use crate::trouble::Trouble;
 use std::alloc::Global;
 use toml::Value;
@@ -87,6 +88,36 @@ fn push_count(
     }
 }
 
+/// Adds the fault of stages of sinks that have too much room together.
+fn push_room(
+    alloc: Global,
+    findings: &mut FindingList,
+    root: &Value,
+    all: &[Part<'_>],
+) -> Result<(), WantOfMemory>
+    requires { parts_view all.now ≡ parts (view root.now) }
+    ensures { OnOk result (findings.new ≡ findings.old ++ room_findings (view root.now)) }
+{
+    let found = room_of_all(alloc, all)?;
+    let limit = MOST_ROOM as u64;
+    if limit < found {
+        let owner = Owner {
+            section: section_number(Class::Sink),
+            name: "",
+        };
+        let path = Text::copy_of(alloc, section_name(Class::Sink))?;
+        push(
+            alloc,
+            findings,
+            owner,
+            path,
+            Trouble::TooMany { found, limit },
+        )
+    } else {
+        Ok(())
+    }
+}
+
 /// Adds the fault of the table of a class that is no table.
 fn push_section(
     alloc: Global,
@@ -152,6 +183,7 @@ pub(crate) fn findings(
     let mut found = FindingList::new(alloc);
     push_global(alloc, &mut found, root)?;
     push_count(alloc, &mut found, root, all)?;
+    push_room(alloc, &mut found, root, all)?;
     push_sections(alloc, &mut found, root)?;
     push_parts(alloc, &mut found, root, all)?;
     Ok(found)

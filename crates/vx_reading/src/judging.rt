@@ -3,15 +3,16 @@ ghost use Rattle.std.specs.Option.{option_map};
 ghost use Rattle.std.specs.List.{list_any};
 ghost use Rattle.toml.specs.View.{view, items_view};
 ghost use Rattle.vx_value.specs.Texts.{same_text};
-ghost use Rattle.vx_reading.specs.Judging.{fits, fits_texts, judged, items_in, is_truth, is_text, is_one_of, between, whole_in, row_at, is_vrl, names_vrl, has_text, judged_by};
+ghost use Rattle.vx_reading.specs.Judging.{fits, fits_texts, fits_stages, stages_in, is_table as is_table_view, judged, items_in, is_truth, is_text, is_one_of, between, whole_in, row_at, is_vrl, names_vrl, has_text, judged_by};
 ghost use Rattle.vx_reading.specs.Views.{shape_view, rows_view, row_view, place_view, given_view};
 
-use crate::given::{Given, covers, fits_place};
+use crate::given::{Given, covers, fits_place, is_table};
 use crate::place::Place;
 use crate::row::Row;
 use crate::shape::Shape;
 use crate::texts::same_text;
 use crate::trouble::Trouble;
+use std::slice;
 use toml::Value;
 
 /// Whether a value is a truth.
@@ -128,6 +129,45 @@ fn has_text(value: Option<&Value>) -> bool
     }
 }
 
+/// The stages that a value gives: a table is one, and a list has one in each place.
+pub(crate) fn stages_in(value: &Value) -> &[Value]
+    ensures { items_in (items_view result.now) ≡ stages_in (view value.now) }
+{
+    match value.as_array() {
+        Some(items) => items.as_slice(),
+        None if is_table(value) => slice::from_ref(value),
+        None => &[],
+    }
+}
+
+/// What is wrong with stages, of which there may be so many; `None` exactly where nothing is.
+#[tactic(auto, using(crate::proofs::Lists::items_in_length))]
+fn fits_stages(most: usize, stages: &[Value]) -> Option<Trouble>
+    ensures { result ≡ fits_stages most (items_in (items_view stages.now)) }
+{
+    if stages.is_empty() || has_no_table(stages) {
+        return Some(Trouble::BadValue);
+    }
+    if most < stages.len() {
+        let found = stages.len() as u64;
+        let limit = most as u64;
+        return Some(Trouble::TooMany { found, limit });
+    }
+    None
+}
+
+/// Whether some value is no table.
+fn has_no_table(items: &[Value]) -> bool
+    ensures { result ≡ list_any (λ d. not (is_table_view d)) (items_in (items_view items.now)) }
+{
+    for item in items {
+        if !is_table(item) {
+            return true;
+        }
+    }
+    false
+}
+
 /// What is wrong with a value, by what it has to be.
 fn fits(shape: Shape, value: &Value) -> Option<Trouble>
     ensures { result ≡ fits (shape_view shape) (view value.now) }
@@ -145,6 +185,7 @@ fn fits(shape: Shape, value: &Value) -> Option<Trouble>
             None => Some(Trouble::BadValue),
         },
         Shape::Condition if is_text(value) || is_vrl(value) => None,
+        Shape::Stages(most) => fits_stages(most, stages_in(value)),
         _ => Some(Trouble::BadValue),
     }
 }

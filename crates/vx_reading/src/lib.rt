@@ -4,6 +4,7 @@
 mod finding;
 mod finding_options;
 mod finding_parts;
+mod finding_stages;
 mod findings;
 mod first;
 mod given;
@@ -23,6 +24,7 @@ mod reading;
 mod refusals;
 mod row;
 mod shape;
+mod stages;
 mod texts;
 mod tried;
 mod trouble;

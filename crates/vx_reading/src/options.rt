@@ -1,7 +1,7 @@
 ghost use Rattle.std.specs.Prelude.{◌≡◌};
 ghost use Rattle.vx_reading.specs.Components.{section_name};
 ghost use Rattle.vx_reading.specs.Findings.{section_number, is_section};
-ghost use Rattle.vx_reading.specs.Options.{global_rows, rows_of, kind_named};
+ghost use Rattle.vx_reading.specs.Options.{global_rows, rows_of, stage_rows, kind_named};
 ghost use Rattle.vx_reading.specs.Views.{rows_view};
 
 use crate::kind::Kind;
@@ -93,8 +93,33 @@ static ROUTE_ROWS: [Row; 4] = [
     },
 ];
 
+/// How many stages a buffer may have.
+const MOST_STAGES: usize = 8;
+
+/// For how many events a stage may have room, and all stages of all sinks together.
+pub(crate) const MOST_ROOM: u32 = 1_000_000;
+
+/// The options of a stage of a buffer.
+static STAGE_ROWS: [Row; 3] = [
+    Row {
+        place: Place::Alone("type"),
+        shape: Shape::OneOf(&["memory"]),
+        required: false,
+    },
+    Row {
+        place: Place::Alone("max_events"),
+        shape: Shape::Whole(1, MOST_ROOM),
+        required: false,
+    },
+    Row {
+        place: Place::Alone("when_full"),
+        shape: Shape::OneOf(&["block", "drop_newest", "overflow"]),
+        required: false,
+    },
+];
+
 /// The options of a sink that writes to standard output or standard error.
-static CONSOLE_ROWS: [Row; 5] = [
+static CONSOLE_ROWS: [Row; 6] = [
     TYPE_ROW,
     INPUTS_ROW,
     Row {
@@ -108,6 +133,11 @@ static CONSOLE_ROWS: [Row; 5] = [
         required: true,
     },
     ACKNOWLEDGEMENTS_ROW,
+    Row {
+        place: Place::Alone("buffer"),
+        shape: Shape::Stages(MOST_STAGES),
+        required: false,
+    },
 ];
 
 /// The options of the whole configuration.
@@ -127,6 +157,13 @@ pub(crate) fn rows_of(kind: Kind) -> &'static [Row]
         Kind::Route => &ROUTE_ROWS,
         Kind::Console => &CONSOLE_ROWS,
     }
+}
+
+/// The options of a stage of a buffer.
+pub(crate) fn stage_rows() -> &'static [Row]
+    ensures { rows_view result.now ≡ stage_rows }
+{
+    &STAGE_ROWS
 }
 
 /// The type of that name in the table of a class.

@@ -1,6 +1,6 @@
 ghost use Rattle.std.specs.Prelude.{◌≡◌, ◌++◌, ◌∷◌, [], IfOk, OnOk, string_bytes};
 ghost use Rattle.vx_reading.specs.Components.{part_path, section_name as section_name_of};
-ghost use Rattle.vx_reading.specs.Findings.{type_path};
+ghost use Rattle.vx_reading.specs.Findings.{type_path, part_lead, buffer_lead};
 ghost use Rattle.vx_reading.specs.Options.{dot, place_path};
 ghost use Rattle.vx_reading.specs.Views.{place_view, part_view};
 
@@ -51,9 +51,20 @@ pub(crate) fn part_path(alloc: Global, part: Part<'_>) -> Result<Text, WantOfMem
 
 /// What leads to the options of a component.
 pub(crate) fn part_lead(alloc: Global, part: Part<'_>) -> Result<Text, WantOfMemory>
-    ensures { IfOk result (λ lead. lead ≡ part_path (part_view part.entry) ++ dot ∷ []) }
+    ensures { IfOk result (λ lead. lead ≡ part_lead (part_view part.entry)) }
 {
     lead_of(alloc, part.class, part.name)
+}
+
+/// What leads to the options of a stage of a component's buffer.
+pub(crate) fn buffer_lead(alloc: Global, part: Part<'_>) -> Result<Text, WantOfMemory>
+    ensures { IfOk result (λ lead. lead ≡ buffer_lead (part_view part.entry)) }
+{
+    let lead = part_lead(alloc, part)?;
+    let mut out = String::new(alloc);
+    push(&mut out, lead.as_str())?;
+    push(&mut out, "buffer.")?;
+    Text::copy_of(alloc, out.as_str())
 }
 
 /// What leads to the options of the component of a class that has a name.

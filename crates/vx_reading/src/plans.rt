@@ -12,12 +12,13 @@ use crate::kind::Kind;
 use crate::options::MOST_LENGTH;
 use crate::pair::{Pair, pairs_in};
 use crate::part::{Part, kind_of};
+use crate::stages::buffer_of;
 use crate::texts::same_text;
 use std::alloc::Global as Allocator;
 use toml::Value;
 use vx_plan::{
     Codec, Component, ComponentList, ConsoleTarget, Decoding, Global, Plan, Route, RouteList,
-    Settings, SinkSettings, Stage, StageList, WhenFull,
+    Settings, SinkSettings, StageList,
 };
 use vx_value::{Text, TextList, WantOfMemory};
 
@@ -260,17 +261,11 @@ fn is_rerouted(table: &Value) -> bool
     }
 }
 
-/// What every sink has that says nothing of it.
-fn sink_defaults(alloc: Allocator) -> Result<SinkSettings, WantOfMemory>
-    ensures { IfOk result (λ sink. sink ≡ sink_defaults) }
+/// What every sink has with that buffer, where it says nothing else.
+fn sink_with(buffer: StageList) -> SinkSettings
+    ensures { result ≡ record sink_defaults { buffer = buffer } }
 {
-    let mut buffer = StageList::new(alloc);
-    let stage = Stage {
-        max_events: 500,
-        when_full: WhenFull::Block,
-    };
-    buffer.push(stage).map_err(|_| WantOfMemory)?;
-    Ok(SinkSettings {
+    SinkSettings {
         acknowledgements: false,
         buffer,
         batch_max_events: 1,
@@ -278,7 +273,7 @@ fn sink_defaults(alloc: Allocator) -> Result<SinkSettings, WantOfMemory>
         request_retry_attempts: 0x7fff_ffff_ffff_ffff,
         request_retry_initial_backoff_secs: 1,
         request_retry_max_duration_secs: 30,
-    })
+    }
 }
 
 /// The options that every sink has: it acknowledges as the whole says where it doesn't say itself.
@@ -287,7 +282,7 @@ fn sink_of(alloc: Allocator, global: &Global, table: &Value) -> Result<SinkSetti
 {
     Ok(SinkSettings {
         acknowledgements: acknowledgements_of(global.acknowledgements, table),
-        ..sink_defaults(alloc)?
+        ..sink_with(buffer_of(alloc, table)?)
     })
 }
 

@@ -11,6 +11,8 @@ pub(crate) enum Shape {
     Texts(usize),
     /// A condition: a text, or a table whose `type` is `vrl` and whose `source` is a text.
     Condition,
+    /// A table, or a list of tables, one at least and at most so many: the stages of a buffer.
+    Stages(usize),
     /// A whole number between two, both among them.
     Whole(u32, u32),
 }

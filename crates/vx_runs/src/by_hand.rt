@@ -317,15 +317,18 @@ fn hub_of<W: World>(alloc: Global, world: &mut W) -> Result<Hub<Option<W::Port>>
     }
 }
 
-/// A world with a configuration of two sinks, whose `in` gives two lines, and two more.
-fn world(alloc: Global) -> Result<MemoryWorld, WantOfMemory> {
-    let pieces = steps(alloc, &[Play::Piece(0, "a\nb\n"), Play::Piece(0, "c\nd\n")])?;
+/// A world with a configuration, whose `in` gives these answers.
+fn world(alloc: Global, text: &str, plays: &[Play]) -> Result<MemoryWorld, WantOfMemory> {
+    let pieces = steps(alloc, plays)?;
     let mut scripts = ScriptedList::new(alloc);
     add(&mut scripts, script(alloc, "in", pieces, &[])?)?;
     let mut configs = ConfigList::new(alloc);
-    add(&mut configs, config(alloc, "first.toml", TWO_SINKS)?)?;
+    add(&mut configs, config(alloc, "first.toml", text)?)?;
     Ok(MemoryWorld::new(alloc, configs, scripts))
 }
+
+/// Two lines, and two more.
+const TWICE_TWO: &[Play] = &[Play::Piece(0, "a\nb\n"), Play::Piece(0, "c\nd\n")];
 
 /// Checks what a sink's port was given.
 fn was_given(
@@ -347,7 +350,7 @@ fn was_given(
 
 /// Drives a run in which three tasks come home in an order, and checks what its sinks were given.
 fn comes_home<R: Abort>(rt: &R, alloc: Global, order: Order) -> Result<(), Fail> {
-    let mut world = world(alloc)?;
+    let mut world = world(alloc, TWO_SINKS, TWICE_TWO)?;
     let hub = hub_of(alloc, &mut world)?;
     let ports = by_hand(rt, alloc, hub, &MemoryClock::new(), order);
     was_given(rt, &ports, 1, b"a\nb\nc\nd\n");
@@ -375,10 +378,48 @@ fn the_source_before_the_sinks(rt: HostRuntime) -> Result<(), Fail> {
 
 #[test]
 fn two_sinks_out_when_the_run_is_given_up(rt: HostRuntime) -> Result<(), Fail> {
-    let mut world = world(rt.alloc())?;
+    let mut world = world(rt.alloc(), TWO_SINKS, TWICE_TWO)?;
     let hub = hub_of(rt.alloc(), &mut world)?;
     let ports = given_up(&rt, rt.alloc(), hub, &MemoryClock::new());
     was_given(&rt, &ports, 1, b"a\n");
     was_given(&rt, &ports, 2, b"a\n");
+    Ok(())
+}
+
+/// A console whose buffer has a stage for one event, which overflows, and one for two, which blocks.
+const TWO_STAGES: &str = "[sources.in]
+type = \"stdin\"
+
+[sinks.out]
+type = \"console\"
+inputs = [\"in\"]
+encoding.codec = \"text\"
+buffer = [{ max_events = 1, when_full = \"overflow\" }, { max_events = 2 }]
+";
+
+/// A run in which the source reads once, before anything is taken, and then each task goes out alone. The ports at its end.
+fn overflowing<R: Abort, P: Port, C: Clock>(
+    rt: &R,
+    alloc: Global,
+    hub: Hub<P>,
+    clock: &C,
+) -> NumberedList<P>
+    requires { IsHub P.told hub }
+{
+    let mut hub = hub;
+    one_out(rt, alloc, &mut hub, clock, 0);
+    assert!(rt; hub.pending().is_none());
+    assert!(rt; hub.unspent());
+    drive(rt, alloc, &mut hub, clock);
+    let Remains { ports, history: _ } = hub.end();
+    ports
+}
+
+#[test]
+fn chain_overflows_to_a_second_stage(rt: HostRuntime) -> Result<(), Fail> {
+    let mut world = world(rt.alloc(), TWO_STAGES, &[Play::Piece(0, "a\nb\nc\nd\n")])?;
+    let hub = hub_of(rt.alloc(), &mut world)?;
+    let ports = overflowing(&rt, rt.alloc(), hub, &MemoryClock::new());
+    was_given(&rt, &ports, 1, b"a\nd\nb\nc\n");
     Ok(())
 }
