@@ -164,9 +164,9 @@ def many_lines():
     copies("a million lines of 100 bytes", given, given)
 
 
-def lines_as_they_come():
-    """Each line is printed before the next one is written."""
-    with subprocess.Popen([PROGRAM, "--config", FIRST], stdin=subprocess.PIPE, stdout=subprocess.PIPE) as ran:
+def comes_at_once(name, words):
+    """Checks that each line comes out before the next goes in."""
+    with subprocess.Popen([PROGRAM, *words], stdin=subprocess.PIPE, stdout=subprocess.PIPE) as ran:
         came = []
         for line in [b"one\n", b"two\n", b"three\n"]:
             ran.stdin.write(line)
@@ -178,7 +178,18 @@ def lines_as_they_come():
         ran.stdin.close()
         rest = ran.stdout.read()
         status = ran.wait(PATIENCE)
-    check("a line comes out before the next goes in", (came, rest, status) == ([b"one\n", b"two\n", b"three\n"], b"", 0), (came, rest, status))
+    check(name, (came, rest, status) == ([b"one\n", b"two\n", b"three\n"], b"", 0), (came, rest, status))
+
+
+def lines_as_they_come():
+    """A line isn't held back until there are more, by no transform either."""
+    comes_at_once("a line comes out before the next goes in", ["--config", FIRST])
+    with tempfile.TemporaryDirectory() as folder:
+        at = Path(folder) / "layers.toml"
+        at.write_text(layers(4))
+        comes_at_once("a line comes through four transforms before the next goes in", ["--config", str(at)])
+        at.write_text(BUFFERED.format("", 1, "block", 1, "block").replace(OVERFLOW.format(1, "block"), ""))
+        comes_at_once("a line comes through a buffer of one before the next goes in", ["--config", str(at)])
 
 
 def a_reader_that_leaves():
@@ -504,6 +515,79 @@ def transforms():
         check("254 filters of one source", (seen[0], sorted(seen[1].splitlines()), seen[2]) == (0, sorted(b"%d" % k for k in range(254)), b""), (seen[0], len(seen[1]), seen[2]))
 
 
+OVERFLOW = """
+[[sinks.out.buffer]]
+max_events = {}
+when_full = "{}"
+"""
+BUFFERED = """\
+[sources.in]
+type = "stdin"
+
+[sinks.out]
+type = "console"
+inputs = ["in"]
+encoding.codec = "text"
+{}
+[[sinks.out.buffer]]
+max_events = {}
+when_full = "{}"
+""" + OVERFLOW
+
+
+def counted(line, name):
+    """A count of a line of counts."""
+    return int(dict(pair.split(b"=") for pair in line.split() if b"=" in pair)[name])
+
+
+def buffers():
+    """Buffers that drop what comes, and one that overflows."""
+    lines = [b"%d\n" % k for k in range(1_000)]
+    with tempfile.TemporaryDirectory() as folder:
+        at = Path(folder) / "other.toml"
+        at.write_text(BUFFERED.format("target = \"stderr\"", 1, "drop_newest", 1, "block").replace(OVERFLOW.format(1, "block"), ""))
+        status, out, err = run(b"".join(lines), ["--config", "other.toml", "--stats"], cwd=folder)
+        source, sink = out.splitlines()
+        dropped = counted(sink, b"taken") + counted(sink, b"newest")
+        held = (status, err[:2], dropped, len(err.splitlines()), counted(source, b"delivered")) == (0, b"0\n", 1_000, counted(sink, b"taken"), counted(source, b"batches"))
+        check("a buffer that drops what comes", held, (status, out, err[:200]))
+        at.write_text(BUFFERED.format("target = \"stderr\"", 10, "overflow", 20, "drop_newest"))
+        status, out, err = run(b"".join(lines), ["--config", "other.toml", "--stats"], cwd=folder)
+        sink = out.splitlines()[1]
+        held = (status, err.splitlines()[:30], counted(sink, b"taken") + counted(sink, b"newest")) == (0, [b"%d" % k for k in range(30)], 1_000)
+        check("a buffer that overflows, and then drops what comes", held, (status, out, err[:200]))
+        at.write_text(BUFFERED.format("", 10, "overflow", 20, "block"))
+        status, out, err = run(b"".join(lines), ["--config", "other.toml"], cwd=folder)
+        check("a buffer that overflows, and then blocks", (status, sorted(out.splitlines(), key=int), err) == (0, [line.strip() for line in lines], b""), (status, out[:200], err))
+
+
+def counts():
+    """Counts behind a run: of what was lost where an output fails, and where they can't be printed themselves."""
+    lines = b"a\n" * 1_000
+    with tempfile.TemporaryDirectory() as folder:
+        at = Path(folder) / "other.toml"
+        at.write_text(BUFFERED.format("target = \"stderr\"", 500, "block", 1, "block").replace(OVERFLOW.format(1, "block"), ""))
+        words = [PROGRAM, "--config", str(at), "--stats"]
+        lost = b"sink out taken=1000 newest=0 attempts=1000 delivered=0 errored=1000 rejected=0 bytes=0"
+        with open("/dev/full", "wb") as full:
+            ran = subprocess.run(words, input=lines, stdout=subprocess.PIPE, stderr=full, timeout=PATIENCE)
+        check("counts of what a full device lost", (ran.returncode, ran.stdout.splitlines()[1:]) == (0, [lost]), (ran.returncode, ran.stdout))
+        ran = subprocess.run(["sh", "-c", 'exec "$@" 2>&-', "sh", *words], input=lines, stdout=subprocess.PIPE, timeout=PATIENCE)
+        check("counts of what a closed output lost", (ran.returncode, ran.stdout.splitlines()[1:]) == (0, [lost]), (ran.returncode, ran.stdout))
+        ends = os.pipe()
+        os.close(ends[0])
+        ran = subprocess.run(words, input=lines, stdout=subprocess.PIPE, stderr=ends[1], timeout=PATIENCE)
+        check("counts of what a broken output lost", (ran.returncode, ran.stdout.splitlines()[1:]) == (0, [lost]), (ran.returncode, ran.stdout))
+        ran = subprocess.run(words, input=lines, stdout=ends[1], stderr=subprocess.PIPE, timeout=PATIENCE)
+        os.close(ends[1])
+        check("counts to a broken output", (ran.returncode, ran.stderr) == (74, lines), (ran.returncode, ran.stderr[:200]))
+        with open("/dev/full", "wb") as full:
+            ran = subprocess.run(words, input=lines, stdout=full, stderr=subprocess.PIPE, timeout=PATIENCE)
+        check("counts to a full device", (ran.returncode, ran.stderr) == (74, lines), (ran.returncode, ran.stderr[:200]))
+        ran = subprocess.run(["sh", "-c", 'exec "$@" >&-', "sh", *words], input=lines, stderr=subprocess.PIPE, timeout=PATIENCE)
+        check("counts to a closed output", (ran.returncode, ran.stderr) == (74, lines), (ran.returncode, ran.stderr[:200]))
+
+
 def judgements():
     """The command that judges a configuration, and runs nothing."""
     seen = run(b"a\n", ["validate", TWO])
@@ -520,4 +604,4 @@ def judgements():
 
 
 if __name__ == "__main__":
-    sys.exit(go_through([consoles, acknowledged, judgements, json_lines, transforms, inputs, bytes_of_all_kinds, lines_as_they_come, a_reader_that_leaves, late_readers, signals, short_writes, wanting_memory, late_texts, ends_that_fail, many_lines]))
+    sys.exit(go_through([consoles, acknowledged, judgements, json_lines, transforms, buffers, counts, inputs, bytes_of_all_kinds, lines_as_they_come, a_reader_that_leaves, late_readers, signals, short_writes, wanting_memory, late_texts, ends_that_fail, many_lines]))

@@ -18,6 +18,12 @@ BEFORE_FILTER = SOURCE + SINK + '[transforms.t]\ntype = "filter"\ninputs = ["in"
 BEFORE_ROUTE = SOURCE + SINK + '[transforms.t]\ntype = "route"\ninputs = ["in"]\n'
 BEFORE_ROUTED = BEFORE_ROUTE.replace(SINK, "") + "route.a = 'exists(.a)'\n" + BEFORE_INPUTS.replace(SOURCE, "")
 
+# what one line of two bytes comes to
+COUNTS = b"""\
+source in read=2 lines=1 overlong=0 undecodable=0 events=1 unread=0 batches=1 delivered=1 errored=0 rejected=0 confirmed=2
+sink out taken=1 newest=0 attempts=1 delivered=1 errored=0 rejected=0 bytes=2
+"""
+
 # In each table a text stands beside why it isn't accepted, or None where it is.
 
 # faults of the whole, or of the kind of a table
@@ -92,7 +98,6 @@ SINK_OPTIONS = [
     ('encoding.codec = "text"\ntarget = "file"', "bad value at sinks.out.target"),
     ('encoding.codec = "text"\ntarget = true', "bad value at sinks.out.target"),
     ('encoding.codec = "text"\ntarget = inf', "bad value at sinks.out.target"),
-    ('encoding.codec = "text"\nbuffer.max_events = 1', "unknown option sinks.out.buffer"),
     ('encoding.codec = "text"\nbatch.max_events = 2', "unknown option sinks.out.batch"),
     ('encoding.codec = "text"', None),
     ('encoding.codec = "json"', None),
@@ -104,6 +109,34 @@ SINK_OPTIONS = [
     ('encoding.codec = "text"\nacknowledgements = { enabled = true, x = 1 }', "unknown option sinks.out.acknowledgements.x"),
     ('encoding.codec = "text"\n[sinks.out.acknowledgements]', None),
     ('encoding.codec = "text"\n[sinks.out.acknowledgements]\nenabled = true', None),
+]
+
+# the buffer of the sink
+STAGE = 'encoding.codec = "text"\n[[sinks.out.buffer]]\n'
+OVERFLOWING = STAGE + 'when_full = "overflow"\n'
+BUFFERS = [
+    ('encoding.codec = "text"\nbuffer.max_events = 1', None),
+    ('encoding.codec = "text"\nbuffer = {}', None),
+    ('encoding.codec = "text"\nbuffer = { type = "memory", max_events = 1000000, when_full = "drop_newest" }', None),
+    ('encoding.codec = "text"\nbuffer = 1', "bad value at sinks.out.buffer"),
+    ('encoding.codec = "text"\nbuffer = []', "bad value at sinks.out.buffer"),
+    ('encoding.codec = "text"\nbuffer = [1]', "bad value at sinks.out.buffer"),
+    ('encoding.codec = "text"\nbuffer.x = 1', "unknown option sinks.out.buffer.x"),
+    ('encoding.codec = "text"\nbuffer.type = "disk"', "bad value at sinks.out.buffer.type"),
+    ('encoding.codec = "text"\nbuffer.max_events = 0', "bad value at sinks.out.buffer.max_events"),
+    ('encoding.codec = "text"\nbuffer.max_events = 1000001', "bad value at sinks.out.buffer.max_events"),
+    ('encoding.codec = "text"\nbuffer.max_events = 1.0', "bad value at sinks.out.buffer.max_events"),
+    ('encoding.codec = "text"\nbuffer.when_full = "drop"', "bad value at sinks.out.buffer.when_full"),
+    ('encoding.codec = "text"\nbuffer.when_full = "overflow"', "bad value at sinks.out.buffer.when_full"),
+    (STAGE, None),
+    (OVERFLOWING + "[[sinks.out.buffer]]\n", None),
+    (STAGE + "[[sinks.out.buffer]]\n", "bad value at sinks.out.buffer.when_full"),
+    (OVERFLOWING + OVERFLOWING.split("\n", 1)[1], "bad value at sinks.out.buffer.when_full"),
+    (STAGE + 'when_full = "drop_newest"\n[[sinks.out.buffer]]\n', "bad value at sinks.out.buffer.when_full"),
+    ('encoding.codec = "text"\n' + 7 * OVERFLOWING.split("\n", 1)[1] + "[[sinks.out.buffer]]\n", None),
+    ('encoding.codec = "text"\n' + 8 * OVERFLOWING.split("\n", 1)[1] + "[[sinks.out.buffer]]\n", "too many at sinks.out.buffer: 9, limit 8"),
+    (OVERFLOWING + "max_events = 600000\n[[sinks.out.buffer]]\nmax_events = 600000\n", "too many at sinks: 1200000, limit 1000000"),
+    (OVERFLOWING + "max_events = 400000\n[[sinks.out.buffer]]\nmax_events = 600000\n", None),
 ]
 
 # options of the source
@@ -260,6 +293,9 @@ RUNNING = [
     (["-c", "f", "--"], "f"),
 ]
 
+# words that run the file `f` and ask for the counts
+COUNTING = [["-c", "f", "--stats"], ["--stats", "-cf"], ["--stats", "--config", "f"], ["--config=f", "--stats"]]
+
 # words that judge the file of that name
 JUDGING = [
     (["validate", "f"], "f"),
@@ -280,6 +316,7 @@ NO_COMMAND = [
     ["-c", "f", "-c", "f"], ["--config", "f", "--config", "g"], ["-cf", "--config=g"], ["-c", "f", "more"],
     ["--config", "f", "more"], ["--config", "f", "validate"], ["-c", "f", "validate", "g"], ["-c", "f", "--", "g"], ["-c", "f", "--help"], ["--", "-c", "f"], ["-c", "-f"],
     ["--confg", "f"], ["--konfig", "f"], ["--conf", "f"], ["--config", "--config"], ["--config", "--", "f"], [b"--config", b"\xff"],
+    ["--stats"], ["--stats", "--stats", "-c", "f"], ["--stats=true", "-c", "f"], ["--config", "--stats", "f"], ["-c", "f", "--stat"], ["validate", "f", "--stats"],
     ["validate"], ["validate", "--"], ["validate", "f", "g"], ["validate", "--config", "f"], ["validate", "--config=f"],
     ["validate", "--help"], ["validate", "-f"], ["Validate", "f"],
 ]
@@ -296,6 +333,9 @@ def words():
     with tempfile.TemporaryDirectory() as folder:
         for name in ["f", "g", "-f", "--config"]:
             (Path(folder) / name).write_text(SOURCE + SINK)
+        for some in COUNTING:
+            seen = run(b"x\n", some, cwd=folder)
+            check(f"words {some}", seen == (0, b"x\n" + COUNTS, b""), seen)
         for some in NAMELESS:
             seen = run(b"x\n", some, cwd=folder)
             check(f"words {some}", seen == (74, b"", b"vector: cannot read \n"), seen)
@@ -330,7 +370,7 @@ def judged(folder, text, why, variables=None):
 def configurations():
     """Configurations, each with why it isn't accepted, or accepted."""
     tables = [
-        ("", WHOLE, ""), (SOURCE, COMPONENTS, "\n" + SINK), (BEFORE_OPTIONS, SINK_OPTIONS, "\n"), (SOURCE, SOURCE_OPTIONS, "\n" + SINK),
+        ("", WHOLE, ""), (SOURCE, COMPONENTS, "\n" + SINK), (BEFORE_OPTIONS, SINK_OPTIONS, "\n"), (BEFORE_OPTIONS, BUFFERS, "\n"), (SOURCE, SOURCE_OPTIONS, "\n" + SINK),
         (BEFORE_FILTER, FILTER_OPTIONS, "\n"), (BEFORE_ROUTE, ROUTE_OPTIONS, "\n"), (BEFORE_ROUTED, ROUTE_INPUTS, "\n"),
         (BEFORE_INPUTS, INPUTS, "\n"), ("", TWO_FAULTS, ""), ("", FORMS, ""), ("", NAMES, ""),
     ]

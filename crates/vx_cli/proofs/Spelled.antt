@@ -4,7 +4,7 @@ use Rattle.std.proofs.lemmas.Bool.Decides.{nat_tests}
 use Rattle.clap.specs.Words.{App, Kinds, fault_of}
 use Rattle.clap.proofs.OnLiterals.{clap_on_literals}
 use Rattle.vx_value.specs.Texts.{Word}
-use Rattle.vx_cli.specs.Commands.{HasValue, IsCommand, IsNoCommand, IsRun, IsTaken, IsValidate, NamesValidate}
+use Rattle.vx_cli.specs.Commands.{HasValue, IsCommand, IsNoCommand, IsTaken, IsValidate, NamesValidate, has_stats}
 use Rattle.vx_cli.specs.Grammars.{run_grammar, validate_grammar}
 use Rattle.vx_cli.specs.Spellings.{IsPlain}
 use Rattle.vx_cli.specs.declared.command.Command.TheVariants.{Run, Validate}
@@ -31,9 +31,9 @@ unnamed words other rest e =
     let bad : true ≡ false = subst P same other in cc
 
 -- what a run needs
-pub run_of : (words : List Word) (file : Word) → (first_byte words == 118) ≡ false → IsTaken run_grammar words
-    → HasValue run_grammar words (codes "config") file → IsRun words file
-run_of words file other taken value = record { unnamed = unnamed words other; taken = taken; config = value }
+pub run_of : (words : List Word) (file : Word) (stats : Bool) → (first_byte words == 118) ≡ false → IsTaken run_grammar words
+    → HasValue run_grammar words (codes "config") file → has_stats words ≡ stats → IsCommand words (Run file stats)
+run_of words file stats other taken value asked = (record { unnamed = unnamed words other; taken = taken; config = value }, asked)
 
 -- what a judging needs
 pub validate_of : (rest : List Word) (file : Word) → IsTaken validate_grammar rest
@@ -52,6 +52,11 @@ unfolding clap_on_literals
 long-value [] plain = refl
 long-value (b ∷ word) plain = simp (no_hyphen b word plain)
 
+long-silent : (file : Word) → IsPlain file → has_stats (codes "--config" ∷ file ∷ []) ≡ false
+unfolding clap_on_literals
+long-silent [] plain = refl
+long-silent (b ∷ word) plain = simp (no_hyphen b word plain)
+
 short-taken : (file : Word) → IsPlain file → IsTaken run_grammar (codes "-c" ∷ file ∷ [])
 unfolding clap_on_literals
 short-taken [] plain = refl
@@ -61,6 +66,11 @@ short-value : (file : Word) → IsPlain file → HasValue run_grammar (codes "-c
 unfolding clap_on_literals
 short-value [] plain = refl
 short-value (b ∷ word) plain = simp (no_hyphen b word plain)
+
+short-silent : (file : Word) → IsPlain file → has_stats (codes "-c" ∷ file ∷ []) ≡ false
+unfolding clap_on_literals
+short-silent [] plain = refl
+short-silent (b ∷ word) plain = simp (no_hyphen b word plain)
 
 validate-taken : (file : Word) → IsPlain file → IsTaken validate_grammar (file ∷ [])
 unfolding clap_on_literals
@@ -72,23 +82,31 @@ unfolding clap_on_literals
 validate-value [] plain = refl
 validate-value (b ∷ word) plain = simp (no_hyphen b word plain)
 
-pub long : (file : Word) → IsPlain file → IsCommand (codes "--config" ∷ file ∷ []) (Run file)
-long file plain = run_of _ file refl (long-taken file plain) (long-value file plain)
+pub long : (file : Word) → IsPlain file → IsCommand (codes "--config" ∷ file ∷ []) (Run file false)
+long file plain = run_of _ file false refl (long-taken file plain) (long-value file plain) (long-silent file plain)
 
-pub long_sign : (file : Word) → IsCommand ((codes "--config=" ++ file) ∷ []) (Run file)
+pub long_sign : (file : Word) → IsCommand ((codes "--config=" ++ file) ∷ []) (Run file false)
 unfolding clap_on_literals
-long_sign file = run_of _ file refl refl refl
+long_sign file = run_of _ file false refl refl refl refl
 
-pub short : (file : Word) → IsPlain file → IsCommand (codes "-c" ∷ file ∷ []) (Run file)
-short file plain = run_of _ file refl (short-taken file plain) (short-value file plain)
+pub short : (file : Word) → IsPlain file → IsCommand (codes "-c" ∷ file ∷ []) (Run file false)
+short file plain = run_of _ file false refl (short-taken file plain) (short-value file plain) (short-silent file plain)
 
-pub short_sign : (file : Word) → IsCommand ((codes "-c=" ++ file) ∷ []) (Run file)
+pub short_sign : (file : Word) → IsCommand ((codes "-c=" ++ file) ∷ []) (Run file false)
 unfolding clap_on_literals
-short_sign file = run_of _ file refl refl refl
+short_sign file = run_of _ file false refl refl refl refl
 
-pub short_at_once : (b : ℕ) (rest : Word) → b ≢ 61 → IsCommand ((codes "-c" ++ b ∷ rest) ∷ []) (Run (b ∷ rest))
+pub short_at_once : (b : ℕ) (rest : Word) → b ≢ 61 → IsCommand ((codes "-c" ++ b ∷ rest) ∷ []) (Run (b ∷ rest) false)
 unfolding clap_on_literals
-short_at_once b rest other = run_of _ _ refl (simp (apart b 61 other)) (simp (apart b 61 other))
+short_at_once b rest other = run_of _ _ false refl (simp (apart b 61 other)) (simp (apart b 61 other)) (simp (apart b 61 other))
+
+pub stats : (file : Word) → IsCommand ((codes "--config=" ++ file) ∷ codes "--stats" ∷ []) (Run file true)
+unfolding clap_on_literals
+stats file = run_of _ file true refl refl refl refl
+
+pub stats_first : (file : Word) → IsCommand (codes "--stats" ∷ (codes "--config=" ++ file) ∷ []) (Run file true)
+unfolding clap_on_literals
+stats_first file = run_of _ file true refl refl refl refl
 
 pub validate : (file : Word) → IsPlain file → IsCommand (codes "validate" ∷ file ∷ []) (Validate file)
 validate file plain = validate_of _ file (validate-taken file plain) (validate-value file plain)
@@ -146,6 +164,18 @@ twice file other = no_run _ refl refl
 pub twice_short : (file other : Word) → IsNoCommand ((codes "--config=" ++ file) ∷ (codes "-c=" ++ other) ∷ [])
 unfolding clap_on_literals
 twice_short file other = no_run _ refl refl
+
+pub stats_alone : IsNoCommand (codes "--stats" ∷ [])
+unfolding clap_on_literals
+stats_alone = no_run _ refl refl
+
+pub stats_twice : (file : Word) → IsNoCommand (codes "--stats" ∷ codes "--stats" ∷ (codes "--config=" ++ file) ∷ [])
+unfolding clap_on_literals
+stats_twice file = no_run _ refl refl
+
+pub stats_value : (file value : Word) → IsNoCommand ((codes "--stats=" ++ value) ∷ (codes "--config=" ++ file) ∷ [])
+unfolding clap_on_literals
+stats_value file value = no_run _ refl refl
 
 more-faulty : (file word : Word) → IsPlain word → is_faulty (fault_of run_grammar ((codes "--config=" ++ file) ∷ word ∷ [])) ≡ true
 unfolding clap_on_literals

@@ -1,9 +1,9 @@
 -- Which command a list of words is.
-use Rattle.std.specs.Prelude.{◌≡◌, Some, List, [], ◌∷◌, codes}
+use Rattle.std.specs.Prelude.{◌≡◌, Bool, false, Option, Some, None, List, [], ◌∷◌, codes}
 use Rattle.clap.specs.Walk.{first_of}
 use Rattle.clap.specs.Simple.{App, matches_of}
 use Rattle.clap.specs.Faults.{fault_of}
-use Rattle.vx_value.specs.Texts.{Word}
+use Rattle.vx_value.specs.Texts.{Word, same_text}
 use Rattle.vx_cli.specs.Grammars.{run_grammar, validate_grammar}
 use Rattle.vx_cli.specs.declared.command.Command.{Command}
 use Rattle.vx_cli.specs.declared.command.Command.TheVariants.{Run, Validate}
@@ -26,6 +26,15 @@ pub record IsRun (words : List Word) (file : Word) : Type 0 where
   pub taken : IsTaken run_grammar words
   pub config : HasValue run_grammar words (codes "config") file
 
+-- whether a flag is given, by its value
+abbrev pub is_set : Option Word → Bool
+is_set None = false
+is_set (Some value) = same_text value (codes "true")
+
+-- whether the words ask for what each component counted
+abbrev pub has_stats : List Word → Bool
+has_stats words = is_set (first_of (codes "stats") (matches_of run_grammar words))
+
 -- the words judge the configuration in a file
 pub record IsValidate (words : List Word) (file : Word) : Type 0 where
   pub rest : List Word
@@ -35,7 +44,7 @@ pub record IsValidate (words : List Word) (file : Word) : Type 0 where
 
 -- the words are that command
 abbrev pub IsCommand : List Word → Command → Type 0
-IsCommand words (Run config) = IsRun words config
+IsCommand words (Run config stats) = IsRun words config × (has_stats words ≡ stats)
 IsCommand words (Validate path) = IsValidate words path
 
 -- the words are in no command's grammar

@@ -2,7 +2,7 @@
 use Rattle.std.specs.Prelude.{true, Some, List, [], ◌∷◌, codes}
 use Rattle.clap.specs.Walk.{Rule}
 use Rattle.clap.specs.Simple.{App, new_rule, new_shape}
-use Rattle.clap.specs.declared.builder.action.ArgAction.TheVariants.{Set}
+use Rattle.clap.specs.declared.builder.action.ArgAction.TheVariants.{Set, SetTrue}
 use Rattle.vx_value.specs.Texts.{Word}
 
 -- a command with these arguments, without the words for help and version; its own name isn't among its words
@@ -25,13 +25,17 @@ required_value name = record (new_rule name) { required = true; action = Some Se
 abbrev pub config_option : Rule
 config_option = record (required_value (codes "config")) { short = Some 99; long = Some (codes "config") }
 
+-- `--stats`
+abbrev pub stats_flag : Rule
+stats_flag = record (new_rule (codes "stats")) { long = Some (codes "stats"); action = Some SetTrue }
+
 -- FILE
 abbrev pub path_word : Rule
 path_word = required_value (codes "path")
 
 -- the command that runs a pipeline
 abbrev pub run_grammar : App
-run_grammar = grammar_of (codes "run") (config_option ∷ [])
+run_grammar = grammar_of (codes "run") (config_option ∷ stats_flag ∷ [])
 
 -- the command that judges a configuration
 abbrev pub validate_grammar : App

@@ -6,5 +6,6 @@ pub mod Lines
 pub mod Shown
 pub mod Spellings
 pub mod Statuses
+pub mod Summaries
 pub mod Texts
 pub mod Wordings

@@ -3,8 +3,8 @@ use vx_value::Text;
 /// What the words of the program ask for.
 #[derive(Drop)]
 pub enum Command {
-    /// To run the pipeline of the configuration in that file.
-    Run { config: Text },
+    /// To run the pipeline of the configuration in that file, and to print what each component counted where `stats` holds.
+    Run { config: Text, stats: bool },
     /// To judge the configuration in that file.
     Validate { path: Text },
 }

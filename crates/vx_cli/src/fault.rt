@@ -20,7 +20,7 @@ pub enum Fault {
     SourceFailed { name: Text, at: u64 },
     /// The last confirm that was due at that source failed.
     ConfirmFailed { name: Text },
-    /// What a configuration was judged to be couldn't be printed to standard output.
+    /// What a configuration was judged to be, or what the instances of a run counted, couldn't be printed to standard output.
     PrintFailed,
     /// No memory was found.
     WantOfMemory,

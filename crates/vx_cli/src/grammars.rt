@@ -1,7 +1,7 @@
 ghost use Rattle.std.specs.Prelude.{◌≡◌, [], IfOk, codes, false};
 ghost use Rattle.clap.specs.Words.{app_of, rule_of};
 ghost use Rattle.vx_cli.specs.Building.{GivesValue, IsBare, IsNamed, IsRequired};
-ghost use Rattle.vx_cli.specs.Grammars.{config_option, grammar_of, path_word, required_value, run_grammar, validate_grammar};
+ghost use Rattle.vx_cli.specs.Grammars.{config_option, grammar_of, path_word, required_value, run_grammar, stats_flag, validate_grammar};
 
 use clap::{Arg, ArgAction, Command};
 use std::alloc::{AllocError, Global};
@@ -12,7 +12,7 @@ pub fn run_grammar<'a>(alloc: Global) -> Result<Command<'a>, AllocError>
     ensures value { IfOk result (λ command. GivesValue command (codes "config")) }
 {
     let command = grammar(alloc, "run");
-    command.arg(config_option(alloc))
+    command.arg(config_option(alloc))?.arg(stats_flag(alloc))
 }
 
 /// The command that judges a configuration.
@@ -42,6 +42,16 @@ fn config_option<'a>(alloc: Global) -> Arg<'a>
     ensures required { IsRequired result }
 {
     required_value(alloc, "config").short('c').long("config")
+}
+
+/// The flag `--stats`.
+fn stats_flag<'a>(alloc: Global) -> Arg<'a>
+    ensures rule { rule_of result ≡ stats_flag }
+    ensures named { IsNamed (codes "stats") result }
+{
+    Arg::new(alloc, "stats")
+        .long("stats")
+        .action(ArgAction::SetTrue)
 }
 
 /// An argument with one value, which has to be given.

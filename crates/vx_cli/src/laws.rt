@@ -1,4 +1,4 @@
-ghost use Rattle.std.specs.Prelude.{◌≡◌, ◌≢◌, ℕ, ◌<◌, ◌≤◌, ◌++◌, ◌∷◌, [], All, List, codes, length};
+ghost use Rattle.std.specs.Prelude.{◌≡◌, ◌≢◌, false, true, ℕ, ◌<◌, ◌≤◌, ◌++◌, ◌∷◌, [], All, List, codes, length};
 ghost use Rattle.std.specs.Str.{IsUtf8, NoCharPasses, chars};
 ghost use Rattle.vx_value.specs.Texts.{Word};
 ghost use Rattle.vx_cli.specs.Commands.{IsCommand, IsNoCommand};
@@ -17,23 +17,26 @@ pub fn one_command()
     ensures apart { (words : List Word) (command : Command) → IsNoCommand words → IsCommand words command → ⊥ }
 {}
 
-/// How a file is named: by each spelling of the option, and to `validate`.
+/// How a file is named: by each spelling of the option, and to `validate`; and how the counts are asked for.
 ///
 /// Behind `=`, and behind the `--` of `validate`, it is any word. Right behind `-c` it has a byte, and doesn't begin
 /// with `=`. As a word of its own it doesn't begin with a hyphen, or is a hyphen alone; `refusals` tells of other words.
 pub fn spellings()
-    ensures long { (file : Word) → IsPlain file → IsCommand (codes "--config" ∷ file ∷ []) (Run file) }
-    ensures long_sign { (file : Word) → IsCommand ((codes "--config=" ++ file) ∷ []) (Run file) }
-    ensures short { (file : Word) → IsPlain file → IsCommand (codes "-c" ∷ file ∷ []) (Run file) }
-    ensures short_sign { (file : Word) → IsCommand ((codes "-c=" ++ file) ∷ []) (Run file) }
-    ensures short_at_once { (b : ℕ) (rest : Word) → b ≢ 61 → IsCommand ((codes "-c" ++ b ∷ rest) ∷ []) (Run (b ∷ rest)) }
-    ensures hyphen { IsCommand (codes "--config" ∷ codes "-" ∷ []) (Run (codes "-")) × IsCommand (codes "-c" ∷ codes "-" ∷ []) (Run (codes "-")) }
+    ensures long { (file : Word) → IsPlain file → IsCommand (codes "--config" ∷ file ∷ []) (Run file false) }
+    ensures long_sign { (file : Word) → IsCommand ((codes "--config=" ++ file) ∷ []) (Run file false) }
+    ensures short { (file : Word) → IsPlain file → IsCommand (codes "-c" ∷ file ∷ []) (Run file false) }
+    ensures short_sign { (file : Word) → IsCommand ((codes "-c=" ++ file) ∷ []) (Run file false) }
+    ensures short_at_once { (b : ℕ) (rest : Word) → b ≢ 61 → IsCommand ((codes "-c" ++ b ∷ rest) ∷ []) (Run (b ∷ rest) false) }
+    ensures hyphen { IsCommand (codes "--config" ∷ codes "-" ∷ []) (Run (codes "-") false) × IsCommand (codes "-c" ∷ codes "-" ∷ []) (Run (codes "-") false) }
+    ensures stats { (file : Word) → IsCommand ((codes "--config=" ++ file) ∷ codes "--stats" ∷ []) (Run file true) }
+    ensures stats_first { (file : Word) → IsCommand (codes "--stats" ∷ (codes "--config=" ++ file) ∷ []) (Run file true) }
     ensures validate { (file : Word) → IsPlain file → IsCommand (codes "validate" ∷ file ∷ []) (Validate file) }
     ensures validate_hyphen { IsCommand (codes "validate" ∷ codes "-" ∷ []) (Validate (codes "-")) }
     ensures behind_dashes { (file : Word) → IsCommand (codes "validate" ∷ codes "--" ∷ file ∷ []) (Validate file) }
 {}
 
-/// Words that are no command: too few, the option twice, a word too many, and the words for help and version.
+/// Words that are no command: too few, the option or the flag twice, a value of the flag, a word too many, and the words for help and
+/// version.
 ///
 /// A text that begins with a hyphen and has more behind it is no value of the option in a word of its own, and no first
 /// FILE of `validate`, whatever words follow.
@@ -44,6 +47,9 @@ pub fn refusals()
     ensures option_as_file { IsNoCommand (codes "--config" ∷ codes "--config" ∷ []) }
     ensures twice { (file other : Word) → IsNoCommand ((codes "--config=" ++ file) ∷ (codes "--config=" ++ other) ∷ []) }
     ensures twice_short { (file other : Word) → IsNoCommand ((codes "--config=" ++ file) ∷ (codes "-c=" ++ other) ∷ []) }
+    ensures stats_alone { IsNoCommand (codes "--stats" ∷ []) }
+    ensures stats_twice { (file : Word) → IsNoCommand (codes "--stats" ∷ codes "--stats" ∷ (codes "--config=" ++ file) ∷ []) }
+    ensures stats_value { (file value : Word) → IsNoCommand ((codes "--stats=" ++ value) ∷ (codes "--config=" ++ file) ∷ []) }
     ensures more { (file word : Word) → IsPlain word → IsNoCommand ((codes "--config=" ++ file) ∷ word ∷ []) }
     ensures validate_alone { IsNoCommand (codes "validate" ∷ []) }
     ensures validate_two { (file word : Word) → IsPlain file → IsPlain word → IsNoCommand (codes "validate" ∷ file ∷ word ∷ []) }

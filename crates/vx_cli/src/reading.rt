@@ -1,7 +1,7 @@
 ghost use Rattle.std.specs.Prelude.{◌≡◌, ◌∷◌, IfOk, IfErr, IfSome, IfNone, IsErrOf, true, Some, codes, is_some};
 ghost use Rattle.clap.specs.Words.{IsParsedFrom, app_of, found_of, first_of, first_value, is_simple_and_free, matches_of, rows_of};
 ghost use Rattle.clap.specs.Walk.{texts};
-ghost use Rattle.vx_cli.specs.Commands.{IsCommand, IsTaken, NamesValidate};
+ghost use Rattle.vx_cli.specs.Commands.{IsCommand, IsTaken, NamesValidate, is_set};
 ghost use Rattle.vx_cli.specs.Faults.{Tells};
 
 use crate::cli_fault::CliFault;
@@ -15,8 +15,8 @@ use vx_value::{Text, TextList};
 /// The command that a list of words is. The words leave out the program's own name.
 ///
 /// Where the first word is `validate`, the others are its one FILE. Every other list of words runs a pipeline: it has
-/// `-c FILE` or `--config FILE`, once. The value of a long option is the next word, or follows `=`; the value of a
-/// short one is the next word, or follows at once, and then one `=` in front of it is left out.
+/// `-c FILE` or `--config FILE`, once, and may have the flag `--stats`, once. The value of a long option is the next word, or
+/// follows `=`; the value of a short one is the next word, or follows at once, and then one `=` in front of it is left out.
 ///
 /// `Usage` comes exactly where the words are in no command's grammar. Want of memory comes at any words.
 pub fn read_words(alloc: Global, words: &TextList) -> Result<Command, CliFault>
@@ -62,7 +62,8 @@ fn read_run<'a>(alloc: Global, words: &'a [&'a str]) -> Result<Command, CliFault
 {
     let matches = matches_of(run_grammar(alloc)?, words)?;
     let config = value_of(alloc, &matches, "config")?;
-    Ok(Command::Run { config })
+    let stats = is_set(&matches, "stats");
+    Ok(Command::Run { config, stats })
 }
 
 /// The command that judges a configuration, by its words.
@@ -112,5 +113,15 @@ fn value_of(alloc: Global, matches: &ArgMatches<'_>, name: &str) -> Result<Text,
     match matches.get_str(name) {
         Some(value) => Ok(Text::copy_of(alloc, value)?),
         None => unreachable!(),
+    }
+}
+
+/// Whether a flag is given.
+fn is_set(matches: &ArgMatches<'_>, name: &str) -> bool
+    ensures { result ≡ is_set (first_of name.now (rows_of (found_of matches.now))) }
+{
+    match matches.get_str(name) {
+        Some(value) => value == "true",
+        None => false,
     }
 }

@@ -14,8 +14,8 @@ use Rattle.vx_plan.specs.Ports.{port_of}
 use Rattle.vx_record.specs.Records.{Record}
 use Rattle.vx_cli.specs.declared.fault.Fault.{Fault}
 use Rattle.vx_cli.specs.declared.fault.Fault.TheVariants.{Usage, ConfigRead, ConfigRefused, Numbers, SourceFailed, ConfirmFailed, PrintFailed, WantOfMemory}
-use Rattle.vx_cli.specs.Commands.{IsCommand}
-use Rattle.vx_cli.specs.declared.command.Command.TheVariants.{Run, Validate}
+use Rattle.vx_cli.specs.Commands.{IsCommand, IsRun}
+use Rattle.vx_cli.specs.declared.command.Command.TheVariants.{Validate}
 use Rattle.vx_run.specs.Answers.{IsJudged, IsPlanAt, IsUnready}
 use Rattle.vx_run.specs.Calling.{HasAskedFirst, HasBegun, HasCalled, HasCalledFor, HasReadNamed, call_of, port_calls, run_calls}
 use Rattle.vx_hub.specs.declared.parts.Numbered.{Numbered}
@@ -113,7 +113,7 @@ read_for environment texts file old new WantOfMemory grew = inl grew
 
 -- a run that began asked for all
 pub called_all : (words : List Word) (environment : List Variable) (texts : Option (List ConfigAt)) (file : Word) (plan : Plan) (old new : Option (List Call)) (h : Record) (fault : Option Fault) →
-    IsCommand words (Run file) → IsPlanAt environment texts file plan → IsJudged h fault → IsInForce plan h fault → Grows old new (run_calls file plan) → HasCalled words environment texts old new h fault
+    IsRun words file → IsPlanAt environment texts file plan → IsJudged h fault → IsInForce plan h fault → Grows old new (run_calls file plan) → HasCalled words environment texts old new h fault
 called_all words environment texts file plan old new h None asked stands judged is grew = inl (record { file = file; asked = asked; plan = plan; installed = is.installed; calls = grew })
 called_all words environment texts file plan old new h (Some WantOfMemory) asked stands judged (inl unbegun) grew =
     inr (inr (inl (record { unbegun = unbegun; file = file; asked = asked; begun = inr (plan, (stands, begun_all old new (run_calls file plan) grew)) })))
@@ -129,7 +129,7 @@ called_all words environment texts file plan old new h (Some (ConfirmFailed name
 
 -- one that didn't begin asked for what there was to ask
 pub called_unready : (words : List Word) (environment : List Variable) (texts : Option (List ConfigAt)) (file : Word) (before now : ℕ) (old new : Option (List Call)) (h : Record) (fault : Fault) → h ≡ [] →
-    IsCommand words (Run file) → IsUnready environment texts file before now fault → HasCalledFor environment texts file old new fault → HasCalled words environment texts old new h (Some fault)
+    IsRun words file → IsUnready environment texts file before now fault → HasCalledFor environment texts file old new fault → HasCalled words environment texts old new h (Some fault)
 called_unready words environment texts file before now old new h Usage unbegun asked unready called = absurd unready
 called_unready words environment texts file before now old new h (ConfigRead path) unbegun asked unready called = record { file = file; asked = inl asked; calls = called }
 called_unready words environment texts file before now old new h (ConfigRefused fault) unbegun asked unready called = record { file = file; asked = inl asked; calls = called }
@@ -144,7 +144,7 @@ pub called_judged : (words : List Word) (environment : List Variable) (texts : O
     (old new : Option (List Call)) (h : Record) (fault : Option Fault) → h ≡ [] → IsCommand words (Validate file) → IsJudgedSo environment texts file was is same shown_before shown_now before now fault →
     Grows old new (Config file ∷ []) → HasCalled words environment texts old new h fault
 called_judged words environment texts file was is same shown_before shown_now before now old new h None unbegun asked judged grew = inr (record { unbegun = unbegun; file = file; asked = asked; calls = grew })
-called_judged words environment texts file was is same shown_before shown_now before now old new h (Some PrintFailed) unbegun asked judged grew = record { unbegun = unbegun; file = file; asked = asked; calls = grew }
+called_judged words environment texts file was is same shown_before shown_now before now old new h (Some PrintFailed) unbegun asked judged grew = inr (record { unbegun = unbegun; file = file; asked = asked; calls = grew })
 called_judged words environment texts file was is same shown_before shown_now before now old new h (Some (ConfigRead path)) unbegun asked judged grew = record { file = file; asked = inr asked; calls = grew }
 called_judged words environment texts file was is same shown_before shown_now before now old new h (Some (ConfigRefused fault)) unbegun asked judged grew = record { file = file; asked = inr asked; calls = grew }
 called_judged words environment texts file was is same shown_before shown_now before now old new h (Some WantOfMemory) unbegun asked judged grew = inr (inl (record { unbegun = unbegun; file = file; asked = asked; calls = grew }))
@@ -157,7 +157,7 @@ called_judged words environment texts file was is same shown_before shown_now be
 read_first : (words : List Word) (environment : List Variable) (texts : Option (List ConfigAt)) (old new : Option (List Call)) (h : Record) → h ≡ [] → HasReadNamed words old new → HasAskedFirst words environment texts old new h
 read_first words environment texts old new h unbegun read = go read.asked
   where
-    go : IsCommand words (Run read.file) ⊎ IsCommand words (Validate read.file) → HasAskedFirst words environment texts old new h
+    go : IsRun words read.file ⊎ IsCommand words (Validate read.file) → HasAskedFirst words environment texts old new h
     go (inl run) = inr (inr (inl (record { unbegun = unbegun; file = read.file; asked = run; begun = inl read.calls })))
     go (inr judge) = inr (inl (record { unbegun = unbegun; file = read.file; asked = judge; calls = read.calls }))
 
@@ -171,7 +171,8 @@ called_first words environment texts old new h ports (Some (ConfigRefused fault)
 called_first words environment texts old new h ports (Some (Numbers next wanted)) missing called = inr (inr (inr called))
 called_first words environment texts old new h ports (Some (SourceFailed name at)) missing called = inr (inr (inr called))
 called_first words environment texts old new h ports (Some (ConfirmFailed name)) missing called = inr (inr (inr called))
-called_first words environment texts old new h ports (Some PrintFailed) missing called = inr (inl called)
+called_first words environment texts old new h ports (Some PrintFailed) missing (inl all) = inr (inr (inr all))
+called_first words environment texts old new h ports (Some PrintFailed) missing (inr read) = inr (inl read)
 called_first words environment texts old new h ports (Some WantOfMemory) missing called = called
 
 -- what is said of a fault is said of the one that is told in the end

@@ -53,13 +53,13 @@ use Rattle.vx_hub.specs.Remains.{AreNumbered, AreToldButGiven}
 use Rattle.vx_hub.proofs.Running.{same_run}
 use Rattle.vx_hub.specs.declared.parts.Numbered.{Numbered}
 use Rattle.vx_hub.specs.Telling.{IsNameOf}
-use Rattle.vx_cli.specs.Commands.{IsCommand, IsNoCommand}
+use Rattle.vx_cli.specs.Commands.{IsCommand, IsNoCommand, IsRun, has_stats}
 use Rattle.vx_cli.specs.declared.command.Command.{Command}
 use Rattle.vx_cli.specs.declared.command.Command.TheVariants.{Run, Validate}
 use Rattle.vx_cli.specs.declared.fault.Fault.{Fault}
 use Rattle.vx_cli.specs.declared.fault.Fault.TheVariants.{Usage, ConfigRead, ConfigRefused, Numbers, SourceFailed, ConfirmFailed, PrintFailed, WantOfMemory}
 use Rattle.vx_run.specs.Answers.{IsAnswer, IsRefused, WentOn}
-use Rattle.vx_run.specs.Completeness.{NoneFailed, NumbersSuffice, IsFaultless, IsRefusedAnew, HasEndedWell, ErroredBlames, RejectedBlames, NoneDueAtEnd, has_failed, has_refused}
+use Rattle.vx_run.specs.Completeness.{NoneFailed, NumbersSuffice, IsFaultless, IsRefusedAnew, HasEndedWell, PrintBlames, ErroredBlames, RejectedBlames, NoneDueAtEnd, has_failed, has_refused}
 use Rattle.vx_run.specs.Running.{Began, HasAll, IsInstalled, IsOnlyJudged, IsUnbegun, NoneMissing}
 
 -- WHAT IS BLAMED
@@ -348,10 +348,10 @@ within_plan h plan i name legal force named = elim (below_or i (length plan.comp
   | inr beyond ↦ absurd (subst (λ (o : Option Component). IsSomeAnd o (λ (c : Component). name ≡ c.name)) (past plan h i legal force beyond) named)
 ]
 
-module _ {P : Type 0} (told_by : P → Told) (words : List Word) (environment : List Variable) (configs : List Config) (before now : ℕ) (h : Record) (ports : List (Numbered P))
+module _ {P : Type 0} (told_by : P → Told) (words : List Word) (environment : List Variable) (configs : List Config) (before now was is : ℕ) (h : Record) (ports : List (Numbered P))
     (one : (all : List Word) (a b : Command) → IsCommand all a → IsCommand all b → a ≡ b) (apart : (all : List Word) (command : Command) → IsNoCommand all → IsCommand all command → ⊥)
     (reads_apart : (around : List Variable) (bytes : Word) (plan : Plan) (fault : PlanFault) → NoneRefusable plan.components → IsReading around bytes (Ok plan) → IsReading around bytes (Err fault) → fault ≡ plan_fault.WantOfMemory)
-    (faultless : IsFaultless told_by words environment configs before now h ports) (legal : IsLegal h) (told : AreToldButGiven told_by h ports) (numbers : AreNumbered 0 ports) where
+    (faultless : IsFaultless told_by words environment configs before now was is h ports) (legal : IsLegal h) (told : AreToldButGiven told_by h ports) (numbers : AreNumbered 0 ports) where
   counts_none : (i : ℕ) (name : Word) → IsNameOf h i name → IsSomeAnd (in_force h) (HasAll ports) → fault_count h i ≡ 0
   counts_none i name named all = go (in_force h) refl all
     where
@@ -361,8 +361,15 @@ module _ {P : Type 0} (told_by : P → Told) (words : List Word) (environment : 
           let within = within_plan h plan i name legal force named in
           (none_counted told_by h 0 ports faultless.none_failed told numbers i (omega arith) (omega (arith, within, each))).0
 
-  same_file : (file : Word) → IsCommand words (Run file) → file ≡ faultless.file
-  same_file file asked = let same : Run file ≡ Run faultless.file = one words (Run file) (Run faultless.file) asked faultless.asked in cc
+  -- what the words ask for
+  asked : IsCommand words (Run faultless.file (has_stats words))
+  asked = (faultless.asked, refl)
+
+  same_file : (file : Word) → IsRun words file → file ≡ faultless.file
+  same_file file runs = let same : Run file (has_stats words) ≡ Run faultless.file (has_stats words) = one words (Run file (has_stats words)) (Run faultless.file (has_stats words)) (runs, refl) asked in cc
+
+  unjudging : (file : Word) → IsCommand words (Validate file) → ⊥
+  unjudging file judge = let no : Validate file ≡ Run faultless.file (has_stats words) = one words (Validate file) (Run faultless.file (has_stats words)) judge asked in cc
 
   unrefused : NoneRefusable faultless.plan.components → (fault : PlanFault) → IsRefused words environment (Some configs) fault → ⊥
   unrefused sure fault refused = go refused.asked
@@ -373,33 +380,34 @@ module _ {P : Type 0} (told_by : P → Told) (words : List Word) (environment : 
           let bytes : refused.refused.bytes ≡ faultless.bytes = cc in
           refused.refused.found (reads_apart environment faultless.bytes faultless.plan fault sure faultless.read (subst (λ (w : Word). IsReading environment w (Err fault)) bytes refused.refused.read))
 
-      go : IsCommand words (Run refused.file) ⊎ IsCommand words (Validate refused.file) → ⊥
+      go : IsRun words refused.file ⊎ IsCommand words (Validate refused.file) → ⊥
       go (inl run) = same_text (same_file refused.file run)
-      go (inr judge) = let no : Validate refused.file ≡ Run faultless.file = one words (Validate refused.file) (Run faultless.file) judge faultless.asked in cc
+      go (inr judge) = unjudging refused.file judge
 
-  pub answers_well : (fault : Option Fault) → IsAnswer words environment (Some configs) before now h fault → NoneMissing words environment (Some configs) h ports fault →
+  pub answers_well : (fault : Option Fault) → IsAnswer words environment (Some configs) before now h fault → PrintBlames was is fault → NoneMissing words environment (Some configs) h ports fault →
       (fault ≡ None) ⊎ ((fault ≡ Some WantOfMemory) ⊎ IsRefusedAnew faultless.plan.components fault)
-  answers_well None answer missing = inl refl
-  answers_well (Some WantOfMemory) answer missing = inr (inl refl)
-  answers_well (Some Usage) answer missing = absurd (apart words (Run faultless.file) answer faultless.asked)
-  answers_well (Some (ConfigRead path)) answer missing = absurd (faultless.reads answer.1)
-  answers_well (Some (ConfigRefused fault)) answer missing = inr (inr (λ sure. unrefused sure fault answer))
-  answers_well (Some (Numbers next wanted)) answer missing = absurd (numbers_suffice h next wanted legal answer faultless.numbers)
-  answers_well (Some (SourceFailed name at)) answer missing =
+  answers_well None answer blames missing = inl refl
+  answers_well (Some WantOfMemory) answer blames missing = inr (inl refl)
+  answers_well (Some Usage) answer blames missing = absurd (apart words (Run faultless.file (has_stats words)) answer asked)
+  answers_well (Some (ConfigRead path)) answer blames missing = absurd (faultless.reads answer.1)
+  answers_well (Some (ConfigRefused fault)) answer blames missing = inr (inr (λ sure. unrefused sure fault answer))
+  answers_well (Some (Numbers next wanted)) answer blames missing = absurd (numbers_suffice h next wanted legal answer faultless.numbers)
+  answers_well (Some (SourceFailed name at)) answer blames missing =
       let lost = answer.1.1 in
       let no : Some at ≡ None = sym lost.lost ∙ lost_none h answer.1.0 (counts_none answer.1.0 name lost.named missing) in cc
-  answers_well (Some (ConfirmFailed name)) answer missing =
+  answers_well (Some (ConfirmFailed name)) answer blames missing =
       let failed = answer.1.1.1 in
       let no : true ≡ false = sym failed.failed ∙ confirmed_all h answer.1.1.0 (counts_none answer.1.1.0 name failed.named missing) in cc
-  answers_well (Some PrintFailed) answer missing =
-      let no : Validate answer.0 ≡ Run faultless.file = one words (Validate answer.0) (Run faultless.file) answer.1 faultless.asked in cc
+  answers_well (Some PrintFailed) (inl counted) blames missing = absurd (faultless.prints counted.0 (blames refl))
+  answers_well (Some PrintFailed) (inr judged) blames missing = absurd (unjudging judged.0 judged.1)
 
 -- THE END
-module _ {P : Type 0} (told_by : P → Told) (words : List Word) (environment : List Variable) (configs : List Config) (before now : ℕ) (h : Record) (ports : List (Numbered P))
-    (one : (all : List Word) (a b : Command) → IsCommand all a → IsCommand all b → a ≡ b) (well : HasEndedWell told_by words environment configs before now h ports) where
+module _ {P : Type 0} (told_by : P → Told) (words : List Word) (environment : List Variable) (configs : List Config) (before now was is : ℕ) (h : Record) (ports : List (Numbered P))
+    (one : (all : List Word) (a b : Command) → IsCommand all a → IsCommand all b → a ≡ b) (well : HasEndedWell told_by words environment configs before now was is h ports) where
   unjudged : IsOnlyJudged words environment (Some configs) h → ⊥
   unjudged judged =
-      let no : Validate judged.valid.file ≡ Run well.faultless.file = one words (Validate judged.valid.file) (Run well.faultless.file) judged.valid.asked well.faultless.asked in cc
+      let run : Command = Run well.faultless.file (has_stats words) in
+      let no : Validate judged.valid.file ≡ run = one words (Validate judged.valid.file) run judged.valid.asked (well.faultless.asked, refl) in cc
 
   ran : (plan : Plan) × Began plan h
   ran = go well.installed

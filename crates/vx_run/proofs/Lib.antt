@@ -11,4 +11,5 @@ pub mod Pacing
 pub mod Picking
 pub mod Served
 pub mod There
+pub mod Summing
 pub mod Tallied

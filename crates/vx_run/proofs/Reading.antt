@@ -45,7 +45,7 @@ read_of h plan (Some Usage) ended force judged = λ goes. read_or_lost h plan en
 read_of h plan (Some (ConfigRead path)) ended force judged = λ goes. read_or_lost h plan ended force goes
 read_of h plan (Some (ConfigRefused f)) ended force judged = λ goes. read_or_lost h plan ended force goes
 read_of h plan (Some (Numbers next wanted)) ended force judged = λ goes. read_or_lost h plan ended force goes
-read_of h plan (Some PrintFailed) ended force judged = λ goes. read_or_lost h plan ended force goes
+read_of h plan (Some PrintFailed) ended force judged = absurd judged
 read_of h plan (Some (SourceFailed name at)) ended force judged = read_or_lost h plan ended force judged.0
 read_of h plan (Some (ConfirmFailed name)) ended force judged = read_whole h plan ended force judged.0 judged.1.0
 
@@ -63,7 +63,7 @@ read_none h fault none = subst (λ (k : Record). IsReadOut k fault) (sym none) (
     empty (Some (ConfigRead path)) = λ goes i source. absurd (unsourced i source)
     empty (Some (ConfigRefused f)) = λ goes i source. absurd (unsourced i source)
     empty (Some (Numbers next wanted)) = λ goes i source. absurd (unsourced i source)
-    empty (Some PrintFailed) = λ goes i source. absurd (unsourced i source)
+    empty (Some PrintFailed) = λ i source. absurd (unsourced i source)
     empty (Some (SourceFailed name at)) = λ i source. absurd (unsourced i source)
     empty (Some (ConfirmFailed name)) = λ i source. absurd (unsourced i source)
 

@@ -7,7 +7,7 @@ use Rattle.vx_record.specs.Tallies.{tally}
 use Rattle.vx_record.specs.declared.tally.Tally.{Tally}
 use Rattle.vx_record.specs.TallyLists.{tallies_of}
 
-counting_last : (from n : ℕ) → counting from (n + 1) ≡ counting from n ++ (from + n) ∷ []
+pub counting_last : (from n : ℕ) → counting from (n + 1) ≡ counting from n ++ (from + n) ∷ []
 counting_last from zero = ap (λ m. m ∷ []) (omega arith)
 counting_last from (suc n) =
     let more : counting (from + 1) (suc n) ≡ counting (from + 1) n ++ (from + 1 + n) ∷ [] = ap (counting (from + 1)) (sym (add-one n)) ∙ counting_last (from + 1) n in

@@ -16,7 +16,7 @@ use Rattle.vx_record.specs.Ceasing.{lost_at, cause_of}
 use Rattle.vx_hub.specs.Telling.{IsNameOf}
 use Rattle.vx_cli.specs.declared.fault.Fault.{Fault}
 use Rattle.vx_cli.specs.declared.fault.Fault.TheVariants.{Usage, ConfigRead, ConfigRefused, Numbers, SourceFailed, ConfirmFailed, PrintFailed, WantOfMemory}
-use Rattle.vx_cli.specs.Commands.{IsCommand, IsNoCommand}
+use Rattle.vx_cli.specs.Commands.{IsCommand, IsNoCommand, IsRun}
 use Rattle.vx_cli.specs.declared.command.Command.TheVariants.{Run, Validate}
 
 -- a fact that is told but for want of memory
@@ -25,7 +25,15 @@ ButForMemory fact fault = fault ≢ Some WantOfMemory → fact
 
 -- the words ask for a run of a file, or for a judgement of it
 abbrev pub NamesFile : List Word → Word → Type 0
-NamesFile words file = IsCommand words (Run file) ⊎ IsCommand words (Validate file)
+NamesFile words file = IsRun words file ⊎ IsCommand words (Validate file)
+
+-- the words ask for a run, and not for what the instances count
+abbrev pub AsksRun : List Word → Type 0
+AsksRun words = (file : Word) × IsCommand words (Run file false)
+
+-- or for both
+abbrev pub AsksStats : List Word → Type 0
+AsksStats words = (file : Word) × IsCommand words (Run file true)
 
 -- a file, whose bytes these are where the world tells its texts, stands for this plan
 pub record IsPlanAt (environment : List Variable) (texts : Option (List Config)) (file : Word) (plan : Plan) : Type 0 where
@@ -43,7 +51,7 @@ pub record IsFaultAt (environment : List Variable) (texts : Option (List Config)
 -- the words ask for a run of a file that stands for this plan
 pub record IsReady (words : List Word) (environment : List Variable) (texts : Option (List Config)) (plan : Plan) : Type 0 where
   pub file : Word
-  pub asked : IsCommand words (Run file)
+  pub asked : IsRun words file
   pub stands : IsPlanAt environment texts file plan
 
 -- the words ask for a judgement of a file that stands for this plan
@@ -115,6 +123,6 @@ abbrev pub IsAnswer : List Word → List Variable → Option (List Config) → �
 IsAnswer words environment texts before now h (Some Usage) = IsNoCommand words
 IsAnswer words environment texts before now h (Some (ConfigRead path)) = NamesFile words path × Rose before now
 IsAnswer words environment texts before now h (Some (ConfigRefused fault)) = IsRefused words environment texts fault
-IsAnswer words environment texts before now h (Some PrintFailed) = (file : Word) × IsCommand words (Validate file)
+IsAnswer words environment texts before now h (Some PrintFailed) = (AsksStats words × IsJudged h None) ⊎ ((file : Word) × IsCommand words (Validate file))
 IsAnswer words environment texts before now h (Some WantOfMemory) = Unit {0}
 IsAnswer words environment texts before now h fault = IsJudged h fault

@@ -14,8 +14,8 @@ use Rattle.vx_record.specs.Records.{Record}
 use Rattle.vx_record.specs.Installs.{in_force}
 use Rattle.vx_cli.specs.declared.fault.Fault.{Fault}
 use Rattle.vx_cli.specs.declared.fault.Fault.TheVariants.{Usage, ConfigRead, ConfigRefused, PrintFailed, WantOfMemory}
-use Rattle.vx_cli.specs.Commands.{IsCommand}
-use Rattle.vx_cli.specs.declared.command.Command.TheVariants.{Run, Validate}
+use Rattle.vx_cli.specs.Commands.{IsCommand, IsRun}
+use Rattle.vx_cli.specs.declared.command.Command.TheVariants.{Validate}
 use Rattle.vx_run.specs.Answers.{NamesFile, IsPlanAt}
 
 -- a port of that form is asked for, if there is one
@@ -53,7 +53,7 @@ HasCalledFor environment texts file old new fault = Grows old new (Config file �
 -- nothing else
 pub record HasCalledAll (words : List Word) (old new : Option (List Call)) (h : Record) : Type 0 where
   pub file : Word
-  pub asked : IsCommand words (Run file)
+  pub asked : IsRun words file
   pub plan : Plan
   pub installed : in_force h ≡ Some plan
   pub calls : Grows old new (run_calls file plan)
@@ -75,7 +75,7 @@ pub record HasReadNamed (words : List Word) (old new : Option (List Call)) : Typ
 pub record HasBegunRun (words : List Word) (environment : List Variable) (texts : Option (List ConfigAt)) (old new : Option (List Call)) (h : Record) : Type 0 where
   pub unbegun : h ≡ []
   pub file : Word
-  pub asked : IsCommand words (Run file)
+  pub asked : IsRun words file
   pub begun : HasBegunFor environment texts file old new
 
 -- a beginning of what the words ask for: nothing; the file of a judgement; what a run that didn't begin asked; and all where one began
@@ -89,6 +89,6 @@ HasCalled words environment texts old new h None = HasCalledAll words old new h 
 HasCalled words environment texts old new h (Some Usage) = new ≡ old
 HasCalled words environment texts old new h (Some (ConfigRead path)) = HasReadNamed words old new
 HasCalled words environment texts old new h (Some (ConfigRefused fault)) = HasReadNamed words old new
-HasCalled words environment texts old new h (Some PrintFailed) = HasRead words old new h
+HasCalled words environment texts old new h (Some PrintFailed) = HasCalledAll words old new h ⊎ HasRead words old new h
 HasCalled words environment texts old new h (Some WantOfMemory) = HasAskedFirst words environment texts old new h
 HasCalled words environment texts old new h fault = HasCalledAll words old new h

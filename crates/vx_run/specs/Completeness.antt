@@ -22,10 +22,9 @@ use Rattle.vx_record.specs.SinkBatches.{is_failed}
 use Rattle.vx_hub.specs.Remains.{AreNumbered, AreToldButGiven}
 use Rattle.vx_hub.specs.declared.parts.Numbered.{Numbered}
 use Rattle.vx_cli.specs.declared.fault.Fault.{Fault}
-use Rattle.vx_cli.specs.declared.fault.Fault.TheVariants.{ConfigRefused}
-use Rattle.vx_cli.specs.Commands.{IsCommand}
-use Rattle.vx_cli.specs.declared.command.Command.TheVariants.{Run}
-use Rattle.vx_run.specs.Answers.{IsAnswer, WentOn}
+use Rattle.vx_cli.specs.declared.fault.Fault.TheVariants.{ConfigRefused, PrintFailed}
+use Rattle.vx_cli.specs.Commands.{IsRun}
+use Rattle.vx_run.specs.Answers.{AsksStats, IsAnswer, WentOn}
 use Rattle.vx_run.specs.Running.{HasInstalled, NoneMissing}
 
 -- no port tells of a failed call, nor of a refused one
@@ -37,16 +36,17 @@ NoneFailed told_by (n ∷ ns) = ((told_by n.port).faults ≡ 0) × ((told_by n.p
 abbrev pub NumbersSuffice : Record → Type 0
 NumbersSuffice h = (later earlier : Record) (wanted : ℕ) → later ++ earlier ≡ h → BirthWants earlier wanted ⊎ SplitWants earlier wanted → next_copy earlier + wanted ≤ 2 ^ 63
 
--- the words run a file, whose text the world tells and which stands for a plan; the world's count of failed reads stood still, no
--- port tells of a failure or a refusal, and the numbers of copies sufficed
-pub record IsFaultless {P : Type 0} (told_by : P → Told) (words : List Word) (environment : List Variable) (configs : List Config) (before now : ℕ) (h : Record) (ports : List (Numbered P)) : Type 0 where
+-- the words run a file, whose text the world tells and which stands for a plan; the world's count of failed reads stood still, and so
+-- did the printer's of failed prints where the words ask for counts; no port tells of a failure or a refusal, and the numbers of copies sufficed
+pub record IsFaultless {P : Type 0} (told_by : P → Told) (words : List Word) (environment : List Variable) (configs : List Config) (before now was is : ℕ) (h : Record) (ports : List (Numbered P)) : Type 0 where
   pub file : Word
-  pub asked : IsCommand words (Run file)
+  pub asked : IsRun words file
   pub bytes : Word
   pub text : text_at configs file ≡ Some bytes
   pub plan : Plan
   pub read : IsReading environment bytes (Ok plan)
   pub reads : Rose before now → ⊥
+  pub prints : AsksStats words → Rose was is → ⊥
   pub none_failed : NoneFailed told_by ports
   pub numbers : NumbersSuffice h
 
@@ -55,6 +55,10 @@ pub record IsFaultless {P : Type 0} (told_by : P → Told) (words : List Word) (
 abbrev pub IsRefusedAnew : List Component → Option Fault → Type 0
 IsRefusedAnew components (Some (ConfigRefused fault)) = NoneRefusable components → ⊥
 IsRefusedAnew components other = ⊥
+
+-- the answer says that a print failed only where the printer's count of failed prints rose
+abbrev pub PrintBlames : ℕ → ℕ → Option Fault → Type 0
+PrintBlames was is fault = fault ≡ Some PrintFailed → Rose was is
 
 -- whether an attempt failed
 abbrev pub has_failed : Record → Bool
@@ -85,8 +89,8 @@ NoneDueAtEnd =
     is_confirm_due earlier i ≡ false
 
 -- what `vector` ensures of a run that ended well, in which nothing failed and nothing was refused
-pub record HasEndedWell {P : Type 0} (told_by : P → Told) (words : List Word) (environment : List Variable) (configs : List Config) (before now : ℕ) (h : Record) (ports : List (Numbered P)) : Type 0 where
-  pub faultless : IsFaultless told_by words environment configs before now h ports
+pub record HasEndedWell {P : Type 0} (told_by : P → Told) (words : List Word) (environment : List Variable) (configs : List Config) (before now was is : ℕ) (h : Record) (ports : List (Numbered P)) : Type 0 where
+  pub faultless : IsFaultless told_by words environment configs before now was is h ports
   pub legal : IsLegal h
   pub answer : IsAnswer words environment (Some configs) before now h None
   pub installed : HasInstalled words environment (Some configs) h None

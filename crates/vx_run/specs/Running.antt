@@ -58,7 +58,7 @@ HasInstalled words environment texts h None = IsInstalled words environment text
 HasInstalled words environment texts h (Some Usage) = Unit {0}
 HasInstalled words environment texts h (Some (ConfigRead path)) = Unit {0}
 HasInstalled words environment texts h (Some (ConfigRefused fault)) = Unit {0}
-HasInstalled words environment texts h (Some PrintFailed) = IsOnlyJudged words environment texts h
+HasInstalled words environment texts h (Some PrintFailed) = IsInstalled words environment texts h ⊎ IsOnlyJudged words environment texts h
 HasInstalled words environment texts h (Some WantOfMemory) = (h ≡ []) ⊎ IsInstalled words environment texts h
 HasInstalled words environment texts h other = IsInstalled words environment texts h
 
@@ -74,6 +74,7 @@ AllReadOrLost h = (i : ℕ) → source_at h i ≡ true → (all_ended h i ≡ tr
 abbrev pub IsReadOut : Record → Option Fault → Type 0
 IsReadOut h None = AllRead h
 IsReadOut h (Some (ConfirmFailed name)) = AllRead h
+IsReadOut h (Some PrintFailed) = AllRead h
 IsReadOut h (Some (SourceFailed name at)) = AllReadOrLost h
 IsReadOut h other = WentOn h → AllReadOrLost h
 
@@ -104,7 +105,7 @@ HasEach plan h ports fault = HasAll ports plan
 -- no port is missing
 abbrev pub NoneMissing : {P : Type 0} → List Word → List Variable → Option (List Config) → Record → List (Numbered P) → Option Fault → Type 0
 NoneMissing words environment texts h ports None = IsSomeAnd (in_force h) (HasAll ports) ⊎ (IsOnlyJudged words environment texts h × IsUnbegun h ports)
-NoneMissing words environment texts h ports (Some PrintFailed) = IsUnbegun h ports
+NoneMissing words environment texts h ports (Some PrintFailed) = IsSomeAnd (in_force h) (HasAll ports) ⊎ (IsOnlyJudged words environment texts h × IsUnbegun h ports)
 NoneMissing words environment texts h ports (Some Usage) = IsUnbegun h ports
 NoneMissing words environment texts h ports (Some (ConfigRead path)) = IsUnbegun h ports
 NoneMissing words environment texts h ports (Some (ConfigRefused fault)) = IsUnbegun h ports

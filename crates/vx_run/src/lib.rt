@@ -12,8 +12,8 @@ mod top;
 mod validating;
 
 pub use completeness::{
-    blamed_notices, confirmed_ends, faultless_answers, faultless_confirms, faultless_notices,
-    well_ended,
+    blamed_notices, confirmed_ends, failed_prints, faultless_answers, faultless_confirms,
+    faultless_notices, well_ended,
 };
 pub use ended::Ended;
 pub use preparing::prepare;

@@ -1,4 +1,4 @@
-ghost use Rattle.std.specs.Prelude.{◌≡◌, ◌≢◌, ◌⊎◌, List, ◌<◌, ◌^◌, [], length, true, false, Some, IfOk};
+ghost use Rattle.std.specs.Prelude.{◌≡◌, ◌≢◌, ◌⊎◌, ◌&&◌, List, ◌<◌, ◌^◌, [], length, true, false, Some, None, IfOk, if◌then◌else◌};
 ghost use Rattle.vx_ends.specs.Silent.{told_if};
 ghost use Rattle.vx_plan.specs.Accepted.{IsPlan};
 ghost use Rattle.vx_record.specs.Installs.{started};
@@ -7,12 +7,11 @@ ghost use Rattle.vx_hub.specs.Making.{AreUntouched, ArePickers, all_served};
 ghost use Rattle.vx_hub.specs.Remains.{HasEnded, AreNumbered, AreClosed};
 ghost use Rattle.vx_hub.specs.Standing.{IsHub, IsSameRun, GoesOn};
 ghost use Rattle.vx_value.specs.Texts.{Word};
-ghost use Rattle.vx_cli.specs.Commands.{IsCommand};
-ghost use Rattle.vx_cli.specs.declared.command.Command.TheVariants.{Run};
+ghost use Rattle.vx_cli.specs.Commands.{IsRun};
 ghost use Rattle.vx_run.specs.Answers.{IsAnswer, IsJudged};
 ghost use Rattle.vx_run.specs.Calling.{HasCalled};
 ghost use Rattle.vx_run.specs.Moments.{AreTimely};
-ghost use Rattle.vx_run.specs.Showing.{IsShown};
+ghost use Rattle.vx_run.specs.Showing.{IsShownFirst, IsSummary, is_summed, summary_for, summary_of};
 ghost use Rattle.vx_run.specs.Running.{IsTrueTo, AllReturned, HasInstalled, IsInForce, IsReadOut, IsCounted, HasEach, NoneMissing};
 
 use crate::driver::drive;
@@ -21,19 +20,21 @@ use crate::preparing::prepare;
 use crate::validating::validate;
 use std::alloc::Global;
 use std::sync::Wait;
-use vx_cli::{CliFault, Command, Fault, read_words};
+use vx_cli::{CliFault, Command, Fault, read_words, summary_line};
 use vx_ends::{Clock, Port, Printer, World};
 use vx_history::History;
 use vx_hub::{Hub, NumberedList, Parts, Remains, engine_laws};
 use vx_record::{Entry, TallyList};
-use vx_value::{Text, TextList, VariableList, WantOfMemory};
+use vx_value::{Bytes, Text, TextList, VariableList, WantOfMemory};
 
-/// A run that ended, before its fault is told.
+/// A run that ended, before its counts are printed.
 #[derive(Drop)]
 pub(crate) struct Outcome<P> {
     pub fault: Option<Fault>,
     pub history: History<Entry>,
     pub tallies: TallyList,
+    /// What is to be printed of what the instances counted.
+    pub summary: Option<Bytes>,
     pub ports: NumberedList<P>,
 }
 
@@ -48,7 +49,8 @@ pub(crate) fn perform<R: Wait, W: World, C: Clock, P: Printer>(
     out: &mut P,
 ) -> Outcome<Option<W::Port>>
     ensures answer { IsAnswer words.now environment.now (W.texts world.old) (W.faults world.old) (W.faults world.new) result.history result.fault }
-    ensures shown { IsShown words.now environment.now (W.texts world.old) (out.new ≡ out.old) (P.printed out.old) (P.printed out.new) (P.faults out.old) (P.faults out.new) result.fault }
+    ensures summary { IsSummary words.now result.history result.fault result.summary }
+    ensures shown { IsShownFirst words.now environment.now (W.texts world.old) (out.new ≡ out.old) (P.printed out.old) (P.printed out.new) (P.faults out.old) (P.faults out.new) result.fault }
     ensures told { IsTrueTo (told_if W.Port.told) result.history result.ports result.fault }
     ensures returned { AllReturned result.history result.fault }
     ensures installed { HasInstalled words.now environment.now (W.texts world.old) result.history result.fault }
@@ -63,7 +65,9 @@ pub(crate) fn perform<R: Wait, W: World, C: Clock, P: Printer>(
     ensures texts { W.texts world.new ≡ W.texts world.old }
 {
     match read_words(alloc, words) {
-        Ok(Command::Run { config }) => run(rt, alloc, &config, environment, world, clock),
+        Ok(Command::Run { config, stats }) => {
+            run(rt, alloc, &config, stats, environment, world, clock)
+        }
         Ok(Command::Validate { path }) => {
             unbegun(alloc, validate(alloc, &path, environment, world, out))
         }
@@ -72,32 +76,34 @@ pub(crate) fn perform<R: Wait, W: World, C: Clock, P: Printer>(
     }
 }
 
-/// Runs the configuration at a path.
+/// Runs the configuration at a path, and sums up what its instances counted where `stats` holds.
 fn run<R: Wait, W: World, C: Clock>(
     rt: &R,
     alloc: Global,
     file: &Text,
+    stats: bool,
     environment: &VariableList,
     world: &mut W,
     clock: &C,
 ) -> Outcome<Option<W::Port>>
-    ensures answer { (words : List Word) → IsCommand words (Run file.now) → IsAnswer words environment.now (W.texts world.old) (W.faults world.old) (W.faults world.new) result.history result.fault }
+    ensures answer { (words : List Word) → IsRun words file.now → IsAnswer words environment.now (W.texts world.old) (W.faults world.old) (W.faults world.new) result.history result.fault }
     ensures told { IsTrueTo (told_if W.Port.told) result.history result.ports result.fault }
     ensures returned { AllReturned result.history result.fault }
-    ensures installed { (words : List Word) → IsCommand words (Run file.now) → HasInstalled words environment.now (W.texts world.old) result.history result.fault }
+    ensures installed { (words : List Word) → IsRun words file.now → HasInstalled words environment.now (W.texts world.old) result.history result.fault }
     ensures ended { HasEnded (length result.ports) result.history }
     ensures read { IsReadOut result.history result.fault }
     ensures counted { IsCounted result.history (length result.ports) result.tallies result.fault }
     ensures closed { AreClosed (told_if W.Port.told) result.ports }
     ensures numbers { AreNumbered 0 result.ports }
-    ensures none_missing { (words : List Word) → IsCommand words (Run file.now) → NoneMissing words environment.now (W.texts world.old) result.history result.ports result.fault }
+    ensures none_missing { (words : List Word) → IsRun words file.now → NoneMissing words environment.now (W.texts world.old) result.history result.ports result.fault }
+    ensures summary { result.summary ≡ summary_for stats result.history result.fault }
     ensures unprinted { result.fault ≢ Some Fault.PrintFailed }
     ensures moments { AreTimely (C.gave clock.now) result.history }
-    ensures called { (words : List Word) → IsCommand words (Run file.now) → HasCalled words environment.now (W.texts world.old) (W.calls world.old) (W.calls world.new) result.history result.fault }
+    ensures called { (words : List Word) → IsRun words file.now → HasCalled words environment.now (W.texts world.old) (W.calls world.old) (W.calls world.new) result.history result.fault }
     ensures texts { W.texts world.new ≡ W.texts world.old }
 {
     match prepare(alloc, file, environment, world) {
-        Ok(parts) => begin(rt, alloc, parts, clock),
+        Ok(parts) => begin(rt, alloc, parts, stats, clock),
         Err(fault) => unbegun(alloc, Some(fault)),
     }
 }
@@ -107,6 +113,7 @@ fn unbegun<P>(alloc: Global, fault: Option<Fault>) -> Outcome<P>
     ensures fault { result.fault ≡ fault }
     ensures history { result.history ≡ [] }
     ensures tallies { result.tallies ≡ [] }
+    ensures summary { result.summary ≡ None }
     ensures ports { result.ports ≡ [] }
     ensures returned { AllReturned result.history result.fault }
     ensures ended { HasEnded (length result.ports) result.history }
@@ -117,6 +124,7 @@ fn unbegun<P>(alloc: Global, fault: Option<Fault>) -> Outcome<P>
         fault,
         history: History::new(),
         tallies: TallyList::new(alloc),
+        summary: None,
         ports: NumberedList::new(alloc),
     }
 }
@@ -126,6 +134,7 @@ fn begin<R: Wait, P: Port, C: Clock>(
     rt: &R,
     alloc: Global,
     parts: Parts<P>,
+    stats: bool,
     clock: &C,
 ) -> Outcome<P>
     requires once { parts.once ≡ false }
@@ -142,19 +151,26 @@ fn begin<R: Wait, P: Port, C: Clock>(
     ensures ended { HasEnded (length result.ports) result.history }
     ensures read { IsReadOut result.history result.fault }
     ensures counted { IsCounted result.history (length result.ports) result.tallies result.fault }
+    ensures summary { result.summary ≡ summary_for stats result.history result.fault }
     ensures closed { AreClosed P.told result.ports }
     ensures numbers { AreNumbered 0 result.ports }
     ensures none_missing { HasEach parts.plan result.history result.ports result.fault }
     ensures moments { AreTimely (C.gave clock.now) result.history }
 {
     match Hub::new(alloc, parts, clock.now()) {
-        Ok(hub) => finish(rt, alloc, hub, clock),
+        Ok(hub) => finish(rt, alloc, hub, stats, clock),
         Err(_) => unbegun(alloc, Some(Fault::WantOfMemory)),
     }
 }
 
 /// Runs a hub to its end.
-fn finish<R: Wait, P: Port, C: Clock>(rt: &R, alloc: Global, hub: Hub<P>, clock: &C) -> Outcome<P>
+fn finish<R: Wait, P: Port, C: Clock>(
+    rt: &R,
+    alloc: Global,
+    hub: Hub<P>,
+    stats: bool,
+    clock: &C,
+) -> Outcome<P>
     requires hub { IsHub P.told hub }
     requires moment { C.gave clock.now hub.books.run.latest }
     requires moments { AreTimely (C.gave clock.now) hub.books.log }
@@ -167,6 +183,7 @@ fn finish<R: Wait, P: Port, C: Clock>(rt: &R, alloc: Global, hub: Hub<P>, clock:
     ensures ended { HasEnded (length result.ports) result.history }
     ensures read { IsReadOut result.history result.fault }
     ensures counted { IsCounted result.history (length result.ports) result.tallies result.fault }
+    ensures summary { result.summary ≡ summary_for stats result.history result.fault }
     ensures closed { AreClosed P.told result.ports }
     ensures numbers { AreNumbered 0 result.ports }
     ensures count { length result.ports ≡ length (started result.history) }
@@ -175,34 +192,48 @@ fn finish<R: Wait, P: Port, C: Clock>(rt: &R, alloc: Global, hub: Hub<P>, clock:
     drive(rt, alloc, &mut hub, clock);
     engine_laws();
     let fault = judge(alloc, &hub);
-    let Counted { tallies, fault } = count(alloc, &hub, fault);
+    let Counted {
+        tallies,
+        summary,
+        fault,
+    } = count(alloc, &hub, stats, fault);
     let Remains { ports, history } = hub.end();
     Outcome {
         fault,
         history,
         tallies,
+        summary,
         ports,
     }
 }
 
-/// What each instance of an ended run counted, and the run's fault.
+/// What each instance of an ended run counted, what is to be printed of it, and the run's fault.
 struct Counted {
     tallies: TallyList,
+    summary: Option<Bytes>,
     fault: Option<Fault>,
 }
 
-/// What the instances counted. Where memory was wanting, or none is found for that, nothing is counted, and that is the
-/// run's fault.
-fn count<P: Port>(alloc: Global, hub: &Hub<P>, fault: Option<Fault>) -> Counted
+/// What the instances counted, and what is to be printed of it where `stats` holds. Where memory was wanting, or none is found for that,
+/// nothing is counted, and that is the run's fault.
+fn count<P: Port>(alloc: Global, hub: &Hub<P>, stats: bool, fault: Option<Fault>) -> Counted
     requires { IsHub P.told hub.now }
     ensures counted { IsCounted hub.now.books.log (length (started hub.now.books.log)) result.tallies result.fault }
+    ensures summary { result.summary ≡ summary_for stats hub.now.books.log result.fault }
     ensures kept { (result.fault ≡ fault) ⊎ (result.fault ≡ Some Fault.WantOfMemory) }
 {
     if hub.starved() {
         return uncounted(alloc);
     }
-    match tallies(alloc, hub) {
-        Ok(tallies) => Counted { tallies, fault },
+    let Ok(tallies) = tallies(alloc, hub) else {
+        return uncounted(alloc);
+    };
+    match summary(alloc, hub, stats && is_summed(&fault)) {
+        Ok(summary) => Counted {
+            tallies,
+            summary,
+            fault,
+        },
         Err(WantOfMemory) => uncounted(alloc),
     }
 }
@@ -210,12 +241,54 @@ fn count<P: Port>(alloc: Global, hub: &Hub<P>, fault: Option<Fault>) -> Counted
 /// Nothing is counted, for want of memory.
 fn uncounted(alloc: Global) -> Counted
     ensures none { result.tallies ≡ [] }
+    ensures summary { result.summary ≡ None }
     ensures short { result.fault ≡ Some Fault.WantOfMemory }
 {
     Counted {
         tallies: TallyList::new(alloc),
+        summary: None,
         fault: Some(Fault::WantOfMemory),
     }
+}
+
+/// Whether something is to be printed of what a run counted that ends with this fault, or with none.
+fn is_summed(fault: &Option<Fault>) -> bool
+    ensures { result ≡ is_summed fault.now }
+{
+    match fault {
+        None => true,
+        Some(
+            Fault::Usage | Fault::ConfigRead { .. } | Fault::ConfigRefused(_) | Fault::WantOfMemory,
+        ) => false,
+        Some(
+            Fault::Numbers { .. }
+            | Fault::SourceFailed { .. }
+            | Fault::ConfirmFailed { .. }
+            | Fault::PrintFailed,
+        ) => true,
+    }
+}
+
+/// What is to be printed of what the instances counted, where it is wanted.
+fn summary<P: Port>(
+    alloc: Global,
+    hub: &Hub<P>,
+    wanted: bool,
+) -> Result<Option<Bytes>, WantOfMemory>
+    requires hub { IsHub P.told hub.now }
+    requires fed { hub.now.books.run.short ≡ false }
+    ensures { IfOk result (λ text. text ≡ if wanted then Some (summary_of hub.now.books.log) else None) }
+{
+    if !wanted {
+        return Ok(None);
+    }
+    let mut lines = Bytes::new(alloc);
+    for number in 0..hub.instances() {
+        let class = hub.class_of(number);
+        let tally = hub.tally(number);
+        summary_line(alloc, class, hub.name_of(number), &tally, &mut lines)?;
+    }
+    Ok(Some(lines))
 }
 
 /// What each instance counted, in order.

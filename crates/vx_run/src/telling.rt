@@ -1,4 +1,5 @@
-ghost use Rattle.std.specs.Prelude.{◌≡◌};
+ghost use Rattle.std.specs.Prelude.{◌≡◌, unwrap_or};
+ghost use Rattle.vx_run.specs.Showing.{IsFollowed};
 ghost use Rattle.vx_run.specs.Telling.{IsKept, IsSaid, IsPrinted};
 ghost use Rattle.vx_cli.specs.Statuses.{ended_status};
 
@@ -30,6 +31,37 @@ fn print<L: Printer>(text: &Bytes, err: &mut L)
 {
     if !text.is_empty() {
         let _ = err.print(text.as_slice());
+    }
+}
+
+/// Prints what the instances of a run counted, where there is something to print and memory sufficed. The run's fault is given back;
+/// where there was none, and the print failed, it is that.
+pub(crate) fn sum_up<P: Printer>(
+    summary: Option<Bytes>,
+    fault: Option<Fault>,
+    out: &mut P,
+) -> Option<Fault>
+    ensures { IsFollowed (out.new ≡ out.old) (P.printed out.old) (P.printed out.new) (P.faults out.old) (P.faults out.new) summary fault result }
+{
+    let Some(lines) = summary else {
+        return fault;
+    };
+    if matches!(fault, Some(Fault::WantOfMemory)) {
+        return fault;
+    }
+    match out.print(lines.as_slice()) {
+        Ok(()) => fault,
+        Err(_) => Some(or_unprinted(fault)),
+    }
+}
+
+/// The fault of a run whose counts couldn't be printed.
+fn or_unprinted(fault: Option<Fault>) -> Fault
+    ensures { result ≡ unwrap_or fault Fault.PrintFailed }
+{
+    match fault {
+        Some(fault) => fault,
+        None => Fault::PrintFailed,
     }
 }
 

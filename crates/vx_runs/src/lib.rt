@@ -4,6 +4,8 @@
 #[cfg(test)]
 mod acknowledging;
 #[cfg(test)]
+mod buffers;
+#[cfg(test)]
 mod by_hand;
 #[cfg(test)]
 mod callers;
@@ -25,6 +27,8 @@ mod plans;
 mod printers;
 #[cfg(test)]
 mod runs;
+#[cfg(test)]
+mod summaries;
 #[cfg(test)]
 mod tallies;
 #[cfg(test)]

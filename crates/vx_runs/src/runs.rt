@@ -193,7 +193,7 @@ pub(crate) const TWO_LINES: Run = Run {
 };
 
 #[test]
-fn copies_two_lines(rt: HostRuntime) -> Result<(), Fail> {
+fn two_lines_are_copied_in_silence(rt: HostRuntime) -> Result<(), Fail> {
     runs(&rt, rt.alloc(), &TWO_LINES)
 }
 

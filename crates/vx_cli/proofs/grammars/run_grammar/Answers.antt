@@ -5,8 +5,9 @@ use Rattle.vx_cli.proofs.grammars.run_grammar.Goals as goal
 
 pub returns-clause-value : goal.returns-clause-value
 returns-clause-value c =
-    let arg = c.config_option.result in
-    IfOk-weaker c.arg.result _ _
-    (λ command adds. given c.grammar-command.result command (arg ∷ []) (codes "config" ∷ []) 0 arg
-    c.grammar-command.ensures.bare (command, adds, refl) (c.config_option.ensures.named, tt) refl (lit< tt) c.config_option.ensures.required)
-    c.arg.ensures
+    let config = c.config_option.result in
+    let stats = c.stats_flag.result in
+    IfOk-weaker c.arg-2.result _ _
+    (λ command adds. given c.grammar-command.result command (config ∷ stats ∷ []) (codes "config" ∷ codes "stats" ∷ []) 0 config
+    c.grammar-command.ensures.bare (c.in_ok-arg.field-0, c.in_ok-arg.ensures, (command, adds, refl)) (c.config_option.ensures.named, (c.stats_flag.ensures.named, tt)) refl (lit< tt) c.config_option.ensures.required)
+    c.arg-2.ensures

@@ -1,4 +1,4 @@
-use Rattle.vx_cli.proofs.Spelled.{none, long_alone, short_alone, option_as_file, twice, twice_short, more, validate_alone, validate_two, validate_option, help, version}
+use Rattle.vx_cli.proofs.Spelled.{none, long_alone, short_alone, option_as_file, twice, twice_short, stats_alone, stats_twice, stats_value, more, validate_alone, validate_two, validate_option, help, version}
 use Rattle.vx_cli.proofs.Hyphened.{long_hyphened, short_hyphened, validate_dashes, validate_hyphened}
 use Rattle.vx_cli.proofs.laws.refusals.Goals as goal
 
@@ -10,6 +10,9 @@ returns c = record {
   option_as_file = option_as_file;
   twice = twice;
   twice_short = twice_short;
+  stats_alone = stats_alone;
+  stats_twice = stats_twice;
+  stats_value = stats_value;
   more = more;
   validate_alone = validate_alone;
   validate_two = validate_two;

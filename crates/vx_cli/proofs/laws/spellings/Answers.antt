@@ -1,4 +1,4 @@
-use Rattle.vx_cli.proofs.Spelled.{long, long_sign, short, short_sign, short_at_once, validate, behind_dashes}
+use Rattle.vx_cli.proofs.Spelled.{long, long_sign, short, short_sign, short_at_once, stats, stats_first, validate, behind_dashes}
 use Rattle.vx_cli.proofs.Hyphened.{run_hyphen, validate_hyphen}
 use Rattle.vx_cli.proofs.laws.spellings.Goals as goal
 
@@ -10,6 +10,8 @@ returns c = record {
   short_sign = short_sign;
   short_at_once = short_at_once;
   hyphen = run_hyphen;
+  stats = stats;
+  stats_first = stats_first;
   validate = validate;
   validate_hyphen = validate_hyphen;
   behind_dashes = behind_dashes;
