@@ -6,7 +6,9 @@ use crate::lists::{one, two};
 use std::alloc::Global;
 use std::process::Abort;
 use std::test::Fail;
-use vx_ledger::{Batches, Child, Finalizer, Finalizers, Notice, Outlet, Parcel, Routed};
+use vx_ledger::{
+    Batches, Child, Finalizer, Finalizers, Notice, Outlet, Parcel, Routed, SharedEvent,
+};
 use vx_status::{BatchStatus, Outcome};
 use vx_value::Event;
 
@@ -150,11 +152,9 @@ fn spend_all<R: Abort>(rt: &R, told: &mut Vec<u64>, batches: &mut Batches, copie
 fn routed<R: Abort>(rt: &R, alloc: Global, outlet: &Outlet, ports: u128) -> Result<Vec<u64>, Fail> {
     let mut told = Vec::new(alloc);
     let mut batches = Batches::new(alloc)?;
+    let event = SharedEvent::new(alloc, Event::new(alloc))?;
     let (_, finalizers) = batches.born(0, 2)?;
-    let parcel = Parcel {
-        event: Event::new(alloc),
-        finalizers,
-    };
+    let parcel = Parcel { event, finalizers };
     match outlet.route(ports, parcel, &mut batches) {
         Ok(Routed::Children(children)) => {
             let mut rest = children;

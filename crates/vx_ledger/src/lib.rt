@@ -16,6 +16,7 @@ mod route;
 mod route_refused;
 mod routed;
 mod rows;
+mod shared_event;
 mod short;
 mod split_refused;
 
@@ -30,5 +31,6 @@ pub use outlet::Outlet;
 pub use parcel::Parcel;
 pub use route_refused::RouteRefused;
 pub use routed::Routed;
+pub use shared_event::{SharedEvent, SharedEventList};
 pub use short::Short;
 pub use split_refused::SplitRefused;

@@ -1,8 +1,8 @@
 use crate::finalizers::Finalizers;
-use vx_value::Event;
+use crate::shared_event::SharedEvent;
 
 /// An event, and the finalizers of the copies that stand behind it.
 pub struct Parcel {
-    pub event: Event,
+    pub event: SharedEvent,
     pub finalizers: Finalizers,
 }

@@ -7,13 +7,13 @@ use crate::parcel::Parcel;
 use std::alloc::Global;
 use vx_value::{ItemList, WantOfMemory};
 
-// The child for a target, with the event once more.
+// The child for a target, with the same event.
 fn child(alloc: Global, target: u64, parcel: &Parcel, first: u64) -> Result<Child, WantOfMemory>
     requires instance { target < 2 ^ 32 }
     requires fits { first + length parcel.now.finalizers ≤ 2 ^ 63 }
     ensures { IfOk result (λ child. child ≡ child_of target first parcel.now) }
 {
-    let event = parcel.event.copy(alloc)?;
+    let event = parcel.event.share()?;
     let finalizers = parcel.finalizers.renumbered(alloc, first)?;
     Ok(Child {
         target: target as u32,

@@ -7,8 +7,7 @@ use crate::books::Books;
 use crate::pair::pair;
 use std::alloc::Global;
 use vx_ends::{Port, Position};
-use vx_ledger::Short;
-use vx_value::EventList;
+use vx_ledger::{SharedEventList, Short};
 
 impl<P: Port> Books<P> {
     /// Bears a batch with a copy for each event that the newest entry, a Read of the instance, yields, and puts each out behind
@@ -21,7 +20,7 @@ impl<P: Port> Books<P> {
         alloc: Global,
         i: u32,
         position: Position,
-        events: EventList,
+        events: SharedEventList,
     ) -> Result<(), Short>
         requires stands { Stands P.told self.old }
         requires within { i < length self.old.seats }

@@ -82,7 +82,7 @@ impl Transform for Filter {
         ensures back { IfErr result (λ refused. refused.parcel ≡ parcel) }
         ensures shelf { OnErr result (shelf.new ≡ shelf.old) }
     {
-        match self.ports_for(alloc, &parcel.event) {
+        match self.ports_for(alloc, parcel.event.get()) {
             Ok(ports) => answer(shelf, ports, parcel),
             Err(WantOfMemory) => Err(Back { parcel }),
         }

@@ -93,7 +93,7 @@ impl Transform for Route {
         ensures back { IfErr result (λ refused. refused.parcel ≡ parcel) }
         ensures shelf { OnErr result (shelf.new ≡ shelf.old) }
     {
-        match self.ports_for(alloc, &parcel.event) {
+        match self.ports_for(alloc, parcel.event.get()) {
             Ok(ports) => answer(shelf, ports, parcel),
             Err(WantOfMemory) => Err(Back { parcel }),
         }

@@ -6,7 +6,7 @@ use std::alloc::Global;
 use std::process::Abort;
 use std::test::Fail;
 use vx_condition::{Condition, ConditionList, parse};
-use vx_ledger::{Batches, Finalizers, Parcel};
+use vx_ledger::{Batches, Finalizers, Parcel, SharedEvent};
 use vx_status::Outcome;
 use vx_transform::{Output, Shelf, Transform};
 use vx_value::{Event, ItemList, Path, Text, Value, WantOfMemory};
@@ -35,7 +35,7 @@ fn event(alloc: Global, message: &str) -> Result<Event, Fail> {
 
 // A parcel without copies, of an event with a message.
 fn bare(rt: &impl Abort, alloc: Global, message: &str) -> Result<Parcel, Fail> {
-    let event = event(alloc, message)?;
+    let event = SharedEvent::new(alloc, event(alloc, message)?)?;
     let finalizers = no_copies(rt, alloc)?;
     Ok(Parcel { event, finalizers })
 }

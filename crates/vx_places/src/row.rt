@@ -6,9 +6,9 @@ ghost use Rattle.vx_places.specs.Calls.{LosesCopy, LosesLast, NothingToLose, Non
 use crate::line::Line;
 use std::alloc::Global;
 use std::collections::VecDeque;
-use vx_ledger::{Child, Finalizer, Finalizers, Parcel};
+use vx_ledger::{Child, Finalizer, Finalizers, Parcel, SharedEvent};
 use vx_transform::Output;
-use vx_value::{Event, WantOfMemory};
+use vx_value::WantOfMemory;
 
 /// The parcels of an instance.
 pub struct Row {
@@ -70,7 +70,7 @@ pub(crate) fn make_row(alloc: Global, rooms: &[usize], held: usize) -> Result<Ro
 }
 
 // What is left of a parcel. Where that is nothing, it is ended.
-fn rest_of(event: Event, left: Finalizers) -> Option<Parcel>
+fn rest_of(event: SharedEvent, left: Finalizers) -> Option<Parcel>
     ensures { result ≡ unless_bare event left }
 {
     if left.is_empty() {

@@ -173,7 +173,7 @@ fn judge_all(
     let mut ports = PortsList::new(alloc);
     for i in 0..parcels.len() {
         if let Some(parcel) = parcels.get(i) {
-            let on = picker.ports_for(alloc, &parcel.event)?;
+            let on = picker.ports_for(alloc, parcel.event.get())?;
             let Ok(()) = ports.push(on) else {
                 return Err(WantOfMemory);
             };
@@ -273,7 +273,7 @@ fn encode(alloc: Global, codec: Codec, parcels: &Line<Parcel>) -> Result<Bytes, 
     let mut out = Bytes::new(alloc);
     for i in 0..parcels.len() {
         if let Some(parcel) = parcels.get(i) {
-            encode_event(codec, &parcel.event, &mut out)?;
+            encode_event(codec, parcel.event.get(), &mut out)?;
         }
     }
     Ok(out)
