@@ -6,3 +6,4 @@ pub mod Bridging
 pub mod Following
 pub mod Keeping
 pub mod Counting
+pub mod Stepping

@@ -4,3 +4,4 @@ pub mod Turns
 pub mod Sources
 pub mod Abreast
 pub mod Laws
+pub mod Lines

@@ -2,6 +2,7 @@
 //! confirmed.
 #![tactic(auto)]
 
+mod demo_lines;
 mod ends;
 mod laws;
 mod new_lines;
@@ -9,6 +10,7 @@ mod positions;
 mod prefix;
 mod source;
 
+pub use demo_lines::Lines;
 pub use ends::Ends;
 pub use laws::{lines, source_laws};
 pub use new_lines::NewLines;

@@ -8,7 +8,8 @@ use std::snapshot::Snapshot;
 use vx_ends::{Port, Took, Trouble};
 use vx_frame::{Framer, LineList};
 use vx_json::{Decoding, line_event};
-use vx_value::{Event, EventList, Text, WantOfMemory};
+use vx_ledger::{SharedEvent, SharedEventList};
+use vx_value::{Event, Text, WantOfMemory};
 
 /// The greatest number of bytes that one take asks for.
 const ROOM: usize = 65_536;
@@ -17,7 +18,7 @@ const ROOM: usize = 65_536;
 /// gave no event (0 where no line was completed), and how many lines there were.
 #[derive(Drop)]
 pub struct Cut {
-    pub events: EventList,
+    pub events: SharedEventList,
     pub end: u64,
     pub new: NewLines,
 }
@@ -189,7 +190,7 @@ impl SourceCore {
         ensures { IfOk result (λ cut. (over : ℕ) → overlong ≡ capped over → IsOf self.now.decoding self.now.source_type lines.now over cut) }
     {
         let mut cut = Cut {
-            events: EventList::new(self.alloc),
+            events: SharedEventList::new(self.alloc),
             end: 0,
             new: NewLines::none(),
         };
@@ -197,7 +198,7 @@ impl SourceCore {
             let bytes = line.bytes.as_slice();
             let event = line_event(self.alloc, self.decoding, bytes, &self.source_type, None)?;
             cut.new.line(bytes.is_empty(), event.is_some());
-            push(&mut cut.events, event)?;
+            push(self.alloc, &mut cut.events, event)?;
             cut.end = line.end;
         }
         cut.new.too_long(overlong);
@@ -206,13 +207,17 @@ impl SourceCore {
 }
 
 /// Adds an event, if there is one.
-fn push(events: &mut EventList, event: Option<Event>) -> Result<(), WantOfMemory>
+fn push(
+    alloc: Global,
+    events: &mut SharedEventList,
+    event: Option<Event>,
+) -> Result<(), WantOfMemory>
     ensures { OnOk result (events.new ≡ events.old ++ event_with (event_fields event)) }
 {
     let Some(event) = event else {
         return Ok(());
     };
-    match events.push(event) {
+    match events.push(SharedEvent::new(alloc, event)?) {
         Ok(()) => Ok(()),
         Err(_) => Err(WantOfMemory),
     }
