@@ -168,8 +168,10 @@ fn pushable_at<P: Port>(books: &Books<P>, i: u32, child: usize) -> Option<Pushab
     ensures drops { IfSome result (λ next. IfNone next.stage (last_drops (stages_of books.now.log next.target) ≡ true)) }
     ensures none { IfNone result ((pass : CanPass books.now i) → pass.child ≡ child → ⊥) }
 {
-    let target = books.places.oldest_at(i, child)?;
+    let target = books.places.target_at(i, child)?;
     let stage = room_of(books, target)?;
+    // The room is asked for first: a look at all children before it costs more.
+    let _oldest = books.places.oldest_at(i, child)?;
     Some(Pushable {
         child,
         target,

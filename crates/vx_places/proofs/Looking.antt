@@ -16,7 +16,7 @@ use Rattle.vx_ledger.specs.declared.parcel.Parcel.{Parcel}
 use Rattle.vx_ledger.specs.declared.child.Child.{Child}
 use Rattle.vx_record.specs.Places.Place.{Outputs, Waiting, Contents, Held}
 use Rattle.vx_places.specs.Numbers.{for_target}
-use Rattle.vx_places.specs.Calls.{LosesCopy, NothingToLose, NoneBefore, left_of, NoneWaits, IsOldestFor}
+use Rattle.vx_places.specs.Calls.{LosesCopy, NothingToLose, NoneBefore, left_of, NoneWaits, IsOldestFor, waiting_target}
 use Rattle.vx_places.specs.declared.row.Row.{Row}
 use Rattle.vx_places.specs.Views.{row_at, here_if, parcels_here}
 use Rattle.vx_places.specs.Looks.{HasSent, HasEmptyBuffer, ManyWait, IsBare}
@@ -186,6 +186,20 @@ one_oldest rows i t u k = go (row_at rows i)
     go : (o : Option Row) → IsSomeAnd o (λ row. NoneBefore t k row.waiting.items) → IsSomeAnd o (λ row. NoneBefore u k row.waiting.items) → t ≡ u
     go None first other = absurd first
     go (Some row) first other = one_target t u k row.waiting.items first other
+
+-- that of the child itself,
+target_in : (t k : ℕ) (cs : List Child) → NoneBefore t k cs → (elim (slice_get cs k) [ None ↦ None | Some c ↦ Some c.target ]) ≡ Some t
+target_in t k [] first = absurd first
+target_in t zero (c ∷ cs) first = ap (λ (u : ℕ). Some u) first
+target_in t (suc k) (c ∷ cs) first = target_in t k cs first.1
+
+pub oldest_target : (rows : List Row) (i t k : ℕ) → IsOldestFor rows i t k → waiting_target rows i k ≡ Some t
+oldest_target rows i t k = go (row_at rows i)
+  where
+    go : (o : Option Row) → IsSomeAnd o (λ row. NoneBefore t k row.waiting.items) →
+        (elim o [ None ↦ None | Some row ↦ elim (slice_get row.waiting.items k) [ None ↦ None | Some c ↦ Some c.target ] ]) ≡ Some t
+    go None first = absurd first
+    go (Some row) first = target_in t k row.waiting.items first
 
 -- and stands among those that wait
 pub oldest_below : (rows : List Row) (i t k n : ℕ) → ManyWait rows i n → IsOldestFor rows i t k → k < n

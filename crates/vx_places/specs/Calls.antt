@@ -1,5 +1,5 @@
 -- What each call does to the parcels at the places.
-use Rattle.std.specs.Prelude.{◌≡◌, ◌≢◌, ◌<◌, ◌≤◌, ◌+◌, ℕ, zero, suc, Bool, false, List, [], ◌∷◌, ◌++◌, Option, Some, None, IsSome, IsSomeAnd, length}
+use Rattle.std.specs.Prelude.{◌≡◌, ◌≢◌, ◌<◌, ◌≤◌, ◌+◌, ℕ, zero, suc, Bool, false, List, [], ◌∷◌, ◌++◌, Option, Some, None, IsSome, IsSomeAnd, length, slice_get}
 use Rattle.vx_value.specs.Filled.{Filled}
 use Rattle.vx_value.specs.declared.event.Event.{Event}
 use Rattle.vx_ledger.specs.Copies.{Copy, numbers_of}
@@ -151,6 +151,11 @@ NoneBefore t (suc k) (c ∷ cs) = (c.target ≢ t) × NoneBefore t k cs
 -- its waiting child at that place is the oldest for the target
 abbrev pub IsOldestFor : List Row → ℕ → ℕ → ℕ → Type 0
 IsOldestFor rows i t k = IsRow (λ row. NoneBefore t k row.waiting.items) rows i
+
+-- the target of its waiting child at that place, if there is such a child
+abbrev pub waiting_target : List Row → ℕ → ℕ → Option ℕ
+waiting_target rows i k =
+    elim (row_at rows i) [ None ↦ None | Some row ↦ elim (slice_get row.waiting.items k) [ None ↦ None | Some c ↦ Some c.target ] ]
 
 -- a stage has room for one more parcel
 abbrev pub HasRoom : List Row → ℕ → ℕ → Type 0

@@ -2,7 +2,7 @@
 ghost use Rattle.std.specs.Prelude.{◌≡◌, ◌<◌, ◌↔◌, ℕ, [], length, IsTrue, Some, false, IfSome, IfNone};
 ghost use Rattle.vx_record.specs.Places.Place.{Held};
 ghost use Rattle.vx_places.specs.Views.{stage_at, stage_items, held_items, parcels_here};
-ghost use Rattle.vx_places.specs.Calls.{NoneWaits, NoneBefore, IsOldestFor, HasRoom, HasSome, IsKept, HasHeldRoom};
+ghost use Rattle.vx_places.specs.Calls.{NoneWaits, NoneBefore, IsOldestFor, HasRoom, HasSome, IsKept, HasHeldRoom, waiting_target};
 ghost use Rattle.vx_places.specs.Numbers.{for_target};
 ghost use Rattle.vx_places.specs.Looks.{HasOutput, HasWaiting, HasSent, HasEmptyBuffer, ManyWait, HoldsMany, IsHeldFull, IsBare, IsFirstRoom, IsFirstFilled};
 
@@ -180,6 +180,14 @@ pub(crate) fn count_waiting(rows: &[Row], i: usize) -> usize
     ensures { ManyWait rows.now i result }
 {
     rows[i].waiting.len()
+}
+
+// The target of the waiting child of an instance at a place. `None` where there is no such child.
+pub(crate) fn target_at(rows: &[Row], i: usize, k: usize) -> Option<u32>
+    requires { i < length rows.now }
+    ensures { result ≡ waiting_target rows.now i k }
+{
+    Some(rows[i].waiting.get(k)?.target)
 }
 
 // The target of the child at a place among some, where that child is the oldest for it. `None` where it isn't, or there is none.

@@ -3,7 +3,7 @@ ghost use Rattle.vx_record.specs.declared.entry.Entry.TheVariants.{Push, Take};
 ghost use Rattle.vx_record.specs.Places.Place.{Outputs, Waiting, Contents, Held};
 ghost use Rattle.vx_places.specs.Views.{Same, parcels_here};
 ghost use Rattle.vx_places.specs.Rooms.{SameRooms, LendsRoom, AddsRooms};
-ghost use Rattle.vx_places.specs.Calls.{Takes, TakesOutput, Lends, Loses, IsRow, IsNew, Moves, PutsOut, Divides, IsThere, HasOutputRoom, HasOutputRoomFor, NoneWaits, IsOldestFor, HasRoom, HasSome, IsKept, IsLent, HasHeldRoom, NothingToSpend};
+ghost use Rattle.vx_places.specs.Calls.{Takes, TakesOutput, Lends, Loses, IsRow, IsNew, Moves, PutsOut, Divides, IsThere, HasOutputRoom, HasOutputRoomFor, NoneWaits, IsOldestFor, HasRoom, HasSome, IsKept, IsLent, HasHeldRoom, NothingToSpend, waiting_target};
 ghost use Rattle.vx_places.specs.Marks.{IsBefore, IsUnfilled};
 ghost use Rattle.vx_places.specs.Looks.{HasOutput, HasWaiting, HasSent, HasEmptyBuffer, ManyWait, HoldsMany, IsHeldFull, IsBare, IsFirstRoom, IsFirstFilled, AreBare};
 
@@ -197,6 +197,15 @@ impl Places {
         ensures many { ManyWait self.now instance result }
     {
         looks::count_waiting(&self.rows, instance as usize)
+    }
+
+    /// The target of the waiting child of an instance at a place, be it the oldest for it or not. `None` exactly where there is no such
+    /// child.
+    pub fn target_at(&self, instance: u32, child: usize) -> Option<u32>
+        requires { IsThere self.now instance }
+        ensures { result ≡ waiting_target self.now instance child }
+    {
+        looks::target_at(&self.rows, instance as usize, child)
     }
 
     /// The target for which the waiting child of an instance at a place is the oldest, so that it may be pushed there. `None`

@@ -1,4 +1,4 @@
-use Rattle.std.proofs.Common.{Option, Some, None, List, ℕ, subst}
+use Rattle.std.proofs.Common.{Some, None, List, ℕ, subst}
 use Rattle.memchr.specs.Find.{IsFirstByte, is_byte}
 use Rattle.vx_places.proofs.Marking.{rest_whole, next_none, next_some}
 use Rattle.vx_places.proofs.marks.next_marked.Goals as goal
