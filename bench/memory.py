@@ -36,12 +36,15 @@ def feed(pipe, kind, count):
     pipe.close()
 
 
-def greatest(path, feeder, expected):
+def greatest(path, feeder, expected, blocking=True):
     """Runs the program of a configuration under `time`, and gives the greatest memory that it had, in kilobytes."""
     told = path.with_suffix(".told")
     words = ["/usr/bin/time", "--format", "%M", "--output", str(told), VECTOR, "--config", str(path)]
-    process = subprocess.Popen(words, stdin=subprocess.PIPE, stdout=subprocess.PIPE)
-    writer = threading.Thread(target=feeder, args=(process.stdin,))
+    source, into = os.pipe()
+    os.set_blocking(source, blocking)
+    process = subprocess.Popen(words, stdin=source, stdout=subprocess.PIPE)
+    os.close(source)
+    writer = threading.Thread(target=feeder, args=(os.fdopen(into, "wb"),))
     writer.start()
     read = 0
     while chunk := process.stdout.read(1 << 20):
@@ -53,7 +56,6 @@ def greatest(path, feeder, expected):
 
 
 def silent(pipe):
-    os.set_blocking(pipe.fileno(), False)
     time.sleep(SILENCE)
     pipe.write(line("text"))
     pipe.close()
@@ -69,7 +71,7 @@ def main():
                 used = greatest(path, lambda pipe: feed(pipe, kind, count), 100 * count)
                 print(f"{kind:6} {count:10} lines {used:8} KB", flush=True)
                 found.append(used)
-        used = greatest(configuration_file(folder, "text"), silent, 100)
+        used = greatest(configuration_file(folder, "text"), silent, 100, blocking=False)
         print(f"text   nothing for {SILENCE} seconds {used:6} KB")
         found.append(used)
     print(f"the greatest differs from the least by {max(found) - min(found)} KB")
