@@ -1,6 +1,6 @@
 -- A hub as it begins.
 use Rattle.std.proofs.Common.{◌≡◌, ◌≢◌, ◌∙◌, ℕ, zero, suc, ◌+◌, ◌<◌, ◌≤◌, inl, inr, Bool, true, false, List, [], ◌∷◌, ◌++◌, Option, Some, None, IfSome, length, refl, sym, ap, arith, get_or}
-use Rattle.std.specs.Prelude.{◌^◌, ◌&&◌, map, IsSomeAnd, slice_get, slice_set, vec_capacity}
+use Rattle.std.specs.Prelude.{◌^◌, ◌&&◌, if◌then◌else◌, map, IsSomeAnd, slice_get, slice_set, vec_capacity}
 use Rattle.std.proofs.lemmas.Bool.{and_from, cases_eq, cases_lt}
 use Rattle.std.proofs.lemmas.List.{length_push}
 use Rattle.std.proofs.lemmas.Option.{IfSome_then, slice_get_past, slice_get_read, slice_get-get_or}
@@ -10,10 +10,12 @@ use Rattle.vx_plan.specs.declared.plan.Plan.{Plan}
 use Rattle.vx_plan.specs.declared.stage.Stage.{Stage}
 use Rattle.vx_plan.specs.Accepted.{IsPlan}
 use Rattle.vx_plan.specs.Components.{is_transform, stages}
+use Rattle.vx_plan.specs.Options.{has_device}
 use Rattle.vx_plan.specs.Ports.{port_of}
 use Rattle.vx_record.specs.declared.entry.Entry.TheVariants.{Install}
 use Rattle.vx_record.specs.Records.{Record}
-use Rattle.vx_record.specs.Installs.{component_of, told}
+use Rattle.vx_record.specs.Generating.{lines_at_once}
+use Rattle.vx_record.specs.Installs.{component_of, told, device_at}
 use Rattle.vx_record.specs.Judges.{is_judging, OnlyJudges}
 use Rattle.vx_record.specs.Places.Place.{Outputs, Held}
 use Rattle.vx_record.specs.Reads.{all_ended}
@@ -23,6 +25,7 @@ use Rattle.vx_record.proofs.Wired.{begun_legal, component_there, component_in_pl
 use Rattle.vx_pick.specs.declared.picker.Picker.{Picker}
 use Rattle.vx_sourcecore.specs.Turns.{NothingLeft}
 use Rattle.vx_sourcecore.proofs.Keeping.{fresh_abreast}
+use Rattle.vx_sourcecore.proofs.MakingKept.{generator_fresh}
 use Rattle.vx_balance.proofs.Steps.{aside_kept}
 use Rattle.vx_transform.specs.declared.output.Output.{Output}
 use Rattle.vx_places.specs.Numbers.{parcels_out}
@@ -32,9 +35,9 @@ use Rattle.vx_places.specs.Holding.{Holds}
 use Rattle.vx_places.specs.Rooms.{rooms_at, rooms_if, held_room}
 use Rattle.vx_places.proofs.Steps.{holds_step, still_shifts, same_holds, none_holds}
 use Rattle.vx_tasks.specs.declared.task.Role.{Role}
-use Rattle.vx_tasks.specs.declared.task.Role.TheVariants.{Source, Sink, Transform, Unfit}
+use Rattle.vx_tasks.specs.declared.task.Role.TheVariants.{Source, Generator, Sink, Blackhole, Transform, Unfit}
 use Rattle.vx_tasks.specs.Home.{HasCome, IsAtHome}
-use Rattle.vx_tasks.specs.Telling.{IsTold, spec_of}
+use Rattle.vx_tasks.specs.Telling.{IsTold, HasCounted, spec_of}
 use Rattle.vx_seats.specs.declared.seat.Seat.{Seat}
 use Rattle.vx_seats.specs.Beginning.{AreNew, IsFresh, AreFresh}
 use Rattle.vx_seats.specs.Knowing.{Knows}
@@ -45,7 +48,7 @@ use Rattle.vx_moves.specs.Stands.{Stands}
 use Rattle.vx_hub.specs.declared.hub.Hub.{Hub}
 use Rattle.vx_hub.specs.declared.making.Room.{Room}
 use Rattle.vx_hub.specs.declared.parts.Named.{Named}
-use Rattle.vx_hub.specs.Beginning.{IsBegun, IsWorkerFor, IsRoleFor, IsRoleBut, AreFor, HasRoomFor, HaveRooms, AreVacant, AreRoledFrom, AreSeatedFrom}
+use Rattle.vx_hub.specs.Beginning.{IsBegun, at_once, IsWorkerFor, IsRoleFor, IsRoleBut, AreFor, HasRoomFor, HaveRooms, AreVacant, AreRoledFrom, AreSeatedFrom}
 use Rattle.vx_hub.specs.Making.{IsUntouched, AreUntouched, IsPickerFor, ArePickers, is_served, all_served}
 use Rattle.vx_hub.specs.Standing.{AreSources, IsHub}
 use Rattle.vx_hub.proofs.Resting.{with_some, if_there, pushed}
@@ -59,10 +62,12 @@ pub for_next : {X : Type 0} (F : X → Component → Type 0) {components items :
 for_next F {components} {items} xs x {c} {i} same more all size l is f =
     rw more (pushed (λ j y. IsSomeAnd (slice_get components j) (F y)) xs x all (rw (size, ← same, slice_get_read items (length items) i c refl l is) f))
 
--- what works with a port has its role
+-- what is no transform has its role
 pub worker_but : (role : Role) (c : Component) → IsWorkerFor c.settings role → IsRoleBut role c
 worker_but (Source core) c is = is
+worker_but (Generator maker) c is = is
 worker_but (Sink codec) c is = is
+worker_but Blackhole c is = is
 worker_but (Transform picker) c is = absurd is
 worker_but Unfit c is = absurd is
 
@@ -165,7 +170,9 @@ pickers_at (d ∷ rest) (picker ∷ pickers) all (suc i) = pickers_at rest picke
 whole_role : (role : Role) (picker : Option Picker) (c : Component) → IsRoleBut role c → IsPickerFor c picker →
     IsRoleFor (elim picker [ None ↦ role | Some p ↦ Transform p ]) c
 whole_role (Source core) None c but of = but
+whole_role (Generator maker) None c but of = but
 whole_role (Sink codec) None c but of = but
+whole_role Blackhole None c but of = but
 whole_role (Transform p) None c but of = absurd but
 whole_role Unfit None c but of = cc
 whole_role role (Some p) c but of = of.1
@@ -198,24 +205,51 @@ untouched_at told_by (d ∷ rest) (n ∷ ports) all (suc i) = untouched_at told_
 
 fit_role : (role : Role) (c : Component) → IsRoleFor role c → role ≢ Unfit
 fit_role (Source core) c is = λ e. cc
+fit_role (Generator maker) c is = λ e. cc
 fit_role (Sink codec) c is = λ e. cc
+fit_role Blackhole c is = λ e. cc
 fit_role (Transform picker) c is = λ e. cc
 fit_role Unfit c is = absurd is
+
+-- of an instance nothing is had at first, be there a port or not
+either : {X : Type 0} (b : Bool) (x : X) → (if b then x else x) ≡ x
+either true x = refl
+either false x = refl
 
 module _ {plan : Plan} (accepted : IsPlan plan) (i : ℕ) {c : Component}
     (there : slice_get plan.components i ≡ Some c) (once : Bool) (now : ℕ) where
   runs : component_of (begun plan once now) i ≡ Some c
   runs = component_there (begun plan once now) plan i c (begun_legal plan once now accepted) refl there
 
-  told_first : (told : Told) → IsUntouched (port_of c) told → IsTold told (begun plan once now) i
-  told_first told u =
-      let over : all_ended (begun plan once now) i ≡ true → NothingLeft told = λ e. cc in
-      let spec : Fits (spec_of (component_of (begun plan once now) i)) told.spec = rw runs u.made_for in
-      assumption (over, spec, u)
+  abbrev h : Record
+  h = begun plan once now
 
-  come_first : (role : Role) → IsRoleFor role c → HasCome (begun plan once now) i role
-  come_first (Source core) is = fresh_abreast (begun plan once now) i c core.decoding core runs is.decoding_is is.fresh refl (λ stream. refl)
+  told_first : (told : Told) → IsUntouched (port_of c) told → IsTold told h i
+  told_first told u =
+      let device : Bool = device_at h i in
+      let over : device ≡ true → all_ended h i ≡ true → NothingLeft told = λ on e. cc in
+      let spec : Fits (spec_of (component_of h i)) told.spec = rw runs u.made_for in
+      let taken : (stream : ℕ) → IfSome (told.taken stream) (λ bytes. bytes ≡ (if device then [] else [])) =
+      λ stream. IfSome_then (told.taken stream) (u.taken stream) (λ bytes is. is ∙ sym (either device [])) in
+      let finishes : HasCounted told.exact (if device then 0 else 0) told.finishes = rw (either {X = ℕ} device 0) u.finishes in
+      assumption (over, spec, taken, finishes, u)
+
+  -- whether it works with a port is what its settings say, and so is how many lines it makes at once
+  device_first : device_at h i ≡ has_device c.settings
+  device_first = ap (λ (o : Option Component). elim o as (λ _. Bool) [ None ↦ false | Some d ↦ has_device d.settings ]) runs
+
+  at_once_first : lines_at_once h i ≡ at_once c.settings
+  at_once_first = ap (λ (o : Option Component). elim o as (λ _. ℕ) [ None ↦ 0 | Some d ↦ at_once d.settings ]) runs
+
+  come_first : (role : Role) → IsRoleFor role c → HasCome h i role
+  come_first (Source core) is = (fresh_abreast h i c core.decoding core runs is.0.decoding_is is.0.fresh refl (λ stream. refl), device_first ∙ is.1)
+  come_first (Generator maker) is = (
+    generator_fresh h i c maker.core.decoding maker.lines.settings (at_once c.settings) maker.core maker runs is.made_of at_once_first is.cuts.decoding_is is.cuts.fresh is.begun
+        refl (λ stream. refl) refl refl,
+    device_first ∙ is.portless,
+  )
   come_first (Sink codec) is = rw runs is
+  come_first Blackhole is = rw runs is
   come_first (Transform picker) is = rw runs is
   come_first Unfit is = absurd is
 
@@ -290,7 +324,7 @@ module _ {plan : Plan} (accepted : IsPlan plan) (once : Bool) (now : ℕ) (rows 
 judges_if : (o : Option Component) → IfSome o (λ c. is_served c ≡ true) → (elim o [ None ↦ false | Some c ↦ is_transform c ]) ≡ true →
     (elim o [ None ↦ false | Some c ↦ is_transform c && is_judging c.settings ]) ≡ true
 judges_if None served is = cc
-judges_if (Some c) served is = and_from (is_transform c) (is_judging c.settings) is ((serves c served).1 is)
+judges_if (Some c) served is = and_from (is_transform c) (is_judging c.settings) is (serves c served is)
 
 -- each judges each event by itself
 judging_first : (plan : Plan) (once : Bool) (now : ℕ) → IsPlan plan → all_served plan.components ≡ true → OnlyJudges (begun plan once now)

@@ -62,7 +62,6 @@ use Rattle.vx_moves.proofs.Stepping.{follows}
 use Rattle.vx_ready.specs.Asking.{IsServed}
 use Rattle.vx_ready.specs.Jobs.{IsJob}
 use Rattle.vx_ready.proofs.Closed.{closed_filled}
-use Rattle.vx_ready.proofs.Done.{device_there}
 use Rattle.vx_ready.proofs.Emptied.{holds_none}
 use Rattle.vx_ready.proofs.Knowing.{known, owes_none, seat_there}
 use Rattle.vx_ready.proofs.Untried.{untried, waits_for_none}
@@ -79,7 +78,7 @@ use Rattle.vx_hub.proofs.Served.{done_unready}
 
 -- WHERE NONE HAS WORK
 module _ {P : Type 0} {told_by : P → Told} {books : Books P} (stands : Stands told_by books)
-    (served : IsServed books) (well : IsWell books) (kept : books.run.abandoned ≡ None)
+    (well : IsWell books) (kept : books.run.abandoned ≡ None)
     (now : ℕ) (latest : books.run.latest ≤ now) (i : ℕ) (within : i < length books.seats) (home : is_out books.log i ≡ false) where
   going : abandoned books.log ≡ false
   going = unabandoned books.log (sym stands.run.cause ∙ kept)
@@ -102,17 +101,17 @@ module _ {P : Type 0} {told_by : P → Told} {books : Books P} (stands : Stands 
         let unclosed = leased_unclosed books.log i 0 now 0 (follow, stands.legal) in cc)
 
     -- nor is what ended
-    retired_unready : is_retired books.log i ≡ true → (transform_at books.log i ≡ true) ⊎ (transform_at books.log i ≡ false) → is_ready books.log i now ≡ false
-    retired_unready retired (inl transform) = done_unready books.log i now stands.legal transform (retired_final books.log i stands.legal going retired).done
-    retired_unready retired (inr other) = unready books.log i now stands.legal (retired_final books.log i stands.legal going retired).done
-        (retired_closed books.log i stands.legal retired (device_there told_by books stands served i within ∙ ap not other))
+    retired_unready : is_retired books.log i ≡ true → (device_at books.log i ≡ true) ⊎ (device_at books.log i ≡ false) → is_ready books.log i now ≡ false
+    retired_unready retired (inl device) = unready books.log i now stands.legal (retired_final books.log i stands.legal going retired).done
+        (retired_closed books.log i stands.legal retired device)
+    retired_unready retired (inr none) = done_unready books.log i now stands.legal none (retired_final books.log i stands.legal going retired).done
 
     none_at : NoneFoundAt books now i → is_ready books.log i now ≡ false
     none_at none =
         let facts = (known told_by books stands i seat there).facts in
         let w : IsWellAt seat = rw there at (well.seats i) in
         elim (cases_Bool (is_retired books.log i)) [
-          | inl retired ↦ retired_unready retired (cases_Bool (transform_at books.log i))
+          | inl retired ↦ retired_unready retired (cases_Bool (device_at books.log i))
           | inr unretired ↦ elim (cases_Bool seat.facts.closed) [
             | inl closed ↦ closed_unready (sym facts.closed ∙ closed) unretired
             | inr unclosed ↦ none (settled_there stands i there ((home_is stands i there).1 home) well kept)
@@ -125,9 +124,9 @@ abbrev pub NoneBelow : {P : Type 0} → Books P → ℕ → ℕ → Type 0
 NoneBelow books now n = (i : ℕ) → i < n → NoneFoundAt books now i
 
 pub none_ready : {P : Type 0} {told_by : P → Told} {books : Books P} (now n : ℕ) → Stands told_by books →
-    IsServed books → books.run.latest ≤ now → length books.seats ≤ n → NoneBelow books now n → NoneReady books now
-none_ready {books = books} now n stands served latest most below well kept i within home =
-    let seat = seat_there books.seats i within in none_at stands served well kept now latest i within home seat.0 seat.1 (below i (omega (arith, within, most)))
+    books.run.latest ≤ now → length books.seats ≤ n → NoneBelow books now n → NoneReady books now
+none_ready {books = books} now n stands latest most below well kept i within home =
+    let seat = seat_there books.seats i within in none_at stands well kept now latest i within home seat.0 seat.1 (below i (omega (arith, within, most)))
 
 -- WHAT IS OWED
 -- by a lease, or a take of a sink, an instance owes nothing more
@@ -251,7 +250,9 @@ had_task task (Some was) (Some is) left = left.had
 
 fits : (role : Role) → role ≢ role_is.Unfit → is_unfit role ≡ false
 fits (role_is.Source core) fit = refl
+fits (role_is.Generator maker) fit = refl
 fits (role_is.Sink codec) fit = refl
+fits role_is.Blackhole fit = refl
 fits (role_is.Transform picker) fit = refl
 fits role_is.Unfit fit = absurd (fit refl)
 
@@ -336,8 +337,9 @@ module _ {P : Type 0} {told_by : P → Told} {i worker now : ℕ} {task : Task P
 
   closing : is_close_due old.log i ≡ true → MayCloseNow mid.log i
   closing close =
-      let done = (and_parts (device_at old.log i && not (is_closed old.log i)) (is_done old.log i) close).1 in
-      record { over = rw (lent.steps.noted, itself i) done; confirmed = unconfirmed positions lent.due done }
+      let open_done = and_parts (device_at old.log i && not (is_closed old.log i)) (is_done old.log i) close in
+      let device = (and_parts (device_at old.log i) (not (is_closed old.log i)) open_done.0).0 in
+      record { device = rw lent.steps.noted device; over = rw (lent.steps.noted, itself i) open_done.1; confirmed = unconfirmed positions lent.due open_done.1 }
 
   -- a transform holds nothing yet, and has taken nothing
   legal_both : IsLegal (Lease i worker now 0 ∷ old.log)

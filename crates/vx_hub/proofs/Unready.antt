@@ -20,7 +20,6 @@ use Rattle.vx_record.proofs.Wired.{component_in_place}
 use Rattle.vx_places.specs.Marks.{IsBefore, IsUnfilled}
 use Rattle.vx_moves.specs.declared.books.Books.{Books}
 use Rattle.vx_moves.specs.Stands.{Stands}
-use Rattle.vx_ready.specs.Asking.{IsServed}
 use Rattle.vx_ready.proofs.Done.{held_is, unbuffered_is}
 use Rattle.vx_ready.proofs.Naming.{ending_there}
 use Rattle.vx_ready.proofs.Surveys.{one_gives}
@@ -166,9 +165,9 @@ module _ {P : Type 0} {told_by : P → Told} {books : Books P} (stands : Stands 
           by_class Transform nil s t = t refl
           by_class Sink nil s t = s refl
 
-  pub none_at_all : (now : ℕ) → IsServed books → books.run.latest ≤ now → NoneFound sink_at books now (length books.seats) → NoneFound transform_at books now (length books.seats) →
+  pub none_at_all : (now : ℕ) → books.run.latest ≤ now → NoneFound sink_at books now (length books.seats) → NoneFound transform_at books now (length books.seats) →
       ((k : ℕ) → IfSome (slice_get sources k) (NoneFoundAt books now)) → NoneReady books now
-  none_at_all now served latest sinks transforms none = none_ready now (length books.seats) stands served latest (omega arith) each
+  none_at_all now latest sinks transforms none = none_ready now (length books.seats) stands latest (omega arith) each
     where
       each : NoneBelow books now (length books.seats)
       each i within = elim (cases_Bool (source_at books.log i)) [

@@ -1,26 +1,29 @@
 -- What a hub is made from, before and when its ports are there.
-use Rattle.std.specs.Prelude.{◌≡◌, ℕ, ◌<◌, ◌≤◌, true, List, [], length, map, Option, Some, None, IfSome, IsSomeAnd, slice_get, vec_capacity}
+use Rattle.std.specs.Prelude.{◌≡◌, ℕ, ◌<◌, ◌≤◌, ◌==◌, ◌||◌, if◌then◌else◌, Bool, true, false, List, [], length, map, Option, Some, None, IfSome, IsSomeAnd, slice_get, vec_capacity}
 use Rattle.vx_plan.specs.declared.component.Component.{Component}
 use Rattle.vx_plan.specs.declared.plan.Plan.{Plan}
 use Rattle.vx_plan.specs.declared.settings.Settings.{Settings}
 use Rattle.vx_plan.specs.declared.stage.Stage.{Stage}
 use Rattle.vx_plan.specs.Components.{port_names, stages, longest_line, is_transform}
 use Rattle.vx_plan.specs.Numbers.{reader_numbers}
-use Rattle.vx_plan.specs.Options.{decoding, encoding, type_name}
+use Rattle.vx_plan.specs.Options.{decoding, demo_of, encoding, has_device, reading_interval, type_name}
 use Rattle.vx_plan.specs.Targets.{acknowledged}
 use Rattle.vx_record.specs.Copies.{counting}
 use Rattle.vx_record.specs.Places.{Place}
 use Rattle.vx_pick.specs.Picks.{Picks}
 use Rattle.vx_pick.specs.declared.picker.Picker.{Picker}
 use Rattle.vx_sourcecore.specs.declared.source.SourceCore.{SourceCore}
+use Rattle.vx_sourcecore.specs.declared.generator.Generator.{Generator as Maker}
 use Rattle.vx_sourcecore.specs.Sources.{IsFresh}
+use Rattle.vx_sourcecore.specs.Generators.{IsBegun as IsAtBeginning}
+use Rattle.vx_sourcecore.specs.Lines.{is_generating, is_swallowing}
 use Rattle.vx_counts.specs.Meets.{Meets}
 use Rattle.vx_balance.specs.Balances.{Balances}
 use Rattle.vx_places.specs.declared.row.Row.{Row}
 use Rattle.vx_places.specs.Rooms.{rooms_at, held_room}
 use Rattle.vx_places.specs.Views.{parcels_here}
 use Rattle.vx_tasks.specs.declared.task.Role.{Role}
-use Rattle.vx_tasks.specs.declared.task.Role.TheVariants.{Source, Sink, Transform, Unfit}
+use Rattle.vx_tasks.specs.declared.task.Role.TheVariants.{Source, Generator, Sink, Blackhole, Transform, Unfit}
 use Rattle.vx_seats.specs.declared.seat.Seat.{Seat}
 use Rattle.vx_seats.specs.Beginning.{AreNew, HasBorneNone}
 use Rattle.vx_seats.specs.Knowing.{IsFittedTo}
@@ -42,24 +45,47 @@ pub record IsSourceFor (settings : Settings) (core : SourceCore) : Type 0 where
   pub fresh : IsFresh (longest_line settings) core.decoding (type_name settings) core
   pub decoding_is : decoding settings ≡ Some core.decoding
 
--- what works with a port begins for some settings
+-- how many lines a source that makes them makes at once
+abbrev pub at_once : Settings → ℕ
+at_once settings = if reading_interval settings == 0 then 64 else 1
+
+-- a source that makes its lines begins for a component: it needs no port, cuts the lines like one that reads them, makes them of what
+-- the component says, and made none yet
+pub record IsGeneratorFor (settings : Settings) (maker : Maker) : Type 0 where
+  pub portless : has_device settings ≡ false
+  pub cuts : IsSourceFor settings maker.core
+  pub made_of : demo_of settings ≡ Some maker.lines.settings
+  pub begun : IsAtBeginning maker.core maker.lines.settings (at_once settings) maker
+
+-- whether settings are those of what works with a port, makes its lines itself, or writes nothing
+abbrev pub is_working : Settings → Bool
+is_working settings = has_device settings || is_generating settings || is_swallowing settings
+
+-- what is no transform begins for some settings: what reads lines or writes by a codec works with a port, and what makes its lines or
+-- writes nothing has none
 abbrev pub IsWorkerFor : Settings → Role → Type 0
-IsWorkerFor settings (Source core) = IsSourceFor settings core
+IsWorkerFor settings (Source core) = IsSourceFor settings core × (has_device settings ≡ true)
+IsWorkerFor settings (Generator maker) = IsGeneratorFor settings maker
 IsWorkerFor settings (Sink codec) = encoding settings ≡ Some codec
+IsWorkerFor settings Blackhole = is_swallowing settings ≡ true
 IsWorkerFor settings (Transform picker) = ⊥
 IsWorkerFor settings Unfit = ⊥
 
 -- a sink begins with the codec by which it writes, and a transform picks by its settings
 abbrev pub IsRoleFor : Role → Component → Type 0
-IsRoleFor (Source core) c = IsSourceFor c.settings core
+IsRoleFor (Source core) c = IsSourceFor c.settings core × (has_device c.settings ≡ true)
+IsRoleFor (Generator maker) c = IsGeneratorFor c.settings maker
 IsRoleFor (Sink codec) c = encoding c.settings ≡ Some codec
+IsRoleFor Blackhole c = is_swallowing c.settings ≡ true
 IsRoleFor (Transform picker) c = Picks c.settings picker
 IsRoleFor Unfit c = ⊥
 
 -- but for what a transform picks by, which comes with the parts
 abbrev pub IsRoleBut : Role → Component → Type 0
-IsRoleBut (Source core) c = IsSourceFor c.settings core
+IsRoleBut (Source core) c = IsSourceFor c.settings core × (has_device c.settings ≡ true)
+IsRoleBut (Generator maker) c = IsGeneratorFor c.settings maker
 IsRoleBut (Sink codec) c = encoding c.settings ≡ Some codec
+IsRoleBut Blackhole c = is_swallowing c.settings ≡ true
 IsRoleBut (Transform picker) c = ⊥
 IsRoleBut Unfit c = is_transform c ≡ true
 

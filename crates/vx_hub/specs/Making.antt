@@ -48,6 +48,6 @@ ArePickers [] (picker ∷ rest) = ⊥
 ArePickers (component ∷ components) [] = ⊥
 ArePickers (component ∷ components) (picker ∷ rest) = IsPickerFor component picker × ArePickers components rest
 
--- each component of the plan in force works with a port or judges each event by itself
+-- each component of the plan in force works with a port, judges each event by itself, makes its lines itself or writes nothing
 abbrev pub AreServed : Record → Type 0
 AreServed h = IfSome (in_force h) (λ (plan : Plan). all_served plan.components ≡ true)

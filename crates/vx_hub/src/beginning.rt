@@ -1,23 +1,23 @@
 // What each instance begins with, but for its port.
-ghost use Rattle.std.specs.Prelude.{◌≡◌, ◌∷◌, [], ◌<◌, ◌*◌, ◌^◌, true, None, length, map, All, IfOk};
+ghost use Rattle.std.specs.Prelude.{◌≡◌, ◌∷◌, [], ◌<◌, ◌≤◌, ◌*◌, ◌^◌, ◌==◌, if◌then◌else◌, true, length, map, All, IfOk, IsSome};
 ghost use Rattle.vx_plan.specs.Numbers.{reader_numbers};
 ghost use Rattle.vx_record.specs.Copies.{counting};
 ghost use Rattle.vx_plan.specs.Components.{port_names, sink_stages, batch_max_events, batch_timeout};
-ghost use Rattle.vx_plan.specs.Options.{has_device, encoding};
+ghost use Rattle.vx_plan.specs.Options.{decoding, type_name};
 ghost use Rattle.vx_seats.specs.Beginning.{AreNew};
 ghost use Rattle.vx_seats.specs.Knowing.{batching_of};
 ghost use Rattle.vx_hub.specs.Making.{is_served, all_served};
 ghost use Rattle.vx_moves.specs.Rooms.{hand_of};
-ghost use Rattle.vx_hub.specs.Beginning.{IsBegun, IsSourceFor, IsRoleBut, IsWorkerFor, AreFor, rooms_of, rooms_in};
+ghost use Rattle.vx_hub.specs.Beginning.{IsBegun, IsSourceFor, IsRoleBut, IsWorkerFor, is_working, AreFor, rooms_of, rooms_in};
 
 use std::alloc::Global;
 use vx_counts::Counts;
 use vx_ends::Port;
-use vx_json::Decoding;
+use vx_json::{Decoding, DemoSettings};
 use vx_ledger::Outlet;
 use vx_plan::{Class, Component, Plan, Settings, StageList};
 use vx_seats::{Batching, Facts, Progress, Seat};
-use vx_sourcecore::{Prefix, SourceCore};
+use vx_sourcecore::{Generator, Prefix, SourceCore};
 use vx_tasks::Role;
 use vx_value::{NumberList, Text, WantOfMemory};
 
@@ -54,6 +54,7 @@ fn make_seat<P: Port>(
     Ok(Seat {
         name,
         class: component.class,
+        device: component.settings.has_device(),
         outlet,
         batching: batching(component),
         facts: first_facts(),
@@ -194,30 +195,74 @@ fn make_role(alloc: Global, component: &Component) -> Result<Role, WantOfMemory>
     }
 }
 
-/// What a component with these settings does with its port.
+/// What a component with these settings does, unless it is a transform.
 fn make_worker(alloc: Global, settings: &Settings) -> Result<Role, WantOfMemory>
-    requires { has_device settings.now ≡ true }
+    requires { is_working settings.now ≡ true }
     ensures { IfOk result (IsWorkerFor settings.now) }
 {
-    match settings.encoding() {
-        Some(codec) => Ok(Role::Sink(codec)),
-        None => {
+    match settings {
+        Settings::Stdin { .. } => Ok(Role::Source(make_source(alloc, settings)?)),
+        Settings::DemoLogs { demo, interval } => {
             let core = make_source(alloc, settings)?;
-            Ok(Role::Source(core))
+            let texts = copy_demo(alloc, demo)?;
+            Ok(Role::Generator(Generator::new(core, texts, lines_at_once(*interval))))
         }
+        Settings::Console { encoding_codec, .. } => Ok(Role::Sink(*encoding_codec)),
+        Settings::Blackhole { .. } => Ok(Role::Blackhole),
+        Settings::Filter { .. }
+        | Settings::Route { .. }
+        | Settings::Sample { .. }
+        | Settings::Dedupe { .. }
+        | Settings::Reduce { .. }
+        | Settings::Host => unreachable!(),
     }
 }
 
-/// What cuts the lines that a component reads.
+/// What cuts the lines that a component reads or makes.
 fn make_source(alloc: Global, settings: &Settings) -> Result<SourceCore, WantOfMemory>
-    requires device { has_device settings.now ≡ true }
-    requires reads { encoding settings.now ≡ None }
+    requires { IsSome (decoding settings.now) }
     ensures { IfOk result (IsSourceFor settings.now) }
 {
     let limit = settings.line_limit().unwrap_or(0);
     let decoding = settings.decoding().unwrap_or(Decoding::Bytes);
-    let source_type = Text::copy_of(alloc, "stdin")?;
-    SourceCore::new(alloc, limit, decoding, source_type)
+    let name = Text::copy_of(alloc, source_type(settings))?;
+    SourceCore::new(alloc, limit, decoding, name)
+}
+
+/// The name of a source's type.
+fn source_type(settings: &Settings) -> &str
+    requires { IsSome (decoding settings.now) }
+    ensures { result.now ≡ type_name settings.now }
+{
+    match settings {
+        Settings::Stdin { .. } => "stdin",
+        Settings::DemoLogs { .. } => "demo_logs",
+        _ => unreachable!(),
+    }
+}
+
+/// What generated lines are made of, once more.
+fn copy_demo(alloc: Global, demo: &DemoSettings) -> Result<DemoSettings, WantOfMemory>
+    ensures { IfOk result (λ copy. copy ≡ demo.now) }
+{
+    Ok(DemoSettings {
+        lines: demo.lines.copy(alloc)?,
+        sequence: demo.sequence,
+        count: demo.count,
+        seed: demo.seed,
+    })
+}
+
+/// How many lines a source makes at once where no time lies between two.
+const LINES_AT_ONCE: u32 = 64;
+
+/// How many lines a source makes at once, by the seconds that lie between two.
+fn lines_at_once(interval: u32) -> u32
+    ensures at_once { result ≡ (if interval * 1000 == 0 then 64 else 1) }
+    ensures some { 0 < result }
+    ensures few { result ≤ 64 }
+{
+    if interval == 0 { LINES_AT_ONCE } else { 1 }
 }
 
 /// For how many parcels each stage of a component's buffer has room.

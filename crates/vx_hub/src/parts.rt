@@ -25,7 +25,9 @@ pub type NumberedList<P> = ItemList<Numbered<P>>;
 /// What each component of a plan picks by, in their order, if it is a transform.
 pub type PickerList = ItemList<Option<Picker>>;
 
-/// What a hub is made of: the plan, and a port and what it picks by for each component, in the order of the components.
+/// What a hub is made of: the plan, and a port and what it picks by for each component, in the order of the components. In the place of
+/// a component that needs no port, as a transform, a source that makes its lines itself or a black hole, stands one that is made for
+/// none.
 #[derive(Drop)]
 pub struct Parts<P> {
     pub plan: Plan,

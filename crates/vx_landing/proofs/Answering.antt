@@ -11,15 +11,9 @@ use Rattle.vx_ends.specs.declared.trouble.Reply.{Reply}
 use Rattle.vx_ends.specs.declared.trouble.Reply.TheVariants as reply
 use Rattle.vx_status.specs.declared.outcome.Outcome.{Outcome}
 use Rattle.vx_status.specs.declared.outcome.Outcome.TheVariants.{Abandoned}
-use Rattle.vx_json.specs.declared.demo_settings.DemoSettings.{DemoSettings}
-use Rattle.vx_plan.specs.declared.component.Component.{Component}
-use Rattle.vx_plan.specs.declared.settings.Settings.{Settings}
-use Rattle.vx_plan.specs.declared.settings.Settings.TheVariants.{DemoLogs}
-use Rattle.vx_plan.specs.Options.{has_device, demo_of}
 use Rattle.vx_record.specs.declared.abandon_cause.AbandonCause.{AbandonCause}
 use Rattle.vx_record.specs.declared.entry.Entry.{Entry}
 use Rattle.vx_record.specs.declared.entry.Entry.TheVariants.{Lease, Home, Read, Attempt, Spent, Abandon}
-use Rattle.vx_record.specs.declared.taken.Taken.{Taken}
 use Rattle.vx_record.specs.Records.{Record}
 use Rattle.vx_record.specs.Abandoning.{abandoned, at_abandon}
 use Rattle.vx_record.specs.Additions.{OnlyAdds}
@@ -28,7 +22,7 @@ use Rattle.vx_record.specs.Copies.{count, joined}
 use Rattle.vx_record.specs.Encoding.{encoded, is_prefix}
 use Rattle.vx_record.specs.Ending.{MayClose}
 use Rattle.vx_record.specs.Generating.{IsGenerated}
-use Rattle.vx_record.specs.Installs.{component_of, device_at, is_closed}
+use Rattle.vx_record.specs.Installs.{device_at, is_closed}
 use Rattle.vx_record.specs.Legal.{IsLegal}
 use Rattle.vx_record.specs.Lists.{held}
 use Rattle.vx_record.specs.Makers.{IsFor}
@@ -61,10 +55,8 @@ use Rattle.vx_moves.specs.Returns.{HaveReturned}
 use Rattle.vx_moves.specs.Spends.{MaySpendAll, OnlySpends}
 use Rattle.vx_moves.specs.Stands.{Stands, Steps}
 use Rattle.vx_moves.proofs.Leaving.{rooms_both, each_both}
-use Rattle.vx_ready.specs.Asking.{IsServed}
 use Rattle.vx_landing.specs.Landings.{ComesBehind, HasNoted, HasNotedRead, outcome_of}
 use Rattle.vx_landing.proofs.Owing.{spends_keep, spends_wider, was_out}
-use Rattle.vx_landing.proofs.Serving.{sink_device, source_device}
 
 -- THE RUN
 -- whether it is given up, as the books know
@@ -97,19 +89,6 @@ left_out (e ∷ h) i legal out gone = left_out h i legal.1 out gone
 -- an entry of a task is of no other
 pub for_own : (e : Entry) (i : ℕ) (h : Record) → of_task e ≡ Some i → IsFor i h e
 for_own e i h own j of = sym (eqb-true i j (subst (λ (o : Option ℕ). is_number j o ≡ true) own of))
-
--- who works with a port makes no lines
-no_demo : (settings : Settings) → has_device settings ≡ true → demo_of settings ≡ None
-no_demo (DemoLogs demo interval) is = cc
-no_demo settings is = refl
-
-no_lines : (o : Option Component) → elim o [ None ↦ false | Some c ↦ has_device c.settings ] ≡ true →
-    ◌≡◌ {A = Option DemoSettings} (elim o [ None ↦ None | Some c ↦ demo_of c.settings ]) None
-no_lines None is = refl
-no_lines (Some c) is = no_demo c.settings is
-
-read_from_port : (h : Record) (i stream : ℕ) (took : Taken) → device_at h i ≡ true → IsGenerated h i stream took
-read_from_port h i stream took device demo is = let none = no_lines (component_of h i) device in absurd (cc)
 
 -- WHAT WAS GIVEN
 taken_prefix : (n : ℕ) (w : Word) → is_prefix (take n w) w ≡ true
@@ -201,11 +180,11 @@ module _ {P : Type 0} {told_by : P → Told} {books : Books P} (stands : Stands 
       Stands told_by (record books { seats = seats; run = record books.run { short = true } })
   marked size knows = let off : true ≡ false → HaveReturned books.log = λ is. cc in assumption (off, stands.size ∙ sym size)
 
-  module _ {i : ℕ} (served : IsServed books) where
+  module _ {i : ℕ} where
     pub may_attempt : {all : Word} {sent : ℕ} {answer : Reply} → is_out books.log i ≡ true → list_any (is_attempt_of i) (since_lease books.log i) ≡ false →
         MayAttemptNow books.log i → all ≡ encoded books.log i (at books.log (Held i)) → (answer ≡ reply.Ok → sent ≡ length all) →
-        MayAttempt books.log i (joined (held books.log i)) (take sent all) answer
-    may_attempt {all} {sent} out once may whole well =
+        (device_at books.log i ≡ false → answer ≡ reply.Ok) → MayAttempt books.log i (joined (held books.log i)) (take sent all) answer
+    may_attempt {all} {sent} out once may whole well swallowed =
         let is : encoded books.log i (held books.log i) ≡ all = rw (stands_at books.log (Held i) stands.legal) (sym whole) in
         record {
           sink = may.sink;
@@ -216,17 +195,17 @@ module _ {P : Type 0} {told_by : P → Told} {books : Books P} (stands : Stands 
           waited = may.waited;
           given = rw is (taken_prefix sent all);
           whole = λ ok. rw (is, well ok) (take-length all);
-          swallowed = λ none. let has = sink_device stands served i may.sink in cc;
+          swallowed = swallowed;
         }
 
     pub may_read : (cut : Option Cut) (o : Option Reading) → is_out books.log i ≡ true → list_any (is_turn_of i) (since_lease books.log i) ≡ false →
-        MayReadNow books.log i → IsSomeAnd o (λ reading. IfSome cut (λ cut. AreNew books.log i reading.stream reading.took cut.new)) →
+        MayReadNow books.log i → IfSome o (λ reading. IsGenerated books.log i reading.stream reading.took) → IsSomeAnd o (λ reading. IfSome cut (λ cut. AreNew books.log i reading.stream reading.took cut.new)) →
         IsSomeAnd o (MayNoteRead books.log i cut)
-    may_read cut None out once may lines = lines
-    may_read cut (Some reading) out once may lines = record {
+    may_read cut None out once may readable lines = lines
+    may_read cut (Some reading) out once may readable lines = record {
       row = record {
         turn = record { source = may.source; out = out; readable = may.readable; once = once };
-        generated = read_from_port books.log i reading.stream reading.took (source_device stands served i may.source);
+        generated = readable;
       };
       left = left_out books.log i stands.legal out;
       lines = lines;

@@ -15,7 +15,7 @@ use Rattle.vx_record.specs.Additions.{OnlyAdds}
 use Rattle.vx_record.specs.Ceasing.{cause_of}
 use Rattle.vx_record.specs.Confirms.{last_confirm, due}
 use Rattle.vx_record.specs.Copies.{counting, joined, next_copy}
-use Rattle.vx_record.specs.Installs.{is_closed, started}
+use Rattle.vx_record.specs.Installs.{device_at, is_closed, started}
 use Rattle.vx_record.specs.Lists.{held}
 use Rattle.vx_record.specs.Makers.{IsFor}
 use Rattle.vx_record.specs.Owing.{owes}
@@ -37,6 +37,7 @@ use Rattle.vx_sourcecore.specs.declared.source.Turned.TheVariants as turned
 use Rattle.vx_sourcecore.specs.Laws.{IsUnread}
 use Rattle.vx_sourcecore.specs.Turns.{Reading, reading_of, cut_of}
 use Rattle.vx_sourcecore.proofs.Keeping.{abreast_under}
+use Rattle.vx_sourcecore.proofs.MakingKept.{generating_under}
 use Rattle.vx_tasks.specs.declared.landing.Done.{Done}
 use Rattle.vx_tasks.specs.declared.landing.Done.TheVariants as done
 use Rattle.vx_tasks.specs.declared.task.Role.{Role}
@@ -66,8 +67,16 @@ use Rattle.vx_landing.proofs.Owing.{deeds_none, lacks_birth, owes_attempted, owe
 use Rattle.vx_landing.proofs.Seating.{LeavesBe, NowOwes, NowStarves, be_both, be_here, be_stays, both_are, both_said, carried, carried_one, fed_well, lands, others_both, others_one, well_on}
 
 -- WHAT A TASK DOES
+-- an instance works with a port or not behind an entry that installs nothing
+ported_under : (h : Record) (e : Entry) (i : ℕ) → IsUnread e → device_at (e ∷ h) i ≡ device_at h i
+ported_under h (entry.Install version plan once instances now) i unread = absurd unread
+ported_under h e i unread = refl
+
 pub come_under : (r : Role) (h : Record) (e : Entry) (i : ℕ) → IsUnread e → HasCome h i r → HasCome (e ∷ h) i r
-come_under (role.Source core) h e i unread come = abreast_under h e i core unread come
+come_under (role.Source core) h e i unread come = (abreast_under h e i core unread come.0, ported_under h e i unread ∙ come.1)
+come_under (role.Generator generator) h e i unread come = (generating_under h e i generator unread come.0, ported_under h e i unread ∙ come.1)
+come_under role.Blackhole h (entry.Install version plan once instances now) i unread come = absurd unread
+come_under role.Blackhole h e i unread come = come
 come_under (role.Sink codec) h (entry.Install version plan once instances now) i unread come = absurd unread
 come_under (role.Sink codec) h e i unread come = come
 come_under (role.Transform picker) h (entry.Install version plan once instances now) i unread come = absurd unread
@@ -76,7 +85,9 @@ come_under role.Unfit h e i unread come = tt
 
 -- a turn that took nothing leaves it where it was
 role_idle : (r : Role) (h : Record) (i : ℕ) (took : Turned) → reading_of took ≡ None → HasRoleTurned h i r took → HasCome h i r
-role_idle (role.Source core) h i took none turned = rw none at turned
+role_idle (role.Source core) h i took none turned = (rw none at turned.0, turned.1)
+role_idle (role.Generator generator) h i took none turned = absurd (rw none at turned.0)
+role_idle role.Blackhole h i took none turned = absurd turned
 role_idle (role.Sink codec) h i took none turned = absurd turned
 role_idle (role.Transform picker) h i took none turned = absurd turned
 role_idle role.Unfit h i took none turned = tt
@@ -85,7 +96,9 @@ role_idle role.Unfit h i took none turned = tt
 role_cut : (r : Role) (h : Record) (i : ℕ) (took : Turned) (reading : Reading) (cut : Cut) → reading_of took ≡ Some reading → cut_of took ≡ Some cut →
     HasRoleTurned h i r took → is_unfit r ≡ lacks_cut took →
     HasCome (entry.Read i reading.stream reading.took ∷ h) i r × (IsCutOf h i reading.stream reading.took cut × (is_unfit r ≡ false))
-role_cut (role.Source core) h i took reading cut reads cuts turned fit = let both = rw (reads, cuts) at turned in (both.0, (both.1, refl))
+role_cut (role.Source core) h i took reading cut reads cuts turned fit = let both = rw (reads, cuts) at turned.0 in ((both.0, turned.1), (both.1, refl))
+role_cut (role.Generator generator) h i took reading cut reads cuts turned fit = let both = rw (reads, cuts) at turned.0 in ((both.0, turned.1), (both.1, refl))
+role_cut role.Blackhole h i took reading cut reads cuts turned fit = absurd turned
 role_cut (role.Sink codec) h i took reading cut reads cuts turned fit = absurd turned
 role_cut (role.Transform picker) h i took reading cut reads cuts turned fit = absurd turned
 role_cut role.Unfit h i took reading cut reads cuts turned fit = let no = rw (reads, cuts) at fit in cc
@@ -94,6 +107,8 @@ role_cut role.Unfit h i took reading cut reads cuts turned fit = let no = rw (re
 role_uncut : (r : Role) (h : Record) (i : ℕ) (took : Turned) (reading : Reading) → reading_of took ≡ Some reading → cut_of took ≡ None →
     is_unfit r ≡ lacks_cut took → HasCome h i r
 role_uncut (role.Source core) h i took reading reads cuts fit = let no = rw (reads, cuts) at fit in cc
+role_uncut (role.Generator generator) h i took reading reads cuts fit = let no = rw (reads, cuts) at fit in cc
+role_uncut role.Blackhole h i took reading reads cuts fit = let no = rw (reads, cuts) at fit in cc
 role_uncut (role.Sink codec) h i took reading reads cuts fit = let no = rw (reads, cuts) at fit in cc
 role_uncut (role.Transform picker) h i took reading reads cuts fit = let no = rw (reads, cuts) at fit in cc
 role_uncut role.Unfit h i took reading reads cuts fit = tt
@@ -125,7 +140,7 @@ pub record IsArrived {P : Type 0} (told_by : P → Told) (h : Record) (i : ℕ) 
   pub out : is_out h i ≡ true
   pub told : IsTold (told_by task.port) h i
   pub come : HasCome h i task.role
-  pub answered : last_confirm h i ≡ due (at_lease h i) i
+  pub answered : device_at h i ≡ true → last_confirm h i ≡ due (at_lease h i) i
   pub shut : is_closed h i ≡ true → (told_by task.port).started ≡ false
   pub fit : is_unfit task.role ≡ false
 
@@ -157,7 +172,7 @@ module _ {P : Type 0} {told_by : P → Told} {i : ℕ} {task : Task P} {old : Bo
       (both_said (λ seat. IsKnown told_by seat h i) IsWellAt (λ seat. IsBack told_by seat.facts h i task) (slice_get new.seats i)
       (rw log at (now.seats.each i)) well (λ seat known well. record {
         settled = λ owing. settled;
-        answered = λ device owing going. arrived.answered;
+        answered = λ device owing going. arrived.answered device;
         task_is = rw well.fed (record { told = arrived.told; come = arrived.come });
         shut = λ closed. arrived.shut (sym known.facts.closed ∙ closed);
         fit = λ counted unfit. let no = rw unfit at arrived.fit in cc;
@@ -256,7 +271,7 @@ module _ {P : Type 0} {told_by : P → Told} {i : ℕ} {task : Task P} {old : Bo
       landed_marked stands within b refl stands (adds_none (IsFor i) old.log old.log refl) be_here marked b.out
       (carried_one IsWellAt (λ seat. IsBack told_by seat.facts old.log i task) marked.seats b.well (λ was is now well. rw now (record {
         settled = λ owing going. owes_before b refl;
-        answered = λ device owing going. b.answered;
+        answered = λ device owing going. b.answered device;
         task_is = (b.told, b.acted.come);
         shut = λ closed. b.acted.shut;
         fit = λ counted unfit. let no = rw unfit at b.fit in cc;

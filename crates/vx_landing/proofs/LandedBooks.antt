@@ -13,7 +13,8 @@ use Rattle.vx_record.specs.Records.{Record}
 use Rattle.vx_record.specs.Abandoning.{abandoned}
 use Rattle.vx_record.specs.Additions.{OnlyAdds}
 use Rattle.vx_record.specs.Ceasing.{cause_of}
-use Rattle.vx_record.specs.Installs.{source_at, sink_at, device_at, is_closed}
+use Rattle.vx_record.specs.Installs.{source_at, sink_at, is_closed}
+use Rattle.vx_record.specs.Generating.{IsGenerated}
 use Rattle.vx_record.specs.Legal.{Follows, IsLegal}
 use Rattle.vx_record.specs.Makers.{IsFor}
 use Rattle.vx_record.specs.Owing.{owes_answer}
@@ -28,14 +29,17 @@ use Rattle.vx_places.specs.Views.{parcels_here}
 use Rattle.vx_places.proofs.Steps.{known_later}
 use Rattle.vx_counts.proofs.Once.{itself}
 use Rattle.vx_sourcecore.specs.declared.source.Turned.{Turned}
+use Rattle.vx_sourcecore.specs.Turns.{Reading, reading_of}
 use Rattle.vx_sourcecore.proofs.Keeping.{turned_under}
+use Rattle.vx_sourcecore.proofs.MakingKept.{made_under}
 use Rattle.vx_tasks.specs.declared.confirming.Confirmed.{Confirmed}
 use Rattle.vx_tasks.specs.declared.landing.Done.{Done}
 use Rattle.vx_tasks.specs.declared.landing.Done.TheVariants as done
 use Rattle.vx_tasks.specs.declared.landing.Landing.{Landing}
 use Rattle.vx_tasks.specs.declared.task.Role.{Role}
 use Rattle.vx_tasks.specs.declared.task.Role.TheVariants as role
-use Rattle.vx_tasks.specs.Out.{AreDue, IsHeld, HasDone, HasActed, HasRoleTurned, IsConfirmedSo, confirm_entries, leaves_taken}
+use Rattle.vx_tasks.proofs.Alone.{generated_same}
+use Rattle.vx_tasks.specs.Out.{AreDue, IsHeld, IsReadable, HasDone, HasActed, HasRoleTurned, IsConfirmedSo, confirm_entries, leaves_taken}
 use Rattle.vx_seats.specs.declared.seat.Seat.{Seat}
 use Rattle.vx_seats.specs.Staying.{EachSeat, SameFlags}
 use Rattle.vx_moves.specs.declared.books.Books.{Books}
@@ -49,9 +53,8 @@ use Rattle.vx_landing.specs.Standing.{IsWellAt, IsWell, IsFedAt, IsFed, AwayIsWe
 use Rattle.vx_landing.proofs.Landed.{come_under}
 use Rattle.vx_landing.proofs.Lending.{kept_on, lent_room, room_lent}
 use Rattle.vx_landing.proofs.Owing.{entries_confirmed, lacks_home, owes_out, uncaused}
-use Rattle.vx_landing.proofs.Serving.{source_device}
 use Rattle.vx_landing.proofs.Seating.{LeavesBe, carried, not_same, others_both, well_on}
-use Rattle.vx_landing.proofs.ToldOut.{told_never, told_none, told_some}
+use Rattle.vx_landing.proofs.ToldOut.{told_none, told_some}
 
 -- ITS CONFIRM
 -- there is one only where it was due
@@ -67,14 +70,25 @@ no_sink h i source sink = grind arith
 -- what was done stays so behind it
 role_confirmed : (h : Record) (i : ℕ) (r : Role) (took : Turned) (c : Confirmed) → HasRoleTurned h i r took →
     HasRoleTurned (entry.Confirm i c.positions c.made ∷ h) i r took
-role_confirmed h i (role.Source core) took c turned = turned_under h (entry.Confirm i c.positions c.made) i core took tt turned
+role_confirmed h i (role.Source core) took c turned = (turned_under h (entry.Confirm i c.positions c.made) i core took tt turned.0, turned.1)
+role_confirmed h i (role.Generator generator) took c turned = (made_under h (entry.Confirm i c.positions c.made) i generator took tt turned.0, turned.1)
+role_confirmed h i role.Blackhole took c turned = turned
 role_confirmed h i (role.Sink codec) took c turned = turned
 role_confirmed h i (role.Transform picker) took c turned = turned
 role_confirmed h i role.Unfit took c turned = tt
 
+-- so does what may be read
+readable_confirmed : (h : Record) (i : ℕ) (took : Turned) (c : Confirmed) → IsReadable h i took → IsReadable (entry.Confirm i c.positions c.made ∷ h) i took
+readable_confirmed h i took c readable = go (reading_of took) readable
+  where
+    go : (o : Option Reading) → IfSome o (λ (r : Reading). IsGenerated h i r.stream r.took) →
+        IfSome o (λ (r : Reading). IsGenerated (entry.Confirm i c.positions c.made ∷ h) i r.stream r.took)
+    go None is = is
+    go (Some r) is = generated_same h (entry.Confirm i c.positions c.made ∷ h) i r.stream r.took refl refl refl is
+
 acted_some : (told : Told) (h : Record) (i : ℕ) (r : Role) (d : Done) (c : Confirmed) → AreDue h i (Some c.positions) → HasActed told h i r d →
     HasActed told (entry.Confirm i c.positions c.made ∷ h) i r d
-acted_some told h i r (done.Read took) c was acted = assumption (role_confirmed h i r took c acted.come)
+acted_some told h i r (done.Read took) c was acted = assumption (role_confirmed h i r took c acted.come, readable_confirmed h i took c acted.readable)
 acted_some told h i r (done.Attempted all sent answer) c was acted = absurd (no_sink h i was.0 acted.may.sink)
 acted_some told h i r (done.Judged ports) c was acted = let no = source_untransforming h i was.0 in let yes = acted.may.transform in cc
 acted_some told h i r done.Closed c was acted = let no = acted.may.confirmed in let yes = was.1.0 in cc
@@ -88,14 +102,10 @@ acted_behind told h i r d (Some c) so acted = acted_some told h i r d c (due_if 
 
 -- and then it names what was due
 answered_behind : (h : Record) (i : ℕ) (d : Done) (confirmed : Option Confirmed) → IsLegal (confirm_entries i confirmed ++ h) → is_out h i ≡ true →
-    (source_at h i ≡ true → device_at h i ≡ true) → list_any (is_confirm_of i) (since_lease h i) ≡ false → IsConfirmedSo h i d confirmed →
-    IsAnswered (confirm_entries i confirmed ++ h) i d
-answered_behind h i done.Short confirmed legal out device none so = tt
-answered_behind h i d None legal out device none so = elim (cases_Bool (source_at h i)) [
-  | inl is ↦ told_none h i legal out (device is) so none
-  | inr other ↦ told_never h i legal other
-]
-answered_behind h i d (Some c) legal out device none so = told_some h i c.positions c.made legal.0
+    list_any (is_confirm_of i) (since_lease h i) ≡ false → IsConfirmedSo h i d confirmed → IsAnswered (confirm_entries i confirmed ++ h) i d
+answered_behind h i done.Short confirmed legal out none so = tt
+answered_behind h i d None legal out none so = λ device. told_none h i legal out device so none
+answered_behind h i d (Some c) legal out none so = λ device. told_some h i c.positions c.made legal.0
 
 held_behind : (h : Record) (i : ℕ) (parcels : List Parcel) (c : Confirmed) → IsHeld h i parcels → IsHeld (entry.Confirm i c.positions c.made ∷ h) i parcels
 held_behind h i parcels c is = record {
@@ -114,7 +124,7 @@ same_behind F h i (Some c) same was = same c was
 pub over_behind : (h : Record) (i : ℕ) (confirmed : Option Confirmed) → abandoned (confirm_entries i confirmed ++ h) ≡ abandoned h
 over_behind h i confirmed = same_behind (λ k. abandoned k ≡ abandoned h) h i confirmed (λ c same. same) refl
 
-module _ {P : Type 0} {told_by : P → Told} {old : Books P} {landing : Landing P} (stands : Stands told_by old) (served : IsServed old)
+module _ {P : Type 0} {told_by : P → Told} {old : Books P} {landing : Landing P} (stands : Stands told_by old)
     (within : landing.instance < length old.seats) (back : HasDone told_by old.log landing) where
   abbrev i : ℕ
   i = landing.instance
@@ -159,8 +169,7 @@ module _ {P : Type 0} {told_by : P → Told} {old : Books P} {landing : Landing 
         unclosed = rw now on.unclosed;
         settled = rw now on.settled;
         untaken = rw now on.untaken;
-        answered = rw now (answered_behind old.log i landing.done c (rw now at after.legal) out_now
-            (source_device stands served i) back.idle.no_confirm back.confirmed);
+        answered = rw now (answered_behind old.log i landing.done c (rw now at after.legal) out_now back.idle.no_confirm back.confirmed);
         parcels = landing.held.items;
         held = rw now on.held;
         told = rw now back.told;

@@ -4,17 +4,15 @@ use Rattle.std.proofs.Common.{◌≡◌, ◌∙◌, ℕ, Bool, true, false, not,
 use Rattle.std.specs.Prelude.{◌==◌, ◌&&◌, nat_lt, if◌then◌else◌}
 use Rattle.std.specs.List.{list_any}
 use Rattle.std.proofs.lemmas.Bool.{cases_Bool, eqb-true, or_parts}
-use Rattle.std.proofs.lemmas.List.{append-nil}
 use Rattle.vx_value.specs.Texts.{is_empty}
 use Rattle.vx_ends.specs.declared.position.Position.{Position}
 use Rattle.vx_plan.specs.declared.component.Component.{Component}
 use Rattle.vx_plan.specs.Options.{has_device}
-use Rattle.vx_record.specs.declared.entry.Entry.TheVariants.{Install, Lease, Read, Born, Confirm}
+use Rattle.vx_record.specs.declared.entry.Entry.TheVariants.{Lease, Confirm}
 use Rattle.vx_record.specs.Records.{Record}
-use Rattle.vx_record.specs.Confirms.{Birth, births, confirm_prefix, moved_to, last_of_each, position_of, due, last_confirm, same_positions, is_confirm_due}
-use Rattle.vx_record.specs.Installs.{source_at, device_at}
+use Rattle.vx_record.specs.Confirms.{Birth, confirm_prefix, moved_to, last_of_each, position_of, due, last_confirm, same_positions, is_confirm_due}
+use Rattle.vx_record.specs.Installs.{device_at}
 use Rattle.vx_record.specs.Legal.{IsLegal, Follows}
-use Rattle.vx_record.specs.Sourcing.{Yield, yield}
 use Rattle.vx_record.specs.Turns.{is_out, at_lease, since_lease, is_confirm_of}
 use Rattle.vx_record.proofs.Further.{prefix_grows}
 use Rattle.vx_record.proofs.Promises.{legal_lease}
@@ -106,30 +104,3 @@ told_none h i legal out device undue none =
 pub told_some : (h : Record) (i : ℕ) (positions : List Position) (made : Bool) → Follows h (Confirm i positions made) →
     last_confirm (Confirm i positions made ∷ h) i ≡ due (at_lease h i) i
 told_some h i positions made follows = rw (itself i) follows.row.all_due
-
--- WHO BEARS
--- who yields is a source
-yielder : (h : Record) (j : ℕ) (y : Yield) → IsLegal h → yield h j ≡ Some y → source_at h j ≡ true
-yielder [] j y legal yields = cc
-yielder (Read k stream took ∷ h) j y legal yields = elim (cases_Bool (k == j)) [
-  | inl is ↦ rw (eqb-true k j is) at legal.0.row.turn.source
-  | inr far ↦ let never = rw far at yields in cc
-]
-yielder (e ∷ h) j y legal yields = cc
-
--- so others bear nothing
-unborne : (h : Record) (i : ℕ) → IsLegal h → source_at h i ≡ false → births h i ≡ []
-unborne [] i legal other = refl
-unborne (Install version plan once instances now ∷ h) i legal other = rw legal.0.row.first refl
-unborne (Born j b place copies events waits stream end ∷ h) i legal other = elim (cases_Bool (j == i)) [
-  | inl is ↦ let source = rw (eqb-true j i is) at (yielder h j (record { events = events; stream = stream; end = end }) legal.1 legal.0.row.yields) in cc
-  | inr far ↦ rw (far, append-nil) (unborne h i legal.1 other)
-]
-unborne (e ∷ h) i legal other = rw append-nil (unborne h i legal.1 other)
-
--- and of them nothing is ever due, nor was confirmed
-pub told_never : (h : Record) (i : ℕ) → IsLegal h → source_at h i ≡ false → last_confirm h i ≡ due (at_lease h i) i
-told_never h i legal other =
-    let none : due h i ≡ [] = rw (unborne h i legal other) refl in
-    let first = lease_first h i in
-    none_told h i legal none ∙ sym (due_less first.0 (at_lease h i) i (rw first.1 at none))

@@ -90,10 +90,10 @@ pub record IsMarked {P : Type 0} (told_by : P → Told) (Marks : Seat P → Seat
   pub run : new.run ≡ record old.run { short = true }
   pub seats : OneSeat Marks i old.seats new.seats
 
--- the last confirm of an instance names what was due when it was leased, but where no memory was found to confirm that
+-- the last confirm of an instance with a port names what was due when it was leased, but where no memory was found to confirm that
 abbrev pub IsAnswered : Record → ℕ → Done → Type 0
 IsAnswered h i done.Short = Unit {0}
-IsAnswered h i outcome = last_confirm h i ≡ due (at_lease h i) i
+IsAnswered h i outcome = device_at h i ≡ true → last_confirm h i ≡ due (at_lease h i) i
 
 -- whether an instance owes anything but an answer
 abbrev pub owes_entries : Record → ℕ → Bool

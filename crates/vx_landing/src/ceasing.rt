@@ -18,7 +18,6 @@ ghost use Rattle.vx_places.specs.Views.{parcels_here};
 ghost use Rattle.vx_moves.specs.Returns.{IsReturned};
 ghost use Rattle.vx_moves.specs.Leaving.{Leaves};
 ghost use Rattle.vx_moves.specs.Stands.{Stands, Steps};
-ghost use Rattle.vx_ready.specs.Asking.{IsServed};
 ghost use Rattle.vx_landing.specs.Landings.{ComesBehind, HasTask};
 
 use vx_ends::Port;
@@ -31,7 +30,6 @@ use vx_tasks::Task;
 pub(crate) fn cease<P: Port>(books: &mut Books<P>, i: u32)
     requires stands { Stands P.told books.old }
     requires within { i < length books.old.seats }
-    requires served { IsServed books.old }
     requires over { abandoned books.old.log ≡ true }
     requires home { is_out books.old.log i ≡ false }
     requires shut { IsShutAt P.told books.old.seats i }
@@ -74,7 +72,6 @@ pub(crate) fn note_home<P: Port>(books: &mut Books<P>, i: u32, task: Task<P>)
 pub(crate) fn come_home<P: Port>(books: &mut Books<P>, i: u32, task: Task<P>)
     requires stands { Stands P.told books.old }
     requires within { i < length books.old.seats }
-    requires served { IsServed books.old }
     requires out { is_out books.old.log i ≡ true }
     requires kept { IsSome (parcels_here books.old.places (Held i)) }
     requires back { HasTaskBack P.told books.old.seats books.old.log i task }

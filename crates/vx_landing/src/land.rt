@@ -68,7 +68,6 @@ pub fn bring_home<P: Port>(
 fn note_confirmed<P: Port>(books: &mut Books<P>, i: u32, confirmed: &Option<Confirmed>)
     requires stands { Stands P.told books.old }
     requires within { i < length books.old.seats }
-    requires served { IsServed books.old }
     requires may { IsConfirmable books.old.log i confirmed.now }
     ensures stands { Stands P.told books.new }
     ensures log { books.new.log ≡ confirm_entries i confirmed.now ++ books.old.log }
@@ -91,7 +90,6 @@ fn note_done<P: Port>(
 ) -> Result<(), Short>
     requires stands { Stands P.told books.old }
     requires within { i < length books.old.seats }
-    requires served { IsServed books.old }
     requires back { IsBackWith P.told books.old i task.now done }
     ensures landed { HasLanded P.told i task.now books.old books.new }
     ensures noted { OnlyAdds (ComesBehind i) (done_entries (is_err result || abandoned books.old.log) books.old.log i done ++ books.old.log) books.new.log }
@@ -132,7 +130,6 @@ fn note_turn<P: Port>(
 ) -> Result<(), Short>
     requires stands { Stands P.told books.old }
     requires within { i < length books.old.seats }
-    requires served { IsServed books.old }
     requires back { IsBackWith P.told books.old i task.now (Done.Read turned) }
     ensures landed { HasLanded P.told i task.now books.old books.new }
     ensures noted { OnlyAdds (ComesBehind i) (turn_entry books.old.log i turned ∷ books.old.log) books.new.log }
@@ -164,7 +161,6 @@ fn land_read<P: Port>(
 ) -> Result<(), Short>
     requires stands { Stands P.told books.old }
     requires within { i < length books.old.seats }
-    requires served { IsServed books.old }
     requires back { IsBackWith P.told books.old i task.now (Done.Read turned) }
     requires reading { is_reading turned ≡ true }
     ensures landed { HasLanded P.told i task.now books.old books.new }

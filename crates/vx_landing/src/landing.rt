@@ -6,7 +6,7 @@ ghost use Rattle.vx_record.specs.declared.entry.Entry.TheVariants.{Read, Confirm
 ghost use Rattle.vx_record.specs.Abandoning.{abandoned};
 ghost use Rattle.vx_record.specs.Copies.{joined};
 ghost use Rattle.vx_record.specs.Encoding.{encoded};
-ghost use Rattle.vx_record.specs.Installs.{is_closed};
+ghost use Rattle.vx_record.specs.Installs.{device_at, is_closed};
 ghost use Rattle.vx_record.specs.Lists.{held};
 ghost use Rattle.vx_record.specs.Places.Place.{Held};
 ghost use Rattle.vx_record.specs.Reads.{bytes_taken};
@@ -20,7 +20,7 @@ ghost use Rattle.vx_sourcecore.specs.NewLines.{AreNew};
 ghost use Rattle.vx_sourcecore.specs.Abreast.{IsCutOf};
 ghost use Rattle.vx_sourcecore.specs.Turns.{reading_of, cut_of, IsInRoom};
 ghost use Rattle.vx_sourcecore.specs.declared.source.Turned.TheVariants.{Failed};
-ghost use Rattle.vx_tasks.specs.Out.{AreDue, MayReadNow, MayAttemptNow, MayCloseNow, turn_entry};
+ghost use Rattle.vx_tasks.specs.Out.{AreDue, IsReadable, MayReadNow, MayAttemptNow, MayCloseNow, turn_entry};
 ghost use Rattle.vx_places.specs.Views.{parcels_here};
 ghost use Rattle.vx_seats.specs.Calls.{CountsAt};
 ghost use Rattle.vx_record.specs.Additions.{OnlyAdds};
@@ -31,7 +31,6 @@ ghost use Rattle.vx_ledger.specs.declared.short.Short.TheVariants.{WantOfMemory 
 ghost use Rattle.vx_moves.specs.Answering.{MayAnswerNow};
 ghost use Rattle.vx_moves.specs.Bearing.{IsBirthShort};
 ghost use Rattle.vx_moves.specs.Stands.{Stands};
-ghost use Rattle.vx_ready.specs.Asking.{IsServed};
 ghost use Rattle.vx_landing.specs.Landings.{HasNoted, HasNotedRead, HasSpentBy, HasAnsweredBy, HasBorneCut, IsOwingNow, IsMarked, outcome_of as outcome_by};
 
 use std::alloc::Global;
@@ -48,7 +47,6 @@ use vx_value::{Bytes, WantOfMemory};
 pub(crate) fn note_confirm<P: Port>(books: &mut Books<P>, i: u32, confirmed: &Confirmed)
     requires stands { Stands P.told books.old }
     requires within { i < length books.old.seats }
-    requires served { IsServed books.old }
     requires out { is_out books.old.log i ≡ true }
     requires once { list_any (is_confirm_of i) (since_lease books.old.log i) ≡ false }
     requires due { AreDue books.old.log i (Some confirmed.now.positions) }
@@ -61,10 +59,10 @@ pub(crate) fn note_confirm<P: Port>(books: &mut Books<P>, i: u32, confirmed: &Co
 pub(crate) fn note_idle<P: Port>(books: &mut Books<P>, i: u32, failed: bool)
     requires stands { Stands P.told books.old }
     requires within { i < length books.old.seats }
-    requires served { IsServed books.old }
     requires out { is_out books.old.log i ≡ true }
     requires once { list_any (is_turn_of i) (since_lease books.old.log i) ≡ false }
     requires may { MayReadNow books.old.log i }
+    requires device { device_at books.old.log i ≡ true }
     requires few { failed ≡ true → failed_starts books.old.log i < 4 }
     ensures { HasNoted P.told i (Idle i failed) books.old books.new }
 {
@@ -75,11 +73,11 @@ pub(crate) fn note_idle<P: Port>(books: &mut Books<P>, i: u32, failed: bool)
 pub(crate) fn note_lost<P: Port>(books: &mut Books<P>, i: u32, failed: bool)
     requires stands { Stands P.told books.old }
     requires within { i < length books.old.seats }
-    requires served { IsServed books.old }
     requires fit { CountsAt books.old.seats i }
     requires out { is_out books.old.log i ≡ true }
     requires once { list_any (is_turn_of i) (since_lease books.old.log i) ≡ false }
     requires may { MayReadNow books.old.log i }
+    requires device { device_at books.old.log i ≡ true }
     requires many { failed ≡ true → 4 ≤ failed_starts books.old.log i }
     ensures { HasNoted P.told i (SourceLost i (capped (bytes_taken books.old.log i)) failed) books.old books.new }
 {
@@ -96,13 +94,13 @@ pub(crate) fn note_attempt<P: Port>(
 )
     requires stands { Stands P.told books.old }
     requires within { i < length books.old.seats }
-    requires served { IsServed books.old }
     requires out { is_out books.old.log i ≡ true }
     requires once { list_any (is_attempt_of i) (since_lease books.old.log i) ≡ false }
     requires may { MayAttemptNow books.old.log i }
     requires whole { all.now.value ≡ encoded books.old.log i (at books.old.log (Held i)) }
     requires fits { sent ≤ length all.now.value }
     requires well { reply ≡ WellTaken → sent ≡ length all.now.value }
+    requires swallowed { device_at books.old.log i ≡ false → reply ≡ WellTaken }
     ensures { HasNoted P.told i (Attempt i (joined (held books.old.log i)) (take sent all.now.value) reply) books.old books.new }
 {
     books.attempt(i, all, sent, reply);
@@ -112,7 +110,6 @@ pub(crate) fn note_attempt<P: Port>(
 pub(crate) fn note_closed<P: Port>(books: &mut Books<P>, i: u32)
     requires stands { Stands P.told books.old }
     requires within { i < length books.old.seats }
-    requires served { IsServed books.old }
     requires out { is_out books.old.log i ≡ true }
     requires unclosed { is_closed books.old.log i ≡ false }
     requires may { MayCloseNow books.old.log i }
@@ -138,11 +135,11 @@ fn is_tried_again<P: Port>(books: &Books<P>, i: u32, at_start: bool) -> bool
 pub(crate) fn note_failed<P: Port>(books: &mut Books<P>, i: u32, at_start: bool)
     requires stands { Stands P.told books.old }
     requires within { i < length books.old.seats }
-    requires served { IsServed books.old }
     requires fit { CountsAt books.old.seats i }
     requires out { is_out books.old.log i ≡ true }
     requires once { list_any (is_turn_of i) (since_lease books.old.log i) ≡ false }
     requires may { MayReadNow books.old.log i }
+    requires device { device_at books.old.log i ≡ true }
     ensures { HasNoted P.told i (turn_entry books.old.log i (Failed at_start)) books.old books.new }
 {
     if is_tried_again(books, i, at_start) {
@@ -156,10 +153,10 @@ pub(crate) fn note_failed<P: Port>(books: &mut Books<P>, i: u32, at_start: bool)
 pub(crate) fn note_read<P: Port>(books: &mut Books<P>, i: u32, turned: &Turned)
     requires stands { Stands P.told books.old }
     requires within { i < length books.old.seats }
-    requires served { IsServed books.old }
     requires out { is_out books.old.log i ≡ true }
     requires once { list_any (is_turn_of i) (since_lease books.old.log i) ≡ false }
     requires may { MayReadNow books.old.log i }
+    requires readable { IsReadable books.old.log i turned.now }
     requires whole { IsInRoom turned.now }
     requires lines { IsSomeAnd (reading_of turned.now) (λ reading. IfSome (cut_of turned.now) (λ cut. AreNew books.old.log i reading.stream reading.took cut.new)) }
     ensures { IsSomeAnd (reading_of turned.now) (λ reading. HasNotedRead P.told (is_none (cut_of turned.now)) i (Read i reading.stream reading.took) books.old books.new) }
@@ -208,7 +205,6 @@ pub(crate) fn land_attempt<P: Port>(
 )
     requires stands { Stands P.told books.old }
     requires within { i < length books.old.seats }
-    requires served { IsServed books.old }
     requires out { is_out books.old.log i ≡ true }
     requires once { list_any (is_attempt_of i) (since_lease books.old.log i) ≡ false }
     requires kept { IsSome (parcels_here books.old.places (Held i)) }
@@ -216,6 +212,7 @@ pub(crate) fn land_attempt<P: Port>(
     requires whole { all.now.value ≡ encoded books.old.log i (at books.old.log (Held i)) }
     requires fits { sent ≤ length all.now.value }
     requires well { reply ≡ WellTaken → sent ≡ length all.now.value }
+    requires swallowed { device_at books.old.log i ≡ false → reply ≡ WellTaken }
     ensures { HasSpentBy P.told i (Attempt i (joined (held books.old.log i)) (take sent all.now.value) reply) reply books.old books.new }
 {
     note_attempt(books, i, all, sent, reply);

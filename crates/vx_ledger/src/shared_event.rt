@@ -38,7 +38,7 @@ impl SharedEvent {
         }
     }
 
-    /// The same event for one more parcel. It isn't copied. Want of memory comes where 2^63 parcels have it.
+    /// The same event for one more parcel. It isn't copied. Want of memory comes where 2^63 - 1 parcels have it already.
     pub fn share(&self) -> Result<Self, WantOfMemory>
         ensures { IfOk result (λ shared. shared ≡ self.now) }
     {

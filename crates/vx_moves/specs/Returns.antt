@@ -1,10 +1,11 @@
 -- What came home had done what it was asked to.
-use Rattle.std.specs.Prelude.{◌≡◌, ℕ, ◌<◌, false, [], ◌∷◌}
+use Rattle.std.specs.Prelude.{◌≡◌, ℕ, ◌<◌, true, false, [], ◌∷◌}
 use Rattle.vx_record.specs.declared.entry.Entry.TheVariants.{Home}
 use Rattle.vx_record.specs.Records.{Record}
 use Rattle.vx_record.specs.Abandoning.{abandoned}
 use Rattle.vx_record.specs.Copies.{times_spent}
 use Rattle.vx_record.specs.Confirms.{due, last_confirm}
+use Rattle.vx_record.specs.Installs.{device_at}
 use Rattle.vx_record.specs.SinkBatches.{attempts_with}
 use Rattle.vx_record.specs.Turns.{at_lease}
 
@@ -12,11 +13,11 @@ use Rattle.vx_record.specs.Turns.{at_lease}
 abbrev pub AreSettled : Record → ℕ → Type 0
 AreSettled h i = abandoned h ≡ false → (c : ℕ) → 0 < attempts_with h i c → 0 < times_spent h c
 
--- what comes home has spent all that it attempted, unless the run was given up; its last confirm, made or failed, names what was
--- due when it was leased
+-- what comes home has spent all that it attempted, unless the run was given up; where it has a port, its last confirm, made or failed,
+-- names what was due when it was leased
 pub record IsReturned (h : Record) (i : ℕ) : Type 0 where
   pub settled : AreSettled h i
-  pub told : last_confirm h i ≡ due (at_lease h i) i
+  pub told : device_at h i ≡ true → last_confirm h i ≡ due (at_lease h i) i
 
 -- each instance that came home had
 abbrev pub HaveReturned : Record → Type 0

@@ -1,6 +1,5 @@
-ghost use Rattle.std.specs.Prelude.{◌≡◌, ◌<◌, ◌≤◌, length, true, false};
+ghost use Rattle.std.specs.Prelude.{◌≡◌, ◌<◌, ◌≤◌, length, false};
 ghost use Rattle.vx_record.specs.Abandoning.{abandoned};
-ghost use Rattle.vx_record.specs.Installs.{device_at, source_at};
 ghost use Rattle.vx_record.specs.Starting.{MayLease};
 ghost use Rattle.vx_moves.specs.Stands.{Stands};
 ghost use Rattle.vx_moves.specs.Leasing.{HasLent, IsFitAt};
@@ -10,8 +9,8 @@ use vx_ends::{Port, PositionList};
 use vx_tasks::Task;
 
 impl<P: Port> Books<P> {
-    /// Leases an instance to a worker at a moment in milliseconds, and gives its task and what is to be confirmed. Where it is a
-    /// source, its port has a device, which that of every source has today.
+    /// Leases an instance to a worker at a moment in milliseconds, and gives its task and what is to be confirmed. Where its component
+    /// works with no port, nothing is.
     pub fn lease(&mut self, i: u32, worker: u32, now: u64) -> (Task<P>, Option<PositionList>)
         requires stands { Stands P.told self.old }
         requires within { i < length self.old.seats }
@@ -19,7 +18,6 @@ impl<P: Port> Books<P> {
         requires going { abandoned self.old.log ≡ false }
         requires latest { self.old.run.latest ≤ now }
         requires fit { IsFitAt self.old.seats i }
-        requires device { source_at self.old.log i ≡ true → device_at self.old.log i ≡ true }
         ensures lent { HasLent P.told i worker now result.0 result.1 self.old self.new }
     {
         let Some((task, positions)) = self.seats.leave(i) else {

@@ -7,12 +7,11 @@ use Rattle.vx_value.specs.Texts.{is_empty}
 use Rattle.vx_ledger.specs.declared.parcel.Parcel.{Parcel}
 use Rattle.vx_record.specs.Records.{Record}
 use Rattle.vx_record.specs.Confirms.{is_confirm_due}
-use Rattle.vx_record.specs.Installs.{source_at, transform_at, sink_at, device_at}
+use Rattle.vx_record.specs.Installs.{source_at}
 use Rattle.vx_record.specs.Lists.{buffered, held}
 use Rattle.vx_record.specs.Owing.{owes, all_noticed, is_source_done, is_worker_done, is_done}
 use Rattle.vx_record.specs.Places.Place.{Held}
 use Rattle.vx_record.specs.Routing.{is_dry, is_sent, is_ending}
-use Rattle.vx_record.proofs.Answerers.{source_untransforming, sink_untransforming}
 use Rattle.vx_places.specs.Calls.{IsKept}
 use Rattle.vx_places.specs.Looks.{HasEmptyBuffer, HoldsMany}
 use Rattle.vx_places.specs.Views.{parcels_here}
@@ -21,9 +20,8 @@ use Rattle.vx_places.proofs.Recorded.{buffer_is, holds_is}
 use Rattle.vx_seats.specs.declared.seat.Seat.{Seat}
 use Rattle.vx_moves.specs.declared.books.Books.{Books}
 use Rattle.vx_moves.specs.Stands.{Stands}
-use Rattle.vx_ready.specs.Asking.{IsServed, IsSettled}
+use Rattle.vx_ready.specs.Asking.{IsSettled}
 use Rattle.vx_ready.proofs.Knowing.{at_home, owes_none, seat_there}
-use Rattle.vx_ready.proofs.Naming.{device_is}
 use Rattle.vx_ready.proofs.Testing.{same_tests, empty_tests}
 
 -- what an instance at home holds isn't lent
@@ -37,17 +35,6 @@ kept_at told_by books stands i seat at within settled =
 
 pub kept_there : {P : Type 0} (told_by : P → Told) (books : Books P) (stands : Stands told_by books) (i : ℕ) → i < length books.seats → IsSettled books i → IsKept books.places i
 kept_there told_by books stands i within settled = let there = seat_there books.seats i within in kept_at told_by books stands i there.0 there.1 within settled
-
--- all but transforms work with a port
-module _ {P : Type 0} (told_by : P → Told) (books : Books P) (stands : Stands told_by books) (served : IsServed books) (i : ℕ) (within : i < length books.seats) where
-  pub device_there : device_at books.log i ≡ not (transform_at books.log i)
-  device_there = let there = seat_there books.seats i within in device_is told_by books stands served i there.0 there.1
-
-  pub source_device : source_at books.log i ≡ true → device_at books.log i ≡ true
-  source_device is = device_there ∙ ap not (source_untransforming books.log i is)
-
-  pub sink_device : sink_at books.log i ≡ true → device_at books.log i ≡ true
-  sink_device is = device_there ∙ ap not (sink_untransforming books.log i is)
 
 pub unbuffered_is : {P : Type 0} (told_by : P → Told) (books : Books P) (i : ℕ) (empty : Bool) → Stands told_by books → (empty ≡ true) ↔ HasEmptyBuffer books.places i → empty ≡ is_empty (buffered books.log i)
 unbuffered_is told_by books i empty stands says =

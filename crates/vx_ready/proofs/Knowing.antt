@@ -24,6 +24,7 @@ use Rattle.vx_tasks.specs.declared.task.Task.{Task}
 use Rattle.vx_seats.specs.declared.seat.Seat.{Seat}
 use Rattle.vx_seats.specs.Knowing.{IsFittedTo, IsKnown, HasHome}
 use Rattle.vx_seats.proofs.Aside.{noticed_all, confirm_due}
+use Rattle.vx_seats.proofs.Knowing.{device_fits}
 use Rattle.vx_moves.specs.declared.books.Books.{Books}
 use Rattle.vx_moves.specs.Stands.{Stands}
 use Rattle.vx_ready.specs.Asking.{source_class, transform_class, sink_class, IsHome, IsSettled}
@@ -92,6 +93,9 @@ module _ {P : Type 0} (told_by : P → Told) (books : Books P) (stands : Stands 
   pub sink_is : sink_class seat.class ≡ sink_at books.log i
   sink_is = sym (sink_runs books.log i seat.class runs)
 
+  pub device_is : seat.device ≡ device_at books.log i
+  device_is = sym (device_fits seat books.log i known.fitted)
+
   pub dry_is : (source_class seat.class && (seat.facts.over || is_some seat.facts.lost)) ≡ is_dry books.log i
   dry_is =
       ap (λ b. b && (seat.facts.over || is_some seat.facts.lost)) source_is
@@ -120,10 +124,10 @@ module _ {P : Type 0} (told_by : P → Told) (books : Books P) (stands : Stands 
   pub owes_none : IsSettled books i → owes books.log i ≡ false
   owes_none settled = (at_home settled).1.settled (home settled).1.1 (going settled)
 
-  pub due_is : IsSettled books i → device_at books.log i ≡ true → is_some seat.progress.prefix.due ≡ is_confirm_due books.log i
-  due_is settled device =
+  pub due_is : IsSettled books i → (seat.device && is_some seat.progress.prefix.due) ≡ is_confirm_due books.log i
+  due_is settled =
       let has = home settled in
-      confirm_due told_by books.log i books.seats seat has.0 at has.1.0 has.1.1 (going settled) stands.legal device stands.seats
+      confirm_due told_by books.log i books.seats seat has.0 at has.1.0 has.1.1 (going settled) stands.legal stands.seats
 
   pub noticed_is : (seat.progress.unnoticed == 0) ≡ all_noticed books.log i
   noticed_is =

@@ -13,7 +13,7 @@ use Rattle.vx_plan.specs.Components.{component_named, is_source, is_transform, p
 use Rattle.vx_plan.specs.Options.{has_device, transform_ports}
 use Rattle.vx_record.specs.Records.{Record}
 use Rattle.vx_record.specs.Copies.{contains, count, counting, joined}
-use Rattle.vx_record.specs.Installs.{Wiring, wiring, wired, told, source_at, transform_at, device_at, is_marked}
+use Rattle.vx_record.specs.Installs.{Wiring, wiring, wired, told, source_at, is_marked}
 use Rattle.vx_record.specs.Judges.{is_judging}
 use Rattle.vx_record.specs.Lists.{waiting}
 use Rattle.vx_record.specs.Routing.{wired_targets, drains, is_dry, all_dry, is_sent, routes, all_ports, is_named, is_ending}
@@ -27,7 +27,8 @@ use Rattle.vx_seats.specs.declared.seat.Seat.{Seat}
 use Rattle.vx_seats.specs.Knowing.{outlets_at, wired_outlets}
 use Rattle.vx_moves.specs.declared.books.Books.{Books}
 use Rattle.vx_moves.specs.Stands.{Stands}
-use Rattle.vx_ready.specs.Asking.{transform_class, is_among, goes_on, goes_to, has_few_ports, is_served, all_served, IsServed}
+use Rattle.vx_sourcecore.specs.Lines.{is_generating, is_swallowing}
+use Rattle.vx_ready.specs.Asking.{source_class, transform_class, sink_class, is_among, goes_on, goes_to, has_few_ports, is_served, all_served, IsServed}
 use Rattle.vx_ready.proofs.Counting.{any_contains, counted}
 use Rattle.vx_ready.proofs.Knowing.{Runs, undraining, known, runs, seat_there}
 use Rattle.vx_ready.proofs.Testing.{same_tests}
@@ -38,17 +39,19 @@ served_at [] k c all at = cc
 served_at (d ∷ rest) zero c all at = let same : d ≡ c = cc in ap is_served (sym same) ∙ and_left (is_served d) (all_served rest) all
 served_at (d ∷ rest) (suc k) c all at = served_at rest k c (and_right (is_served d) (all_served rest) all) at
 
--- it works with a port unless it is a transform, and such a one puts out on few ports
-served_tests : (device transform judging few : Bool) → ((device && not transform) || (transform && judging && not device && few)) ≡ true → (device ≡ not transform) × ((not transform || few) ≡ true)
-served_tests true true true few is = cc
-served_tests true true false few is = cc
-served_tests true false judging few is = (refl, refl)
-served_tests false true true few is = (refl, is)
-served_tests false true false few is = cc
-served_tests false false judging few is = cc
+-- a transform puts out on few ports
+judge_tests : (device judging few : Bool) → ((device && false) || (judging && not device && few) || false || false) ≡ true → few ≡ true
+judge_tests device judging few is = grind arith
 
-served_so : (c : Component) → is_served c ≡ true → (has_device c.settings ≡ not (is_transform c)) × ((not (is_transform c) || has_few_ports c) ≡ true)
-served_so c = served_tests (has_device c.settings) (is_transform c) (is_judging c.settings) (has_few_ports c)
+served_tests : (class : Class) (device judging few generating swallowing : Bool) →
+    ((device && not (transform_class class)) || (transform_class class && judging && not device && few) || (source_class class && generating) || (sink_class class && swallowing)) ≡ true →
+    (not (transform_class class) || few) ≡ true
+served_tests Source device judging few generating swallowing is = refl
+served_tests Transform device judging few generating swallowing is = judge_tests device judging few is
+served_tests Sink device judging few generating swallowing is = refl
+
+served_so : (c : Component) → is_served c ≡ true → (not (is_transform c) || has_few_ports c) ≡ true
+served_so c = served_tests c.class (has_device c.settings) (is_judging c.settings) (has_few_ports c) (is_generating c.settings) (is_swallowing c.settings)
 
 -- TARGETS
 or_contains : (xs ys : List ℕ) (i : ℕ) → (contains xs i || contains ys i) ≡ contains (xs ++ ys) i
@@ -120,13 +123,6 @@ module _ {P : Type 0} (told_by : P → Told) (books : Books P) (stands : Stands 
       served_at books.run.plan.components j run.component served.served
       (sym (component_in_place books.log books.run.plan j stands.legal stands.run.installed) ∙ run.there)
 
-  -- all but transforms work with a port
-  pub device_is : device_at books.log j ≡ not (transform_at books.log j)
-  device_is =
-      let run = runs told_by books stands j seat at in
-      ap (λ (o : Option Component). elim o [ None ↦ false | Some c ↦ has_device c.settings ]) run.there ∙ (served_so run.component served_is).0
-      ∙ sym (ap (λ (o : Option Component). not (elim o [ None ↦ false | Some c ↦ is_transform c ])) run.there)
-
   -- the ports on which an instance puts out are few
   pub few_ports : length seat.outlet ≤ 65
   few_ports =
@@ -136,7 +132,7 @@ module _ {P : Type 0} (told_by : P → Told) (books : Books P) (stands : Stands 
       let many : length seat.outlet ≡ length (port_names run.component) =
       ap length ((known told_by books stands j seat at).fitted.outlet ∙ outlets_are books.log j) ∙ length_map (λ port. wired [] (wired_targets port) books.log j) (all_ports books.log j)
       ∙ ap length all ∙ counted 0 (length (port_names run.component)) in
-      let few = few_by run.component.class run.component.settings (served_so run.component served_is).1 in
+      let few = few_by run.component.class run.component.settings (served_so run.component served_is) in
       omega (arith, many, few)
 
   pub sends_is : (i : ℕ) → (not (is_dry books.log j && is_sent books.log j) && goes_to i seat.outlet) ≡ contains (routes books.log j (all_ports books.log j)) i

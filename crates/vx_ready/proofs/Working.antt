@@ -15,7 +15,6 @@ use Rattle.vx_record.specs.Owing.{is_done}
 use Rattle.vx_record.specs.Ready.{can_read, is_close_due, is_source_ready, is_attempt_due, can_take, is_sink_ready, is_flush_due, is_transform_ready, is_ready}
 use Rattle.vx_record.specs.Routing.{is_sent, is_ending}
 use Rattle.vx_record.specs.SinkBatches.{is_batch_closed, retry_from}
-use Rattle.vx_record.proofs.Answerers.{source_untransforming}
 use Rattle.vx_record.proofs.Ceasing.{unabandoned}
 use Rattle.vx_seats.specs.declared.seat.Seat.{Seat}
 use Rattle.vx_tasks.specs.declared.work.Job.{Job}
@@ -23,12 +22,11 @@ use Rattle.vx_tasks.specs.declared.work.Job.TheVariants as job
 use Rattle.vx_moves.specs.declared.books.Books.{Books}
 use Rattle.vx_moves.specs.Leasing.{IsFitAt}
 use Rattle.vx_moves.specs.Stands.{Stands}
-use Rattle.vx_ready.specs.Asking.{source_class, transform_class, sink_class, IsServed, IsSettled, IsUsable, IsOpen}
+use Rattle.vx_ready.specs.Asking.{source_class, transform_class, sink_class, IsSettled, IsUsable, IsOpen}
 use Rattle.vx_ready.specs.Jobs.{IsLeasable, IsSourceJob, IsTransformJob, IsSinkJob, IsJob}
 use Rattle.vx_ready.proofs.Closed.{waits_not, closed_filled}
 use Rattle.vx_ready.proofs.Emptied.{holds_none}
 use Rattle.vx_ready.proofs.Knowing.{Runs, known, runs, source_is, transform_is, sink_is, home, going, at_home, owes_none, seat_there}
-use Rattle.vx_ready.proofs.Naming.{device_is}
 
 -- TESTS
 after_two : (a b c : Bool) → a ≡ true → b ≡ false → c ≡ (a && not b && c)
@@ -98,7 +96,7 @@ module _ {P : Type 0} (told_by : P → Told) (books : Books P) (stands : Stands 
   pub sink_so : seat.class ≡ Sink → sink_at books.log i ≡ true
   sink_so is = sym (sink_is told_by books stands i seat there) ∙ ap sink_class is
 
-module _ {P : Type 0} (told_by : P → Told) (books : Books P) (stands : Stands told_by books) (served : IsServed books) (i : ℕ) (seat : Seat P) (there : slice_get books.seats i ≡ Some seat) (settled : IsSettled books i) (open_at : IsOpen books i) where
+module _ {P : Type 0} (told_by : P → Told) (books : Books P) (stands : Stands told_by books) (i : ℕ) (seat : Seat P) (there : slice_get books.seats i ≡ Some seat) (settled : IsSettled books i) (open_at : IsOpen books i) where
   usable : IsUsable seat
   usable = subst (λ (o : Option (Seat P)). IsSomeAnd o IsUsable) there open_at
 
@@ -125,7 +123,6 @@ module _ {P : Type 0} (told_by : P → Told) (books : Books P) (stands : Stands 
     };
     going = unabandoned books.log (going told_by books stands i seat there settled);
     fit = fit_there;
-    device = λ is. device_is told_by books stands served i seat there ∙ ap not (source_untransforming books.log i is);
   }
 
   runs_as : (class : Class) → seat.class ≡ class → Runs books.log i class
@@ -158,8 +155,12 @@ module _ {P : Type 0} (told_by : P → Told) (books : Books P) (stands : Stands 
   pub sink_works : (now : ℕ) (work : Job) → seat.class ≡ Sink → IsSinkJob books.log i now work → IsJob books.log i now work
   sink_works now work is does = inr (inr (sink_so told_by books stands i seat there is, does))
 
-pub close_there : {P : Type 0} (told_by : P → Told) (books : Books P) (stands : Stands told_by books) (served : IsServed books) (i : ℕ) → i < length books.seats → IsSettled books i → IsOpen books i → device_at books.log i ≡ true → is_done books.log i ≡ is_close_due books.log i
-close_there told_by books stands served i within settled open_at = let there = seat_there books.seats i within in close_is told_by books stands served i there.0 there.1 settled open_at
+pub close_there : {P : Type 0} (told_by : P → Told) (books : Books P) (stands : Stands told_by books) (i : ℕ) → i < length books.seats → IsSettled books i → IsOpen books i → device_at books.log i ≡ true → is_done books.log i ≡ is_close_due books.log i
+close_there told_by books stands i within settled open_at = let there = seat_there books.seats i within in close_is told_by books stands i there.0 there.1 settled open_at
+
+-- one without a port never is
+pub close_never : (h : Record) (i : ℕ) → device_at h i ≡ false → false ≡ is_close_due h i
+close_never h i off = sym (ap (λ b. b && not (is_closed h i) && is_done h i) off)
 
 -- a transform that hasn't sent everything has no work, nor has one with nothing buffered: it holds nothing, so no flush is due
 pub unsent_there : (h : Record) (i : ℕ) → is_sent h i ≡ false → is_transform_ready h i ≡ false

@@ -4,9 +4,10 @@ use Rattle.std.specs.List.{list_any}
 use Rattle.vx_plan.specs.declared.class.Class.{Class}
 use Rattle.vx_plan.specs.declared.class.Class.TheVariants.{Source, Transform, Sink}
 use Rattle.vx_plan.specs.declared.component.Component.{Component}
-use Rattle.vx_plan.specs.Components.{is_transform, port_names}
+use Rattle.vx_plan.specs.Components.{is_source, is_transform, is_sink, port_names}
 use Rattle.vx_plan.specs.Options.{has_device}
 use Rattle.vx_record.specs.Judges.{is_judging}
+use Rattle.vx_sourcecore.specs.Lines.{is_generating, is_swallowing}
 use Rattle.vx_seats.specs.declared.seat.Seat.{Seat}
 use Rattle.vx_moves.specs.declared.books.Books.{Books}
 
@@ -46,16 +47,25 @@ has_few_ports c = nat_le (length (port_names c)) 65
 abbrev pub is_judge : Component → Bool
 is_judge c = is_transform c && is_judging c.settings && not (has_device c.settings) && has_few_ports c
 
--- whether it is one of the two
+-- whether it is a source that makes its lines itself
+abbrev pub is_generator : Component → Bool
+is_generator c = is_source c && is_generating c.settings
+
+-- whether it is a sink that writes nothing
+abbrev pub is_hole : Component → Bool
+is_hole c = is_sink c && is_swallowing c.settings
+
+-- whether it is one of these
 abbrev pub is_served : Component → Bool
-is_served c = is_ported c || is_judge c
+is_served c = is_ported c || is_judge c || is_generator c || is_hole c
 
 -- whether each of some is
 abbrev pub all_served : List Component → Bool
 all_served [] = true
 all_served (c ∷ rest) = is_served c && all_served rest
 
--- each component of the plan works with a port or judges each event by itself, and there are fewer than 2^32 instances
+-- each component of the plan works with a port, judges each event by itself, makes its lines itself or writes nothing, and there
+-- are fewer than 2^32 instances
 pub record IsServed {P : Type 0} (books : Books P) : Type 0 where
   pub served : all_served books.run.plan.components ≡ true
   pub few : length books.seats < 2 ^ 32

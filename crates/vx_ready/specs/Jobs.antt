@@ -3,7 +3,7 @@ use Rattle.std.specs.Prelude.{◌≡◌, ◌⊎◌, ℕ, ◌+◌, ◌≤◌, Boo
 use Rattle.vx_record.specs.Records.{Record, capped}
 use Rattle.vx_record.specs.Abandoning.{abandoned}
 use Rattle.vx_record.specs.Confirms.{is_confirm_due}
-use Rattle.vx_record.specs.Installs.{source_at, transform_at, sink_at, device_at}
+use Rattle.vx_record.specs.Installs.{source_at, transform_at, sink_at}
 use Rattle.vx_record.specs.Lists.{buffered}
 use Rattle.vx_record.specs.Routing.{is_sent}
 use Rattle.vx_value.specs.Texts.{is_empty}
@@ -21,7 +21,6 @@ pub record IsLeasable {P : Type 0} (books : Books P) (i now : ℕ) : Type 0 wher
   pub may : (worker : ℕ) → worker_now books.log worker ≤ now → MayLease books.log i worker now 0
   pub going : abandoned books.log ≡ false
   pub fit : IsFitAt books.seats i
-  pub device : source_at books.log i ≡ true → device_at books.log i ≡ true
 
 -- so many parcels are as many as a batch may have, or the oldest of them has waited long enough
 abbrev pub is_full_or_old : Option Batching → ℕ → ℕ → ℕ → Bool

@@ -32,7 +32,6 @@ pub fn is_done<P: Port>(books: &Books<P>, i: u32) -> bool
 fn is_source_done<P: Port>(books: &Books<P>, i: u32) -> bool
     requires stands { Stands P.told books.now }
     requires within { i < length books.now.seats }
-    requires served { IsServed books.now }
     requires settled { IsSettled books.now i }
     requires source { source_at books.now.log i ≡ true }
     ensures { result ≡ is_source_done_at books.now.log i }

@@ -1,6 +1,6 @@
 // What an instance has to do.
 ghost use Rattle.std.specs.Prelude.{◌≡◌, ◌<◌, ℕ, length, true, false, IfSome, IfNone, IsTrue};
-ghost use Rattle.vx_record.specs.Installs.{source_at, transform_at, sink_at, device_at};
+ghost use Rattle.vx_record.specs.Installs.{source_at, transform_at, sink_at};
 ghost use Rattle.vx_record.specs.Ready.{is_close_due as is_close_due_at, is_source_ready, is_sink_ready, is_transform_ready, is_ready};
 ghost use Rattle.vx_moves.specs.Stands.{Stands};
 ghost use Rattle.vx_ready.specs.Asking.{IsServed, IsHome, IsSettled, IsUsable, IsOpen};
@@ -8,7 +8,7 @@ ghost use Rattle.vx_ready.specs.Jobs.{IsLeasable, IsJob, IsSourceJob, IsTransfor
 
 use crate::batches::is_batch_closed;
 use crate::finishing::{is_done, is_unbuffered};
-use crate::sources::{can_read, is_confirm_due, is_sent};
+use crate::sources::{can_read, has_device, is_confirm_due, is_sent};
 use vx_ends::Port;
 use vx_moves::Books;
 use vx_plan::Class;
@@ -147,8 +147,7 @@ fn is_close_due<P: Port>(books: &Books<P>, i: u32) -> bool
     requires served { IsServed books.now }
     requires settled { IsSettled books.now i }
     requires open { IsOpen books.now i }
-    requires device { device_at books.now.log i ≡ true }
     ensures { result ≡ is_close_due_at books.now.log i }
 {
-    is_done(books, i)
+    has_device(books, i) && is_done(books, i)
 }

@@ -1,12 +1,12 @@
 // What is asked of an instance by itself.
-ghost use Rattle.std.specs.Prelude.{◌≡◌, ◌<◌, ◌&&◌, ◌||◌, ℕ, true, length};
+ghost use Rattle.std.specs.Prelude.{◌≡◌, ◌<◌, ◌&&◌, ◌||◌, ℕ, length};
 ghost use Rattle.vx_record.specs.Installs.{source_at, transform_at, sink_at, device_at};
 ghost use Rattle.vx_record.specs.Confirms.{is_confirm_due as is_confirm_due_at};
 ghost use Rattle.vx_record.specs.Owing.{all_noticed as all_noticed_at};
 ghost use Rattle.vx_record.specs.Ready.{can_read as can_read_at};
 ghost use Rattle.vx_record.specs.Routing.{is_sent as is_sent_at, is_dry as is_dry_at};
 ghost use Rattle.vx_moves.specs.Stands.{Stands};
-ghost use Rattle.vx_ready.specs.Asking.{source_class, transform_class, sink_class, IsServed, IsSettled};
+ghost use Rattle.vx_ready.specs.Asking.{source_class, transform_class, sink_class, IsSettled};
 
 use vx_ends::Port;
 use vx_moves::Books;
@@ -39,14 +39,13 @@ pub fn is_transform<P: Port>(books: &Books<P>, i: u32) -> bool
     is_transform_class(books.seats.get(i).class)
 }
 
-/// Whether an instance works with a port, as all do but transforms.
+/// Whether an instance works with a port.
 pub fn has_device<P: Port>(books: &Books<P>, i: u32) -> bool
     requires stands { Stands P.told books.now }
     requires within { i < length books.now.seats }
-    requires served { IsServed books.now }
     ensures { result ≡ device_at books.now.log i }
 {
-    !is_transform(books, i)
+    books.seats.get(i).device
 }
 
 /// Whether a class is that of sources.
@@ -96,15 +95,15 @@ fn takes_none(class: Class, over: bool, lost: bool) -> bool
     is_source_class(class) && (over || lost)
 }
 
-/// Whether a confirm is due at an instance that owes nothing.
+/// Whether a confirm is due at an instance that owes nothing. Where it works with no port, none is.
 pub fn is_confirm_due<P: Port>(books: &Books<P>, i: u32) -> bool
     requires stands { Stands P.told books.now }
     requires within { i < length books.now.seats }
     requires settled { IsSettled books.now i }
-    requires device { device_at books.now.log i ≡ true }
     ensures { result ≡ is_confirm_due_at books.now.log i }
 {
-    books.seats.get(i).progress.prefix.is_due()
+    let seat = books.seats.get(i);
+    both(seat.device, seat.progress.prefix.is_due())
 }
 
 /// Whether each batch of an instance has its notice.

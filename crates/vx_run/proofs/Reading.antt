@@ -1,5 +1,5 @@
 -- How far a run that ended read its input.
-use Rattle.std.proofs.Common.{◌≡◌, ◌⊎◌, inl, inr, ℕ, ◌<◌, true, [], length, Option, Some, None, IfSome, IsSome, sym, subst}
+use Rattle.std.proofs.Common.{◌≡◌, ◌⊎◌, inl, inr, ℕ, ◌<◌, true, [], length, Option, Some, None, IsSome, sym, subst}
 use Rattle.vx_plan.specs.declared.plan.Plan.{Plan}
 use Rattle.vx_record.specs.Ceasing.{lost_at, cause_of, TakesNoMore}
 use Rattle.vx_record.specs.Installs.{in_force, started, source_at}
@@ -10,8 +10,7 @@ use Rattle.vx_cli.specs.declared.fault.Fault.{Fault}
 use Rattle.vx_cli.specs.declared.fault.Fault.TheVariants.{Usage, ConfigRead, ConfigRefused, Numbers, SourceFailed, ConfirmFailed, PrintFailed, WantOfMemory}
 use Rattle.vx_run.specs.Answers.{IsJudged, NoneLost, WentOn}
 use Rattle.vx_run.specs.Running.{AllRead, AllReadOrLost, IsReadOut}
-use Rattle.vx_ready.specs.Asking.{all_served}
-use Rattle.vx_run.proofs.Sources.{source_device, source_within, closed_more}
+use Rattle.vx_run.proofs.Sources.{source_within, retired_more}
 
 not_there : {X : Type 0} (o : Option X) → o ≡ None → IsSome o → ⊥
 not_there None is some = cc
@@ -31,8 +30,7 @@ module _ (h : Record) (plan : Plan) (ended : HasEnded (length (started h)) h) (f
   read_or_lost : AllReadOrLost h
   read_or_lost i source =
       let within : i < length (started h) = source_within h plan i ended.legal force source in
-      let served : all_served plan.components ≡ true = subst (λ (o : Option Plan). IfSome o (λ (p : Plan). all_served p.components ≡ true)) force ended.served in
-      only_ended h i goes (closed_more h i ended.legal source ((ended.ends i within).0 (source_device h plan i ended.legal force served source)))
+      only_ended h i goes (retired_more h i ended.legal source (ended.ends i within).1)
 
   read_whole : NoneLost h → AllRead h
   read_whole none i source = not_lost h i none (read_or_lost i source)

@@ -1,4 +1,4 @@
--- Each component of a plan that was read works with a port, or judges each event by itself; and what the transforms pick by.
+-- Each component of a plan that was read works with a port, judges each event by itself, makes its lines itself or writes nothing.
 use Rattle.std.proofs.Common.{◌≡◌, ℕ, ◌+◌, ◌≤◌, Bool, true, false, List, [], ◌∷◌, ◌++◌, map, length, refl, ◌∙◌, ap, arith}
 use Rattle.std.specs.Prelude.{◌&&◌, ◌||◌, not, nat_le, codes}
 use Rattle.std.specs.List.{list_all}
@@ -11,12 +11,13 @@ use Rattle.vx_plan.specs.declared.component.Component.{Component}
 use Rattle.vx_plan.specs.declared.route.Route.{Route as Way}
 use Rattle.vx_plan.specs.declared.settings.Settings.{Settings}
 use Rattle.vx_plan.specs.declared.settings.Settings.TheVariants as settings
-use Rattle.vx_plan.specs.Components.{is_transform, port_names}
+use Rattle.vx_plan.specs.Components.{is_source, is_transform, is_sink, port_names}
 use Rattle.vx_plan.specs.Options.{has_device, transform_ports}
 use Rattle.vx_record.specs.Judges.{is_judging}
-use Rattle.vx_ready.specs.Asking.{has_few_ports, is_judge}
+use Rattle.vx_sourcecore.specs.Lines.{is_generating, is_swallowing}
+use Rattle.vx_ready.specs.Asking.{has_few_ports, is_judge, is_generator, is_hole}
 use Rattle.vx_hub.specs.Making.{is_served, all_served}
-use Rattle.vx_reading.specs.Made.{is_ported, is_picking, is_made}
+use Rattle.vx_reading.specs.Made.{is_ported, is_picking, is_generating as read_generating, is_swallowing as read_swallowing, is_made}
 
 le_test : (m n : ℕ) → m ≤ n → nat_le m n ≡ true
 le_test m n l = grind (arith, nat_tests)
@@ -43,12 +44,37 @@ judge_of c Transform of transform picking =
 judge_of c Source of transform picking = cc
 judge_of c Sink of transform picking = cc
 
+-- one fact of four is also one of four others, if each is
+second : (b c d : Bool) → c ≡ true → (b || c || d) ≡ true
+second true c d is = refl
+second false c d is = ap (λ (v : Bool). v || d) is
+
+third : (b d : Bool) → d ≡ true → (b || d) ≡ true
+third true d is = refl
+third false d is = is
+
+one_of : (a b c d y z w : Bool) → (b ≡ true → y ≡ true) → (c ≡ true → z ≡ true) → (d ≡ true → w ≡ true) → (a || b || c || d) ≡ true → (a || y || z || w) ≡ true
+one_of true b c d y z w f g h is = refl
+one_of false true c d y z w f g h is = ap (λ (v : Bool). v || z || w) (f refl)
+one_of false false true d y z w f g h is = second y z w (g refl)
+one_of false false false d y z w f g h is = third (y || z) w (h is)
+
+-- options that were read are those of a source that makes its lines, or of a sink that writes nothing
+generating : (s : Settings) → read_generating s ≡ true → is_generating s ≡ true
+generating (settings.DemoLogs demo interval) is = is
+generating other is = cc
+
+swallowing : (s : Settings) → read_swallowing s ≡ true → is_swallowing s ≡ true
+swallowing (settings.Blackhole seconds sink) is = refl
+swallowing other is = cc
+
 made_serves : (c : Component) → is_made c ≡ true → is_served c ≡ true
-made_serves c made = go (is_ported c) made
-  where
-    go : (b : Bool) → (b || (is_transform c && is_picking c.settings)) ≡ true → (b || is_judge c) ≡ true
-    go true is = refl
-    go false is = let both = and_parts (is_transform c) (is_picking c.settings) is in judge_of c c.class refl both.0 both.1
+made_serves c made =
+    one_of (is_ported c) (is_transform c && is_picking c.settings) (is_source c && read_generating c.settings) (is_sink c && read_swallowing c.settings) (is_judge c) (is_generator c) (is_hole c)
+    (λ is. let both = and_parts (is_transform c) (is_picking c.settings) is in judge_of c c.class refl both.0 both.1)
+    (λ is. let both = and_parts (is_source c) (read_generating c.settings) is in ap (λ (b : Bool). b && is_generating c.settings) both.0 ∙ generating c.settings both.1)
+    (λ is. let both = and_parts (is_sink c) (read_swallowing c.settings) is in ap (λ (b : Bool). b && is_swallowing c.settings) both.0 ∙ swallowing c.settings both.1)
+    made
 
 -- so all are served
 pub made_served : (components : List Component) → list_all is_made components ≡ true → all_served components ≡ true

@@ -1,58 +1,27 @@
 -- What a legal record says of its sources.
-use Rattle.std.proofs.Common.{◌≡◌, ℕ, ◌<◌, ◌≤◌, Bool, true, false, not, ◌||◌, ◌&&◌, zero, suc, List, [], ◌∷◌, length, Option, Some, None, IfSome, IsSome, refl, sym, subst, arith}
-use Rattle.std.specs.Prelude.{◌==◌, nat_lt, if◌then◌else◌, slice_get}
+use Rattle.std.proofs.Common.{◌≡◌, ◌⊎◌, inl, inr, ◌∙◌, ℕ, ◌<◌, ◌≤◌, Bool, true, false, not, ◌||◌, ◌&&◌, List, [], ◌∷◌, length, Some, IsSome, refl, sym, ap, subst, arith}
+use Rattle.std.specs.Prelude.{◌==◌, nat_lt, if◌then◌else◌}
 use Rattle.std.proofs.lemmas.Bool.{and_parts, eqb-true}
 use Rattle.std.proofs.lemmas.Bool.Decides.{nat_tests}
 use Rattle.vx_plan.specs.Components.{is_source}
-use Rattle.vx_plan.specs.Options.{has_device}
-use Rattle.vx_plan.specs.declared.class.Class.{Class}
-use Rattle.vx_plan.specs.declared.class.Class.TheVariants.{Source, Transform, Sink}
-use Rattle.vx_plan.specs.declared.component.Component.{Component}
-use Rattle.vx_plan.specs.declared.plan.Plan.{Plan}
+use Rattle.vx_record.specs.Abandoning.{abandoned}
 use Rattle.vx_record.specs.Ceasing.{lost_at, TakesNoMore}
-use Rattle.vx_record.specs.Confirms.{is_unconfirmed}
+use Rattle.vx_record.specs.Confirms.{is_confirm_due, is_unconfirmed}
 use Rattle.vx_record.specs.Copies.{count, counting}
-use Rattle.vx_record.specs.Installs.{component_of, in_force, source_at, device_at, started, is_closed}
-use Rattle.vx_record.specs.Judges.{is_judging}
+use Rattle.vx_record.specs.Ending.{MayRetire}
+use Rattle.vx_record.specs.Installs.{in_force, source_at, started, is_marked, is_retired}
 use Rattle.vx_record.specs.Legal.{IsLegal}
+use Rattle.vx_record.specs.Lists.{is_bare}
+use Rattle.vx_record.specs.Owing.{owes, is_done, is_source_done, is_worker_done, all_noticed}
+use Rattle.vx_record.specs.Reads.{all_ended, is_lost}
 use Rattle.vx_record.specs.Records.{Record}
-use Rattle.vx_record.specs.declared.entry.Entry.TheVariants.{Install, SourceLost, Confirm, Closed}
-use Rattle.vx_record.proofs.Ceasing.{more_on}
+use Rattle.vx_record.specs.Routing.{is_dry, is_sent, is_out_from_before}
+use Rattle.vx_record.specs.declared.entry.Entry.TheVariants.{Install, SourceLost, Confirm, Retired}
+use Rattle.vx_record.proofs.Ceasing.{has_cause, more_on, unmarked}
 use Rattle.vx_record.proofs.Counts.{counting_after}
-use Rattle.vx_record.proofs.Promises.{closed_takes_no_more}
 use Rattle.vx_record.proofs.Senders.{started_told}
-use Rattle.vx_record.proofs.Wired.{component_in_place}
-use Rattle.vx_ready.specs.Asking.{has_few_ports, is_served, all_served}
+use Rattle.vx_plan.specs.declared.plan.Plan.{Plan}
 use Rattle.vx_ready.proofs.Counting.{started_are}
-
--- WHO WORKS WITH A PORT
-served_in : (components : List Component) (i : ℕ) → all_served components ≡ true → IfSome (slice_get components i) (λ c. is_served c ≡ true)
-served_in [] i all = tt
-served_in (c ∷ rest) zero all = (and_parts (is_served c) (all_served rest) all).0
-served_in (c ∷ rest) (suc i) all = served_in rest i (and_parts (is_served c) (all_served rest) all).1
-
-source_ported : (c : Component) → is_source c ≡ true → is_served c ≡ true → has_device c.settings ≡ true
-source_ported c is served =
-    plain (has_device c.settings)
-    (subst (λ (b : Bool). ((has_device c.settings && not b) || (b && is_judging c.settings && not (has_device c.settings) && has_few_ports c)) ≡ true) (classes c.class is) served)
-  where
-    classes : (k : Class) → (elim k [ Source ↦ true | Transform ↦ false | Sink ↦ false ]) ≡ true → (elim k [ Source ↦ false | Transform ↦ true | Sink ↦ false ]) ≡ false
-    classes Source is = refl
-    classes Transform is = cc
-    classes Sink is = cc
-
-    plain : (device : Bool) → ((device && true) || false) ≡ true → device ≡ true
-    plain true is = refl
-    plain false is = cc
-
--- a source does
-pub source_device : (h : Record) (plan : Plan) (i : ℕ) → IsLegal h → in_force h ≡ Some plan → all_served plan.components ≡ true → source_at h i ≡ true → device_at h i ≡ true
-source_device h plan i legal force served source =
-    go (component_of h i) (subst (λ (o : Option Component). IfSome o (λ c. is_served c ≡ true)) (sym (component_in_place h plan i legal force)) (served_in plan.components i served)) source
-  where
-    go : (o : Option Component) → IfSome o (λ c. is_served c ≡ true) → (elim o [ None ↦ false | Some c ↦ is_source c ]) ≡ true → (elim o [ None ↦ false | Some c ↦ has_device c.settings ]) ≡ true
-    go None all is = is
-    go (Some c) all is = source_ported c is all
 
 -- a source is one of the instances
 pub source_within : (h : Record) (plan : Plan) (i : ℕ) → IsLegal h → in_force h ≡ Some plan → source_at h i ≡ true → i < length (started h)
@@ -92,17 +61,56 @@ unconfirmed_source (Confirm j positions made ∷ h) i legal is = go (j == i) ref
     go false here failed rest = rest failed
 unconfirmed_source (e ∷ h) i legal is = unconfirmed_source h i legal.1 is
 
--- one whose port is closed for good takes no more
-pub closed_more : (h : Record) (i : ℕ) → IsLegal h → source_at h i ≡ true → is_closed h i ≡ true → TakesNoMore h i
-closed_more [] i legal source is = cc
-closed_more (Install version plan once instances now ∷ h) i legal source is =
-    let no : is_closed [] i ≡ true = subst (λ (k : Record). is_closed k i ≡ true) legal.0.row.first is in cc
-closed_more (Closed j ∷ h) i legal source is = go (j == i) refl is (closed_more h i legal.1 source)
+-- WHAT TAKES NO MORE
+some_lost : (h : Record) (i : ℕ) → is_lost h i ≡ true → IsSome (lost_at h i)
+some_lost [] i on = cc
+some_lost (SourceLost j at failed ∷ h) i on = go (j == i) on (some_lost h i)
   where
-    go : (b : Bool) → (j == i) ≡ b → (b || is_closed h i) ≡ true → (is_closed h i ≡ true → TakesNoMore h i) → TakesNoMore (Closed j ∷ h) i
-    go true here closed rest =
+    go : (b : Bool) → (b || is_lost h i) ≡ true → (is_lost h i ≡ true → IsSome (lost_at h i)) → IsSome (if b then Some at else lost_at h i)
+    go true on rest = refl
+    go false on rest = rest on
+some_lost (e ∷ h) i on = some_lost h i on
+
+-- a source that isn't marked, and isn't asked to stop, is dry where it was told the end of all or lost
+dry_more : (h : Record) (i : ℕ) → IsLegal h → is_dry h i ≡ true → TakesNoMore h i
+dry_more h i legal dry = by (all_ended h i) (is_lost h i) (is_marked h i) (not (is_out_from_before h i)) (source_at h i) refl refl dry (unmarked h i legal)
+  where
+    by : (e l m o s : Bool) → all_ended h i ≡ e → is_lost h i ≡ l → (s && (e || l || ((m || (s && false)) && o))) ≡ true → m ≡ false → TakesNoMore h i
+    by true l m o s ended lost dry off = inl ended
+    by false true m o s ended lost dry off = inr (inl (some_lost h i lost))
+    by false false true o s ended lost dry off = cc
+    by false false false o true ended lost dry off = cc
+    by false false false o false ended lost dry off = cc
+
+source_dry : (h : Record) (i : ℕ) → source_at h i ≡ true → is_done h i ≡ true → is_dry h i ≡ true
+source_dry h i source done =
+    (and_parts (is_dry h i) (not (owes h i))
+    (and_parts (is_dry h i && not (owes h i)) (is_sent h i)
+    (and_parts (is_dry h i && not (owes h i) && is_sent h i) (all_noticed h i)
+    (and_parts (is_dry h i && not (owes h i) && is_sent h i && all_noticed h i) (not (is_confirm_due h i)) all).0).0).0).0
+  where
+    all : is_source_done h i ≡ true
+    all = ap (λ (b : Bool). if b then is_source_done h i else is_worker_done h i) (sym source) ∙ done
+
+-- a source that may be retired takes no more
+retiring_more : (h : Record) (i : ℕ) → IsLegal h → source_at h i ≡ true → MayRetire h i → TakesNoMore h i
+retiring_more h i legal source row = go row.over
+  where
+    go : (is_done h i ≡ true) ⊎ ((abandoned h ≡ true) × (is_bare h i ≡ true)) → TakesNoMore h i
+    go (inl done) = dry_more h i legal (source_dry h i source done)
+    go (inr gone) = inr (inr (has_cause h gone.0))
+
+-- so one that was
+pub retired_more : (h : Record) (i : ℕ) → IsLegal h → source_at h i ≡ true → is_retired h i ≡ true → TakesNoMore h i
+retired_more [] i legal source is = cc
+retired_more (Install version plan once instances now ∷ h) i legal source is =
+    let no : is_retired [] i ≡ true = subst (λ (k : Record). is_retired k i ≡ true) legal.0.row.first is in cc
+retired_more (Retired j ∷ h) i legal source is = go (j == i) refl is (retired_more h i legal.1 source)
+  where
+    go : (b : Bool) → (j == i) ≡ b → (b || is_retired h i) ≡ true → (is_retired h i ≡ true → TakesNoMore h i) → TakesNoMore (Retired j ∷ h) i
+    go true here retired rest =
         let same : j ≡ i = eqb-true j i here in
         let it : source_at h j ≡ true = subst (λ (k : ℕ). source_at h k ≡ true) (sym same) source in
-        more_on h i (Closed j) (subst (λ (k : ℕ). TakesNoMore h k) same (closed_takes_no_more h j legal.1 legal.0.row it))
-    go false here closed rest = more_on h i (Closed j) (rest closed)
-closed_more (e ∷ h) i legal source is = more_on h i e (closed_more h i legal.1 source is)
+        more_on h i (Retired j) (subst (λ (k : ℕ). TakesNoMore h k) same (retiring_more h j legal.1 it legal.0.row))
+    go false here retired rest = more_on h i (Retired j) (rest retired)
+retired_more (e ∷ h) i legal source is = more_on h i e (retired_more h i legal.1 source is)

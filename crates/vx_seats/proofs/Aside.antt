@@ -1,8 +1,8 @@
 -- The laws of the seats.
-use Rattle.std.proofs.Common.{◌≡◌, ◌∙◌, ◌↔◌, inl, inr, ℕ, ◌+◌, Bool, true, false, List, [], ◌∷◌, refl, sym, arith}
-use Rattle.std.specs.Prelude.{◌&&◌, if◌then◌else◌}
+use Rattle.std.proofs.Common.{◌≡◌, ◌∙◌, ◌↔◌, inl, inr, ℕ, ◌+◌, Bool, true, false, List, [], ◌∷◌, refl, sym, ap, arith}
+use Rattle.std.specs.Prelude.{◌&&◌, if◌then◌else◌, is_some}
 use Rattle.std.specs.List.{list_all}
-use Rattle.std.proofs.lemmas.Bool.{cases_eq}
+use Rattle.std.proofs.lemmas.Bool.{cases_Bool, cases_eq}
 use Rattle.std.proofs.lemmas.Option.{IfSome_then}
 use Rattle.vx_ends.specs.Told.{Told}
 use Rattle.vx_status.specs.declared.outcome.Outcome.TheVariants.{Abandoned}
@@ -11,6 +11,7 @@ use Rattle.vx_record.specs.declared.entry.Entry.TheVariants.{Split, Push, Tick, 
 use Rattle.vx_record.specs.Records.{Record}
 use Rattle.vx_record.specs.Legal.{IsLegal}
 use Rattle.vx_record.specs.Turns.{is_out}
+use Rattle.vx_record.specs.Installs.{device_at}
 use Rattle.vx_record.specs.Confirms.{Birth, births, is_noticed}
 use Rattle.vx_counts.specs.Meets.{LeavesBe}
 use Rattle.vx_seats.specs.declared.seat.Seat.{Seat}
@@ -18,9 +19,9 @@ use Rattle.vx_seats.specs.Knowing.{HasFacts, HasHome, IsKnown, count_unnoticed}
 use Rattle.vx_seats.specs.Laws.{AsideKnown, GivenUpKnown, NoticedAll, ConfirmDue}
 use Rattle.vx_seats.proofs.Telling.{InstallsNothing, IsMute}
 use Rattle.vx_seats.proofs.Owing.{OwesNoMore}
-use Rattle.vx_seats.proofs.Progressing.{Stands, due_is}
+use Rattle.vx_seats.proofs.Progressing.{Stands, due_is, undue_unported}
 use Rattle.vx_seats.proofs.Holding.{HasSince, IsCalm, since_calm, unheld_unfirst}
-use Rattle.vx_seats.proofs.Knowing.{counts_on, knows_aside, still_known}
+use Rattle.vx_seats.proofs.Knowing.{counts_on, device_fits, knows_aside, still_known}
 use Rattle.vx_seats.proofs.Steps.{leaves_own, spent_known}
 
 -- births without a notice
@@ -66,7 +67,11 @@ module _ {P : Type 0} (told_by : P → Told) where
       (λ zero. both.0 (sym k.progress.unnoticed ∙ zero), λ all. k.progress.unnoticed ∙ both.1 all)
 
   pub confirm_due : ConfirmDue told_by
-  confirm_due h i seats seat task at home owing going legal device knows =
+  confirm_due h i seats seat task at home owing going legal knows =
       let k : IsKnown told_by seat h i = rw at at (knows.each i) in
       let here : HasHome told_by seat.facts h i task = rw home at k.home in
-      due_is h i legal (here.answered device owing going) seat.progress device k.progress
+      let same : seat.device ≡ device_at h i = sym (device_fits seat h i k.fitted) in
+      elim (cases_Bool (device_at h i)) [
+        | inl on ↦ ap (λ b. b && is_some seat.progress.prefix.due) (same ∙ on) ∙ due_is h i legal (here.answered on owing going) seat.progress on k.progress
+        | inr off ↦ ap (λ b. b && is_some seat.progress.prefix.due) (same ∙ off) ∙ sym (undue_unported h i off)
+      ]

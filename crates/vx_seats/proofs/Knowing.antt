@@ -16,7 +16,7 @@ use Rattle.vx_record.specs.Legal.{IsLegal}
 use Rattle.vx_record.specs.Tasks.{is_of}
 use Rattle.vx_record.specs.Turns.{is_out}
 use Rattle.vx_record.specs.Reads.{all_ended}
-use Rattle.vx_record.specs.Installs.{Wiring, component_of, is_closed, is_retired, started, wiring}
+use Rattle.vx_record.specs.Installs.{Wiring, component_of, device_at, is_closed, is_retired, started, wiring}
 use Rattle.vx_record.specs.Ceasing.{lost_at}
 use Rattle.vx_record.specs.Sourcing.{failed_starts}
 use Rattle.vx_record.specs.Confirms.{is_unconfirmed, last_confirm, due}
@@ -101,6 +101,14 @@ module _ {P : Type 0} where
         (sym same) (fits was f p c task (component_of h i) fit.component);
     outlet = fit.outlet ∙ ap (λ (o : Option Wiring). elim o as (λ _. List (List ℕ)) [ None ↦ [] | Some w ↦ wired_outlets w ]) (sym same);
   }
+
+  -- and it has a port where that has one
+  pub device_fits : (seat : Seat P) (h : Record) (i : ℕ) → IsFitted seat h i → device_at h i ≡ seat.device
+  device_fits seat h i fit = go (component_of h i) fit.component
+    where
+      go : (o : Option Component) → IsSomeAnd o (IsFittedTo seat) → elim o as (λ _. Bool) [ None ↦ false | Some c ↦ has_device c.settings ] ≡ seat.device
+      go None f = absurd f
+      go (Some c) f = sym f.device
 
 -- TASKS AT HOME
 module _ {P : Type 0} (told_by : P → Told) where

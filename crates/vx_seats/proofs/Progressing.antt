@@ -243,13 +243,12 @@ source_due h i legal some = go (births h i) refl
     go [] none = let empty : is_empty (due h i) ≡ true = rw none refl in cc
     go (birth ∷ rest) is = owner_is h i birth.batch legal (rw (is, itself birth.batch) refl)
 
--- what a lease of an instance without a device takes along is due: no source is one, and no other bears
-pub asked_unported : (h : Record) (i : ℕ) → IsLegal h → (o : Option (List Position)) (worker now polls : ℕ) → device_at h i ≡ false → (source_at h i ≡ true → device_at h i ≡ true) →
-    IsAskFor o (due h i) (asked h i) → AreDue (Lease i worker now polls ∷ h) i o
-asked_unported h i legal None worker now polls off only ask =
-    rw (itself i) (ap (λ (b : Bool). b && not (is_empty (due h i)) && not (same_positions (due h i) (last_confirm h i))) off)
-asked_unported h i legal (Some positions) worker now polls off only ask =
-    let contrary : true ≡ false = sym (only (source_due h i legal ask.1.0)) ∙ off in cc
+-- at an instance without a device no confirm is due, so a lease of it takes nothing along
+pub undue_unported : (h : Record) (i : ℕ) → device_at h i ≡ false → is_confirm_due h i ≡ false
+undue_unported h i off = ap (λ (b : Bool). b && not (is_empty (due h i)) && not (same_positions (due h i) (last_confirm h i))) off
+
+pub none_unported : (h : Record) (i worker now polls : ℕ) → device_at h i ≡ false → AreDue (Lease i worker now polls ∷ h) i None
+none_unported h i worker now polls off = rw (itself i) (undue_unported h i off)
 
 module _ (h : Record) (i : ℕ) (legal : IsLegal h) (told : last_confirm h i ≡ asked h i) where
   -- where it was asked for all that is due, no confirm is due

@@ -51,9 +51,9 @@ use Rattle.vx_seats.specs.Knowing.{HasProgress, HasHome, IsAtHomeBut, IsFitted, 
 use Rattle.vx_seats.specs.Calls.{CountsAt, HasTaskBack, IsAskedOf, IsBack, IsClosedBy, IsSettledAt, IsShutAt, Leaves, Shuts, TaskShuts}
 use Rattle.vx_seats.specs.Staying.{IsShut, OneSeat}
 use Rattle.vx_seats.proofs.Holding.{since_answered, since_calm, since_spent, since_took}
-use Rattle.vx_seats.proofs.Knowing.{CountsOwn, apart_of, but_by, counts_on, facts_far, fitted_by, home_far, keeps, known_far, known_was, knows_next, leaves_far, out_known, own_steps, still_known}
+use Rattle.vx_seats.proofs.Knowing.{CountsOwn, apart_of, but_by, counts_on, device_fits, facts_far, fitted_by, home_far, keeps, known_far, known_was, knows_next, leaves_far, out_known, own_steps, still_known}
 use Rattle.vx_seats.proofs.Owing.{owes_still}
-use Rattle.vx_seats.proofs.Progressing.{asked_due, asked_unported, births_apart, count_born, count_noticed, count_on, due_unnoticed, going_on, may_new, progress_on, tells, unborn_unnoticed, unnoticed_few}
+use Rattle.vx_seats.proofs.Progressing.{asked_due, births_apart, count_born, count_noticed, count_on, due_unnoticed, going_on, may_new, none_unported, progress_on, tells, unborn_unnoticed, unnoticed_few}
 use Rattle.vx_seats.proofs.Staying.{there, writes, written}
 use Rattle.vx_seats.proofs.Telling.{told_mute, come_mute}
 
@@ -70,9 +70,9 @@ abbrev pub seated : {P : Type 0} → List (Seat P) → ℕ → Seat P → Facts 
 seated items i was f p c = slice_set items i (record was { facts = f; progress = p; counts = c })
 
 -- what was to be confirmed is taken along by a lease
-leased_progress : {o : Option (List Position)} {p q : Progress} {h : Record} (i worker moment polls : ℕ) → IsAskedOf o p q → HasProgress p h i →
+leased_progress : {device : Bool} {o : Option (List Position)} {p q : Progress} {h : Record} (i worker moment polls : ℕ) → IsAskedOf device o p q → HasProgress p h i →
     HasProgress q (Lease i worker moment polls ∷ h) i
-leased_progress {o} {p} {q} {h} i worker moment polls set has = record {
+leased_progress {device} {o} {p} {q} {h} i worker moment polls set has = record {
   unnoticed = set.unnoticed ∙ has.unnoticed ∙ sym (count_on h (Lease i worker moment polls ∷ h) i (λ b. refl) (append-nil (births h i)));
   waits = set.waits ∙ has.waits;
   prefix = rw (append-nil, itself i) (set.asked (judged_by h) (births h i) (asked h i) has.prefix);
@@ -264,14 +264,15 @@ module _ {P : Type 0} {told_by : P → Told} (i : ℕ) {items now : List (Seat P
 
   -- and what it takes along is due
   pub left_due : {is : Seat P} {task : Task P} {positions : Option (List Position)} → Leaves was is task positions → (h : Record) (worker moment polls : ℕ) →
-      IsSettledAt now i → (source_at h i ≡ true → device_at h i ≡ true) →
-      Knows told_by now h → IsLegal (Lease i worker moment polls ∷ h) → AreDue (Lease i worker moment polls ∷ h) i positions
-  left_due {positions = positions} leaves h worker moment polls settled only knows legal =
-      let ask = leaves.asked.due (judged_by h) (births h i) (asked h i) (known_was i view l read knows).progress.prefix in
+      IsSettledAt now i → Knows told_by now h → IsLegal (Lease i worker moment polls ∷ h) → AreDue (Lease i worker moment polls ∷ h) i positions
+  left_due {positions = positions} leaves h worker moment polls settled knows legal =
+      let k = known_was i view l read knows in
+      let same : was.device ≡ device_at h i = sym (device_fits was h i k.fitted) in
       elim (cases_Bool (device_at h i)) [
-        | inl device ↦
-            asked_due h i legal.1 ((left_home leaves h knows).answered device (rw (there i view l read) at settled) (going_on h legal.0.still)) positions worker moment polls device ask
-        | inr off ↦ asked_unported h i legal.1 positions worker moment polls off only ask
+        | inl on ↦
+            asked_due h i legal.1 ((left_home leaves h knows).answered on (rw (there i view l read) at settled) (going_on h legal.0.still)) positions worker moment polls on
+            (leaves.asked.due (same ∙ on) (judged_by h) (births h i) (asked h i) k.progress.prefix)
+        | inr off ↦ rw (leaves.asked.none (same ∙ off)) (none_unported h i worker moment polls off)
       ]
 
   pub back_knows : (task : Task P) (h : Record) → HasTaskBack told_by now h i task → Leads told_by now (slice_set items i (record was { task = Some task })) h (Home i)

@@ -1,5 +1,6 @@
 -- What a port tells, and how far its task has come, stays behind entries that are of another task, or of none, or tell nothing.
-use Rattle.std.proofs.Common.{◌≡◌, ◌∙◌, ℕ, ◌+◌, false, [], ◌∷◌, refl, sym, ap, arith}
+use Rattle.std.proofs.Common.{◌≡◌, ◌∙◌, ℕ, ◌+◌, false, List, [], ◌∷◌, IfSome, refl, sym, ap, subst, arith}
+use Rattle.std.specs.Prelude.{if◌then◌else◌}
 use Rattle.std.proofs.lemmas.List.{append-nil}
 use Rattle.vx_ends.specs.Told.{Told}
 use Rattle.vx_plan.specs.declared.component.Component.{Component}
@@ -8,15 +9,18 @@ use Rattle.vx_record.specs.declared.entry.Entry.TheVariants.{Install, Read, Idle
 use Rattle.vx_record.specs.Records.{Record}
 use Rattle.vx_record.specs.Legal.{IsLegal}
 use Rattle.vx_record.specs.Tasks.{is_of, IsOwn}
-use Rattle.vx_record.specs.Installs.{wiring, component_of, told}
+use Rattle.vx_record.specs.Installs.{wiring, component_of, device_at, told}
+use Rattle.vx_record.specs.Reads.{taken}
+use Rattle.vx_record.specs.PortCounts.{finish_count}
 use Rattle.vx_record.proofs.Mine.{others}
 use Rattle.vx_record.proofs.Senders.{same_told}
 use Rattle.vx_sourcecore.proofs.Keeping.{abreast_kept, abreast_under}
+use Rattle.vx_sourcecore.proofs.MakingKept.{generating_kept, generating_under}
 use Rattle.vx_tasks.specs.declared.task.Role.{Role}
-use Rattle.vx_tasks.specs.declared.task.Role.TheVariants.{Source, Sink, Transform, Unfit}
-use Rattle.vx_tasks.specs.Telling.{IsTold}
+use Rattle.vx_tasks.specs.declared.task.Role.TheVariants.{Source, Generator, Sink, Blackhole, Transform, Unfit}
+use Rattle.vx_tasks.specs.Telling.{IsTold, HasCounted}
 use Rattle.vx_tasks.specs.Home.{HasCome}
-use Rattle.vx_tasks.proofs.Staying.{told_same}
+use Rattle.vx_tasks.proofs.Staying.{device_is, told_same}
 
 -- an entry that installs nothing
 abbrev pub InstallsNothing : Entry → Type 0
@@ -57,7 +61,11 @@ told_far t h e i none is = told_same t h (e ∷ h) i (others h e i is) (componen
 -- and how far its task has come
 pub come_far : (role : Role) (h : Record) (e : Entry) (i : ℕ) → IsLegal (e ∷ h) → InstallsNothing e → is_of i e ≡ false → HasCome h i role → HasCome (e ∷ h) i role
 come_far (Source core) h e i legal none is come =
-    abreast_kept h (e ∷ h) i core (record { added = e ∷ []; is = refl; each = (record { follows = legal.0; kind = is }, tt) }) come
+    (abreast_kept h (e ∷ h) i core (record { added = e ∷ []; is = refl; each = (record { follows = legal.0; kind = is }, tt) }) come.0, device_is (e ∷ h) h i (component_on h e i none) ∙ come.1)
+come_far (Generator generator) h e i legal none is come =
+    (generating_kept h (e ∷ h) i generator (record { added = e ∷ []; is = refl; each = (record { follows = legal.0; kind = is }, tt) }) come.0, device_is (e ∷ h) h i (component_on h e i none) ∙ come.1)
+come_far Blackhole h (Install version plan once instances now) i legal none is come = absurd none
+come_far Blackhole h e i legal none is come = come
 come_far (Sink codec) h (Install version plan once instances now) i legal none is come = absurd none
 come_far (Sink codec) h e i legal none is come = come
 come_far (Transform picker) h (Install version plan once instances now) i legal none is come = absurd none
@@ -71,12 +79,33 @@ more_none n = omega arith
 -- what a port tells
 pub told_mute : (t : Told) (h : Record) (e : Entry) (i : ℕ) → IsMute e → IsTold t h i → IsTold t (e ∷ h) i
 told_mute t h (Install version plan once instances now) i mute told = absurd mute
-told_mute t h e i mute told = search (append-nil, more_none)
+told_mute t h (Read j stream took) i mute told = absurd mute
+told_mute t h (Idle j failed) i mute told = absurd mute
+told_mute t h (SourceLost j at failed) i mute told = absurd mute
+told_mute t h (Attempt j copies bytes reply) i mute told = absurd mute
+told_mute t h (Confirm j positions made) i mute told = absurd mute
+told_mute t h e i mute told = record {
+  taken = told.taken;
+  given = search (append-nil, more_none);
+  spec = told.spec;
+  confirmed = search (append-nil, more_none);
+  ended = search (append-nil, more_none);
+  over = told.over;
+  faults = search (append-nil, more_none);
+  refusals = search (append-nil, more_none);
+  idles = search (append-nil, more_none);
+  finishes = subst (λ (n : ℕ). HasCounted t.exact n t.finishes) (ap (λ (n : ℕ). if device_at h i then n else 0) (sym (more_none (finish_count h i)))) told.finishes;
+  confirms = search (append-nil, more_none);
+}
 
 -- and how far its task has come
 pub come_mute : (role : Role) (h : Record) (e : Entry) (i : ℕ) → IsMute e → HasCome h i role → HasCome (e ∷ h) i role
 come_mute (Source core) h (Install version plan once instances now) i mute come = absurd mute
-come_mute (Source core) h e i mute come = abreast_under h e i core (search) come
+come_mute (Source core) h e i mute come = (abreast_under h e i core (search) come.0, come.1)
+come_mute (Generator generator) h (Install version plan once instances now) i mute come = absurd mute
+come_mute (Generator generator) h e i mute come = (generating_under h e i generator (search) come.0, come.1)
+come_mute Blackhole h (Install version plan once instances now) i mute come = absurd mute
+come_mute Blackhole h e i mute come = come
 come_mute (Sink codec) h (Install version plan once instances now) i mute come = absurd mute
 come_mute (Sink codec) h e i mute come = come
 come_mute (Transform picker) h (Install version plan once instances now) i mute come = absurd mute

@@ -1,5 +1,5 @@
 -- What the calls of the seats need and tell.
-use Rattle.std.specs.Prelude.{◌≡◌, ◌≢◌, ℕ, true, false, List, Option, Some, None, IfSome, IsSomeAnd, slice_get, take_while}
+use Rattle.std.specs.Prelude.{◌≡◌, ◌≢◌, ℕ, Bool, true, false, List, Option, Some, None, IfSome, IsSomeAnd, slice_get, take_while}
 use Rattle.vx_ends.specs.Told.{Told, SameBytes, CountsBy, nothing}
 use Rattle.vx_ends.specs.declared.position.Position.{Position}
 use Rattle.vx_record.specs.Records.{Record}
@@ -53,18 +53,19 @@ HasTaskBack told_by seats h i task = IfSome (slice_get seats i) (λ seat. IsBack
 abbrev pub HasPlaceFor : {P : Type 0} → List (Seat P) → ℕ → Position → Ends → Type 0
 HasPlaceFor seats i position ends = IsSomeAnd (slice_get seats i) (λ seat. IsReadyFor seat.progress.prefix position ends)
 
--- what was to be confirmed is asked for
-pub record IsAskedOf (answer : Option (List Position)) (p q : Progress) : Type 0 where
+-- what was to be confirmed is asked for, and given where there is a port
+pub record IsAskedOf (device : Bool) (answer : Option (List Position)) (p q : Progress) : Type 0 where
   pub unnoticed : q.unnoticed ≡ p.unnoticed
   pub waits : q.prefix.waits ≡ p.prefix.waits
   pub asked : (judged : Judgement) → (bs : List Birth) → (asked : List Position) → IsPrefixOf p.prefix judged bs asked → IsPrefixOf q.prefix judged bs (ends_of (take_while judged.may bs))
-  pub due : (judged : Judgement) → (bs : List Birth) → (asked : List Position) → IsPrefixOf p.prefix judged bs asked → IsAskFor answer (ends_of (take_while judged.may bs)) asked
+  pub due : device ≡ true → (judged : Judgement) → (bs : List Birth) → (asked : List Position) → IsPrefixOf p.prefix judged bs asked → IsAskFor answer (ends_of (take_while judged.may bs)) asked
+  pub none : device ≡ false → answer ≡ None
 
--- the task of a seat is taken along, with what is to be confirmed
+-- the task of a seat is taken along, with what is to be confirmed to its port
 pub record Leaves {P : Type 0} (was is : Seat P) (task : Task P) (positions : Option (List Position)) : Type 0 where
   pub had : was.task ≡ Some task
   pub rest : is ≡ record was { progress = is.progress; task = None }
-  pub asked : IsAskedOf positions was.progress is.progress
+  pub asked : IsAskedOf was.device positions was.progress is.progress
 
 -- a port that is closed tells what it told, and counts nothing
 pub record IsClosedBy (was is : Told) : Type 0 where

@@ -5,6 +5,7 @@ use Rattle.vx_ends.specs.declared.position.Position.{Position}
 use Rattle.vx_plan.specs.declared.component.Component.{Component}
 use Rattle.vx_plan.specs.Components.{batch_max_events, batch_timeout}
 use Rattle.vx_plan.specs.Components.{component_named, is_sink, port_names}
+use Rattle.vx_plan.specs.Options.{has_device}
 use Rattle.vx_record.specs.Records.{Record}
 use Rattle.vx_record.specs.Routing.{wired_targets}
 use Rattle.vx_record.specs.Copies.{counting}
@@ -39,6 +40,7 @@ batching_of c =
 pub record IsFittedTo {P : Type 0} (seat : Seat P) (c : Component) : Type 0 where
   pub name : seat.name ≡ c.name
   pub class : seat.class ≡ c.class
+  pub device : seat.device ≡ has_device c.settings
   pub batching : seat.batching ≡ batching_of c
 
 -- the instances that read each port of a wired one, in the order of the ports

@@ -1,12 +1,11 @@
 -- What holds of the seats beside their calls.
-use Rattle.std.specs.Prelude.{◌≡◌, ◌↔◌, ℕ, true, false, List, ◌∷◌, Some, None, is_some, slice_get}
+use Rattle.std.specs.Prelude.{◌≡◌, ◌↔◌, ◌&&◌, ℕ, true, false, List, ◌∷◌, Some, None, is_some, slice_get}
 use Rattle.vx_ends.specs.Told.{Told}
 use Rattle.vx_status.specs.declared.outcome.Outcome.TheVariants.{Abandoned}
 use Rattle.vx_record.specs.declared.entry.Entry.{Entry}
 use Rattle.vx_record.specs.declared.entry.Entry.TheVariants.{Split, Push, Tick, Spent, Abandon}
 use Rattle.vx_record.specs.Records.{Record}
 use Rattle.vx_record.specs.Legal.{IsLegal}
-use Rattle.vx_record.specs.Installs.{device_at}
 use Rattle.vx_record.specs.Ceasing.{cause_of}
 use Rattle.vx_record.specs.Confirms.{is_confirm_due}
 use Rattle.vx_record.specs.Owing.{all_noticed}
@@ -43,11 +42,11 @@ NoticedAll told_by =
     (h : Record) (i : ℕ) (seats : List (Seat _)) (seat : Seat _) → slice_get seats i ≡ Some seat → Knows told_by seats h →
     (seat.progress.unnoticed ≡ 0) ↔ (all_noticed h i ≡ true)
 
--- a confirm is due at an instance at home exactly where something is to be confirmed
+-- a confirm is due at an instance at home exactly where it has a port, and something is to be confirmed
 abbrev pub ConfirmDue : {P : Type 0} → (P → Told) → Type 0
 ConfirmDue told_by =
     (h : Record) (i : ℕ) (seats : List (Seat _)) (seat : Seat _) (task : Task _) → slice_get seats i ≡ Some seat → seat.task ≡ Some task → seat.facts.owing ≡ false →
-    cause_of h ≡ None → IsLegal h → device_at h i ≡ true → Knows told_by seats h → is_some seat.progress.prefix.due ≡ is_confirm_due h i
+    cause_of h ≡ None → IsLegal h → Knows told_by seats h → (seat.device && is_some seat.progress.prefix.due) ≡ is_confirm_due h i
 
 -- what is known of what an instance owes and counts, and that its port is shut
 pub record AreCarried {P : Type 0} (told_by : P → Told) (old new : List (Seat P)) (i : ℕ) : Type 0 where

@@ -16,6 +16,7 @@ pub record OneSeat {P : Type 0} (F : Seat P → Seat P → Type 0) (i : ℕ) (ol
 pub record SameWiring {P : Type 0} (was is : Seat P) : Type 0 where
   pub name : is.name ≡ was.name
   pub class : is.class ≡ was.class
+  pub device : is.device ≡ was.device
   pub outlet : is.outlet ≡ was.outlet
   pub batching : is.batching ≡ was.batching
 

@@ -5,9 +5,9 @@ ghost use Rattle.vx_seats.specs.Laws.{AsideKnown, GivenUpKnown, NoticedAll, Conf
 use vx_ends::Port;
 
 /// Entries of which no seat has anything leave what is known, and so does the spend of a copy that is given up and isn't held. All
-/// batches of an instance have their notice exactly where none is counted without. Where an instance with a device is at home, all
-/// that it owes is known and done, and the run isn't given up, a confirm is due exactly where something is to be confirmed. What is
-/// known of an instance beside the record stays known behind a call that leaves it.
+/// batches of an instance have their notice exactly where none is counted without. Where an instance is at home, all that it owes
+/// is known and done, and the run isn't given up, a confirm is due exactly where it has a device and something is to be confirmed.
+/// What is known of an instance beside the record stays known behind a call that leaves it.
 pub fn seats_laws<P: Port>()
     ensures aside { AsideKnown P.told }
     ensures given_up { GivenUpKnown P.told }

@@ -1,4 +1,4 @@
-ghost use Rattle.std.specs.Prelude.{◌≡◌, IfSome, IfNone, None};
+ghost use Rattle.std.specs.Prelude.{◌≡◌, IfSome, IfNone, None, if◌then◌else◌};
 ghost use Rattle.vx_seats.specs.Calls.{Leaves, Shuts};
 
 use crate::facts::{Batching, Facts};
@@ -16,6 +16,8 @@ pub struct Seat<P> {
     /// The name of its component.
     pub name: Text,
     pub class: Class,
+    /// Whether the component works with a port.
+    pub device: bool,
     /// The instances that read each of its ports, in the order of the ports, and in byte order of their components' names.
     pub outlet: Outlet,
     /// How it collects, if it is a sink.
@@ -27,7 +29,7 @@ pub struct Seat<P> {
     pub task: Option<Task<P>>,
 }
 
-/// Takes the task of a seat along, with what is to be confirmed.
+/// Takes the task of a seat along, with what is to be confirmed to its port. Where the component has none, that is let go.
 pub(crate) fn leave_seat<P>(seat: &mut Seat<P>) -> Option<(Task<P>, Option<PositionList>)>
     ensures some { IfSome result (λ r. Leaves seat.old seat.new r.0 r.1) }
     ensures none { IfNone result (seat.old.task ≡ None) }
@@ -36,10 +38,17 @@ pub(crate) fn leave_seat<P>(seat: &mut Seat<P>) -> Option<(Task<P>, Option<Posit
     match seat.task.take() {
         Some(task) => {
             let positions = seat.progress.prefix.take_due();
-            Some((task, positions))
+            Some((task, for_device(seat.device, positions)))
         }
         None => None,
     }
+}
+
+/// What is to be confirmed, if there is a port for that.
+fn for_device(device: bool, positions: Option<PositionList>) -> Option<PositionList>
+    ensures { result ≡ (if device then positions else None) }
+{
+    if device { positions } else { None }
 }
 
 /// Closes the port of a seat, if its task is at home.

@@ -3,7 +3,7 @@ ghost use Rattle.vx_ends.specs.declared.trouble.Reply.{Reply};
 ghost use Rattle.vx_value.specs.Texts.{Word, is_empty};
 ghost use Rattle.vx_record.specs.Records.{Record, capped};
 ghost use Rattle.vx_record.specs.Legal.{IsLegal};
-ghost use Rattle.vx_record.specs.Installs.{source_at, device_at};
+ghost use Rattle.vx_record.specs.Installs.{source_at};
 ghost use Rattle.vx_record.specs.Reads.{bytes_taken, bytes_of, is_end};
 ghost use Rattle.vx_record.specs.Tallies.{is_batch_of, is_first, is_newest, is_unread, any_copy};
 ghost use Rattle.vx_record.specs.Turns.{lease_now};
@@ -86,13 +86,13 @@ impl<P: Port> Seats<P> {
         &self.seats[i as usize]
     }
 
-    /// Takes the task of an instance along, with what is to be confirmed, if it is at home. It is leased with that.
+    /// Takes the task of an instance along, with what is to be confirmed to its port, if it is at home. It is leased with that.
     pub fn leave(&mut self, i: u32) -> Option<(Task<P>, Option<PositionList>)>
         requires { i < length self.old }
         ensures size { length self.new ≡ length self.old }
         ensures left { IfSome result (λ r. OneSeat (IsLeft r.0) i self.old self.new) }
         ensures home { IfSome result (λ r. (h : Record) → Knows P.told self.old h → HadHome P.told self.old h i r.0) }
-        ensures due { IfSome result (λ r. (h : Record) → (worker now polls : ℕ) → IsSettledAt self.old i → (source_at h i ≡ true → device_at h i ≡ true) → Knows P.told self.old h →
+        ensures due { IfSome result (λ r. (h : Record) → (worker now polls : ℕ) → IsSettledAt self.old i → Knows P.told self.old h →
             IsLegal (Lease i worker now polls ∷ h) → AreDue (Lease i worker now polls ∷ h) i r.1) }
         ensures knows { IfSome result (λ r. (h : Record) → (worker now polls : ℕ) → Knows P.told self.old h → IsLegal (Lease i worker now polls ∷ h) →
             Knows P.told self.new (Lease i worker now polls ∷ h)) }

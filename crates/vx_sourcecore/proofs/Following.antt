@@ -25,7 +25,7 @@ use Rattle.vx_sourcecore.specs.Abreast.{IsMadeFor, IsAbreast, IsCutOf, HasCut, H
 use Rattle.vx_sourcecore.proofs.Bridging.{Adds, IsGiven, given_by}
 
 -- TESTS
-same_test : (i : ℕ) → (i == i) ≡ true
+pub same_test : (i : ℕ) → (i == i) ≡ true
 same_test i = grind (arith, nat_tests)
 
 other_test : (i j : ℕ) → j ≢ i → (i == j) ≡ false
@@ -35,7 +35,7 @@ other_test i j other = go (i == j) refl
     go false e = e
     go true e = absurd (other (grind (arith, nat_tests)))
 
-when_true : {X : Type 0} (b : Bool) (x y : X) → b ≡ true → (if b then x else y) ≡ x
+pub when_true : {X : Type 0} (b : Bool) (x y : X) → b ≡ true → (if b then x else y) ≡ x
 when_true true x y e = refl
 when_true false x y e = cc
 
@@ -44,7 +44,7 @@ when_false true x y e = cc
 when_false false x y e = refl
 
 -- MEMBERS
-none_in : (x : ℕ) → Contains [] x → ⊥
+pub none_in : (x : ℕ) → Contains [] x → ⊥
 none_in x c = omega (arith, c.1)
 
 only_in : (x y : ℕ) → Contains (y ∷ []) x → y ≡ x
@@ -142,7 +142,7 @@ ended_is h i stream taken.StreamEnded s there = only_in s stream (subst (λ (xs 
 ended_is h i stream taken.AllEnded s there = absurd (none_in s there)
 
 -- nothing is unended behind the end of a stream, and the end brings no bytes
-abbrev Ends : Taken → Type 0
+abbrev pub Ends : Taken → Type 0
 Ends (taken.Bytes bytes) = ⊥
 Ends taken.StreamEnded = Unit {0}
 Ends taken.AllEnded = Unit {0}
@@ -268,12 +268,12 @@ same_abreast h i old new same a = record {
     made_same None m = m
     made_same (Some c) m = record { limit = ap (λ (f : Framing). f.limit) same.framer ∙ m.limit; source_type = same.source_type ∙ m.source_type; decoding_is = m.decoding_is ∙ ap Some (sym same.decoding) }
 
-fed_turned : (h : Record) (i stream : ℕ) (bytes : Word) (cut : Option Cut) (old new : SourceCore) → all_ended h i ≡ false → 0 < length bytes → (Contains (ended_streams h i) stream → ⊥) → IsAbreast h i old →
+pub fed_turned : (h : Record) (i stream : ℕ) (bytes : Word) (cut : Option Cut) (old new : SourceCore) → all_ended h i ≡ false → 0 < length bytes → (Contains (ended_streams h i) stream → ⊥) → IsAbreast h i old →
     IfSome cut (λ brought. HasFed old stream bytes brought new) → HasCut h i new (record { stream = stream; took = taken.Bytes bytes }) cut
 fed_turned h i stream bytes None old new over some unended a fed = tt
 fed_turned h i stream bytes (Some brought) old new over some unended a fed = (fed_abreast h i stream bytes brought old new some unended a fed, fed_cut h i stream bytes brought old new over unended a fed)
 
-finished_turned : (h : Record) (i stream : ℕ) (took : Taken) (cut : Option Cut) (old new : SourceCore) → Ends took → all_ended h i ≡ false → stream_of h i stream took ≡ stream → IsAbreast h i old →
+pub finished_turned : (h : Record) (i stream : ℕ) (took : Taken) (cut : Option Cut) (old new : SourceCore) → Ends took → all_ended h i ≡ false → stream_of h i stream took ≡ stream → IsAbreast h i old →
     IfSome cut (λ brought. HasFinished old stream brought new) → HasCut h i new (record { stream = stream; took = took }) cut
 finished_turned h i stream took None old new ends over is a finished = tt
 finished_turned h i stream took (Some brought) old new ends over is a finished = (

@@ -29,7 +29,7 @@ use Rattle.vx_sourcecore.specs.Abreast.{IsMadeFor, IsAbreast, IsCutOf, HasTurned
 use Rattle.vx_sourcecore.specs.Laws.{FreshAbreast, ComponentStays, ComponentKept, AbreastKept, TurnedKept, IsUnread, AbreastUnder, TurnedUnder}
 
 -- two records that say the same of what an instance runs and read
-record IsAlike (old new : Record) (i : ℕ) : Type 0 where
+pub record IsAlike (old new : Record) (i : ℕ) : Type 0 where
   pub component : component_of new i ≡ component_of old i
   pub last : last_stream new i ≡ last_stream old i
   pub open_now : (stream : ℕ) → open_bytes new i stream ≡ open_bytes old i stream
@@ -79,7 +79,7 @@ end_alike old new i stream took alike =
     let lines = lines_alike old new i stream took alike in
     λ t. (length (all t) - length (before t)) + last_end (lines t)
 
-cut_alike : (old new : Record) (i stream : ℕ) (took : Taken) (brought : Cut) → IsAlike old new i → IsCutOf old i stream took brought → IsCutOf new i stream took brought
+pub cut_alike : (old new : Record) (i stream : ℕ) (took : Taken) (brought : Cut) → IsAlike old new i → IsCutOf old i stream took brought → IsCutOf new i stream took brought
 cut_alike old new i stream took brought alike is = record {
   events = is.events ∙ sym (events_alike old new i stream took alike);
   of_stream = λ some. is.of_stream some ∙ sym (stream_alike old new i stream took alike);
@@ -93,7 +93,7 @@ cut_alike old new i stream took brought alike is = record {
 
 -- BEHIND A READ
 -- records that are alike are so behind the same Read
-read_alike : (old new : Record) (i stream : ℕ) (took : Taken) → IsAlike old new i → IsAlike (Read i stream took ∷ old) (Read i stream took ∷ new) i
+pub read_alike : (old new : Record) (i stream : ℕ) (took : Taken) → IsAlike old new i → IsAlike (Read i stream took ∷ old) (Read i stream took ∷ new) i
 read_alike old new i stream took alike =
     let last = alike.last in
     let of = stream_alike old new i stream took alike in
@@ -106,7 +106,7 @@ read_alike old new i stream took alike =
       ended = λ t. ended t ++ ended_by i (Read i stream took);
     }
 
-abreast_alike : (old new : Record) (i : ℕ) (core : SourceCore) → IsAlike old new i → IsAbreast old i core → IsAbreast new i core
+pub abreast_alike : (old new : Record) (i : ℕ) (core : SourceCore) → IsAlike old new i → IsAbreast old i core → IsAbreast new i core
 abreast_alike old new i core alike a = record {
   made_for = subst (λ (o : Option Component). IsSomeAnd o (λ (c : Component). IsMadeFor c.settings core)) (sym alike.component) a.made_for;
   last = a.last ∙ sym alike.last;
@@ -141,7 +141,7 @@ component_kept old new i some adds =
 stays : {X : Type 0} (f : Record → ℕ → X) → IsOwn f → (old new : Record) (i : ℕ) → mine new i ≡ mine old i → f new i ≡ f old i
 stays f own old new i same = own new i ∙ ap (λ (m : Record). f m i) same ∙ sym (own old i)
 
-spared_alike : (old new : Record) (i : ℕ) → is_some (component_of old i) ≡ true → OnlyAdds (Spares i) old new → IsAlike old new i
+pub spared_alike : (old new : Record) (i : ℕ) → is_some (component_of old i) ≡ true → OnlyAdds (Spares i) old new → IsAlike old new i
 spared_alike old new i some adds =
     let same = spared_stays old new i adds in
     record {
@@ -152,7 +152,7 @@ spared_alike old new i some adds =
       ended = stays ended_streams ended_own old new i same;
     }
 
-has_component : (o : Option Component) (P : Component → Type 0) → IsSomeAnd o P → is_some o ≡ true
+pub has_component : (o : Option Component) (P : Component → Type 0) → IsSomeAnd o P → is_some o ≡ true
 has_component None P some = absurd some
 has_component (Some c) P some = refl
 
@@ -169,7 +169,7 @@ pub turned_kept : TurnedKept
 turned_kept old new i core turned adds was = turned_kept_by old new i core (reading_of turned) (cut_of turned) adds was
 
 -- ENTRIES THAT ARE NO READ
-unread_alike : (h : Record) (e : Entry) (i : ℕ) → IsUnread e → IsAlike h (e ∷ h) i
+pub unread_alike : (h : Record) (e : Entry) (i : ℕ) → IsUnread e → IsAlike h (e ∷ h) i
 unread_alike h (Install version plan once instances now) i unread = absurd unread
 unread_alike h (Read j stream took) i unread = absurd unread
 unread_alike h e i unread = record { component = refl; last = refl; open_now = λ s. refl; all = λ s. refl; ended = append-nil (ended_streams h i) }

@@ -7,3 +7,6 @@ pub mod Following
 pub mod Keeping
 pub mod Counting
 pub mod Stepping
+pub mod LineFeeds
+pub mod Making
+pub mod MakingKept

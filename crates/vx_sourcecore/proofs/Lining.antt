@@ -73,7 +73,7 @@ kept_few limit f fs n l = by_length (leb (length f.bytes) limit)
     by_length true = omega (arith, l)
     by_length false = omega (arith, l)
 
-lines_few : (limit : ℕ) (s : ℕ) (h part : List ℕ) (more : List (List ℕ)) → length (lines_of limit false s h part more) ≤ length more
+pub lines_few : (limit : ℕ) (s : ℕ) (h part : List ℕ) (more : List (List ℕ)) → length (lines_of limit false s h part more) ≤ length more
 lines_few limit s h part [] = omega arith
 lines_few limit s h part (next ∷ more) =
     let rest = kept_few limit (record { bytes = h ++ part; end = capped (s + length part + 1) }) (lines_of limit false (capped (s + length part + 1)) [] next more) (length more) (lines_few limit (capped (s + length part + 1)) [] next more) in omega (arith, rest)
@@ -104,7 +104,7 @@ events_few d source_type (line ∷ lines) =
     omega (arith, first, rest, both)
 
 -- so no more events are cut than there are lines
-cut_few : (d : Decoding) (source_type : Word) (stream over : ℕ) (frames : List Frame) (brought : Cut) → IsOf d source_type (map (line_of stream) frames) over brought → length brought.events ≤ length frames
+pub cut_few : (d : Decoding) (source_type : Word) (stream over : ℕ) (frames : List Frame) (brought : Cut) → IsOf d source_type (map (line_of stream) frames) over brought → length brought.events ≤ length frames
 cut_few d source_type stream over frames brought are =
     let mapped : length (map (line_of stream) frames) ≡ length frames = map_length (line_of stream) frames in
     let few : length brought.events ≤ length (map (line_of stream) frames) = subst (λ (es : List Event). length es ≤ length (map (line_of stream) frames)) (sym are.each) (events_few d source_type (map (line_of stream) frames)) in
@@ -133,7 +133,7 @@ few_fed old stream bytes (Some brought) new within fed =
     let lines = fed_few old.framer.limit (unfinished old.framer stream) bytes in
     omega (arith, few, lines, within)
 
-few_finished : (old : SourceCore) (stream : ℕ) (cut : Option Cut) (new : SourceCore) → IfSome cut (λ brought. HasFinished old stream brought new) → IfSome cut (λ brought. length brought.events ≤ 65536)
+pub few_finished : (old : SourceCore) (stream : ℕ) (cut : Option Cut) (new : SourceCore) → IfSome cut (λ brought. HasFinished old stream brought new) → IfSome cut (λ brought. length brought.events ≤ 65536)
 few_finished old stream None new finished = tt
 few_finished old stream (Some brought) new finished =
     let few = cut_few old.decoding old.source_type stream (cut_overlong old.framer stream true []) (cut_lines old.framer stream true []) brought finished.gave in

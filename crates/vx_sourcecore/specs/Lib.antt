@@ -5,3 +5,4 @@ pub mod Sources
 pub mod Abreast
 pub mod Laws
 pub mod Lines
+pub mod Generators

@@ -1,9 +1,14 @@
 -- A source that makes its lines itself.
-use Rattle.std.specs.Prelude.{ℕ, ◌≡◌, ◌-◌, ◌<◌, ◌≤◌, length}
+use Rattle.std.specs.Prelude.{ℕ, ◌≡◌, ◌+◌, ◌-◌, ◌<◌, ◌≤◌, ◌==◌, ◌&&◌, Bool, true, false, not, min, length}
+use Rattle.std.specs.List.{list_all}
 use Rattle.rand_pcg.specs.Lcg.{Lcg, advance}
 use Rattle.rand_pcg.specs.Pcg.{multiplier_64}
+use Rattle.vx_value.specs.Texts.{Word, is_empty}
 use Rattle.vx_json.specs.DemoLines.{generator}
 use Rattle.vx_json.specs.declared.demo_settings.DemoSettings.{DemoSettings}
+use Rattle.vx_record.specs.Generating.{lines_from}
+use Rattle.vx_plan.specs.declared.settings.Settings.{Settings}
+use Rattle.vx_plan.specs.declared.settings.Settings.TheVariants.{Stdin, DemoLogs, Filter, Route, Sample, Dedupe, Reduce, Host, Console, Blackhole}
 
 -- what its lines are made of, and how many it gave
 pub record Generated : Type 0 where
@@ -14,6 +19,14 @@ pub record Generated : Type 0 where
 abbrev pub left_of : Generated → ℕ
 left_of source = source.settings.count - source.given
 
+-- the lines that come next, so many at most at once
+abbrev pub next_lines : Generated → ℕ → Word
+next_lines source most = lines_from source.settings source.given (min most (left_of source))
+
+-- the source behind them
+abbrev pub behind : Generated → ℕ → Generated
+behind source most = record source { given = source.given + min most (left_of source) }
+
 -- the generator of a seed when it has given k words, so that its next is the word of line k, counted from 0
 unfoldable pub generator_at : ℕ → ℕ → Lcg
 generator_at seed k = advance 64 multiplier_64 k (generator seed)
@@ -23,3 +36,33 @@ pub record IsInStep (settings : DemoSettings) (given : ℕ) (words : Lcg) : Type
   pub some : 0 < length settings.lines
   pub within : given ≤ settings.count
   pub words_are : words ≡ generator_at settings.seed given
+
+-- whether a text has no line feed
+abbrev pub is_unbroken : Word → Bool
+is_unbroken text = list_all (λ byte. not (byte == 10)) text
+
+-- whether settings are those of a source that makes its lines itself, of some texts, none of which has a line feed
+abbrev pub is_generating : Settings → Bool
+is_generating (Stdin max_length codec) = false
+is_generating (DemoLogs demo interval) = not (is_empty demo.lines) && list_all is_unbroken demo.lines
+is_generating (Filter condition) = false
+is_generating (Route routes reroute) = false
+is_generating (Sample rate exclude) = false
+is_generating (Dedupe fields most) = false
+is_generating (Reduce group_by starts_when ends_when expire flush strategies) = false
+is_generating Host = false
+is_generating (Console target codec sink) = false
+is_generating (Blackhole seconds sink) = false
+
+-- whether settings are those of a sink that writes nothing
+abbrev pub is_swallowing : Settings → Bool
+is_swallowing (Stdin max_length codec) = false
+is_swallowing (DemoLogs demo interval) = false
+is_swallowing (Filter condition) = false
+is_swallowing (Route routes reroute) = false
+is_swallowing (Sample rate exclude) = false
+is_swallowing (Dedupe fields most) = false
+is_swallowing (Reduce group_by starts_when ends_when expire flush strategies) = false
+is_swallowing Host = false
+is_swallowing (Console target codec sink) = false
+is_swallowing (Blackhole seconds sink) = true

@@ -7,6 +7,7 @@ use Rattle.vx_frame.specs.Framings.{Framing, HasTaken, unfinished, lines_behind,
 use Rattle.vx_frame.specs.declared.line.Line.{Line}
 use Rattle.vx_json.specs.declared.decoding.Decoding.{Decoding}
 use Rattle.vx_json.specs.LineEvents.{line_fields}
+use Rattle.vx_record.specs.Records.{capped}
 use Rattle.vx_record.specs.Reads.{event_with}
 use Rattle.vx_sourcecore.specs.NewLines.{AreTold}
 use Rattle.vx_sourcecore.specs.declared.source.Cut.{Cut}
@@ -43,12 +44,30 @@ new_lines framing stream ended bytes = lines_behind framing.limit ended (unfinis
 abbrev pub new_overlong : Framing → ℕ → Bool → List ℕ → ℕ
 new_overlong framing stream ended bytes = overlong_behind framing.limit ended (unfinished framing stream) bytes
 
+-- a framer took bytes of a stream: the lines that they complete, and how many more are too long; the other streams stand where they stood
+pub record HasFramed (old : Framing) (stream : ℕ) (bytes : List ℕ) (lines : List Line) (overlong : ℕ) (new : Framing) : Type 0 where
+  pub lines_are : lines ≡ map (line_of stream) (new_lines old stream false bytes)
+  pub overlong_is : overlong ≡ capped (new_overlong old stream false bytes)
+  pub limit : new.limit ≡ old.limit
+  pub others : (other : ℕ) → other ≢ stream → unfinished new other ≡ unfinished old other
+  pub taken : (taken : List ℕ) → HasTaken old stream taken → HasTaken new stream (taken ++ bytes)
+  pub behind : (taken : List ℕ) → HasTaken old stream taken →
+      frames (taken ++ bytes) old.limit false ≡ frames taken old.limit false ++ new_lines old stream false bytes
+  pub discards : (taken : List ℕ) → HasTaken old stream taken →
+      discarded (taken ++ bytes) old.limit false ≡ discarded taken old.limit false + new_overlong old stream false bytes
+
 -- the streams but one stand where they stood, and the source is the same
 pub record KeepsOthers (old : SourceCore) (stream : ℕ) (new : SourceCore) : Type 0 where
   pub decoding : new.decoding ≡ old.decoding
   pub source_type : new.source_type ≡ old.source_type
   pub limit : new.framer.limit ≡ old.framer.limit
   pub others : (other : ℕ) → other ≢ stream → unfinished new.framer other ≡ unfinished old.framer other
+
+-- the framer of a source took bytes of a stream, whose lines aren't cut yet
+pub record HasGathered (old : SourceCore) (stream : ℕ) (bytes : List ℕ) (lines : List Line) (overlong : ℕ) (new : SourceCore) : Type 0 where
+  pub decoding : new.decoding ≡ old.decoding
+  pub source_type : new.source_type ≡ old.source_type
+  pub framed : HasFramed old.framer stream bytes lines overlong new.framer
 
 -- a source took bytes of a stream, whose lines were cut
 pub record HasFed (old : SourceCore) (stream : ℕ) (bytes : List ℕ) (cut : Cut) (new : SourceCore) : Type 0 where

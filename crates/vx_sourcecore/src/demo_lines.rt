@@ -77,6 +77,15 @@ impl Lines {
             }
         }
     }
+
+    /// Takes the last `n` lines back, so that they come again.
+    pub(crate) fn take_back(&mut self, n: u32)
+        requires { n ≤ self.old.given }
+        ensures { self.new ≡ record self.old { given = self.old.given - n } }
+    {
+        self.given -= u64::from(n);
+        self.words = generator_at(self.settings.seed, self.given);
+    }
 }
 
 /// The generator of a seed, behind the words of the lines that were given.

@@ -1,7 +1,7 @@
 //! The laws of what a source cuts. A law's function does nothing: what it ensures is proved.
 
 ghost use Rattle.vx_sourcecore.specs.NewLines.{FramedCounted, ToldNew};
-ghost use Rattle.vx_sourcecore.specs.Laws.{FreshAbreast, ComponentStays, ComponentKept, AbreastKept, TurnedKept, AbreastUnder, TurnedUnder};
+ghost use Rattle.vx_sourcecore.specs.Laws.{FreshAbreast, ComponentStays, ComponentKept, AbreastKept, TurnedKept, AbreastUnder, TurnedUnder, GeneratorTexts, GeneratorFresh, GeneratingKept, MadeKept, NextKept, GeneratingUnder, MadeUnder, NextUnder};
 
 /// What a framer gives at a read is what the record counts.
 pub fn lines()
@@ -10,7 +10,8 @@ pub fn lines()
 {}
 
 /// A fresh source is abreast of a record in which its instance read nothing. It stays so while others go on, since they leave the
-/// component that it runs, and behind each entry that is no read; and so does what it brings home of a turn that isn't told yet.
+/// component that it runs, and behind each entry that is no read; and so does what it brings home of a turn that isn't told yet. The
+/// same is so of a generator.
 pub fn source_laws()
     ensures fresh { FreshAbreast }
     ensures component { ComponentStays }
@@ -19,4 +20,12 @@ pub fn source_laws()
     ensures turned_kept { TurnedKept }
     ensures under { AbreastUnder }
     ensures turned_under { TurnedUnder }
+    ensures generator_texts { GeneratorTexts }
+    ensures generator_fresh { GeneratorFresh }
+    ensures generating_kept { GeneratingKept }
+    ensures made_kept { MadeKept }
+    ensures next_kept { NextKept }
+    ensures generating_under { GeneratingUnder }
+    ensures made_under { MadeUnder }
+    ensures next_under { NextUnder }
 {}

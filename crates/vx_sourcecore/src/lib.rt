@@ -4,6 +4,8 @@
 
 mod demo_lines;
 mod ends;
+mod framing;
+mod generator;
 mod laws;
 mod new_lines;
 mod positions;
@@ -12,6 +14,7 @@ mod source;
 
 pub use demo_lines::Lines;
 pub use ends::Ends;
+pub use generator::Generator;
 pub use laws::{lines, source_laws};
 pub use new_lines::NewLines;
 pub use prefix::{Due, Passing, Prefix};

@@ -2,6 +2,7 @@ ghost use Rattle.std.specs.Prelude.{◌≡◌, ◌++◌, length, OnOk};
 ghost use Rattle.vx_json.specs.LineEvents.{event_fields};
 ghost use Rattle.vx_record.specs.Reads.{event_with};
 
+use crate::framing::framed;
 use crate::new_lines::NewLines;
 use std::alloc::Global;
 use std::snapshot::Snapshot;
@@ -27,7 +28,7 @@ pub struct Cut {
 /// took what is said, and the source is of no use any more.
 #[derive(Drop)]
 pub enum Turned {
-    /// Bytes of a stream: the first `n` of the room as it was then.
+    /// Bytes of a stream: the first `n` of the room as it was then, or of the lines that a generator made.
     Lines {
         stream: u64,
         n: u32,
@@ -66,11 +67,12 @@ pub struct SourceCore {
 }
 
 impl SourceCore {
-    ghost use Rattle.std.specs.Prelude.{◌≡◌, ℕ, ◌≤◌, length, take, true, IfOk, OnErr, IfSome, IsTrue};
+    ghost use Rattle.std.specs.Prelude.{◌≡◌, ℕ, ◌≤◌, List, length, take, true, unwrap_or, IfOk, OnErr, IfSome, IsTrue};
+    ghost use Rattle.vx_sourcecore.specs.declared.source.SourceCore.{SourceCore};
     ghost use Rattle.vx_record.specs.Records.{Record, capped};
     ghost use Rattle.vx_ends.specs.Told.{CountsBy, nothing};
     ghost use Rattle.vx_sourcecore.specs.Turns.{DidTake, IsUnmoved, IsInRoom, StartsAtMost, cut_of, turn_counts};
-    ghost use Rattle.vx_sourcecore.specs.Sources.{IsOf, HasFed, HasFinished, HasBrought, BringsSome, IsOfOpen, IsSame, IsFresh};
+    ghost use Rattle.vx_sourcecore.specs.Sources.{IsOf, HasFed, HasFinished, HasBrought, BringsSome, IsOfOpen, IsSame, IsFresh, HasGathered};
     ghost use Rattle.vx_sourcecore.specs.Abreast.{IsAbreast, HasTurned, MayTurnOn};
 
     /// A source that takes lines of at most `limit` bytes, and decodes each.
@@ -145,8 +147,7 @@ impl SourceCore {
                 Ok(Turned::StreamEnded { stream, cut })
             }
             Ok(Took::AllEnded) => {
-                let stream = self.last.unwrap_or(0);
-                let cut = self.finish(stream);
+                let (stream, cut) = self.finish_last();
                 Ok(Turned::AllEnded { stream, cut })
             }
             Ok(Took::Idle) => Ok(Turned::Idle),
@@ -160,16 +161,45 @@ impl SourceCore {
         requires { n ≤ 65536 }
         ensures { IfSome result (λ cut. HasFed self.old stream (take n self.old.room.items) cut self.new) }
     {
-        let mut lines = LineList::new(self.alloc);
-        let fed = self
-            .framer
-            .feed(stream, &self.room[..n as usize], &mut lines);
-        let overlong = self.framer.take_overlong();
-        if fed.is_err() {
-            return None;
-        }
+        let bytes = &self.room[..n as usize];
+        let framed = framed(self.alloc, &mut self.framer, stream, bytes);
+        self.cut_framed(stream, framed)
+    }
+
+    /// The lines that bytes of a stream complete, which no port gave; `None` where no memory is found.
+    pub(crate) fn feed(&mut self, stream: u64, bytes: &[u8]) -> Option<Cut>
+        ensures { IfSome result (λ cut. HasFed self.old stream bytes.now cut self.new) }
+    {
+        let framed = framed(self.alloc, &mut self.framer, stream, bytes);
+        self.cut_framed(stream, framed)
+    }
+
+    /// What the lines give that the framer made of a stream's bytes; `None` where no memory is found, be it for them or for what they give.
+    fn cut_framed(&mut self, stream: u64, framed: Option<(LineList, u64)>) -> Option<Cut>
+        ensures { (old : SourceCore) → (bytes : List ℕ) → IfSome framed (λ lines. HasGathered old stream bytes lines.0 lines.1 self.old) →
+            IfSome result (λ cut. HasFed old stream bytes cut self.new) }
+    {
+        let (lines, overlong) = framed?;
         self.last = Some(stream);
         self.lines(&lines, overlong).ok()
+    }
+
+    /// The stream of which bytes were last taken, which is 0 where none were, and the unfinished line with which it ends, if there is
+    /// one; in place of that `None` where no memory is found.
+    pub(crate) fn finish_last(&mut self) -> (u64, Option<Cut>)
+        ensures stream { result.0 ≡ unwrap_or self.old.last 0 }
+        ensures cut { IfSome result.1 (λ cut. HasFinished self.old result.0 cut self.new) }
+    {
+        let stream = self.last.unwrap_or(0);
+        let cut = self.finish(stream);
+        (stream, cut)
+    }
+
+    /// Where it finds memory.
+    pub(crate) fn alloc(&self) -> Global
+        ensures { result ≡ self.now.alloc }
+    {
+        self.alloc
     }
 
     /// The unfinished line with which a stream ends, if there is one; `None` where no memory is found.

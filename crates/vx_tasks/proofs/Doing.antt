@@ -5,7 +5,7 @@ use Rattle.std.proofs.lemmas.List.{append-nil}
 use Rattle.vx_ends.specs.Told.{Told}
 use Rattle.vx_record.specs.Records.{Record}
 use Rattle.vx_record.specs.Legal.{IsLegal}
-use Rattle.vx_record.specs.Installs.{source_at}
+use Rattle.vx_record.specs.Installs.{source_at, device_at}
 use Rattle.vx_record.specs.Reads.{all_ended, is_lost, ended_streams}
 use Rattle.vx_record.specs.Encoding.{given, encoded}
 use Rattle.vx_record.specs.Places.Place.{Held}
@@ -21,8 +21,9 @@ use Rattle.vx_tasks.specs.declared.landing.Done.TheVariants as done
 use Rattle.vx_tasks.specs.declared.landing.Landing.{Landing}
 use Rattle.vx_tasks.specs.declared.task.Role.{Role}
 use Rattle.vx_tasks.specs.declared.task.Role.TheVariants as role
-use Rattle.vx_tasks.specs.Jobs.{DoesJob, KeepsRole}
-use Rattle.vx_tasks.proofs.Judges.{no_source, no_sink}
+use Rattle.vx_tasks.specs.Jobs.{DoesJob, IsPortedAs, KeepsRole}
+use Rattle.vx_tasks.proofs.Alone.{come_ported}
+use Rattle.vx_tasks.proofs.Judges.{no_source, no_generator, no_sink, no_hole}
 use Rattle.vx_tasks.specs.Home.{HasCome}
 use Rattle.vx_record.specs.Owing.{owes_answer}
 use Rattle.vx_tasks.specs.declared.work.Job.{Job}
@@ -57,6 +58,11 @@ given_behind : (h : Record) (i : ℕ) (confirmed : Option Confirmed) → given (
 given_behind h i None = refl
 given_behind h i (Some c) = append-nil (given h i)
 
+-- nor changes what it works with
+ported_behind : (h : Record) (i : ℕ) (confirmed : Option Confirmed) (r : Role) → IsPortedAs (device_at h i) r → IsPortedAs (device_at (confirm_entries i confirmed ++ h) i) r
+ported_behind h i None r is = is
+ported_behind h i (Some c) r is = is
+
 -- a task as it comes home
 abbrev pub landed : {P : Type 0} → Work P → P → Role → Option Confirmed → Done → Landing P
 landed work port role confirmed done =
@@ -65,24 +71,20 @@ landed work port role confirmed done =
 -- what an instance does stays of use, but where what it read wasn't cut
 fit_of : (told : Told) (h : Record) (i : ℕ) (was now : Role) (d : Done) → is_unfit was ≡ false → KeepsRole was now d → HasActed told h i now d → is_unfit now ≡ leaves_unfit d
 fit_of told h i was now (done.Read turned) fit keeps acted = acted.fit
-fit_of told h i (role.Source core) (role.Source next) d fit keeps acted = refl
-fit_of told h i (role.Sink codec) (role.Sink next) d fit keeps acted = refl
-fit_of told h i (role.Transform picker) (role.Transform _) d fit keeps acted = refl
 fit_of told h i role.Unfit now d fit keeps acted = cc
-fit_of told h i (role.Source core) role.Unfit d fit keeps acted = absurd keeps
-fit_of told h i (role.Source core) (role.Sink next) d fit keeps acted = absurd keeps
-fit_of told h i (role.Sink codec) (role.Source next) d fit keeps acted = absurd keeps
-fit_of told h i (role.Source core) (role.Transform _) d fit keeps acted = absurd keeps
-fit_of told h i (role.Sink codec) (role.Transform _) d fit keeps acted = absurd keeps
-fit_of told h i (role.Sink codec) role.Unfit d fit keeps acted = absurd keeps
-fit_of told h i (role.Transform picker) (role.Source _) d fit keeps acted = absurd keeps
-fit_of told h i (role.Transform picker) (role.Sink _) d fit keeps acted = absurd keeps
-fit_of told h i (role.Transform picker) role.Unfit d fit keeps acted = absurd keeps
+fit_of told h i (role.Source core) (role.Source next) d fit keeps acted = refl
+fit_of told h i (role.Generator generator) (role.Generator next) d fit keeps acted = refl
+fit_of told h i (role.Sink codec) (role.Sink next) d fit keeps acted = refl
+fit_of told h i role.Blackhole role.Blackhole d fit keeps acted = refl
+fit_of told h i (role.Transform picker) (role.Transform next) d fit keeps acted = refl
+fit_of told h i was now d fit keeps acted = absurd keeps
 
 -- what an instance took it has answered, unless it was judged, or no memory was found
 untaken_of : (h : Record) (i : ℕ) (wanted : Job) (does : Role) (d : Done) → IsLegal h → IsGiven h i wanted → HasCome h i does → is_unfit does ≡ false →
     ((wanted ≡ job.Judge → ⊥) → owes_answer h i ≡ false) → DoesJob wanted does d → leaves_taken d ≡ false → owes_answer h i ≡ false
 untaken_of h i job.Judge (role.Source core) d legal given come fit was does left = absurd (no_source h i legal given.transform core come)
+untaken_of h i job.Judge (role.Generator generator) d legal given come fit was does left = absurd (no_generator h i legal given.transform generator come)
+untaken_of h i job.Judge role.Blackhole d legal given come fit was does left = absurd (no_hole h i legal given.transform come)
 untaken_of h i job.Judge (role.Sink codec) d legal given come fit was does left = absurd (no_sink h i legal given.transform codec come)
 untaken_of h i job.Judge (role.Transform picker) (done.Judged ports) legal given come fit was does left = cc
 untaken_of h i job.Judge (role.Transform picker) done.Short legal given come fit was does left = cc
@@ -99,7 +101,7 @@ module _ {P : Type 0} (told_by : P → Told) (h : Record) (work : Work P) (legal
   pub done_of : (mid port : P) (role : Role) (confirmed : Option Confirmed) (done : Done) →
       ((k : Record) (i : ℕ) → IsTold (told_by work.task.port) k i → IsTold (told_by mid) (confirm_entries i confirmed ++ k) i) →
       ((k : Record) (i : ℕ) (d : Done) → AreDue k i work.positions → IsConfirmedSo k i d confirmed) →
-      ((k : Record) (i : ℕ) → IsTold (told_by mid) k i → TellsDone (told_by port) k i work.held.items done) →
+      ((k : Record) (i : ℕ) → IsPortedAs (device_at k i) work.task.role → IsTold (told_by mid) k i → TellsDone (told_by port) k i work.held.items done) →
       ((k : Record) (i : ℕ) → MayAct (told_by mid) k i work.task.role work.held.items work.job → HasActed (told_by port) k i role done) →
       DoesJob work.job work.task.role done →
       KeepsRole work.task.role role done →
@@ -119,7 +121,8 @@ module _ {P : Type 0} (told_by : P → Told) (h : Record) (work : Work P) (legal
         idle = left.idle;
         held = left.held;
         confirmed = due h work.instance done left.asked;
-        told = tells (confirm_entries work.instance confirmed ++ h) work.instance told;
+        told = tells (confirm_entries work.instance confirmed ++ h) work.instance
+            (ported_behind h work.instance confirmed work.task.role (come_ported h work.instance work.task.role left.home.come)) told;
         acted = acted;
         settled = left.settled;
         untaken = untaken_of h work.instance work.job work.task.role done legal left.job left.home.come left.fit left.untaken does;

@@ -28,6 +28,8 @@ use Rattle.vx_record.specs.Judges.{is_judging, judge_at}
 use Rattle.vx_record.proofs.Judged.{judge_rule}
 use Rattle.vx_sourcecore.specs.Abreast.{IsMadeFor}
 use Rattle.vx_sourcecore.specs.declared.source.SourceCore.{SourceCore}
+use Rattle.vx_sourcecore.specs.declared.generator.Generator.{Generator}
+use Rattle.vx_sourcecore.specs.Lines.{is_swallowing}
 use Rattle.vx_tasks.specs.declared.task.Role.{Role}
 use Rattle.vx_tasks.specs.declared.task.Role.TheVariants as role
 use Rattle.vx_tasks.specs.Home.{HasCome}
@@ -87,6 +89,11 @@ encodes_none : (s : Settings) (codec : Codec) → settings_class s ≡ Transform
 encodes_none (settings.Console target how sink) codec of is = cc
 encodes_none other codec of is = cc
 
+-- nor swallows it
+swallows_none : (s : Settings) → settings_class s ≡ Transform → is_swallowing s ≡ true → ⊥
+swallows_none (settings.Blackhole seconds sink) of is = cc
+swallows_none other of is = cc
+
 -- and one that picks judges
 picker_judges : (s : Settings) (picker : Picker) → Picks s picker → is_judging s ≡ true
 picker_judges (settings.Filter condition) picker picks = refl
@@ -116,7 +123,14 @@ module _ (h : Record) (i : ℕ) (legal : IsLegal h) (transform : transform_at h 
   -- so it isn't what a source or a sink does
   pub no_source : (core : SourceCore) → HasCome h i (role.Source core) → ⊥
   no_source core is =
-      refutes (λ (c : Component). IsMadeFor c.settings core) (λ c of made. decodes_none c.settings core.decoding of made.decoding_is) is.made_for
+      refutes (λ (c : Component). IsMadeFor c.settings core) (λ c of made. decodes_none c.settings core.decoding of made.decoding_is) is.0.made_for
+
+  pub no_generator : (generator : Generator) → HasCome h i (role.Generator generator) → ⊥
+  no_generator generator is =
+      refutes (λ (c : Component). IsMadeFor c.settings generator.core) (λ c of made. decodes_none c.settings generator.core.decoding of made.decoding_is) is.0.abreast.made_for
+
+  pub no_hole : HasCome h i role.Blackhole → ⊥
+  no_hole is = refutes (λ (c : Component). is_swallowing c.settings ≡ true) (λ c of swallows. swallows_none c.settings of swallows) is
 
   pub no_sink : (codec : Codec) → HasCome h i (role.Sink codec) → ⊥
   no_sink codec is =
@@ -124,7 +138,9 @@ module _ (h : Record) (i : ℕ) (legal : IsLegal h) (transform : transform_at h 
 
   pub come_judges : (r : Role) → is_unfit r ≡ false → HasCome h i r → judge_at h i ≡ true
   come_judges (role.Source core) fit is = absurd (no_source core is)
+  come_judges (role.Generator generator) fit is = absurd (no_generator generator is)
   come_judges (role.Sink codec) fit is = absurd (no_sink codec is)
+  come_judges role.Blackhole fit is = absurd (no_hole is)
   come_judges (role.Transform picker) fit is =
       judges_by (λ (c : Component). Picks c.settings picker) (λ c of picks. picker_judges c.settings picker picks) is
   come_judges role.Unfit fit is = cc

@@ -1,6 +1,6 @@
 -- A task that is out is kept by whatever spares it.
 use Rattle.std.proofs.Common.{◌≡◌, ℕ, Bool, true, false, List, [], ◌∷◌, ◌++◌, Option, Some, None, refl, sym, ap, ◌∙◌, subst}
-use Rattle.std.specs.Prelude.{◌≢◌, ◌&&◌, IsSomeAnd, map, nat_lt, if◌then◌else◌}
+use Rattle.std.specs.Prelude.{◌≢◌, ◌&&◌, ◌==◌, IfSome, IsSomeAnd, map, nat_lt, if◌then◌else◌}
 use Rattle.std.specs.List.{list_any}
 use Rattle.vx_value.specs.declared.event.Event.{Event}
 use Rattle.vx_ends.specs.Told.{Told}
@@ -8,7 +8,7 @@ use Rattle.vx_ends.specs.declared.position.Position.{Position}
 use Rattle.vx_ledger.specs.declared.parcel.Parcel.{Parcel}
 use Rattle.vx_plan.specs.declared.component.Component.{Component}
 use Rattle.vx_plan.specs.Components.{is_source, is_transform}
-use Rattle.vx_plan.specs.Options.{conditions_of, encoding}
+use Rattle.vx_plan.specs.Options.{conditions_of, demo_of, encoding, reading_interval}
 use Rattle.vx_record.specs.declared.entry.Entry.{Entry}
 use Rattle.vx_record.specs.declared.entry.Entry.TheVariants as entry
 use Rattle.vx_record.specs.Records.{Record, capped}
@@ -16,10 +16,12 @@ use Rattle.vx_record.specs.Legal.{IsLegal}
 use Rattle.vx_record.specs.Places.Place.{Held}
 use Rattle.vx_record.specs.Shifts.{at}
 use Rattle.vx_record.specs.Turns.{at_lease, lease_now, since_lease, is_turn_of, is_attempt_of, is_confirm_of}
-use Rattle.vx_record.specs.Installs.{component_of, source_at, transform_at, is_closed}
+use Rattle.vx_record.specs.Copies.{count}
+use Rattle.vx_record.specs.Generating.{lines_given, IsGenerated}
+use Rattle.vx_record.specs.Installs.{component_of, source_at, transform_at, device_at, is_closed}
 use Rattle.vx_record.specs.Parcels.{parcel_event}
 use Rattle.vx_record.specs.Encoding.{given, bytes_for, encoded}
-use Rattle.vx_record.specs.Reads.{bytes_taken}
+use Rattle.vx_record.specs.Reads.{bytes_taken, taken}
 use Rattle.vx_record.specs.Sourcing.{failed_starts}
 use Rattle.vx_record.specs.Confirms.{due, is_confirm_due}
 use Rattle.vx_record.specs.Owing.{took_since, owes_discards, owes_answer, is_done}
@@ -31,7 +33,7 @@ use Rattle.vx_record.specs.Additions.{OnlyAdds}
 use Rattle.vx_record.proofs.OwnTurns.{worker_own, moment_own, closed_own}
 use Rattle.vx_record.proofs.OwnLeases.{turned_own, tried_own, confirmed_own, lease_stays}
 use Rattle.vx_record.proofs.OwnConfirms.{given_own}
-use Rattle.vx_record.proofs.OwnReads.{bytes_own, starts_own}
+use Rattle.vx_record.proofs.OwnReads.{bytes_own, starts_own, taken_own}
 use Rattle.vx_record.proofs.OwnAnswers.{took_own}
 use Rattle.vx_record.proofs.Adding.{carry_legal}
 use Rattle.vx_record.proofs.TasksOut.{spared_stays}
@@ -39,6 +41,9 @@ use Rattle.vx_sourcecore.specs.declared.source.Turned.{Turned}
 use Rattle.vx_sourcecore.specs.declared.source.Turned.TheVariants as turned
 use Rattle.vx_pick.specs.Picks.{Picks, AreMeant}
 use Rattle.vx_sourcecore.proofs.Keeping.{component_kept, abreast_kept, turned_kept}
+use Rattle.vx_sourcecore.proofs.MakingKept.{generating_kept, made_kept}
+use Rattle.vx_sourcecore.specs.Lines.{is_swallowing}
+use Rattle.vx_sourcecore.specs.Turns.{Reading, reading_of}
 use Rattle.vx_places.specs.Numbers.{numbers}
 use Rattle.vx_tasks.specs.declared.confirming.Confirmed.{Confirmed}
 use Rattle.vx_tasks.specs.declared.landing.Done.{Done}
@@ -49,9 +54,10 @@ use Rattle.vx_tasks.specs.declared.work.Job.{Job}
 use Rattle.vx_tasks.specs.declared.work.Job.TheVariants as job
 use Rattle.vx_tasks.specs.Telling.{IsTold, GoesBeyond}
 use Rattle.vx_tasks.specs.Home.{HasCome}
-use Rattle.vx_tasks.specs.Out.{IsIdle, IsHeld, MayAttemptNow, MayReadNow, MayCloseNow, MayJudgeNow, IsGiven, AreJudged, AreDue, turn_entry, deeds, confirm_entries, IsConfirmedSo, TellsDone, HasRoleTurned, HasActed}
+use Rattle.vx_tasks.specs.Out.{IsReadable, IsIdle, IsHeld, MayAttemptNow, MayReadNow, MayCloseNow, MayJudgeNow, IsGiven, AreJudged, AreDue, turn_entry, deeds, confirm_entries, IsConfirmedSo, TellsDone, HasRoleTurned, HasActed}
 use Rattle.vx_tasks.specs.Laws.{LeftKept, DoneKept}
-use Rattle.vx_tasks.proofs.Staying.{stays, runs, told_same, held_stays}
+use Rattle.vx_tasks.proofs.Staying.{stays, runs, device_is, told_same, held_stays}
+use Rattle.vx_tasks.proofs.Alone.{generated_same}
 use Rattle.vx_tasks.proofs.Closing.{told_by, attempt_stays}
 use Rattle.vx_tasks.proofs.Writing.{events_said}
 use Rattle.vx_tasks.proofs.Discarding.{discards_later}
@@ -160,8 +166,13 @@ module _ (old new : Record) (i worker : ℕ) (legal : IsLegal old) (adds : OnlyA
     unclosed = stays is_closed closed_own old new i same ∙ idle.unclosed;
   }
 
+  ported : device_at new i ≡ device_at old i
+  ported = device_is new old i run
+
   come_kept : (r : Role) → HasCome old i r → HasCome new i r
-  come_kept (role.Source core) is = abreast_kept old new i core adds is
+  come_kept (role.Source core) is = (abreast_kept old new i core adds is.0, ported ∙ is.1)
+  come_kept (role.Generator generator) is = (generating_kept old new i generator adds is.0, ported ∙ is.1)
+  come_kept role.Blackhole is = subst (λ (o : Option Component). IsSomeAnd o (λ (c : Component). is_swallowing c.settings ≡ true)) (sym run) is
   come_kept (role.Sink codec) is = subst (λ (o : Option Component). IsSomeAnd o (λ (c : Component). encoding c.settings ≡ Some codec)) (sym run) is
   come_kept (role.Transform picker) is = subst (λ (o : Option Component). IsSomeAnd o (λ (c : Component). Picks c.settings picker)) (sym run) is
   come_kept role.Unfit is = tt
@@ -179,6 +190,7 @@ module _ (old new : Record) (i worker : ℕ) (legal : IsLegal old) (adds : OnlyA
 
   close_kept : MayCloseNow old i → MayCloseNow new i
   close_kept may = record {
+    device = device_is new old i run ∙ may.device;
     over = subst (λ (h : Record). is_done h i ≡ true) (sym lease) may.over;
     confirmed = subst (λ (h : Record). is_confirm_due h i ≡ false) (sym lease) may.confirmed;
   }
@@ -228,10 +240,25 @@ module _ (old new : Record) (i worker : ℕ) (legal : IsLegal old) (adds : OnlyA
 
   -- what was done
   turned_role_kept : (r : Role) (turned : Turned) → HasRoleTurned old i r turned → HasRoleTurned new i r turned
-  turned_role_kept (role.Source core) turned is = turned_kept old new i core turned adds is
+  turned_role_kept (role.Source core) turned is = (turned_kept old new i core turned adds is.0, ported ∙ is.1)
+  turned_role_kept (role.Generator generator) turned is = (made_kept old new i generator turned adds is.0, ported ∙ is.1)
+  turned_role_kept role.Blackhole turned is = is
   turned_role_kept (role.Sink codec) turned is = is
   turned_role_kept (role.Transform picker) turned is = is
   turned_role_kept role.Unfit turned is = tt
+
+  given_lines : lines_given new i ≡ lines_given old i
+  given_lines = ap (count 10) (stays (λ h k. taken h k 0) (taken_own 0) old new i same)
+
+  readable_kept : (turned : Turned) → IsReadable old i turned → IsReadable new i turned
+  readable_kept turned is = go (reading_of turned) is
+    where
+      go : (o : Option Reading) → IfSome o (λ (reading : Reading). IsGenerated old i reading.stream reading.took) →
+          IfSome o (λ (reading : Reading). IsGenerated new i reading.stream reading.took)
+      go None is = is
+      go (Some reading) is = generated_same old new i reading.stream reading.took
+          (told_by None (λ (c : Component). demo_of c.settings) new old i run) given_lines
+          (told_by 0 (λ (c : Component). if reading_interval c.settings == 0 then 64 else 1) new old i run) is
 
   encoded_kept : (parcels : List Parcel) → IsHeld old i parcels → IsHeld new i parcels → encoded new i (at new (Held i)) ≡ encoded old i (at old (Held i))
   encoded_kept parcels was is =
@@ -259,13 +286,22 @@ module _ (old new : Record) (i worker : ℕ) (legal : IsLegal old) (adds : OnlyA
 
   acted_kept : (told : Told) (r : Role) (parcels : List Parcel) (d : Done) → IsHeld old i parcels → IsHeld new i parcels → HasActed told old i r d → HasActed told new i r d
   acted_kept told r parcels done.Nothing was now is = come_kept r is
-  acted_kept told r parcels (done.Read turned) was now is = record { may = read_kept is.may; come = turned_role_kept r turned is.come; whole = is.whole; few = is.few; fit = is.fit }
+  acted_kept told r parcels (done.Read turned) was now is = record {
+    may = read_kept is.may;
+    come = turned_role_kept r turned is.come;
+    ported = λ none. ported ∙ is.ported none;
+    readable = readable_kept turned is.readable;
+    whole = is.whole;
+    few = is.few;
+    fit = is.fit;
+  }
   acted_kept told r parcels (done.Attempted all sent answer) was now is = record {
     may = attempt_kept is.may;
     come = come_kept r is.come;
     whole = is.whole ∙ sym (encoded_kept parcels was now);
     within = is.within;
     ok = is.ok;
+    swallowed = λ none. is.swallowed (sym ported ∙ none);
   }
   acted_kept told r parcels (done.Judged ports) was now is = record { may = judge_kept is.may; come = come_kept r is.come; judged = judged_kept parcels ports was now is.judged; meant = meant_kept parcels was now is.meant }
   acted_kept told r parcels done.Closed was now is = record { may = close_kept is.may; come = come_kept r is.come; shut = is.shut }

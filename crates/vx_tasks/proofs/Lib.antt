@@ -11,4 +11,5 @@ pub mod Judging
 pub mod Dividing
 pub mod Judges
 pub mod Given
+pub mod Alone
 pub mod Answering

@@ -14,9 +14,9 @@ use Rattle.vx_record.specs.declared.output.Output.{Output}
 use Rattle.vx_record.specs.declared.taken.Taken.{Taken}
 use Rattle.vx_record.specs.declared.taken.Taken.TheVariants as taken
 use Rattle.vx_record.specs.Records.{Record, capped}
-use Rattle.vx_record.specs.Installs.{component_of}
+use Rattle.vx_record.specs.Installs.{component_of, device_at}
 use Rattle.vx_record.specs.Sourcing.{failed_starts}
-use Rattle.vx_record.specs.Reads.{bytes_of, bytes_taken, taken as taken_of, all_ended, ended_by, is_end}
+use Rattle.vx_record.specs.Reads.{bytes_of, bytes_taken, taken as taken_of, all_ended, ended_by, ended_streams, is_end}
 use Rattle.vx_record.specs.Encoding.{given, given_in}
 use Rattle.vx_record.specs.Confirms.{confirmed, confirmed_in}
 use Rattle.vx_record.specs.Growth.{taken_in}
@@ -25,9 +25,11 @@ use Rattle.vx_record.proofs.Grows.{taken_grows}
 use Rattle.vx_sourcecore.specs.declared.source.Turned.{Turned}
 use Rattle.vx_sourcecore.specs.declared.source.Turned.TheVariants as turned
 use Rattle.vx_sourcecore.specs.Turns.{reading_of, read_bytes, NothingLeft, DidTake, IsUnmoved, StartsAtMost, turn_counts}
-use Rattle.vx_tasks.specs.Telling.{IsTold, IsToldButGiven, HasCounted, spec_of}
+use Rattle.vx_sourcecore.specs.Generators.{IsMade}
+use Rattle.vx_tasks.specs.Telling.{IsTold, IsToldButGiven, HasCounted, of_port, spec_of}
 use Rattle.vx_tasks.specs.Attempts.{OnlyGives, reply_counts}
 use Rattle.vx_tasks.specs.Out.{turn_entry}
+use Rattle.vx_tasks.proofs.Staying.{device_is}
 
 pub same_test : (i : ℕ) → (i == i) ≡ true
 same_test i = grind (arith, nat_tests)
@@ -61,6 +63,39 @@ pub record TellsOf (i : ℕ) (e : Entry) (what : Happened) : Type 0 where
   pub finishes : finishes_in i e ≡ (if what.finished then 1 else 0)
   pub confirms : confirms_in i e ≡ (if what.confirmed then 1 else 0)
 
+-- an entry of which a port needn't tell: it has no bytes taken and no attempt that was finished
+pub record IsUnheard (i : ℕ) (e : Entry) : Type 0 where
+  pub taken : (stream : ℕ) → taken_in i stream e ≡ []
+  pub finishes : finishes_in i e ≡ 0
+
+-- an instance has a port that tells of an entry, or none is needed
+abbrev pub IsHeard : Bool → ℕ → Entry → Type 0
+IsHeard device i e = (device ≡ true) ⊎ IsUnheard i e
+
+-- so what the record has of that port goes on by the entry
+heard_bytes : (device : Bool) (i stream : ℕ) (e : Entry) (had : List ℕ) → IsHeard device i e →
+    (if device then had ++ taken_in i stream e else []) ≡ (if device then had else []) ++ taken_in i stream e
+heard_bytes true i stream e had heard = refl
+heard_bytes false i stream e had (inl is) = cc
+heard_bytes false i stream e had (inr none) = sym (none.taken stream)
+
+heard_taken : (e : Entry) (h : Record) (i stream : ℕ) → component_of (e ∷ h) i ≡ component_of h i → IsHeard (device_at h i) i e →
+    of_port [] (λ k j. taken_of k j stream) (e ∷ h) i ≡ of_port [] (λ k j. taken_of k j stream) h i ++ taken_in i stream e
+heard_taken e h i stream runs heard =
+    ap (λ (b : Bool). if b then taken_of (e ∷ h) i stream else []) (device_is (e ∷ h) h i runs)
+    ∙ ap (λ (w : List ℕ). if device_at h i then w else []) (taken_grows e h i stream)
+    ∙ heard_bytes (device_at h i) i stream e (taken_of h i stream) heard
+
+heard_finishes : (device : Bool) (i n : ℕ) (e : Entry) → IsHeard device i e → (if device then n + finishes_in i e else 0) ≡ (if device then n else 0) + finishes_in i e
+heard_finishes true i n e heard = refl
+heard_finishes false i n e (inl is) = cc
+heard_finishes false i n e (inr none) = let no = none.finishes in omega (arith, no)
+
+heard_finished : (e : Entry) (h : Record) (i : ℕ) → component_of (e ∷ h) i ≡ component_of h i → IsHeard (device_at h i) i e →
+    of_port 0 finish_count (e ∷ h) i ≡ of_port 0 finish_count h i + finishes_in i e
+heard_finished e h i runs heard =
+    ap (λ (b : Bool). if b then finish_count (e ∷ h) i else 0) (device_is (e ∷ h) h i runs) ∙ heard_finishes (device_at h i) i (finish_count h i) e heard
+
 -- a port goes on as an entry of its instance says
 pub record Says (e : Entry) (h : Record) (i : ℕ) (old new : Told) : Type 0 where
   pub taken : (stream : ℕ) → Grows (old.taken stream) (new.taken stream) (taken_in i stream e)
@@ -68,6 +103,7 @@ pub record Says (e : Entry) (h : Record) (i : ℕ) (old new : Told) : Type 0 whe
   pub confirmed : Grows old.confirmed new.confirmed (confirmed_in i e)
   pub spec : new.spec ≡ old.spec
   pub runs : component_of (e ∷ h) i ≡ component_of h i
+  pub heard : IsHeard (device_at h i) i e
   pub ended : new.ended ≡ old.ended ++ ended_by i e
   pub over : (all_ended h i ≡ true → NothingLeft old) → all_ended (e ∷ h) i ≡ true → NothingLeft new
   pub what : Happened
@@ -81,18 +117,19 @@ grown (Some xs) n more had g is = subst (λ (x : Option (List _)). IfSome x (λ 
 -- then it tells what the record has with that entry
 pub told_said : (e : Entry) (h : Record) (i : ℕ) (old new : Told) → Says e h i old new → IsTold old h i → IsTold new (e ∷ h) i
 told_said e h i old new says told = record {
-  taken = λ stream. subst (λ (w : List ℕ). IfSome (new.taken stream) (λ bytes. bytes ≡ w)) (sym (taken_grows e h i stream))
-      (grown (old.taken stream) (new.taken stream) (taken_in i stream e) (taken_of h i stream) (says.taken stream) (told.taken stream));
+  taken = λ stream. subst (λ (w : List ℕ). IfSome (new.taken stream) (λ bytes. bytes ≡ w)) (sym (heard_taken e h i stream says.runs says.heard))
+      (grown (old.taken stream) (new.taken stream) (taken_in i stream e) (of_port [] (λ k j. taken_of k j stream) h i) (says.taken stream) (told.taken stream));
   given = grown old.given new.given (given_in i e) (given h i) says.given told.given;
   spec = subst (λ (for : Made). Fits (spec_of (component_of (e ∷ h) i)) for) (sym says.spec)
       (subst (λ (c : Option Component). Fits (spec_of c) old.spec) (sym says.runs) told.spec);
   confirmed = grown old.confirmed new.confirmed (confirmed_in i e) (confirmed h i) says.confirmed told.confirmed;
   ended = says.ended ∙ ap (λ (xs : List ℕ). xs ++ ended_by i e) told.ended;
-  over = says.over told.over;
+  over = λ device. says.over (told.over (sym (device_is (e ∷ h) h i says.runs) ∙ device));
   faults = counted_on old.exact new.exact old.faults new.faults (fault_count h i) (faults_in i e) says.what.failed says.counts.exact says.tells.faults says.counts.faults told.faults;
   refusals = counted_on old.exact new.exact old.refusals new.refusals (refusal_count h i) (refusals_in i e) says.what.refused says.counts.exact says.tells.refusals says.counts.refusals told.refusals;
   idles = counted_on old.exact new.exact old.idles new.idles (idle_count h i) (idles_in i e) says.what.idle says.counts.exact says.tells.idles says.counts.idles told.idles;
-  finishes = counted_on old.exact new.exact old.finishes new.finishes (finish_count h i) (finishes_in i e) says.what.finished says.counts.exact says.tells.finishes says.counts.finishes told.finishes;
+  finishes = subst (λ (n : ℕ). HasCounted new.exact n new.finishes) (sym (heard_finished e h i says.runs says.heard))
+      (counted_on old.exact new.exact old.finishes new.finishes (of_port 0 finish_count h i) (finishes_in i e) says.what.finished says.counts.exact says.tells.finishes says.counts.finishes told.finishes);
   confirms = counted_on old.exact new.exact old.confirms new.confirms (confirm_count h i) (confirms_in i e) says.what.confirmed says.counts.exact says.tells.confirms says.counts.confirms told.confirms;
 }
 
@@ -132,16 +169,17 @@ over_before true true r off is = cc
 over_before true false r off is = is
 over_before false b r off is = is
 
-reads : (h : Record) (i stream : ℕ) (took : Taken) (turned : Turned) (old new : Told) (started : Bool) → DidTake old turned new → CountsBy (record nothing { started = started }) old new →
+reads : (h : Record) (i stream : ℕ) (took : Taken) (turned : Turned) (old new : Told) (started : Bool) → device_at h i ≡ true → DidTake old turned new → CountsBy (record nothing { started = started }) old new →
     ((s : ℕ) → read_bytes (reading_of turned) s ≡ (if stream == s then bytes_of took else [])) →
     new.ended ≡ old.ended ++ ended_by i (entry.Read i stream took) → ((is_end took ≡ false) ⊎ NothingLeft new) →
     IsTold old h i → IsTold new (entry.Read i stream took ∷ h) i
-reads h i stream took turned old new started did counts are ended over = told_said (entry.Read i stream took) h i old new (record {
+reads h i stream took turned old new started device did counts are ended over = told_said (entry.Read i stream took) h i old new (record {
   taken = λ s. subst (λ (w : List ℕ). Grows (old.taken s) (new.taken s) w) (are s ∙ sym (on_test i (stream == s) (bytes_of took))) (did.taken s);
   given = same_grows old.given new.given did.rest.given;
   confirmed = same_grows old.confirmed new.confirmed did.rest.confirmed;
   spec = did.rest.spec;
   runs = refl;
+  heard = inl device;
   ended = ended;
   over = λ before now. elim over [
     | inl goes ↦ did.rest.left (before (over_before (i == i) (is_end took) (all_ended h i) goes now))
@@ -158,14 +196,15 @@ record TookNothing (h : Record) (i : ℕ) (e : Entry) : Type 0 where
   given : given_in i e ≡ []
   confirmed : confirmed_in i e ≡ []
   runs : component_of (e ∷ h) i ≡ component_of h i
+  finishes : finishes_in i e ≡ 0
   ended : ended_by i e ≡ []
   over : all_ended (e ∷ h) i ≡ all_ended h i
 
 idle_nothing : (h : Record) (i : ℕ) (failed : Bool) → TookNothing h i (entry.Idle i failed)
-idle_nothing h i failed = record { taken = λ s. refl; given = refl; confirmed = refl; runs = refl; ended = refl; over = refl }
+idle_nothing h i failed = record { taken = λ s. refl; given = refl; confirmed = refl; runs = refl; finishes = refl; ended = refl; over = refl }
 
 lost_nothing : (h : Record) (i after : ℕ) (at_start : Bool) → TookNothing h i (entry.SourceLost i after at_start)
-lost_nothing h i after at_start = record { taken = λ s. refl; given = refl; confirmed = refl; runs = refl; ended = refl; over = refl }
+lost_nothing h i after at_start = record { taken = λ s. refl; given = refl; confirmed = refl; runs = refl; finishes = refl; ended = refl; over = refl }
 
 -- what took nothing
 rests : (h : Record) (i : ℕ) (e : Entry) (what : Happened) (turned : Turned) (old new : Told) → TookNothing h i e → TellsOf i e what → CountsBy what old new → DidTake old turned new →
@@ -176,6 +215,7 @@ rests h i e what turned old new took tells counts did none ended = told_said e h
   confirmed = subst (λ (ps : List Position). Grows old.confirmed new.confirmed ps) (sym took.confirmed) (same_grows old.confirmed new.confirmed did.rest.confirmed);
   spec = did.rest.spec;
   runs = took.runs;
+  heard = inr (record { taken = took.taken; finishes = took.finishes });
   ended = ended ∙ ap (λ (xs : List ℕ). old.ended ++ xs) (sym took.ended);
   over = λ before now. did.rest.left (before (sym took.over ∙ now));
   what = what;
@@ -184,16 +224,16 @@ rests h i e what turned old new took tells counts did none ended = told_said e h
 })
 
 -- whatever the turn was
-pub turn_told : (old new : Told) (h : Record) (i : ℕ) (turned : Turned) → DidTake old turned new → CountsBy (turn_counts old.started turned) old new → IsTold old h i → IsTold new (turn_entry h i turned ∷ h) i
-turn_told old new h i (turned.Lines stream n room cut) did counts told =
-    reads h i stream _ (turned.Lines stream n room cut) old new (not old.started) did counts (λ s. refl) did.ended (inl refl) told
-turn_told old new h i (turned.StreamEnded stream cut) did counts told =
-    reads h i stream taken.StreamEnded (turned.StreamEnded stream cut) old new (not old.started) did counts (λ s. refl) (did.ended ∙ ap (λ (xs : List ℕ). old.ended ++ xs) (sym (end_by i stream))) (inl refl) told
-turn_told old new h i (turned.AllEnded stream cut) did counts told =
-    reads h i stream taken.AllEnded (turned.AllEnded stream cut) old new (not old.started) did counts (λ s. refl) did.ended (inr did.over) told
-turn_told old new h i turned.Idle did counts told =
+pub turn_told : (old new : Told) (h : Record) (i : ℕ) (turned : Turned) → device_at h i ≡ true → DidTake old turned new → CountsBy (turn_counts old.started turned) old new → IsTold old h i → IsTold new (turn_entry h i turned ∷ h) i
+turn_told old new h i (turned.Lines stream n room cut) device did counts told =
+    reads h i stream _ (turned.Lines stream n room cut) old new (not old.started) device did counts (λ s. refl) did.ended (inl refl) told
+turn_told old new h i (turned.StreamEnded stream cut) device did counts told =
+    reads h i stream taken.StreamEnded (turned.StreamEnded stream cut) old new (not old.started) device did counts (λ s. refl) (did.ended ∙ ap (λ (xs : List ℕ). old.ended ++ xs) (sym (end_by i stream))) (inl refl) told
+turn_told old new h i (turned.AllEnded stream cut) device did counts told =
+    reads h i stream taken.AllEnded (turned.AllEnded stream cut) old new (not old.started) device did counts (λ s. refl) did.ended (inr did.over) told
+turn_told old new h i turned.Idle device did counts told =
     rests h i (entry.Idle i false) (turn_counts old.started turned.Idle) turned.Idle old new (idle_nothing h i false) (tells_idle i (not old.started)) counts did (λ s. refl) did.ended told
-turn_told old new h i (turned.Failed at_start) did counts told = go (at_start && nat_lt (failed_starts h i) 4)
+turn_told old new h i (turned.Failed at_start) device did counts told = go (at_start && nat_lt (failed_starts h i) 4)
   where
     started : Bool
     started = not at_start && not old.started
@@ -224,16 +264,16 @@ pub record IsQuiet (what : Happened) : Type 0 where
 -- nothing happened at a port: it tells what it told
 pub told_unmoved : (old new : Told) (h : Record) (i : ℕ) (what : Happened) → SameNews old new → IsQuiet what → CountsBy what old new → IsTold old h i → IsTold new h i
 told_unmoved old new h i what same quiet counts told = record {
-  taken = λ stream. subst (λ (f : ℕ → Option (List ℕ)). IfSome (f stream) (λ bytes. bytes ≡ taken_of h i stream)) (sym same.taken) (told.taken stream);
+  taken = λ stream. subst (λ (f : ℕ → Option (List ℕ)). IfSome (f stream) (λ bytes. bytes ≡ of_port [] (λ k j. taken_of k j stream) h i)) (sym same.taken) (told.taken stream);
   given = subst (λ (o : Option (List ℕ)). IfSome o (λ bytes. bytes ≡ given h i)) (sym same.given) told.given;
   spec = subst (λ (for : Made). Fits (spec_of (component_of h i)) for) (sym same.spec) told.spec;
   confirmed = subst (λ (o : Option (List Position)). IfSome o (λ positions. positions ≡ confirmed h i)) (sym same.confirmed) told.confirmed;
   ended = same.ended ∙ told.ended;
-  over = λ over. same.left (told.over over);
+  over = λ device over. same.left (told.over device over);
   faults = stays_counted (fault_count h i) old.faults new.faults what.failed quiet.failed counts.faults told.faults;
   refusals = stays_counted (refusal_count h i) old.refusals new.refusals what.refused quiet.refused counts.refusals told.refusals;
   idles = stays_counted (idle_count h i) old.idles new.idles what.idle quiet.idle counts.idles told.idles;
-  finishes = stays_counted (finish_count h i) old.finishes new.finishes what.finished quiet.finished counts.finishes told.finishes;
+  finishes = stays_counted (of_port 0 finish_count h i) old.finishes new.finishes what.finished quiet.finished counts.finishes told.finishes;
   confirms = stays_counted (confirm_count h i) old.confirms new.confirms what.confirmed quiet.confirmed counts.confirms told.confirms;
 }
   where
@@ -255,6 +295,7 @@ confirm_told old new h i positions made same grew counts = told_said (entry.Conf
   confirmed = subst (λ (ps : List Position). Grows old.confirmed new.confirmed ps) (sym (ap (λ (t : Bool). if t && made then positions else []) (same_test i))) grew;
   spec = same.spec;
   runs = refl;
+  heard = inr (record { taken = λ s. refl; finishes = refl });
   ended = same.ended ∙ sym (append-nil old.ended);
   over = λ before now. left_on old new same.left (before now);
   what = record nothing { failed = not made; confirmed = made };
@@ -262,14 +303,15 @@ confirm_told old new h i positions made same grew counts = told_said (entry.Conf
   counts = counts;
 })
 
-pub attempt_told : (old new : Told) (h : Record) (i : ℕ) (copies : List ℕ) (bytes : List ℕ) (started : Bool) (answer : Reply) → OnlyGives old new → Grows old.given new.given bytes →
+pub attempt_told : (old new : Told) (h : Record) (i : ℕ) (copies : List ℕ) (bytes : List ℕ) (started : Bool) (answer : Reply) → device_at h i ≡ true → OnlyGives old new → Grows old.given new.given bytes →
     CountsBy (reply_counts started answer) old new → IsTold old h i → IsTold new (entry.Attempt i copies bytes answer ∷ h) i
-attempt_told old new h i copies bytes started answer only grew counts = told_said (entry.Attempt i copies bytes answer) h i old new (record {
+attempt_told old new h i copies bytes started answer device only grew counts = told_said (entry.Attempt i copies bytes answer) h i old new (record {
   taken = λ s. same_grows (old.taken s) (new.taken s) (ap (λ (f : ℕ → Option (List ℕ)). f s) only.taken);
   given = subst (λ (w : List ℕ). Grows old.given new.given w) (sym (ap (λ (t : Bool). if t then bytes else []) (same_test i))) grew;
   confirmed = same_grows old.confirmed new.confirmed only.confirmed;
   spec = only.spec;
   runs = refl;
+  heard = inl device;
   ended = only.ended ∙ sym (append-nil old.ended);
   over = λ before now. left_on old new only.left (before now);
   what = reply_counts started answer;
@@ -293,6 +335,7 @@ answer_told told h i outputs discarded kept is = told_said (entry.Answer i outpu
   confirmed = same_grows told.confirmed told.confirmed refl;
   spec = refl;
   runs = refl;
+  heard = inr (record { taken = λ s. refl; finishes = refl });
   ended = sym (append-nil told.ended);
   over = λ before now. before now;
   what = nothing;
@@ -377,3 +420,68 @@ told_ungiven old new h i only starts none told = told_unmoved old new h i (recor
     ungrown : (o n : Option (List ℕ)) → Grows o n [] → n ≡ o
     ungrown None n e = e
     ungrown (Some xs) n e = e ∙ ap Some (append-nil xs)
+
+-- AN INSTANCE WITHOUT A PORT
+-- what the record has of its port is nothing, whatever the instance does
+unported : {X : Type 0} (none x : X) (device : Bool) → device ≡ false → (if device then x else none) ≡ none
+unported none x true is = cc
+unported none x false is = refl
+
+-- so an entry of it that gives no byte, ends no stream and tells of no fault, refusal, idle take or confirm leaves what is told
+record IsApart (i : ℕ) (e : Entry) : Type 0 where
+  given : given_in i e ≡ []
+  confirmed : confirmed_in i e ≡ []
+  ended : ended_by i e ≡ []
+  faults : faults_in i e ≡ 0
+  refusals : refusals_in i e ≡ 0
+  idles : idles_in i e ≡ 0
+  confirms : confirms_in i e ≡ 0
+
+same_count : (exact : Bool) (n m told : ℕ) → m ≡ 0 → HasCounted exact n told → HasCounted exact (n + m) told
+same_count exact n m told none was = let same : n + m ≡ n = omega (arith, none) in subst (λ (k : ℕ). HasCounted exact k told) (sym same) was
+
+told_apart : (told : Told) (e : Entry) (h : Record) (i : ℕ) → component_of (e ∷ h) i ≡ component_of h i → device_at h i ≡ false → IsApart i e → IsTold told h i → IsTold told (e ∷ h) i
+told_apart told e h i runs alone apart is = record {
+  taken = λ stream. subst (λ (w : List ℕ). IfSome (told.taken stream) (λ bytes. bytes ≡ w))
+      (unported [] (taken_of h i stream) (device_at h i) alone ∙ sym (unported [] (taken_of (e ∷ h) i stream) (device_at (e ∷ h) i) still)) (is.taken stream);
+  given = grown told.given told.given (given_in i e) (given h i) (same_grows_by told.given (given_in i e) apart.given) is.given;
+  spec = subst (λ (c : Option Component). Fits (spec_of c) told.spec) (sym runs) is.spec;
+  confirmed = grown told.confirmed told.confirmed (confirmed_in i e) (confirmed h i) (same_grows_by told.confirmed (confirmed_in i e) apart.confirmed) is.confirmed;
+  ended = is.ended ∙ sym (append-nil (ended_streams h i)) ∙ ap (λ (xs : List ℕ). ended_streams h i ++ xs) (sym apart.ended);
+  over = λ device over. cc;
+  faults = same_count told.exact (fault_count h i) (faults_in i e) told.faults apart.faults is.faults;
+  refusals = same_count told.exact (refusal_count h i) (refusals_in i e) told.refusals apart.refusals is.refusals;
+  idles = same_count told.exact (idle_count h i) (idles_in i e) told.idles apart.idles is.idles;
+  finishes = subst (λ (n : ℕ). HasCounted told.exact n told.finishes)
+      (unported 0 (finish_count h i) (device_at h i) alone ∙ sym (unported 0 (finish_count (e ∷ h) i) (device_at (e ∷ h) i) still)) is.finishes;
+  confirms = same_count told.exact (confirm_count h i) (confirms_in i e) told.confirms apart.confirms is.confirms;
+}
+  where
+    still : device_at (e ∷ h) i ≡ false
+    still = device_is (e ∷ h) h i runs ∙ alone
+
+    same_grows_by : {X : Type 0} (o : Option (List X)) (more : List X) → more ≡ [] → Grows o o more
+    same_grows_by o more none = subst (λ (m : List _). Grows o o m) (sym none) (same_grows o o refl)
+
+read_apart : (i stream : ℕ) (took : Taken) → ended_by i (entry.Read i stream took) ≡ [] → IsApart i (entry.Read i stream took)
+read_apart i stream took none = record { given = refl; confirmed = refl; ended = none; faults = refl; refusals = refl; idles = refl; confirms = refl }
+
+-- lines that were made, and the end behind them, are no news of a port
+pub made_told : (told : Told) (h : Record) (i : ℕ) (turned : Turned) → device_at h i ≡ false → IsMade turned → IsTold told h i → IsTold told (turn_entry h i turned ∷ h) i
+made_told told h i (turned.Lines stream n room cut) alone made is = told_apart told (entry.Read i stream _) h i refl alone (read_apart i stream _ refl) is
+made_told told h i (turned.AllEnded stream cut) alone made is = told_apart told (entry.Read i stream taken.AllEnded) h i refl alone (read_apart i stream taken.AllEnded refl) is
+made_told told h i (turned.StreamEnded stream cut) alone made is = absurd made
+made_told told h i turned.Idle alone made is = absurd made
+made_told told h i (turned.Failed at_start) alone made is = absurd made
+
+-- nor is an attempt of which nothing is written
+pub swallowed_told : (told : Told) (h : Record) (i : ℕ) (copies : List ℕ) → device_at h i ≡ false → IsTold told h i → IsTold told (entry.Attempt i copies [] reply.Ok ∷ h) i
+swallowed_told told h i copies alone is = told_apart told (entry.Attempt i copies [] reply.Ok) h i refl alone (record {
+  given = ap (λ (t : Bool). if t then [] else []) (same_test i);
+  confirmed = refl;
+  ended = refl;
+  faults = by_test i false;
+  refusals = by_test i false;
+  idles = refl;
+  confirms = refl;
+}) is

@@ -18,7 +18,8 @@ use Rattle.vx_record.specs.Parcels.{event_of}
 use Rattle.vx_record.specs.Places.Place.{Held}
 use Rattle.vx_record.specs.Lists.{stands, parcels_at}
 use Rattle.vx_record.specs.Shifts.{at}
-use Rattle.vx_record.specs.Installs.{component_of}
+use Rattle.vx_record.specs.Installs.{component_of, device_at}
+use Rattle.vx_plan.specs.Options.{has_device}
 use Rattle.vx_record.specs.Reads.{taken, all_ended, ended_streams}
 use Rattle.vx_record.specs.Encoding.{given}
 use Rattle.vx_record.specs.Confirms.{confirmed}
@@ -39,7 +40,7 @@ use Rattle.vx_record.proofs.OwnConfirms.{confirmed_own, given_own}
 use Rattle.vx_record.proofs.OwnCounts.{faults_own, refusals_own, idles_own, finishes_own, confirms_own}
 use Rattle.vx_places.specs.Holding.{IsKnown}
 use Rattle.vx_places.proofs.Steps.{among_counts, event_stays as unanswered, known_later}
-use Rattle.vx_tasks.specs.Telling.{IsTold, HasCounted, spec_of}
+use Rattle.vx_tasks.specs.Telling.{IsTold, HasCounted, of_port, spec_of}
 use Rattle.vx_tasks.specs.Out.{IsHeld}
 
 -- what is a task's own stays with its entries
@@ -65,18 +66,28 @@ runs (Home j ∷ h) i worker legal out = go (j == i) out (runs h i worker legal.
 runs (e ∷ h) i worker legal out = runs h i worker legal.1 out
 
 -- WHAT ITS PORT TELLS
+-- what runs the same component has a port or not
+pub device_is : (new old : Record) (i : ℕ) → component_of new i ≡ component_of old i → device_at new i ≡ device_at old i
+device_is new old i run = ap (λ (o : Option Component). elim o [ None ↦ false | Some c ↦ has_device c.settings ]) run
+
+of_port_stays : {X : Type 0} (none : X) (f : Record → ℕ → X) → IsOwn f → (old new : Record) (i : ℕ) → mine new i ≡ mine old i →
+    component_of new i ≡ component_of old i → of_port none f new i ≡ of_port none f old i
+of_port_stays none f own old new i same run =
+    ap (λ (b : Bool). if b then f new i else none) (device_is new old i run)
+    ∙ ap (λ (x : _). if device_at old i then x else none) (stays f own old new i same)
+
 pub told_same : (told : Told) (old new : Record) (i : ℕ) → mine new i ≡ mine old i → component_of new i ≡ component_of old i → IsTold told old i → IsTold told new i
 told_same told old new i same run is = record {
-  taken = λ stream. subst (λ (w : List ℕ). IfSome (told.taken stream) (λ bytes. bytes ≡ w)) (sym (stays (λ h k. taken h k stream) (taken_own stream) old new i same)) (is.taken stream);
+  taken = λ stream. subst (λ (w : List ℕ). IfSome (told.taken stream) (λ bytes. bytes ≡ w)) (sym (of_port_stays [] (λ h k. taken h k stream) (taken_own stream) old new i same run)) (is.taken stream);
   given = subst (λ (w : List ℕ). IfSome told.given (λ bytes. bytes ≡ w)) (sym (stays given given_own old new i same)) is.given;
   spec = subst (λ (c : Option Component). Fits (spec_of c) told.spec) (sym run) is.spec;
   confirmed = subst (λ (ps : List Position). IfSome told.confirmed (λ positions. positions ≡ ps)) (sym (stays confirmed confirmed_own old new i same)) is.confirmed;
   ended = is.ended ∙ sym (stays ended_streams ended_own old new i same);
-  over = λ over. is.over (sym (stays all_ended end_own old new i same) ∙ over);
+  over = λ device over. is.over (sym (device_is new old i run) ∙ device) (sym (stays all_ended end_own old new i same) ∙ over);
   faults = subst (λ (n : ℕ). HasCounted told.exact n told.faults) (sym (stays fault_count faults_own old new i same)) is.faults;
   refusals = subst (λ (n : ℕ). HasCounted told.exact n told.refusals) (sym (stays refusal_count refusals_own old new i same)) is.refusals;
   idles = subst (λ (n : ℕ). HasCounted told.exact n told.idles) (sym (stays idle_count idles_own old new i same)) is.idles;
-  finishes = subst (λ (n : ℕ). HasCounted told.exact n told.finishes) (sym (stays finish_count finishes_own old new i same)) is.finishes;
+  finishes = subst (λ (n : ℕ). HasCounted told.exact n told.finishes) (sym (of_port_stays 0 finish_count finishes_own old new i same run)) is.finishes;
   confirms = subst (λ (n : ℕ). HasCounted told.exact n told.confirms) (sym (stays confirm_count confirms_own old new i same)) is.confirms;
 }
 

@@ -12,7 +12,9 @@ use Rattle.vx_sourcecore.specs.declared.source.Turned.TheVariants as turned
 use Rattle.vx_sourcecore.specs.Turns.{StartsAtMost, turn_counts}
 use Rattle.vx_tasks.specs.declared.landing.Done.{Done}
 use Rattle.vx_tasks.specs.declared.landing.Done.TheVariants as done
-use Rattle.vx_tasks.specs.Jobs.{NoneFell, ShowsDone, StartsNone, StartsOnce}
+use Rattle.vx_tasks.specs.declared.task.Role.{Role}
+use Rattle.vx_tasks.specs.declared.task.Role.TheVariants as role
+use Rattle.vx_tasks.specs.Jobs.{NoneFell, ShowsAlone, ShowsDone, ShowsWork, StartsNone, StartsOnce}
 use Rattle.vx_tasks.specs.declared.sending.Attempted.{Attempted}
 use Rattle.vx_tasks.specs.Attempts.{CountsReply, trouble_counts, sent_counts, reply_counts}
 
@@ -178,3 +180,25 @@ shows_behind old mid new (done.Judged ports) fell more same shown = shown ∙ sa
 shows_behind old mid new done.Closed fell more same shown = shown
 shows_behind old mid new done.Short fell more same shown = tt
 shows_behind old mid new done.Starved fell more same shown = shown
+
+-- so it is of an instance without a port
+alone_behind : (old mid new : Told) (d : Done) → mid.started ≡ old.started → ShowsAlone mid new d → ShowsAlone old new d
+alone_behind old mid new done.Closed same shown = shown
+alone_behind old mid new other same shown = shown ∙ same
+
+pub work_behind : (r : Role) (old mid new : Told) (d : Done) → NoneFell old mid → NoneFell mid new → mid.started ≡ old.started → ShowsWork r mid new d → ShowsWork r old new d
+work_behind (role.Source core) old mid new d fell more same shown = shows_behind old mid new d fell more same shown
+work_behind (role.Generator generator) old mid new d fell more same shown = alone_behind old mid new d same shown
+work_behind (role.Sink codec) old mid new d fell more same shown = shows_behind old mid new d fell more same shown
+work_behind role.Blackhole old mid new d fell more same shown = alone_behind old mid new d same shown
+work_behind (role.Transform picker) old mid new d fell more same shown = shows_behind old mid new d fell more same shown
+work_behind role.Unfit old mid new d fell more same shown = shows_behind old mid new d fell more same shown
+
+-- and where no memory was found before
+pub work_short : (r : Role) (old new : Told) → new.started ≡ old.started → ShowsWork r old new done.Short
+work_short (role.Source core) old new same = tt
+work_short (role.Generator generator) old new same = same
+work_short (role.Sink codec) old new same = tt
+work_short role.Blackhole old new same = same
+work_short (role.Transform picker) old new same = tt
+work_short role.Unfit old new same = tt

@@ -1,22 +1,26 @@
 -- A task that is at home.
-use Rattle.std.specs.Prelude.{◌≡◌, ℕ, Some, IsSomeAnd}
+use Rattle.std.specs.Prelude.{◌≡◌, ℕ, true, false, Some, IsSomeAnd}
 use Rattle.vx_ends.specs.Told.{Told}
 use Rattle.vx_plan.specs.declared.component.Component.{Component}
 use Rattle.vx_plan.specs.Options.{encoding}
 use Rattle.vx_pick.specs.Picks.{Picks}
 use Rattle.vx_record.specs.Records.{Record}
-use Rattle.vx_record.specs.Installs.{component_of}
+use Rattle.vx_record.specs.Installs.{component_of, device_at}
 use Rattle.vx_sourcecore.specs.Abreast.{IsAbreast}
+use Rattle.vx_sourcecore.specs.Generators.{IsGenerating}
+use Rattle.vx_sourcecore.specs.Lines.{is_swallowing}
 use Rattle.vx_tasks.specs.declared.task.Role.{Role}
-use Rattle.vx_tasks.specs.declared.task.Role.TheVariants.{Source, Sink, Transform, Unfit}
+use Rattle.vx_tasks.specs.declared.task.Role.TheVariants.{Source, Generator, Sink, Blackhole, Transform, Unfit}
 use Rattle.vx_tasks.specs.declared.task.Task.{Task}
 use Rattle.vx_tasks.specs.Telling.{IsTold}
 
--- what an instance does has come as far as the record has it: a source is abreast of it, a sink writes by the codec of its
--- component, and a transform picks by the settings of its component
+-- what an instance does has come as far as the record has it: a source with a port is abreast of it, one without makes the lines that
+-- come next, a sink writes by the codec of its component, a black hole is one, and a transform picks by the settings of its component
 abbrev pub HasCome : Record → ℕ → Role → Type 0
-HasCome h i (Source core) = IsAbreast h i core
+HasCome h i (Source core) = IsAbreast h i core × (device_at h i ≡ true)
+HasCome h i (Generator generator) = IsGenerating h i generator × (device_at h i ≡ false)
 HasCome h i (Sink codec) = IsSomeAnd (component_of h i) (λ (c : Component). encoding c.settings ≡ Some codec)
+HasCome h i Blackhole = IsSomeAnd (component_of h i) (λ (c : Component). is_swallowing c.settings ≡ true)
 HasCome h i (Transform picker) = IsSomeAnd (component_of h i) (λ (c : Component). Picks c.settings picker)
 HasCome h i Unfit = Unit {0}
 

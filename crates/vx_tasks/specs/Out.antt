@@ -16,10 +16,11 @@ use Rattle.vx_record.specs.Tasks.{out_to}
 use Rattle.vx_record.specs.Turns.{at_lease, lease_now, since_lease, is_turn_of, is_attempt_of, is_confirm_of}
 use Rattle.vx_plan.specs.declared.component.Component.{Component}
 use Rattle.vx_plan.specs.Options.{conditions_of}
-use Rattle.vx_record.specs.Installs.{component_of, source_at, transform_at, sink_at, is_closed}
+use Rattle.vx_record.specs.Installs.{component_of, source_at, transform_at, sink_at, device_at, is_closed}
 use Rattle.vx_record.specs.Confirms.{due, is_confirm_due}
 use Rattle.vx_record.specs.Reads.{bytes_taken}
 use Rattle.vx_record.specs.Sourcing.{failed_starts}
+use Rattle.vx_record.specs.Generating.{IsGenerated}
 use Rattle.vx_record.specs.SinkBatches.{is_full_batch, is_timed_out, is_last_batch, was_attempted, is_batch_closed, retry_from}
 use Rattle.vx_record.specs.Encoding.{given, encoded}
 use Rattle.vx_record.specs.Owing.{took_since, owes_discards, owes_answer, is_done}
@@ -33,6 +34,7 @@ use Rattle.vx_sourcecore.specs.declared.source.Turned.{Turned}
 use Rattle.vx_sourcecore.specs.declared.source.Turned.TheVariants as turned
 use Rattle.vx_sourcecore.specs.Turns.{Reading, reading_of, cut_of, IsInRoom}
 use Rattle.vx_sourcecore.specs.Abreast.{HasTurned}
+use Rattle.vx_sourcecore.specs.Generators.{HasMade}
 use Rattle.vx_places.specs.Numbers.{numbers, EachFilled}
 use Rattle.vx_places.specs.Holding.{AreKnown}
 use Rattle.vx_tasks.specs.declared.confirming.Confirmed.{Confirmed}
@@ -85,8 +87,9 @@ pub record MayReadNow (h : Record) (i : ℕ) : Type 0 where
   pub source : source_at h i ≡ true
   pub readable : can_read (at_lease h i) i (lease_now h i) ≡ true
 
--- an instance that was done when it was leased, and had nothing to confirm
+-- an instance with a port that was done when it was leased, and had nothing to confirm
 pub record MayCloseNow (h : Record) (i : ℕ) : Type 0 where
+  pub device : device_at h i ≡ true
   pub over : is_done (at_lease h i) i ≡ true
   pub confirmed : is_confirm_due (at_lease h i) i ≡ false
 
@@ -113,7 +116,9 @@ AreDue h i (Some positions) = (source_at h i ≡ true) × ((is_confirm_due (at_l
 -- whether what an instance does is nothing any more
 abbrev pub is_unfit : Role → Bool
 is_unfit (role.Source core) = false
+is_unfit (role.Generator generator) = false
 is_unfit (role.Sink codec) = false
+is_unfit role.Blackhole = false
 is_unfit (role.Transform picker) = false
 is_unfit role.Unfit = true
 
@@ -190,27 +195,37 @@ leaves_taken done.Starved = false
 
 -- what a source does comes back as far as its turn says
 abbrev pub HasRoleTurned : Record → ℕ → Role → Turned → Type 0
-HasRoleTurned h i (role.Source core) turned = HasTurned h i core turned
+HasRoleTurned h i (role.Source core) turned = HasTurned h i core turned × (device_at h i ≡ true)
+HasRoleTurned h i (role.Generator generator) turned = HasMade h i generator turned × (device_at h i ≡ false)
 HasRoleTurned h i (role.Sink codec) turned = ⊥
+HasRoleTurned h i role.Blackhole turned = ⊥
 HasRoleTurned h i (role.Transform picker) turned = ⊥
 HasRoleTurned h i role.Unfit turned = Unit {0}
 
--- a turn of a source that could be read when it was leased; the source is of no use any more exactly where what it read wasn't cut
+-- what a read took is what a source that makes its lines may give
+abbrev pub IsReadable : Record → ℕ → Turned → Type 0
+IsReadable h i turned = IfSome (reading_of turned) (λ (reading : Reading). IsGenerated h i reading.stream reading.took)
+
+-- a turn of a source that could be read when it was leased, which brought something unless the source has a port; the source is of no
+-- use any more exactly where what it read wasn't cut
 pub record HasRead (h : Record) (i : ℕ) (worker_role : Role) (turned : Turned) : Type 0 where
   pub may : MayReadNow h i
   pub come : HasRoleTurned h i worker_role turned
+  pub ported : reading_of turned ≡ None → device_at h i ≡ true
+  pub readable : IsReadable h i turned
   pub whole : IsInRoom turned
   pub few : IfSome (cut_of turned) (λ cut. length cut.events ≤ 65536)
   pub fit : is_unfit worker_role ≡ lacks_cut turned
 
 -- an attempt of a closed sink batch: the first bytes of what its codec writes of all that it holds, and all of them where the
--- answer is `Ok`
+-- answer is `Ok`, as that of a sink without a port always is
 pub record HasAttempted (h : Record) (i : ℕ) (worker_role : Role) (all : Word) (sent : ℕ) (answer : Reply) : Type 0 where
   pub may : MayAttemptNow h i
   pub come : HasCome h i worker_role
   pub whole : all ≡ encoded h i (at h (Held i))
   pub within : sent ≤ length all
   pub ok : answer ≡ reply.Ok → sent ≡ length all
+  pub swallowed : device_at h i ≡ false → answer ≡ reply.Ok
 
 -- an attempt of a closed sink batch in whose midst no memory was found: the port was given the first bytes of what its codec
 -- writes of all that it holds, at least one, and is closed

@@ -1,12 +1,12 @@
 -- When a port tells what a record has of its instance.
-use Rattle.std.specs.Prelude.{◌≡◌, ℕ, ◌<◌, ◌≤◌, ◌++◌, length, take, Bool, true, Option, Some, None, IfSome}
+use Rattle.std.specs.Prelude.{◌≡◌, ℕ, ◌<◌, ◌≤◌, ◌++◌, [], length, take, Bool, true, Option, Some, None, IfSome, if◌then◌else◌}
 use Rattle.vx_value.specs.Texts.{Word}
 use Rattle.vx_ends.specs.Told.{Told, Fits}
 use Rattle.vx_ends.specs.declared.port_spec.PortSpec.{PortSpec}
 use Rattle.vx_plan.specs.declared.component.Component.{Component}
 use Rattle.vx_plan.specs.Ports.{port_of}
 use Rattle.vx_record.specs.Records.{Record, capped}
-use Rattle.vx_record.specs.Installs.{component_of}
+use Rattle.vx_record.specs.Installs.{component_of, device_at}
 use Rattle.vx_record.specs.Reads.{taken, ended_streams, all_ended}
 use Rattle.vx_record.specs.Encoding.{given}
 use Rattle.vx_record.specs.Confirms.{confirmed}
@@ -23,20 +23,23 @@ pub record HasCounted (exact : Bool) (count : ℕ) (told : ℕ) : Type 0 where
   pub least : capped count ≤ told
   pub exactly : exact ≡ true → told ≡ capped count
 
+-- what a record has of an instance's port; of an instance without one it has nothing
+abbrev pub of_port : {X : Type 0} → X → (Record → ℕ → X) → Record → ℕ → X
+of_port none f h i = if device_at h i then f h i else none
+
 -- what a port tells is what the record has of its instance: bytes, confirmed positions and ends, what it is made for, or that there
--- is none, and at
--- least as many failures, refusals, idle takes, finishes and confirms, and not one more where its counts are exact
+-- is none, and at least as many failures, refusals, idle takes, finishes and confirms, and not one more where its counts are exact
 pub record IsTold (told : Told) (h : Record) (i : ℕ) : Type 0 where
-  pub taken : (stream : ℕ) → IfSome (told.taken stream) (λ bytes. bytes ≡ taken h i stream)
+  pub taken : (stream : ℕ) → IfSome (told.taken stream) (λ bytes. bytes ≡ of_port [] (λ k j. taken k j stream) h i)
   pub given : IfSome told.given (λ bytes. bytes ≡ given h i)
   pub spec : Fits (spec_of (component_of h i)) told.spec
   pub confirmed : IfSome told.confirmed (λ positions. positions ≡ confirmed h i)
   pub ended : told.ended ≡ ended_streams h i
-  pub over : all_ended h i ≡ true → NothingLeft told
+  pub over : device_at h i ≡ true → all_ended h i ≡ true → NothingLeft told
   pub faults : HasCounted told.exact (fault_count h i) told.faults
   pub refusals : HasCounted told.exact (refusal_count h i) told.refusals
   pub idles : HasCounted told.exact (idle_count h i) told.idles
-  pub finishes : HasCounted told.exact (finish_count h i) told.finishes
+  pub finishes : HasCounted told.exact (of_port 0 finish_count h i) told.finishes
   pub confirms : HasCounted told.exact (confirm_count h i) told.confirms
 
 -- the same, but for the bytes that were given, of which the record doesn't have all

@@ -1,14 +1,18 @@
 use vx_json::Codec;
 use vx_pick::Picker;
-use vx_sourcecore::SourceCore;
+use vx_sourcecore::{Generator, SourceCore};
 
 /// What an instance does with its port.
 #[derive(Drop)]
 pub enum Role {
     /// Reads lines.
     Source(SourceCore),
+    /// Makes its lines itself. It needs no port.
+    Generator(Generator),
     /// Writes what it holds by a codec.
     Sink(Codec),
+    /// Takes what it holds, and writes nothing. It needs no port.
+    Blackhole,
     /// Judges what it holds, event by event. It needs no port.
     Transform(Picker),
     /// Nothing any more: memory was wanting while it cut what it had read.

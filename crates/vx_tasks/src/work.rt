@@ -1,9 +1,11 @@
-ghost use Rattle.std.specs.Prelude.{◌≡◌, ◌⊎◌, ◌<◌, ℕ, List, length, IfOk, OnOk, false};
+ghost use Rattle.std.specs.Prelude.{◌≡◌, ◌⊎◌, ◌<◌, ℕ, List, length, IfOk, OnOk, true, false};
 ghost use Rattle.vx_record.specs.Records.{Record};
 ghost use Rattle.vx_record.specs.Legal.{IsLegal};
+ghost use Rattle.vx_record.specs.Installs.{device_at};
 ghost use Rattle.vx_ledger.specs.declared.parcel.Parcel.{Parcel};
 ghost use Rattle.vx_sourcecore.specs.declared.source.SourceCore.{SourceCore};
 ghost use Rattle.vx_sourcecore.specs.Abreast.{HasTurned};
+ghost use Rattle.vx_sourcecore.specs.Generators.{HasMade};
 ghost use Rattle.vx_tasks.specs.Telling.{IsTold};
 ghost use Rattle.vx_tasks.specs.Out.{HasLeft, HasDone, TellsDone, HasActed, HasRoleTurned, is_unfit, lacks_cut};
 ghost use Rattle.vx_ends.specs.Told.{Told};
@@ -11,7 +13,7 @@ ghost use Rattle.vx_plan.specs.declared.settings.Settings.{Settings};
 ghost use Rattle.vx_plan.specs.Options.{conditions_of};
 ghost use Rattle.vx_pick.specs.Picks.{Picks, AreMeant};
 ghost use Rattle.vx_tasks.specs.Doing.{MayAct, written, events_in, AllPicked};
-ghost use Rattle.vx_tasks.specs.Jobs.{DoesJob, LacksConfirm, KeepsRole, NoneFell, ShowsDone, StartsNone, StartsOnce};
+ghost use Rattle.vx_tasks.specs.Jobs.{DoesJob, IsPortedAs, LacksConfirm, KeepsRole, NoneFell, ShowsAlone, ShowsDone, ShowsWork, StartsNone, StartsOnce};
 ghost use Rattle.vx_tasks.specs.declared.landing.Done.{Done};
 ghost use Rattle.vx_tasks.specs.declared.task.Role.{Role};
 ghost use Rattle.vx_tasks.specs.declared.work.Job.{Job};
@@ -22,12 +24,12 @@ use crate::sending::attempt;
 use crate::task::{Role, Task};
 use std::alloc::Global;
 use std::snapshot::Snapshot;
-use vx_ends::{Clock, Port, PositionList};
+use vx_ends::{Clock, Port, PositionList, Reply};
 use vx_json::{Codec, encode_event};
 use vx_ledger::Parcel;
 use vx_pick::Picker;
 use vx_places::Line;
-use vx_sourcecore::{SourceCore, Turned};
+use vx_sourcecore::{Generator, SourceCore, Turned};
 use vx_value::{Bytes, WantOfMemory};
 
 /// What a leased instance has to do.
@@ -70,7 +72,7 @@ impl<P: Port> Work<P> {
         ensures role { KeepsRole self.task.role result.task.role result.done }
         ensures counts { NoneFell (P.told self.task.port) (P.told result.task.port) }
         ensures starts { StartsOnce (P.told self.task.port) (P.told result.task.port) }
-        ensures shows { ShowsDone (P.told self.task.port) (P.told result.task.port) result.done }
+        ensures shows { ShowsWork self.task.role (P.told self.task.port) (P.told result.task.port) result.done }
         ensures done { (h : Record) → IsLegal h → HasLeft P.told h self → HasDone P.told h result }
     {
         let Work {
@@ -115,19 +117,24 @@ struct Deed {
 
 /// Does a job with a port.
 fn act<P: Port>(alloc: Global, job: Job, port: &mut P, role: Role, held: &Line<Parcel>) -> Deed
-    ensures told { (h : Record) (i : ℕ) → IsTold (P.told port.old) h i → TellsDone (P.told port.new) h i held.now.items result.done }
+    ensures told { (h : Record) (i : ℕ) → IsPortedAs (device_at h i) role → IsTold (P.told port.old) h i → TellsDone (P.told port.new) h i held.now.items result.done }
     ensures acted { (h : Record) (i : ℕ) → MayAct (P.told port.old) h i role held.now.items job → HasActed (P.told port.new) h i result.role result.done }
     ensures does { DoesJob job role result.done }
     ensures keeps { KeepsRole role result.role result.done }
     ensures counts { NoneFell (P.told port.old) (P.told port.new) }
     ensures starts { StartsOnce (P.told port.old) (P.told port.new) }
-    ensures shows { ShowsDone (P.told port.old) (P.told port.new) result.done }
+    ensures shows { ShowsWork role (P.told port.old) (P.told port.new) result.done }
 {
     match (job, role) {
         (Job::Read, Role::Source(core)) => read(port, core),
+        (Job::Read, Role::Generator(generator)) => make(generator),
         (Job::Attempt, Role::Sink(codec)) => Deed {
             role: Role::Sink(codec),
             done: send(alloc, port, codec, held),
+        },
+        (Job::Attempt, Role::Blackhole) => Deed {
+            role: Role::Blackhole,
+            done: swallow(alloc),
         },
         (Job::Judge, Role::Transform(picker)) => judge(alloc, picker, held),
         (Job::Close, role) => Deed {
@@ -184,7 +191,7 @@ fn judge_all(
 
 /// Takes from a source's port. Where no memory was found to cut what was taken, the source is of no use any more.
 fn read<P: Port>(port: &mut P, core: SourceCore) -> Deed
-    ensures told { (h : Record) (i : ℕ) (parcels : List Parcel) → IsTold (P.told port.old) h i → TellsDone (P.told port.new) h i parcels result.done }
+    ensures told { (h : Record) (i : ℕ) (parcels : List Parcel) → device_at h i ≡ true → IsTold (P.told port.old) h i → TellsDone (P.told port.new) h i parcels result.done }
     ensures acted { (h : Record) (i : ℕ) (parcels : List Parcel) → MayAct (P.told port.old) h i (Role.Source core) parcels Job.Read → HasActed (P.told port.new) h i result.role result.done }
     ensures does { DoesJob Job.Read (Role.Source core) result.done }
     ensures keeps { KeepsRole (Role.Source core) result.role result.done }
@@ -205,9 +212,59 @@ fn read<P: Port>(port: &mut P, core: SourceCore) -> Deed
     }
 }
 
+/// Makes the next lines of a source that needs no port. Where no memory was found to cut what was made, the source is of no use any
+/// more.
+fn make(generator: Generator) -> Deed
+    ensures told { (told : Told) (h : Record) (i : ℕ) (parcels : List Parcel) → device_at h i ≡ false → IsTold told h i → TellsDone told h i parcels result.done }
+    ensures acted { (told : Told) (h : Record) (i : ℕ) (parcels : List Parcel) → MayAct told h i (Role.Generator generator) parcels Job.Read → HasActed told h i result.role result.done }
+    ensures does { DoesJob Job.Read (Role.Generator generator) result.done }
+    ensures keeps { KeepsRole (Role.Generator generator) result.role result.done }
+    ensures shows { (told : Told) → ShowsAlone told told result.done }
+{
+    let mut generator = generator;
+    match generator.turn() {
+        Ok(turned) => Deed {
+            role: role_of_made(generator, &turned),
+            done: Done::Read(turned),
+        },
+        Err(WantOfMemory) => Deed {
+            role: Role::Generator(generator),
+            done: Done::Short,
+        },
+    }
+}
+
+/// What a source does that made these lines.
+fn role_of_made(generator: Generator, turned: &Turned) -> Role
+    ensures made { (h : Record) (i : ℕ) → device_at h i ≡ false → HasMade h i generator turned.now → HasRoleTurned h i result turned.now }
+    ensures keeps { (old : Generator) → KeepsRole (Role.Generator old) result (Done.Read turned.now) }
+    ensures fit { is_unfit result ≡ lacks_cut turned.now }
+{
+    if is_uncut(turned) {
+        Role::Unfit
+    } else {
+        Role::Generator(generator)
+    }
+}
+
+/// Takes what a black hole holds: nothing of it is written.
+fn swallow(alloc: Global) -> Done
+    ensures told { (told : Told) (h : Record) (i : ℕ) (parcels : List Parcel) → device_at h i ≡ false → IsTold told h i → TellsDone told h i parcels result }
+    ensures acted { (told : Told) (h : Record) (i : ℕ) (parcels : List Parcel) → MayAct told h i Role.Blackhole parcels Job.Attempt → HasActed told h i Role.Blackhole result }
+    ensures does { DoesJob Job.Attempt Role.Blackhole result }
+    ensures shows { (told : Told) → ShowsAlone told told result }
+{
+    let none = Bytes::new(alloc);
+    Done::Attempted {
+        all: Snapshot::of(&none),
+        sent: 0,
+        reply: Reply::Ok,
+    }
+}
+
 /// What an instance does that took this turn.
 fn role_behind(core: SourceCore, turned: &Turned) -> Role
-    ensures turned { (h : Record) (i : ℕ) → HasTurned h i core turned.now → HasRoleTurned h i result turned.now }
+    ensures turned { (h : Record) (i : ℕ) → device_at h i ≡ true → HasTurned h i core turned.now → HasRoleTurned h i result turned.now }
     ensures keeps { (old : SourceCore) → KeepsRole (Role.Source old) result (Done.Read turned.now) }
     ensures fit { is_unfit result ≡ lacks_cut turned.now }
 {
@@ -244,7 +301,7 @@ fn close<P: Port>(port: &mut P) -> Done
 
 /// Writes a sink batch.
 fn send<P: Port>(alloc: Global, port: &mut P, codec: Codec, held: &Line<Parcel>) -> Done
-    ensures told { (h : Record) (i : ℕ) → IsTold (P.told port.old) h i → TellsDone (P.told port.new) h i held.now.items result }
+    ensures told { (h : Record) (i : ℕ) → device_at h i ≡ true → IsTold (P.told port.old) h i → TellsDone (P.told port.new) h i held.now.items result }
     ensures acted { (h : Record) (i : ℕ) → MayAct (P.told port.old) h i (Role.Sink codec) held.now.items Job.Attempt → HasActed (P.told port.new) h i (Role.Sink codec) result }
     ensures does { DoesJob Job.Attempt (Role.Sink codec) result }
     ensures counts { NoneFell (P.told port.old) (P.told port.new) }

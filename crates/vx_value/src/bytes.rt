@@ -35,6 +35,13 @@ impl Bytes {
         Bytes { bytes }
     }
 
+    /// The same bytes as a vector.
+    pub fn into_vec(self) -> Vec<u8>
+        ensures { result.items ≡ self }
+    {
+        self.bytes
+    }
+
     /// A copy of some bytes.
     pub fn copy_of(alloc: Global, bytes: &[u8]) -> Result<Self, WantOfMemory>
         ensures { IfOk result (λ copy. copy ≡ bytes.now) }

@@ -21,6 +21,6 @@ pub returns-clause-none : goal.returns-clause-none
 returns-clause-none g c =
     let books = c.args.books.now in
     let dry = c.are_dry.ensures c.if-are_dry.false in
-    none_then c.ready_source.result c.ready_source.ensures.none (λ none. none_at_all c.requires.stands c.args.sources.now c.requires.sources c.args.now c.requires.served c.requires.latest
+    none_then c.ready_source.result c.ready_source.ensures.none (λ none. none_at_all c.requires.stands c.args.sources.now c.requires.sources c.args.now c.requires.latest
     (none_of_class c.requires.stands c.args.now dry sink_at (sink_unsourced books.log) c.in_default.ensures.none)
     (none_of_class c.requires.stands c.args.now dry transform_at (transform_unsourced books.log) c.in_default-filled_of.ensures.none) none)

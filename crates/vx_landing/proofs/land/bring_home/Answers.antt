@@ -7,18 +7,18 @@ use Rattle.vx_landing.proofs.Seating.{LeavesBe, be_stays}
 use Rattle.vx_landing.proofs.land.bring_home.Goals as goal
 
 pub give_back-requires-clause-lent : goal.give_back-requires-clause-lent
-give_back-requires-clause-lent g c = let r = c.requires in r.lent c.args.landing.instance r.within (out_now r.stands r.served r.within r.done)
+give_back-requires-clause-lent g c = let r = c.requires in r.lent c.args.landing.instance r.within (out_now r.stands r.within r.done)
 
 pub note_confirmed-requires-clause-may : goal.note_confirmed-requires-clause-may
-note_confirmed-requires-clause-may g c = let r = c.requires in confirmable r.stands r.served r.within r.done c.give_back.ensures.log
+note_confirmed-requires-clause-may g c = let r = c.requires in confirmable r.stands r.within r.done c.give_back.ensures.log
 
 pub note_done-landed-requires-clause-back : goal.note_done-landed-requires-clause-back
 note_done-landed-requires-clause-back g c =
     let r = c.requires in
     let back = c.give_back.ensures in
     let e = c.note_confirmed.ensures in
-    back_with r.stands r.served r.within r.done back.log back.seats back.stands.size back.kept e.stands e.log e.leaves
-    (r.away c.args.landing.instance (out_now r.stands r.served r.within r.done))
+    back_with r.stands r.within r.done back.log back.seats back.stands.size back.kept e.stands e.log e.leaves
+    (r.away c.args.landing.instance (out_now r.stands r.within r.done))
 
 pub returns : goal.returns
 returns g c =

@@ -27,6 +27,9 @@ pub returns-in-Attempted-clause-noted : goal.returns-in-Attempted-clause-noted
 returns-in-Attempted-clause-noted g c =
     let r = c.requires in rw c.in-Attempted.is (attempt_behind r.stands r.within (rw c.in-Attempted.is at r.back) c.land_attempt.ensures)
 
+pub land_attempt-requires-clause-swallowed : goal.land_attempt-requires-clause-swallowed
+land_attempt-requires-clause-swallowed g c = let back = rw c.in-Attempted.is at c.requires.back in back.acted.swallowed
+
 pub land_judged-requires-clause-may : goal.land_judged-requires-clause-may
 land_judged-requires-clause-may g c = let r = c.requires in may_answer r.stands (rw c.in-Judged.is at r.back)
 

@@ -1,10 +1,9 @@
 use Rattle.std.proofs.Common.{refl, inl}
 use Rattle.vx_landing.proofs.Answering.{noted, shut_out}
-use Rattle.vx_landing.proofs.Serving.{closing_device}
 use Rattle.vx_landing.proofs.landing.note_closed.Goals as goal
 
 pub close-requires-clause-may : goal.close-requires-clause-may
-close-requires-clause-may g c = let r = c.requires in record { device = closing_device r.stands r.served c.args.i r.out r.may; unclosed = r.unclosed; over = inl (r.out, r.may.over) }
+close-requires-clause-may g c = let r = c.requires in record { device = r.may.device; unclosed = r.unclosed; over = inl (r.out, r.may.over) }
 
 pub close-requires-clause-shut : goal.close-requires-clause-shut
 close-requires-clause-shut g c = shut_out c.requires.stands c.args.i c.requires.out

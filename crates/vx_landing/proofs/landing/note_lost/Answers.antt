@@ -1,10 +1,6 @@
 use Rattle.std.proofs.Common.{refl}
 use Rattle.vx_landing.proofs.Answering.{left_out, noted}
-use Rattle.vx_landing.proofs.Serving.{source_device}
 use Rattle.vx_landing.proofs.landing.note_lost.Goals as goal
-
-pub lose-requires-clause-may : goal.lose-requires-clause-may
-lose-requires-clause-may g c = let r = c.requires in assumption (source_device r.stands r.served c.args.i r.may.source)
 
 pub lose-requires-clause-left : goal.lose-requires-clause-left
 lose-requires-clause-left g c = left_out c.args.books.now.log c.args.i c.requires.stands.legal c.requires.out

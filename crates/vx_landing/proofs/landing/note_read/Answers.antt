@@ -3,7 +3,7 @@ use Rattle.vx_landing.proofs.Answering.{may_read, noted_read}
 use Rattle.vx_landing.proofs.landing.note_read.Goals as goal
 
 pub read-requires-clause-may : goal.read-requires-clause-may
-read-requires-clause-may g c = let r = c.requires in may_read r.stands r.served (cut_of c.args.turned.now) (reading_of c.args.turned.now) r.out r.once r.may r.lines
+read-requires-clause-may g c = let r = c.requires in may_read r.stands (cut_of c.args.turned.now) (reading_of c.args.turned.now) r.out r.once r.may r.readable r.lines
 
 pub returns : goal.returns
 returns g c = noted_read g.P.Port.told (reading_of c.args.turned.now) c.read.ensures.steps c.read.ensures.leaves

@@ -1,8 +1,5 @@
-use Rattle.vx_ready.proofs.Done.{source_device, source_done_is}
+use Rattle.vx_ready.proofs.Done.{source_done_is}
 use Rattle.vx_ready.proofs.finishing.is_source_done.Goals as goal
-
-pub is_confirm_due-requires-clause-device : goal.is_confirm_due-requires-clause-device
-is_confirm_due-requires-clause-device g c = source_device g.P.Port.told c.args.books.now c.requires.stands c.requires.served c.args.i c.requires.within c.requires.source
 
 pub returns : goal.returns
 returns g c =

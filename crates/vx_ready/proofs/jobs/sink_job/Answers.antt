@@ -1,11 +1,7 @@
 use Rattle.std.proofs.Common.{◌∙◌, sym}
-use Rattle.vx_ready.proofs.Done.{sink_device}
 use Rattle.vx_ready.proofs.Working.{attempts_there}
 use Rattle.vx_ready.proofs.jobs.sink_job.Goals as goal
 
 pub returns-then-is_batch_closed-clause-some : goal.returns-then-is_batch_closed-clause-some
 returns-then-is_batch_closed-clause-some g c =
     attempts_there g.P.Port.told c.args.books.now c.requires.stands c.args.i c.requires.within c.requires.settled c.args.now (sym c.is_batch_closed.ensures ∙ c.if-is_batch_closed.true)
-
-pub is_close_due-requires-clause-device : goal.is_close_due-requires-clause-device
-is_close_due-requires-clause-device g c = sink_device g.P.Port.told c.args.books.now c.requires.stands c.requires.served c.args.i c.requires.within c.requires.sink

@@ -1,7 +1,5 @@
-use Rattle.std.proofs.Common.{◌∙◌, ap, sym}
-use Rattle.std.specs.Prelude.{not}
-use Rattle.vx_ready.proofs.Done.{device_there}
+use Rattle.vx_ready.proofs.Knowing.{device_is}
 use Rattle.vx_ready.proofs.sources.has_device.Goals as goal
 
 pub returns : goal.returns
-returns g c = ap not c.is_transform.ensures ∙ sym (device_there g.P.Port.told c.args.books.now c.requires.stands c.requires.served c.args.i c.requires.within)
+returns g c = device_is g.P.Port.told c.args.books.now c.requires.stands c.args.i c.get.result.now c.get.ensures

@@ -1,8 +1,11 @@
-use Rattle.std.proofs.Common.{◌≡◌, ◌∙◌, ap, arith, length, subst, sym, take, List, ◌≤◌, ℕ}
+use Rattle.std.proofs.Common.{◌≡◌, ◌∙◌, true, ap, arith, length, subst, sym, take, List, ◌≤◌, ℕ}
 use Rattle.vx_ends.specs.Told.{Grows}
 use Rattle.vx_record.specs.Encoding.{given, encoded}
 use Rattle.vx_record.specs.Places.Place.{Held}
 use Rattle.vx_record.specs.Shifts.{at}
+use Rattle.vx_record.specs.Installs.{device_at}
+use Rattle.vx_tasks.specs.declared.task.Role.TheVariants.{Sink}
+use Rattle.vx_tasks.proofs.Alone.{come_ported}
 use Rattle.vx_tasks.proofs.Saying.{grown}
 use Rattle.vx_tasks.proofs.Writing.{written_all}
 use Rattle.vx_tasks.proofs.work.send.Goals as goal
@@ -16,6 +19,7 @@ returns-in-Ok-attempt-clause-acted g c h i may =
       whole = c.of-all.ensures ∙ c.in-Ok.ensures ∙ written_all h i c.args.codec c.args.held.now.items may.come may.held;
       within = subst (λ (w : List ℕ). c.in-Ok-attempt.attempted.sent ≤ length w) sent c.in-Ok-attempt.ensures.within;
       ok = λ ok. c.in-Ok-attempt.ensures.whole ok ∙ ap length sent;
+      swallowed = λ none. let has : device_at h i ≡ true = come_ported h i (Sink c.args.codec) may.come in cc;
     }
 
 pub returns-clause-acted : goal.returns-clause-acted

@@ -62,7 +62,7 @@ returns g c =
         steps = steps;
         home = rw c.note.ensures (lent_home g.P.Port.told (slice_get d.seats i) d.log i worker now c.in-Some.task
             (there d.seats i c.requires.within) (gave.home d.log s.seats) c.requires.fit.fed);
-        due = rw c.note.ensures (gave.due d.log worker now 0 c.requires.fit.settled c.requires.device s.seats (steps.follows, s.legal));
+        due = rw c.note.ensures (gave.due d.log worker now 0 c.requires.fit.settled s.seats (steps.follows, s.legal));
         seats = gave.left;
         rooms = λ j. (refl, refl);
         run = refl;

@@ -1,11 +1,11 @@
 use Rattle.std.proofs.Common.{sym, subst, Option, None, inl, inr, refl}
 use Rattle.std.specs.Prelude.{◌⊎◌}
 use Rattle.vx_tasks.specs.Out.{HasDone}
-use Rattle.vx_tasks.specs.Jobs.{DoesJob, LacksConfirm, ShowsDone}
+use Rattle.vx_tasks.specs.Jobs.{DoesJob, LacksConfirm, ShowsWork}
 use Rattle.vx_tasks.specs.declared.confirming.Confirmed.{Confirmed}
 use Rattle.vx_tasks.specs.declared.landing.Done.TheVariants.{Short}
 use Rattle.vx_tasks.specs.declared.work.Deed.{Deed}
-use Rattle.vx_tasks.proofs.Tallying.{shows_behind}
+use Rattle.vx_tasks.proofs.Tallying.{work_behind, work_short}
 use Rattle.vx_tasks.proofs.Doing.{landed, done_of, short_of}
 use Rattle.vx_tasks.proofs.work.Work.work.Goals as goal
 use Rattle.vx_tasks.proofs.work.Work.work.Goals.{in-Ok, in-Err}
@@ -36,11 +36,14 @@ returns-clause-does g c =
 pub returns-clause-shows : goal.returns-clause-shows
 returns-clause-shows g c =
     let told = g.P.Port.told in
+    let role = c.args.self.task.role in
     let old = told c.args.self.task.port in
     elim c.match-confirm.branch [
       | in-Ok w ↦
-          subst (λ (both : Option Confirmed × Deed). ShowsDone old (told c.match-confirm.port) both.1.done) (sym w.confirmed-is)
-          (subst (λ (port : g.row.P.Denot). ShowsDone old (told port) w.act.result.done) (sym w.port-is)
-          (shows_behind old (told c.confirm.new.port) (told w.act.new.port) w.act.result.done c.confirm.ensures.counts w.act.ensures.counts c.confirm.ensures.started w.act.ensures.shows))
-      | in-Err w ↦ subst (λ (both : Option Confirmed × Deed). ShowsDone old (told c.match-confirm.port) both.1.done) (sym w.confirmed-is) tt
+          subst (λ (both : Option Confirmed × Deed). ShowsWork role old (told c.match-confirm.port) both.1.done) (sym w.confirmed-is)
+          (subst (λ (port : g.row.P.Denot). ShowsWork role old (told port) w.act.result.done) (sym w.port-is)
+          (work_behind role old (told c.confirm.new.port) (told w.act.new.port) w.act.result.done c.confirm.ensures.counts w.act.ensures.counts c.confirm.ensures.started w.act.ensures.shows))
+      | in-Err w ↦
+          subst (λ (both : Option Confirmed × Deed). ShowsWork role old (told c.match-confirm.port) both.1.done) (sym w.confirmed-is)
+          (subst (λ (port : g.row.P.Denot). ShowsWork role old (told port) Short) (sym w.port-is) (work_short role old (told c.confirm.new.port) c.confirm.ensures.started))
     ]
