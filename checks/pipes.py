@@ -588,6 +588,77 @@ def counts():
         check("counts to a closed output", (ran.returncode, ran.stderr) == (74, lines), (ran.returncode, ran.stderr[:200]))
 
 
+# The multiplier of the generator, and the increment by which its seed is made of a number.
+MULTIPLIER, SEEDING = 6364136223846793005, 11634580027462260723
+
+
+def permuted(state):
+    """The 32-bit word that a state of the generator gives: shifted, and rotated by its five highest bits."""
+    shifted, turns = ((state >> 18) ^ state) >> 27 & 0xFFFFFFFF, state >> 59
+    return (shifted >> turns | shifted << (-turns & 31)) & 0xFFFFFFFF
+
+
+def words_of(seed):
+    """The words of the generator PCG XSH RR 64/32, whose state and stream are four words that are made of the seed."""
+    made = []
+    for _ in range(4):
+        seed = (seed * MULTIPLIER + SEEDING) % 2**64
+        made.append(permuted(seed))
+    step = (made[2] | made[3] << 32) | 1
+    state = ((made[0] | made[1] << 32) + step) % 2**64
+    while True:
+        state = (state * MULTIPLIER + step) % 2**64
+        yield permuted(state)
+
+
+GENERATED = """
+[sources.in]
+type = "demo_logs"
+format = "shuffle"
+lines = ["a", "b\\tc", "{text}"]
+count = {count}
+seed = {seed}
+sequence = true
+
+[sinks.hole]
+type = "blackhole"
+inputs = ["in"]
+
+[sinks.out]
+type = "console"
+target = "stderr"
+inputs = ["in"]
+encoding.codec = "text"
+"""
+
+
+def generated():
+    """Lines that a source makes, beside the same generator in Python, and a black hole that takes them too."""
+    texts = ["a", "b\tc", "x" * 2_000]
+    with tempfile.TemporaryDirectory() as folder:
+        at = Path(folder) / "other.toml"
+        for seed, count in [(0, 0), (7, 1), (7, 1_000), (2**63 - 1, 129)]:
+            at.write_text(GENERATED.format(text=texts[2], count=count, seed=seed))
+            words = words_of(seed)
+            wanted = "".join(f"{k} {texts[next(words) % 3]}\n" for k in range(count)).encode()
+            status, out, err = run(b"", ["--config", "other.toml", "--stats"], cwd=folder)
+            source, hole, console = out.splitlines()
+            batches = -(-count // 64)
+            counted_so = (
+                b"source in read=%d lines=%d overlong=0 undecodable=0 events=%d unread=0 batches=%d delivered=%d errored=0 rejected=0 confirmed=0" % (len(wanted), count, count, batches, batches),
+                b"sink hole taken=%d newest=0 attempts=%d delivered=%d errored=0 rejected=0 bytes=0" % (count, count, count),
+            )
+            check(f"{count} generated lines of the seed {seed}", (status, err, (source, hole)) == (0, wanted, counted_so), (status, err[:100], source, hole, console))
+        at.write_text(GENERATED.format(text=texts[2], count=10**12, seed=1))
+        ran = subprocess.Popen([PROGRAM, "--config", str(at)], stdin=subprocess.DEVNULL, stdout=subprocess.DEVNULL, stderr=subprocess.PIPE)
+        first = ran.stderr.readline()
+        ran.kill()
+        ran.stderr.close()
+        ran.wait()
+        words = words_of(1)
+        check("the first of very many generated lines", first == f"0 {texts[next(words) % 3]}\n".encode(), first[:100])
+
+
 def judgements():
     """The command that judges a configuration, and runs nothing."""
     seen = run(b"a\n", ["validate", TWO])
@@ -604,4 +675,4 @@ def judgements():
 
 
 if __name__ == "__main__":
-    sys.exit(go_through([consoles, acknowledged, judgements, json_lines, transforms, buffers, counts, inputs, bytes_of_all_kinds, lines_as_they_come, a_reader_that_leaves, late_readers, signals, short_writes, wanting_memory, late_texts, ends_that_fail, many_lines]))
+    sys.exit(go_through([consoles, acknowledged, judgements, json_lines, transforms, buffers, counts, generated, inputs, bytes_of_all_kinds, lines_as_they_come, a_reader_that_leaves, late_readers, signals, short_writes, wanting_memory, late_texts, ends_that_fail, many_lines]))

@@ -159,6 +159,46 @@ SOURCE_OPTIONS = [
     ("acknowledgements.enabled = true", "unknown option sources.in.acknowledgements"),
 ]
 
+# options of a source that makes its lines
+NO_COUNT = 'format = "shuffle"\nlines = ["a", ""]\n'
+MADE = NO_COUNT + "count = 0\n"
+DEMO_OPTIONS = [
+    ("", "missing option sources.in.format"),
+    ('format = "shuffle"', "missing option sources.in.lines"),
+    ('lines = ["a"]', "missing option sources.in.format"),
+    (MADE, None),
+    (MADE.replace("shuffle", "json"), "bad value at sources.in.format"),
+    (MADE.replace('["a", ""]', "[]"), "bad value at sources.in.lines"),
+    (MADE.replace('["a", ""]', '"a"'), "bad value at sources.in.lines"),
+    (MADE.replace('["a", ""]', '["a", 1]'), "bad value at sources.in.lines"),
+    (MADE.replace('["a", ""]', '["a", "b\\nc"]'), "bad value at sources.in.lines"),
+    (MADE.replace('["a", ""]', '["a\\r"]'), None),
+    (MADE + "sequence = true", None),
+    (MADE + "sequence = 1", "bad value at sources.in.sequence"),
+    (NO_COUNT + "count = 0", None),
+    (NO_COUNT + "count = -1", "bad value at sources.in.count"),
+    (NO_COUNT + "count = 1.0", "bad value at sources.in.count"),
+    (MADE + "interval = 0", None),
+    (MADE + "interval = 1", "bad value at sources.in.interval"),
+    (MADE + "seed = 9223372036854775807", None),
+    (MADE + "seed = -1", "bad value at sources.in.seed"),
+    (MADE + "max_length = 1", "unknown option sources.in.max_length"),
+    (MADE + 'inputs = ["in"]', "unknown option sources.in.inputs"),
+    (MADE + '[sources.more]\ntype = "demo_logs"\n' + MADE, None),
+]
+
+# options of a sink that writes nothing
+HOLE_OPTIONS = [
+    ("", None),
+    ("print_interval_secs = 9007199254740992", None),
+    ("print_interval_secs = 9007199254740993", "bad value at sinks.out.print_interval_secs"),
+    ("print_interval_secs = -1", "bad value at sinks.out.print_interval_secs"),
+    ('target = "stdout"', "unknown option sinks.out.target"),
+    ('encoding.codec = "text"', "unknown option sinks.out.encoding"),
+    ("acknowledgements = true\nbuffer.max_events = 1", None),
+    ('buffer.when_full = "overflow"', "bad value at sinks.out.buffer.when_full"),
+]
+
 # options of a filter
 FILTER_OPTIONS = [
     ("", "missing option transforms.t.condition"),
@@ -371,6 +411,7 @@ def configurations():
     """Configurations, each with why it isn't accepted, or accepted."""
     tables = [
         ("", WHOLE, ""), (SOURCE, COMPONENTS, "\n" + SINK), (BEFORE_OPTIONS, SINK_OPTIONS, "\n"), (BEFORE_OPTIONS, BUFFERS, "\n"), (SOURCE, SOURCE_OPTIONS, "\n" + SINK),
+        (SOURCE.replace("stdin", "demo_logs"), DEMO_OPTIONS, "\n" + SINK), (BEFORE_OPTIONS.replace("console", "blackhole"), HOLE_OPTIONS, "\n"),
         (BEFORE_FILTER, FILTER_OPTIONS, "\n"), (BEFORE_ROUTE, ROUTE_OPTIONS, "\n"), (BEFORE_ROUTED, ROUTE_INPUTS, "\n"),
         (BEFORE_INPUTS, INPUTS, "\n"), ("", TWO_FAULTS, ""), ("", FORMS, ""), ("", NAMES, ""),
     ]

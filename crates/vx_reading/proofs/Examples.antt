@@ -9,12 +9,15 @@ use Rattle.vx_subst.specs.Pieces.{Bare, pieces_after, piece_of, form_of, bare, b
 use Rattle.vx_subst.specs.Replaced.{replaced, first_lacking, becomes, lacks, text_of, lacking}
 use Rattle.vx_plan.specs.Components.{acknowledges, stages}
 use Rattle.vx_plan.specs.First.{first_configuration, first_plan}
+use Rattle.vx_plan.specs.declared.component.Component.{Component}
+use Rattle.vx_plan.specs.declared.settings.Settings.{Settings}
+use Rattle.vx_plan.specs.declared.settings.Settings.TheVariants.{DemoLogs, Blackhole}
 use Rattle.vx_plan.specs.declared.when_full.WhenFull.TheVariants.{Block, Overflow}
 use Rattle.vx_reading.specs.Findings.{findings, found, whole, precedes}
 use Rattle.vx_reading.specs.declared.finding.Finding.{Finding}
 use Rattle.vx_reading.specs.declared.trouble.Trouble.{Trouble}
 use Rattle.vx_reading.specs.declared.trouble.Trouble.TheVariants.{UnknownKind, UnknownOption, MissingOption, BadValue, TooMany}
-use Rattle.vx_reading.specs.Plans.{plan_of}
+use Rattle.vx_reading.specs.Plans.{sink_defaults, plan_of}
 
 -- the document of the first configuration
 abbrev pub first_members : Members
@@ -211,3 +214,83 @@ no_room = refl
 -- stages with too much room together
 much_room : findings (buffered (two_stages (passing_on 600000) (stage_for 600000))) ≡ found (record { section = 3; name = [] }) (codes "sinks") (TooMany 1200000 1000000) ∷ []
 much_room = refl
+
+-- a document whose one source makes its lines of a value
+abbrev generating : Data → Members → Data
+generating lines more =
+    one_option (codes "sources") (one_option (codes "in") (table
+    (member (codes "format") (string (codes "shuffle")) (member (codes "lines") lines more))))
+
+abbrev demo_logs : Members
+demo_logs = member (codes "type") (string (codes "demo_logs")) no_members
+
+abbrev two_texts : Data
+two_texts = array (item (string (codes "a")) (item (string (codes "b c")) no_items))
+
+abbrev settings_by : Component → Settings
+settings_by c = c.settings
+
+-- what it makes them of, where it says no more, and where it does
+little_is_said : (findings (generating two_texts demo_logs) ≡ [])
+    × (map settings_by (plan_of (generating two_texts demo_logs)).components
+    ≡ DemoLogs (record { lines = codes "a" ∷ codes "b c" ∷ []; sequence = false; count = 9223372036854775807; seed = 0 }) 0 ∷ [])
+little_is_said = (refl, refl)
+
+abbrev more_said : Members
+more_said = member (codes "seed") (integer (pos 7)) (member (codes "sequence") (boolean true) demo_logs)
+
+more_is_said : (findings (generating two_texts more_said) ≡ [])
+    × (map settings_by (plan_of (generating two_texts more_said)).components
+    ≡ DemoLogs (record { lines = codes "a" ∷ codes "b c" ∷ []; sequence = true; count = 9223372036854775807; seed = 7 }) 0 ∷ [])
+more_is_said = (refl, refl)
+
+-- a fault at the source
+abbrev source_fault : Word → Trouble → Finding
+source_fault name trouble = found (record { section = 1; name = codes "in" }) (codes "sources.in." ++ name) trouble
+
+-- no text, a text with a line feed, a value that is no text, and one that is no list
+no_texts : findings (generating (array no_items) demo_logs) ≡ source_fault (codes "lines") BadValue ∷ []
+no_texts = refl
+
+broken_text : findings (generating (array (item (string (codes "a")) (item (string (codes "b\nc")) no_items))) demo_logs)
+    ≡ source_fault (codes "lines") BadValue ∷ []
+broken_text = refl
+
+half_texts : findings (generating (array (item (string (codes "a")) (item (boolean true) no_items))) demo_logs) ≡ source_fault (codes "lines") BadValue ∷ []
+half_texts = refl
+
+one_text : findings (generating (string (codes "a")) demo_logs) ≡ source_fault (codes "lines") BadValue ∷ []
+one_text = refl
+
+-- a source that makes its lines has to say of what, and rests for no second
+of_nothing : findings (one_option (codes "sources") (one_option (codes "in") (table demo_logs)))
+    ≡ source_fault (codes "format") MissingOption ∷ source_fault (codes "lines") MissingOption ∷ []
+of_nothing = refl
+
+resting : findings (generating two_texts (member (codes "interval") (integer (pos 1)) demo_logs)) ≡ source_fault (codes "interval") BadValue ∷ []
+resting = refl
+
+-- it reads no component
+reading : findings (generating two_texts (member (codes "inputs") (array no_items) demo_logs)) ≡ source_fault (codes "inputs") UnknownOption ∷ []
+reading = refl
+
+-- a document whose one sink writes nothing
+abbrev swallowing : Data → Data
+swallowing seconds =
+    one_option (codes "sinks") (one_option (codes "out") (table
+    (member (codes "print_interval_secs") seconds (member (codes "type") (string (codes "blackhole")) no_members))))
+
+-- what it may say, the most that it may, and one more
+seconds_are_said : (findings (swallowing (integer (pos 9007199254740992))) ≡ [])
+    × (map settings_by (plan_of (swallowing (integer (pos 9007199254740992)))).components ≡ Blackhole 9007199254740992 sink_defaults ∷ [])
+seconds_are_said = (refl, refl)
+
+many_seconds : findings (swallowing (integer (pos 9007199254740993)))
+    ≡ found (record { section = 3; name = codes "out" }) (codes "sinks.out.print_interval_secs") BadValue ∷ []
+many_seconds = refl
+
+-- it has no target
+swallowing_to : findings (one_option (codes "sinks") (one_option (codes "out") (table
+    (member (codes "target") (string (codes "stdout")) (member (codes "type") (string (codes "blackhole")) no_members)))))
+    ≡ found (record { section = 3; name = codes "out" }) (codes "sinks.out.target") UnknownOption ∷ []
+swallowing_to = refl

@@ -7,7 +7,9 @@ pub mod FirstRead
 pub mod Few
 pub mod Apart
 pub mod Accepted
+pub mod Faultless
 pub mod Routes
+pub mod Generating
 pub mod Ported
 pub mod Trying
 pub mod Refusing

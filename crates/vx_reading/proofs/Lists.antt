@@ -16,7 +16,7 @@ some_more : (n : ℕ) → false ≡ nat_eq (suc n) 0
 some_more n = grind (arith, nat_tests)
 
 -- so there are none exactly where it has none
-no_items : (vs : List Value) → is_empty (items_in (items_view vs)) ≡ nat_eq (length vs) 0
+pub no_items : (vs : List Value) → is_empty (items_in (items_view vs)) ≡ nat_eq (length vs) 0
 no_items [] = refl
 no_items (v ∷ vs) = some_more (length vs)
 

@@ -1,6 +1,7 @@
--- Each component of a plan that was read works with a port, or is a filter or a route of few ways.
-use Rattle.std.proofs.Common.{◌≡◌, ◌≤◌, inl, inr, true, List, [], ◌∷◌, ◌++◌, length, Option, Some, None, Ok, refl, sym, ap, subst, ◌∙◌, arith}
-use Rattle.std.specs.Prelude.{nat_le}
+-- Each component of a plan that was read works with a port, or is a filter, a route of few ways, a source that makes its lines, or a
+-- sink that writes nothing.
+use Rattle.std.proofs.Common.{◌≡◌, ◌≤◌, inl, inr, Bool, true, List, [], ◌∷◌, ◌++◌, length, false, Option, Some, None, Ok, refl, sym, ap, subst, ◌∙◌, arith}
+use Rattle.std.specs.Prelude.{◌||◌, nat_le}
 use Rattle.std.specs.List.{AllByRecursion, list_all, flat_map}
 use Rattle.std.proofs.lemmas.Bool.Decides.{nat_tests}
 use Rattle.vx_value.specs.declared.variable.Variable.{Variable}
@@ -12,7 +13,7 @@ use Rattle.vx_plan.specs.declared.global.Global.{Global}
 use Rattle.vx_plan.specs.declared.plan.Plan.{Plan}
 use Rattle.vx_plan.proofs.Tests.{and_made}
 use Rattle.vx_reading.specs.declared.kind.Kind.{Kind}
-use Rattle.vx_reading.specs.declared.kind.Kind.TheVariants.{Stdin, Filter, Route, Console}
+use Rattle.vx_reading.specs.declared.kind.Kind.TheVariants.{Stdin, DemoLogs, Filter, Route, Console, Blackhole}
 use Rattle.vx_reading.specs.Components.{Part, parts, kind_of}
 use Rattle.vx_reading.specs.Findings.{findings}
 use Rattle.vx_reading.specs.Made.{is_made}
@@ -21,54 +22,68 @@ use Rattle.vx_reading.specs.Plans.{component, component_of, global_of, ways_of}
 use Rattle.vx_reading.specs.Reading.{IsReading, IsPlanOf}
 use Rattle.vx_reading.proofs.Accepted.{kind_class_of}
 use Rattle.vx_reading.proofs.Few.{none_left}
+use Rattle.vx_reading.proofs.Generating.{has_lines, lines_there}
 use Rattle.vx_reading.proofs.Routes.{few_ways}
 
 few_told : (n : _) → n ≤ 64 → nat_le n 64 ≡ true
 few_told n few = grind (arith, nat_tests)
 
-kind_made : (whole : Global) (part : Part) (kind : Kind) → same_class (kind_class kind) part.class ≡ true → (kind ≡ Route → length (ways_of part.value) ≤ 64) →
+kind_made : (whole : Global) (part : Part) (kind : Kind) → same_class (kind_class kind) part.class ≡ true → (kind ≡ Route → length (ways_of part.value) ≤ 64) → (kind ≡ DemoLogs → has_lines part ≡ true) →
     is_made (component whole part kind) ≡ true
-kind_made whole part Stdin same few = go part.class same
+kind_made whole part Stdin same few lines = go part.class same
   where
     go : (class : Class) → same_class Source class ≡ true → is_made (record (component whole part Stdin) { class = class }) ≡ true
     go Source e = refl
     go Transform e = cc
     go Sink e = cc
-kind_made whole part Filter same few = go part.class same
+kind_made whole part DemoLogs same few lines = go part.class same
+  where
+    go : (class : Class) → same_class Source class ≡ true → is_made (record (component whole part DemoLogs) { class = class }) ≡ true
+    go Source e = ap (λ (b : Bool). b || false) (lines refl)
+    go Transform e = cc
+    go Sink e = cc
+kind_made whole part Filter same few lines = go part.class same
   where
     go : (class : Class) → same_class Transform class ≡ true → is_made (record (component whole part Filter) { class = class }) ≡ true
     go Source e = cc
     go Transform e = refl
     go Sink e = cc
-kind_made whole part Route same few = go part.class same
+kind_made whole part Route same few lines = go part.class same
   where
     go : (class : Class) → same_class Transform class ≡ true → is_made (record (component whole part Route) { class = class }) ≡ true
     go Source e = cc
-    go Transform e = few_told (length (ways_of part.value)) (few refl)
+    go Transform e = ap (λ (b : Bool). b || false || false) (few_told (length (ways_of part.value)) (few refl))
     go Sink e = cc
-kind_made whole part Console same few = go part.class same
+kind_made whole part Console same few lines = go part.class same
   where
     go : (class : Class) → same_class Sink class ≡ true → is_made (record (component whole part Console) { class = class }) ≡ true
     go Source e = cc
     go Transform e = cc
     go Sink e = refl
+kind_made whole part Blackhole same few lines = go part.class same
+  where
+    go : (class : Class) → same_class Sink class ≡ true → is_made (record (component whole part Blackhole) { class = class }) ≡ true
+    go Source e = cc
+    go Transform e = cc
+    go Sink e = refl
 
-parts_made : (whole : Global) (all : List Part) → AllByRecursion (λ (part : Part). kind_of part ≡ Some Route → length (ways_of part.value) ≤ 64) all →
+parts_made : (whole : Global) (all : List Part) → AllByRecursion (λ (part : Part). kind_of part ≡ Some Route → length (ways_of part.value) ≤ 64) all → AllByRecursion (λ (part : Part). kind_of part ≡ Some DemoLogs → has_lines part ≡ true) all →
     list_all is_made (flat_map (component_of whole) all) ≡ true
-parts_made whole [] few = refl
-parts_made whole (part ∷ rest) few = go (kind_of part) refl (parts_made whole rest few.1)
+parts_made whole [] few lines = refl
+parts_made whole (part ∷ rest) few lines = go (kind_of part) refl (parts_made whole rest few.1 lines.1)
   where
     go : (o : Option Kind) → kind_of part ≡ o → list_all is_made (flat_map (component_of whole) rest) ≡ true →
         list_all is_made ((elim o [ None ↦ [] | Some kind ↦ component whole part kind ∷ [] ]) ++ flat_map (component_of whole) rest) ≡ true
     go None is later = later
     go (Some kind) is later =
         and_made (is_made (component whole part kind)) (list_all is_made (flat_map (component_of whole) rest))
-        (kind_made whole part kind (kind_class_of part kind is) (λ route. few.0 (is ∙ ap Some route))) later
+        (kind_made whole part kind (kind_class_of part kind is) (λ route. few.0 (is ∙ ap Some route)) (λ demo. lines.0 (is ∙ ap Some demo))) later
 
 pub made_read : (environment : List Variable) (bytes : Word) (plan : Plan) → IsReading environment bytes (Ok plan) → list_all is_made plan.components ≡ true
 made_read environment bytes plan (refuses, inl read) =
     let root = read.1.root in
     let of : IsPlanOf refuses root plan = read.1.rightly.judged in
+    let faultless : findings root ≡ [] = none_left (findings root) _ of.faultless in
     subst (λ (p : Plan). list_all is_made p.components ≡ true) (sym of.same)
-    (parts_made (global_of root) (parts root) (few_ways root (none_left (findings root) _ of.faultless)))
+    (parts_made (global_of root) (parts root) (few_ways root faultless) (lines_there root faultless))
 made_read environment bytes plan (refuses, inr none) = let e = none.1 in cc

@@ -1,24 +1,24 @@
 -- A route without faults has few ways.
 use Rattle.std.proofs.Common.{◌≡◌, ℕ, suc, ◌+◌, ◌≤◌, Bool, true, false, nat_lt, List, [], ◌∷◌, ◌++◌, map, length, Option, Some, None, Ordering, Less, Equal, Greater, nat_cmp, refl, sym, ◌∙◌, subst, arith}
-use Rattle.std.specs.Prelude.{cond, codes, if◌then◌else◌, option_and_then}
+use Rattle.std.specs.Prelude.{cond, codes, if◌then◌else◌}
 use Rattle.std.specs.Cmp.Lexicographic.{slice_cmp}
-use Rattle.std.specs.List.{AllByRecursion, flat_map}
+use Rattle.std.specs.List.{AllByRecursion}
 use Rattle.std.specs.Ordering.{match_ordering}
 use Rattle.std.proofs.lemmas.Bool.Decides.{nat_tests}
 use Rattle.std.proofs.lemmas.List.{length-map}
 use Rattle.std.proofs.lemmas.List.Sums.{sum_by-append, sum_by-cons}
-use Rattle.toml.specs.Data.{Data, string, integer, float, boolean, datetime, array, table, Members, no_members, member, as_table, as_str, get, get_member}
+use Rattle.toml.specs.Data.{Data, string, integer, float, boolean, datetime, array, table, Members, no_members, member, as_table, get_member}
 use Rattle.vx_value.specs.Texts.{Word}
 use Rattle.vx_value.proofs.Order.{told_same, same_text-true}
 use Rattle.vx_plan.specs.declared.route.Route.{Route as Way}
 use Rattle.vx_reading.specs.declared.finding.Finding.{Finding}
-use Rattle.vx_reading.specs.declared.kind.Kind.{Kind}
 use Rattle.vx_reading.specs.declared.kind.Kind.TheVariants.{Route}
-use Rattle.vx_reading.specs.Components.{Part, parts, kind_of, type_in, first_stdin}
-use Rattle.vx_reading.specs.Findings.{Owner, findings, global_findings, count_findings, room_findings, all_section_findings, part_finding, part_findings, type_findings, text_findings, named_findings, kind_findings, later_findings, option_findings, given_findings, row_findings, lacking, crowded}
+use Rattle.vx_reading.specs.Components.{Part, parts, kind_of}
+use Rattle.vx_reading.specs.Findings.{Owner, findings, kind_findings, later_findings, option_findings, given_findings, row_findings, lacking, crowded}
 use Rattle.vx_reading.specs.Judging.{Pair, pairs_of, pairs_in, is_table, Given, given_by, given, within, alone, count_given}
-use Rattle.vx_reading.specs.Options.{rows_of, type_row, inputs_row, route_row, most_routes, kind_named, covers}
+use Rattle.vx_reading.specs.Options.{rows_of, type_row, inputs_row, route_row, most_routes, covers}
 use Rattle.vx_reading.specs.Plans.{way_of, ways_of}
+use Rattle.vx_reading.proofs.Faultless.{each_faultless}
 use Rattle.vx_reading.proofs.Few.{none_left, none_right}
 
 -- HOW MANY ARE GIVEN
@@ -112,46 +112,6 @@ few_of_kind first part none =
     let ways = ways_count part.value in
     omega (arith, given_few, ways)
 
--- a value without a table has nothing under a name
-typed_table : (value told : Data) → get (codes "type") value ≡ Some told → is_table value ≡ true
-typed_table (table ms) told is = refl
-typed_table (string s) told is = cc
-typed_table (integer z) told is = cc
-typed_table (float x) told is = cc
-typed_table (boolean b) told is = cc
-typed_table (datetime d) told is = cc
-typed_table (array ds) told is = cc
-
-few_of_part : (root : Data) (first : Option Word) (part : Part) → part_findings root first part ≡ [] → kind_of part ≡ Some Route → length (ways_of part.value) ≤ 64
-few_of_part root first part none is = go (type_in part.value) refl is
-  where
-    typed : (b : Bool) → is_table part.value ≡ b → b ≡ true → type_findings first part (type_in part.value) ≡ []
-    typed true there so =
-        subst (λ (b : Bool). (if b then type_findings first part (type_in part.value) else []) ≡ []) there (none_right (part_finding root part) _ none)
-    typed false there so = cc
-
-    named : (told : Data) → type_in part.value ≡ Some told → (o : Option Word) → as_str told ≡ o → option_and_then (kind_named part.class) o ≡ Some Route → length (ways_of part.value) ≤ 64
-    named told at None str kind = cc
-    named told at (Some text) str kind =
-        let faultless = typed (is_table part.value) refl (typed_table part.value told at) in
-        few_of_kind first part
-        (subst (λ (k : Option Kind). named_findings first part k ≡ []) kind
-        (subst (λ (o : Option Word). text_findings first part o ≡ []) str
-        (subst (λ (o : Option Data). type_findings first part o ≡ []) at faultless)))
-
-    go : (o : Option Data) → type_in part.value ≡ o → option_and_then (kind_named part.class) (option_and_then as_str o) ≡ Some Route → length (ways_of part.value) ≤ 64
-    go None at kind = cc
-    go (Some told) at kind = named told at (as_str told) refl kind
-
-all_few : (root : Data) (first : Option Word) (all : List Part) → flat_map (part_findings root first) all ≡ [] → AllByRecursion (λ (part : Part). kind_of part ≡ Some Route → length (ways_of part.value) ≤ 64) all
-all_few root first [] none = tt
-all_few root first (part ∷ rest) none = (
-  few_of_part root first part (none_left (part_findings root first part) _ none),
-  all_few root first rest (none_right (part_findings root first part) _ none),
-)
-
 -- each route of a document without faults has at most 64 ways
 pub few_ways : (root : Data) → findings root ≡ [] → AllByRecursion (λ (part : Part). kind_of part ≡ Some Route → length (ways_of part.value) ≤ 64) (parts root)
-few_ways root none =
-    all_few root (first_stdin root) (parts root)
-    (none_right (all_section_findings root) _ (none_right (room_findings root) _ (none_right (count_findings root) _ (none_right (global_findings root) _ none))))
+few_ways = each_faultless Route (λ (part : Part). length (ways_of part.value) ≤ 64) few_of_kind

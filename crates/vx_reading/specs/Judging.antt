@@ -1,11 +1,12 @@
 -- What a table gives, and how each value of it is judged.
 use Rattle.std.specs.Prelude.{ℕ, ℤ, pos, negsuc, Bool, false, true, not, ◌&&◌, ◌||◌, Option, Some, None, option_and_then, List, [], ◌∷◌, length, map, find, count_by, codes, if◌then◌else◌, nat_lt, nat_le}
-use Rattle.std.specs.List.{list_any, flat_map}
+use Rattle.std.specs.List.{list_any, list_all, flat_map}
 use Rattle.vx_value.specs.Texts.{Word, same_text, is_empty}
 use Rattle.toml.specs.Data.{Data, Items, no_items, item, Members, no_members, member, get, as_table, as_array, as_str, as_integer, as_bool}
 use Rattle.vx_reading.specs.declared.trouble.Trouble.{Trouble}
 use Rattle.vx_reading.specs.declared.trouble.Trouble.TheVariants.{UnknownOption, BadValue, TooMany}
-use Rattle.vx_reading.specs.Options.{Place, Alone, Within, Either, Each, Shape, Truth, AnyText, OneOf, Texts, Whole, Condition, Stages, Row, covers, fits_place}
+use Rattle.vx_reading.specs.Made.{is_unbroken}
+use Rattle.vx_reading.specs.Options.{Place, Alone, Within, Either, Each, Shape, Truth, AnyText, OneOf, Texts, Whole, Condition, Stages, Lines, Row, covers, fits_place}
 
 -- a name and the value under it
 pub record Pair : Type 0 where
@@ -118,6 +119,18 @@ fits_stages most stages =
     if is_empty stages || list_any (λ d. not (is_table d)) stages then Some BadValue
     else (if nat_lt most (length stages) then Some (TooMany (length stages) most) else None)
 
+-- whether a value is a text without a line feed
+abbrev pub is_line : Data → Bool
+is_line value = elim (as_str value) [ None ↦ false | Some text ↦ is_unbroken text ]
+
+-- whether a list has values, and each is such a text
+abbrev pub are_lines : List Data → Bool
+are_lines items = not (is_empty items) && list_all is_line items
+
+-- whether a value is such a list
+abbrev pub is_lines : Data → Bool
+is_lines value = elim (as_array value) [ None ↦ false | Some items ↦ are_lines (items_in items) ]
+
 -- what is wrong with a value, by what it has to be
 abbrev pub fits : Shape → Data → Option Trouble
 fits Truth value = if is_truth value then None else Some BadValue
@@ -127,6 +140,7 @@ fits (Texts most) value = elim (as_array value) [ None ↦ Some BadValue | Some 
 fits (Whole least most) value = elim (whole_in least most value) [ None ↦ Some BadValue | Some n ↦ None ]
 fits Condition value = if is_text value || is_vrl value then None else Some BadValue
 fits (Stages most) value = fits_stages most (stages_in value)
+fits Lines value = if is_lines value then None else Some BadValue
 
 -- the row of what is given at a place
 abbrev pub row_at : List Row → Place → Option Row

@@ -1,9 +1,11 @@
 -- What a component is that is made of what was read.
-use Rattle.std.specs.Prelude.{Bool, false, true, not, ◌&&◌, ◌||◌, length, nat_le}
+use Rattle.std.specs.Prelude.{Bool, false, true, not, ◌&&◌, ◌||◌, ◌==◌, length, nat_le}
+use Rattle.std.specs.List.{list_all}
+use Rattle.vx_value.specs.Texts.{Word, is_empty}
 use Rattle.vx_plan.specs.declared.component.Component.{Component}
 use Rattle.vx_plan.specs.declared.settings.Settings.{Settings}
-use Rattle.vx_plan.specs.declared.settings.Settings.TheVariants.{Filter, Route}
-use Rattle.vx_plan.specs.Components.{is_transform}
+use Rattle.vx_plan.specs.declared.settings.Settings.TheVariants.{DemoLogs, Filter, Route, Blackhole}
+use Rattle.vx_plan.specs.Components.{is_source, is_transform, is_sink}
 use Rattle.vx_plan.specs.Options.{has_device}
 
 -- whether it works with a port, and is no transform
@@ -16,6 +18,21 @@ is_picking (Filter condition) = true
 is_picking (Route ways reroute) = nat_le (length ways) 64
 is_picking other = false
 
--- a component works with a port, or is such a transform
+-- whether a text has no line feed
+abbrev pub is_unbroken : Word → Bool
+is_unbroken text = list_all (λ byte. not (byte == 10)) text
+
+-- whether options are those of a source that makes its lines of some texts, none of which has a line feed
+abbrev pub is_generating : Settings → Bool
+is_generating (DemoLogs demo interval) = not (is_empty demo.lines) && list_all is_unbroken demo.lines
+is_generating other = false
+
+-- whether options are those of a sink that writes nothing
+abbrev pub is_swallowing : Settings → Bool
+is_swallowing (Blackhole seconds sink) = true
+is_swallowing other = false
+
+-- a component works with a port, or is such a transform, such a source or such a sink
 abbrev pub is_made : Component → Bool
-is_made c = is_ported c || (is_transform c && is_picking c.settings)
+is_made c =
+    is_ported c || (is_transform c && is_picking c.settings) || (is_source c && is_generating c.settings) || (is_sink c && is_swallowing c.settings)

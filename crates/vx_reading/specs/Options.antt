@@ -1,12 +1,12 @@
 -- Which options there are: tables of rows, read by the same definitions whatever they hold.
-use Rattle.std.specs.Prelude.{ℕ, Bool, true, false, not, ◌&&◌, ◌||◌, ◌==◌, Option, Some, None, List, [], ◌∷◌, ◌++◌, length, codes, find, nat_le}
+use Rattle.std.specs.Prelude.{ℕ, ◌^◌, ◌-◌, Bool, true, false, not, ◌&&◌, ◌||◌, ◌==◌, Option, Some, None, List, [], ◌∷◌, ◌++◌, length, codes, find, nat_le}
 use Rattle.std.specs.List.{list_all}
 use Rattle.vx_value.specs.Texts.{Word, same_text}
 use Rattle.vx_plan.specs.declared.class.Class.{Class}
 use Rattle.vx_plan.specs.declared.class.Class.TheVariants.{Source, Transform, Sink}
 pub use Rattle.vx_plan.specs.Accepted.{same_class}
 use Rattle.vx_reading.specs.declared.kind.Kind.{Kind}
-use Rattle.vx_reading.specs.declared.kind.Kind.TheVariants.{Stdin, Filter, Route, Console}
+use Rattle.vx_reading.specs.declared.kind.Kind.TheVariants.{Stdin, DemoLogs, Filter, Route, Console, Blackhole}
 
 -- where an option stands in a table: by itself; in a table of its own, whose name comes first; in either way, by itself under the
 -- first name, or in a table of that name under the second; or under each name in a table of its own, so many times at most
@@ -17,7 +17,7 @@ pub data Place : Type 0 where
   Each : Word → ℕ → Place
 
 -- what a value has to be: a truth, a text, one of some texts, a list of texts, at most so many, a whole number between two, both
--- among them, a condition, or the stages of a buffer, at most so many
+-- among them, a condition, the stages of a buffer, at most so many, or a list of some texts without line feeds
 pub data Shape : Type 0 where
   Truth : Shape
   AnyText : Shape
@@ -26,6 +26,7 @@ pub data Shape : Type 0 where
   Whole : ℕ → ℕ → Shape
   Condition : Shape
   Stages : ℕ → Shape
+  Lines : Shape
 
 -- an option: where it stands, what its value has to be, and whether it has to be there
 pub record Row : Type 0 where
@@ -151,28 +152,74 @@ route_row = record { place = Each (codes "route") most_routes; shape = Condition
 abbrev pub reroute_row : Row
 reroute_row = record { place = Alone (codes "reroute_unmatched"); shape = Truth; required = false }
 
+-- what a source does with its texts
+abbrev pub format_row : Row
+format_row = record { place = Alone (codes "format"); shape = OneOf (codes "shuffle" ∷ []); required = true }
+
+-- the texts of which a source makes its lines
+abbrev pub lines_row : Row
+lines_row = record { place = Alone (codes "lines"); shape = Lines; required = true }
+
+-- whether each line begins with its number
+abbrev pub sequence_row : Row
+sequence_row = record { place = Alone (codes "sequence"); shape = Truth; required = false }
+
+-- the largest whole number that a text can say
+abbrev pub most_whole : ℕ
+most_whole = 2 ^ 63 - 1
+
+-- how many lines a source makes
+abbrev pub count_row : Row
+count_row = record { place = Alone (codes "count"); shape = Whole 0 most_whole; required = false }
+
+-- how many seconds may lie between two lines: none, for now
+abbrev pub most_interval : ℕ
+most_interval = 0
+
+-- how many seconds lie between two lines
+abbrev pub interval_row : Row
+interval_row = record { place = Alone (codes "interval"); shape = Whole 0 most_interval; required = false }
+
+-- by what the texts are chosen
+abbrev pub seed_row : Row
+seed_row = record { place = Alone (codes "seed"); shape = Whole 0 most_whole; required = false }
+
+-- how many seconds a sink that writes nothing may say
+abbrev pub most_print_interval : ℕ
+most_print_interval = 2 ^ 53
+
+-- a number of seconds without effect
+abbrev pub print_interval_row : Row
+print_interval_row = record { place = Alone (codes "print_interval_secs"); shape = Whole 0 most_print_interval; required = false }
+
 -- the options of each type
 abbrev pub rows_of : Kind → List Row
 rows_of Stdin = type_row ∷ length_row ∷ decoding_row ∷ []
+rows_of DemoLogs = type_row ∷ format_row ∷ lines_row ∷ sequence_row ∷ count_row ∷ interval_row ∷ seed_row ∷ []
 rows_of Filter = type_row ∷ inputs_row ∷ condition_row ∷ []
 rows_of Route = type_row ∷ inputs_row ∷ route_row ∷ reroute_row ∷ []
 rows_of Console = type_row ∷ inputs_row ∷ target_row ∷ codec_row ∷ acknowledgements_row ∷ buffer_row ∷ []
+rows_of Blackhole = type_row ∷ inputs_row ∷ print_interval_row ∷ acknowledgements_row ∷ buffer_row ∷ []
 
 -- the types, each with the table in which it stands and its name
 abbrev pub kinds : List Kind
-kinds = Stdin ∷ Filter ∷ Route ∷ Console ∷ []
+kinds = Stdin ∷ DemoLogs ∷ Filter ∷ Route ∷ Console ∷ Blackhole ∷ []
 
 abbrev pub kind_class : Kind → Class
 kind_class Stdin = Source
+kind_class DemoLogs = Source
 kind_class Filter = Transform
 kind_class Route = Transform
 kind_class Console = Sink
+kind_class Blackhole = Sink
 
 abbrev pub kind_name : Kind → Word
 kind_name Stdin = codes "stdin"
+kind_name DemoLogs = codes "demo_logs"
 kind_name Filter = codes "filter"
 kind_name Route = codes "route"
 kind_name Console = codes "console"
+kind_name Blackhole = codes "blackhole"
 
 -- the type of that name in a table
 abbrev pub kind_named : Class → Word → Option Kind

@@ -7,6 +7,7 @@ use Rattle.vx_json.specs.declared.codec.Codec.{Codec}
 use Rattle.vx_json.specs.declared.codec.Codec.TheVariants as codec
 use Rattle.vx_json.specs.declared.decoding.Decoding.{Decoding}
 use Rattle.vx_json.specs.declared.decoding.Decoding.TheVariants as decoding
+use Rattle.vx_json.specs.declared.demo_settings.DemoSettings.{DemoSettings}
 use Rattle.vx_plan.specs.declared.component.Component.{Component}
 use Rattle.vx_plan.specs.declared.console_target.ConsoleTarget.{ConsoleTarget}
 use Rattle.vx_plan.specs.declared.console_target.ConsoleTarget.TheVariants.{Stdout, Stderr}
@@ -18,10 +19,10 @@ use Rattle.vx_plan.specs.declared.settings.Settings.TheVariants as settings
 use Rattle.vx_plan.specs.declared.sink_settings.SinkSettings.{SinkSettings}
 pub use Rattle.vx_plan.specs.Graphs.{nodes_of}
 use Rattle.vx_reading.specs.declared.kind.Kind.{Kind}
-use Rattle.vx_reading.specs.declared.kind.Kind.TheVariants.{Stdin, Filter, Route, Console}
+use Rattle.vx_reading.specs.declared.kind.Kind.TheVariants.{Stdin, DemoLogs, Filter, Route, Console, Blackhole}
 use Rattle.vx_reading.specs.Components.{Part, parts, kind_of}
 use Rattle.vx_reading.specs.Judging.{Pair, pairs_in, items_in, whole_in}
-use Rattle.vx_reading.specs.Options.{most_length}
+use Rattle.vx_reading.specs.Options.{most_length, most_whole, most_interval, most_print_interval}
 use Rattle.vx_reading.specs.Stages.{default_stage, buffer_of}
 
 -- a text, or another where it isn't given
@@ -68,9 +69,13 @@ abbrev pub texts_of : Option Items → List Word
 texts_of None = []
 texts_of (Some items) = flat_map text_of (items_in items)
 
+-- the texts of the list under a name of a table
+abbrev pub texts_at : Word → Data → List Word
+texts_at name value = texts_of (option_and_then as_array (get name value))
+
 -- the inputs of a component
 abbrev pub inputs_of : Data → List Word
-inputs_of value = texts_of (option_and_then as_array (get (codes "inputs") value))
+inputs_of value = texts_at (codes "inputs") value
 
 -- where a console writes: to standard output where it doesn't say
 abbrev pub target_named : Option Word → ConsoleTarget
@@ -111,6 +116,27 @@ ways_of value = elim (get (codes "route") value) [ None ↦ [] | Some inner ↦ 
 abbrev pub is_rerouted : Data → Bool
 is_rerouted value = unwrap_or (truth_at (codes "reroute_unmatched") value) true
 
+-- the whole number under a name of a table, from 0 to a largest one; where there is none, another
+abbrev pub whole_at : Word → ℕ → ℕ → Data → ℕ
+whole_at name most otherwise value = unwrap_or (option_and_then (whole_in 0 most) (get name value)) otherwise
+
+-- whether numbers stand before the lines of a source: they don't where it doesn't say
+abbrev pub is_numbered : Data → Bool
+is_numbered value = unwrap_or (truth_at (codes "sequence") value) false
+
+-- what the lines of a source are made of: where it doesn't say, there are as many as there may be, and the seed is 0
+abbrev pub demo_of : Data → DemoSettings
+demo_of value = record {
+  lines = texts_at (codes "lines") value;
+  sequence = is_numbered value;
+  count = whole_at (codes "count") most_whole most_whole value;
+  seed = whole_at (codes "seed") most_whole 0 value;
+}
+
+-- how many seconds lie between two lines of a source that makes them: none where it doesn't say
+abbrev pub interval_of : Data → ℕ
+interval_of value = whole_at (codes "interval") most_interval 0 value
+
 -- what every sink has that says nothing of it
 abbrev pub sink_defaults : SinkSettings
 sink_defaults = record {
@@ -132,17 +158,22 @@ sink_of global value =
 abbrev pub settings_of : Global → Data → Kind → Settings
 settings_of global value Stdin =
     settings.Stdin (length_of value) (decoding_named (text_within (codes "decoding") (codes "codec") value))
+settings_of global value DemoLogs = settings.DemoLogs (demo_of value) (interval_of value)
 settings_of global value Filter = settings.Filter (condition_at (codes "condition") value)
 settings_of global value Route = settings.Route (ways_of value) (is_rerouted value)
 settings_of global value Console =
     settings.Console (target_named (text_at (codes "target") value)) (codec_named (text_within (codes "encoding") (codes "codec") value)) (sink_of global value)
+settings_of global value Blackhole =
+    settings.Blackhole (whole_at (codes "print_interval_secs") most_print_interval 0 value) (sink_of global value)
 
 -- the inputs of a component of a type; a source has none
 abbrev pub inputs_for : Kind → Data → List Word
 inputs_for Stdin value = []
+inputs_for DemoLogs value = []
 inputs_for Filter value = inputs_of value
 inputs_for Route value = inputs_of value
 inputs_for Console value = inputs_of value
+inputs_for Blackhole value = inputs_of value
 
 -- the component of a type
 abbrev pub component : Global → Part → Kind → Component

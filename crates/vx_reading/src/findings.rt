@@ -99,7 +99,7 @@ fn push_room(
     ensures { OnOk result (findings.new ≡ findings.old ++ room_findings (view root.now)) }
 {
     let found = room_of_all(alloc, all)?;
-    let limit = MOST_ROOM as u64;
+    let limit = MOST_ROOM;
     if limit < found {
         let owner = Owner {
             section: section_number(Class::Sink),

@@ -1,16 +1,16 @@
-ghost use Rattle.std.specs.Prelude.{◌≡◌, map, not};
+ghost use Rattle.std.specs.Prelude.{◌≡◌, ◌≤◌, map, not, IfSome};
 ghost use Rattle.std.specs.Option.{option_map};
-ghost use Rattle.std.specs.List.{list_any};
+ghost use Rattle.std.specs.List.{list_any, list_all};
 ghost use Rattle.toml.specs.View.{view, items_view};
 ghost use Rattle.vx_value.specs.Texts.{same_text};
-ghost use Rattle.vx_reading.specs.Judging.{fits, fits_texts, fits_stages, stages_in, is_table as is_table_view, judged, items_in, is_truth, is_text, is_one_of, between, whole_in, row_at, is_vrl, names_vrl, has_text, judged_by};
+ghost use Rattle.vx_reading.specs.Judging.{fits, fits_texts, fits_stages, stages_in, is_table as is_table_view, judged, items_in, is_truth, is_text, is_one_of, between, whole_in, row_at, is_vrl, names_vrl, has_text, is_line, are_lines, is_lines, judged_by};
 ghost use Rattle.vx_reading.specs.Views.{shape_view, rows_view, row_view, place_view, given_view};
 
 use crate::given::{Given, covers, fits_place, is_table};
 use crate::place::Place;
 use crate::row::Row;
 use crate::shape::Shape;
-use crate::texts::same_text;
+use crate::texts::{is_unbroken, same_text};
 use crate::trouble::Trouble;
 use std::slice;
 use toml::Value;
@@ -80,18 +80,20 @@ fn has_other(items: &[Value]) -> bool
 }
 
 /// A whole number, where it is between two, both among them.
-fn between(least: u32, most: u32, number: i64) -> Option<u32>
-    ensures { result ≡ between least most number }
+fn between(least: u64, most: u64, number: i64) -> Option<u64>
+    ensures told { result ≡ between least most number }
+    ensures within { IfSome result (λ n. n ≤ most) }
 {
-    match u32::try_from(number) {
+    match u64::try_from(number) {
         Ok(number) if least <= number && number <= most => Some(number),
         _ => None,
     }
 }
 
 /// The whole number that a value is, where it is one between two.
-pub(crate) fn whole_in(least: u32, most: u32, value: &Value) -> Option<u32>
-    ensures { result ≡ whole_in least most (view value.now) }
+pub(crate) fn whole_in(least: u64, most: u64, value: &Value) -> Option<u64>
+    ensures told { result ≡ whole_in least most (view value.now) }
+    ensures within { IfSome result (λ n. n ≤ most) }
 {
     match value.as_integer() {
         Some(number) => between(least, most, number),
@@ -168,6 +170,46 @@ fn has_no_table(items: &[Value]) -> bool
     false
 }
 
+/// Whether a value is a text without a line feed.
+fn is_line(value: &Value) -> bool
+    ensures { result ≡ is_line (view value.now) }
+{
+    match value.as_str() {
+        Some(text) => is_unbroken(text),
+        None => false,
+    }
+}
+
+/// Whether each of some values is a text without a line feed.
+fn has_lines(items: &[Value]) -> bool
+    ensures { result ≡ list_all is_line (items_in (items_view items.now)) }
+{
+    for item in items {
+        if !is_line(item) {
+            return false;
+        }
+    }
+    true
+}
+
+/// Whether there are some values, and each is a text without a line feed.
+#[tactic(auto, using(crate::proofs::Lists::no_items))]
+fn are_lines(items: &[Value]) -> bool
+    ensures { result ≡ are_lines (items_in (items_view items.now)) }
+{
+    !items.is_empty() && has_lines(items)
+}
+
+/// Whether a value is a list of such texts, one at least.
+fn is_lines(value: &Value) -> bool
+    ensures { result ≡ is_lines (view value.now) }
+{
+    match value.as_array() {
+        Some(items) => are_lines(items.as_slice()),
+        None => false,
+    }
+}
+
 /// What is wrong with a value, by what it has to be.
 fn fits(shape: Shape, value: &Value) -> Option<Trouble>
     ensures { result ≡ fits (shape_view shape) (view value.now) }
@@ -186,6 +228,7 @@ fn fits(shape: Shape, value: &Value) -> Option<Trouble>
         },
         Shape::Condition if is_text(value) || is_vrl(value) => None,
         Shape::Stages(most) => fits_stages(most, stages_in(value)),
+        Shape::Lines if is_lines(value) => None,
         _ => Some(Trouble::BadValue),
     }
 }

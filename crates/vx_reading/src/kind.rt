@@ -3,10 +3,14 @@
 pub(crate) enum Kind {
     /// A source that reads standard input.
     Stdin,
+    /// A source that makes its lines of some texts.
+    DemoLogs,
     /// A transform that passes what its condition accepts.
     Filter,
     /// A transform that puts events out by conditions.
     Route,
     /// A sink that writes to standard output or standard error.
     Console,
+    /// A sink that writes nothing.
+    Blackhole,
 }

@@ -39,7 +39,7 @@ const TYPE_ROW: Row = Row {
 };
 
 /// The longest line that a source may allow, in bytes, without its line feed.
-pub(crate) const MOST_LENGTH: u32 = 16_777_216;
+pub(crate) const MOST_LENGTH: u64 = 16_777_216;
 
 /// The options of a source that reads standard input.
 static STDIN_ROWS: [Row; 3] = [
@@ -52,6 +52,47 @@ static STDIN_ROWS: [Row; 3] = [
     Row {
         place: Place::Within("decoding", "codec"),
         shape: Shape::OneOf(&["bytes", "json"]),
+        required: false,
+    },
+];
+
+/// The largest whole number that a text can say: 2^63 - 1.
+pub(crate) const MOST_WHOLE: u64 = 0x7fff_ffff_ffff_ffff;
+
+/// How many seconds may lie between two lines of a source that makes them: none, for now.
+pub(crate) const MOST_INTERVAL: u64 = 0;
+
+/// The options of a source that makes its lines of some texts.
+static DEMO_LOGS_ROWS: [Row; 7] = [
+    TYPE_ROW,
+    Row {
+        place: Place::Alone("format"),
+        shape: Shape::OneOf(&["shuffle"]),
+        required: true,
+    },
+    Row {
+        place: Place::Alone("lines"),
+        shape: Shape::Lines,
+        required: true,
+    },
+    Row {
+        place: Place::Alone("sequence"),
+        shape: Shape::Truth,
+        required: false,
+    },
+    Row {
+        place: Place::Alone("count"),
+        shape: Shape::Whole(0, MOST_WHOLE),
+        required: false,
+    },
+    Row {
+        place: Place::Alone("interval"),
+        shape: Shape::Whole(0, MOST_INTERVAL),
+        required: false,
+    },
+    Row {
+        place: Place::Alone("seed"),
+        shape: Shape::Whole(0, MOST_WHOLE),
         required: false,
     },
 ];
@@ -97,7 +138,7 @@ static ROUTE_ROWS: [Row; 4] = [
 const MOST_STAGES: usize = 8;
 
 /// For how many events a stage may have room, and all stages of all sinks together.
-pub(crate) const MOST_ROOM: u32 = 1_000_000;
+pub(crate) const MOST_ROOM: u64 = 1_000_000;
 
 /// The options of a stage of a buffer.
 static STAGE_ROWS: [Row; 3] = [
@@ -118,6 +159,13 @@ static STAGE_ROWS: [Row; 3] = [
     },
 ];
 
+/// The stages of a sink's buffer: an option of every sink.
+const BUFFER_ROW: Row = Row {
+    place: Place::Alone("buffer"),
+    shape: Shape::Stages(MOST_STAGES),
+    required: false,
+};
+
 /// The options of a sink that writes to standard output or standard error.
 static CONSOLE_ROWS: [Row; 6] = [
     TYPE_ROW,
@@ -133,11 +181,23 @@ static CONSOLE_ROWS: [Row; 6] = [
         required: true,
     },
     ACKNOWLEDGEMENTS_ROW,
+    BUFFER_ROW,
+];
+
+/// How many seconds a sink that writes nothing may say: 2^53.
+pub(crate) const MOST_PRINT_INTERVAL: u64 = 0x20_0000_0000_0000;
+
+/// The options of a sink that writes nothing.
+static BLACKHOLE_ROWS: [Row; 5] = [
+    TYPE_ROW,
+    INPUTS_ROW,
     Row {
-        place: Place::Alone("buffer"),
-        shape: Shape::Stages(MOST_STAGES),
+        place: Place::Alone("print_interval_secs"),
+        shape: Shape::Whole(0, MOST_PRINT_INTERVAL),
         required: false,
     },
+    ACKNOWLEDGEMENTS_ROW,
+    BUFFER_ROW,
 ];
 
 /// The options of the whole configuration.
@@ -153,9 +213,11 @@ pub(crate) fn rows_of(kind: Kind) -> &'static [Row]
 {
     match kind {
         Kind::Stdin => &STDIN_ROWS,
+        Kind::DemoLogs => &DEMO_LOGS_ROWS,
         Kind::Filter => &FILTER_ROWS,
         Kind::Route => &ROUTE_ROWS,
         Kind::Console => &CONSOLE_ROWS,
+        Kind::Blackhole => &BLACKHOLE_ROWS,
     }
 }
 
@@ -172,9 +234,11 @@ pub(crate) fn kind_named(class: Class, name: &str) -> Option<Kind>
 {
     match class {
         Class::Source if same_text("stdin", name) => Some(Kind::Stdin),
+        Class::Source if same_text("demo_logs", name) => Some(Kind::DemoLogs),
         Class::Transform if same_text("filter", name) => Some(Kind::Filter),
         Class::Transform if same_text("route", name) => Some(Kind::Route),
         Class::Sink if same_text("console", name) => Some(Kind::Console),
+        Class::Sink if same_text("blackhole", name) => Some(Kind::Blackhole),
         _ => None,
     }
 }

@@ -4,12 +4,12 @@ ghost use Rattle.std.specs.List.{flat_map};
 ghost use Rattle.toml.specs.View.{view, items_view};
 ghost use Rattle.vx_reading.specs.Judging.{items_in, pairs_in as pairs_in_view};
 ghost use Rattle.vx_reading.specs.Components.{parts};
-ghost use Rattle.vx_reading.specs.Plans.{text_at, text_within, truth_at, truth_in, truth_either, acknowledgements_of, global_of, text_of, inputs_of, inputs_for, target_named, length_of, decoding_named, codec_named, condition_of, condition_at, way_of, ways_of, is_rerouted, sink_defaults, sink_of, settings_of, component, component_of, plan_of};
+ghost use Rattle.vx_reading.specs.Plans.{text_at, text_within, truth_at, truth_in, truth_either, acknowledgements_of, global_of, text_of, texts_at, inputs_of, inputs_for, target_named, length_of, decoding_named, codec_named, condition_of, condition_at, way_of, ways_of, is_rerouted, whole_at, is_numbered, demo_of, interval_of, sink_defaults, sink_of, settings_of, component, component_of, plan_of};
 ghost use Rattle.vx_reading.specs.Views.{pair_view, part_view, parts_view};
 
 use crate::judging::whole_in;
 use crate::kind::Kind;
-use crate::options::MOST_LENGTH;
+use crate::options::{MOST_INTERVAL, MOST_LENGTH, MOST_PRINT_INTERVAL, MOST_WHOLE};
 use crate::pair::{Pair, pairs_in};
 use crate::part::{Part, kind_of};
 use crate::stages::buffer_of;
@@ -17,8 +17,8 @@ use crate::texts::same_text;
 use std::alloc::Global as Allocator;
 use toml::Value;
 use vx_plan::{
-    Codec, Component, ComponentList, ConsoleTarget, Decoding, Global, Plan, Route, RouteList,
-    Settings, SinkSettings, StageList,
+    Codec, Component, ComponentList, ConsoleTarget, Decoding, DemoSettings, Global, Plan, Route,
+    RouteList, Settings, SinkSettings, StageList,
 };
 use vx_value::{Text, TextList, WantOfMemory};
 
@@ -126,11 +126,11 @@ fn texts_of(alloc: Allocator, values: &[Value]) -> Result<TextList, WantOfMemory
     Ok(texts)
 }
 
-/// The inputs of a component.
-fn inputs_of(alloc: Allocator, table: &Value) -> Result<TextList, WantOfMemory>
-    ensures { IfOk result (λ inputs. inputs ≡ inputs_of (view table.now)) }
+/// The texts of the list under a name of a table.
+fn texts_at(alloc: Allocator, name: &str, table: &Value) -> Result<TextList, WantOfMemory>
+    ensures { IfOk result (λ texts. texts ≡ texts_at name.now (view table.now)) }
 {
-    let Some(value) = table.get("inputs") else {
+    let Some(value) = table.get(name) else {
         return Ok(TextList::new(alloc));
     };
     match value.as_array() {
@@ -139,13 +139,20 @@ fn inputs_of(alloc: Allocator, table: &Value) -> Result<TextList, WantOfMemory>
     }
 }
 
+/// The inputs of a component.
+fn inputs_of(alloc: Allocator, table: &Value) -> Result<TextList, WantOfMemory>
+    ensures { IfOk result (λ inputs. inputs ≡ inputs_of (view table.now)) }
+{
+    texts_at(alloc, "inputs", table)
+}
+
 /// The inputs of a component of a type; a source has none.
 fn inputs_for(alloc: Allocator, kind: Kind, table: &Value) -> Result<TextList, WantOfMemory>
     ensures { IfOk result (λ inputs. inputs ≡ inputs_for kind (view table.now)) }
 {
     match kind {
-        Kind::Stdin => Ok(TextList::new(alloc)),
-        Kind::Filter | Kind::Route | Kind::Console => inputs_of(alloc, table),
+        Kind::Stdin | Kind::DemoLogs => Ok(TextList::new(alloc)),
+        Kind::Filter | Kind::Route | Kind::Console | Kind::Blackhole => inputs_of(alloc, table),
     }
 }
 
@@ -167,7 +174,7 @@ fn length_of(table: &Value) -> u32
         return LINE_LIMIT;
     };
     match whole_in(1, MOST_LENGTH, value) {
-        Some(length) => length,
+        Some(length) => length as u32,
         None => LINE_LIMIT,
     }
 }
@@ -261,6 +268,54 @@ fn is_rerouted(table: &Value) -> bool
     }
 }
 
+/// The whole number under a name of a table, from 0 to a largest one; where there is none, another.
+fn whole_at(name: &str, most: u64, otherwise: u64, table: &Value) -> u64
+    ensures { result ≡ whole_at name.now most otherwise (view table.now) }
+{
+    let Some(value) = table.get(name) else {
+        return otherwise;
+    };
+    match whole_in(0, most, value) {
+        Some(number) => number,
+        None => otherwise,
+    }
+}
+
+/// Whether numbers stand before the lines of a source: they don't where it doesn't say.
+fn is_numbered(table: &Value) -> bool
+    ensures { result ≡ is_numbered (view table.now) }
+{
+    match truth_at("sequence", table) {
+        Some(truth) => truth,
+        None => false,
+    }
+}
+
+/// What the lines of a source are made of.
+fn demo_of(alloc: Allocator, table: &Value) -> Result<DemoSettings, WantOfMemory>
+    ensures { IfOk result (λ demo. demo ≡ demo_of (view table.now)) }
+{
+    Ok(DemoSettings {
+        lines: texts_at(alloc, "lines", table)?,
+        sequence: is_numbered(table),
+        count: whole_at("count", MOST_WHOLE, MOST_WHOLE, table),
+        seed: whole_at("seed", MOST_WHOLE, 0, table),
+    })
+}
+
+/// How many seconds lie between two lines of a source that makes them: none where it doesn't say.
+fn interval_of(table: &Value) -> u32
+    ensures { result ≡ interval_of (view table.now) }
+{
+    let Some(value) = table.get("interval") else {
+        return 0;
+    };
+    match whole_in(0, MOST_INTERVAL, value) {
+        Some(seconds) => seconds as u32,
+        None => 0,
+    }
+}
+
 /// What every sink has with that buffer, where it says nothing else.
 fn sink_with(buffer: StageList) -> SinkSettings
     ensures { result ≡ record sink_defaults { buffer = buffer } }
@@ -300,6 +355,10 @@ fn settings_of(
             max_length: length_of(table),
             decoding_codec: decoding_named(text_within("decoding", "codec", table)),
         }),
+        Kind::DemoLogs => Ok(Settings::DemoLogs {
+            demo: demo_of(alloc, table)?,
+            interval: interval_of(table),
+        }),
         Kind::Filter => Ok(Settings::Filter {
             condition: Text::copy_of(alloc, condition_at("condition", table))?,
         }),
@@ -310,6 +369,10 @@ fn settings_of(
         Kind::Console => Ok(Settings::Console {
             target: target_named(text_at("target", table)),
             encoding_codec: codec_named(text_within("encoding", "codec", table)),
+            sink: sink_of(alloc, global, table)?,
+        }),
+        Kind::Blackhole => Ok(Settings::Blackhole {
+            print_interval_secs: whole_at("print_interval_secs", MOST_PRINT_INTERVAL, 0, table),
             sink: sink_of(alloc, global, table)?,
         }),
     }

@@ -14,5 +14,7 @@ pub(crate) enum Shape {
     /// A table, or a list of tables, one at least and at most so many: the stages of a buffer.
     Stages(usize),
     /// A whole number between two, both among them.
-    Whole(u32, u32),
+    Whole(u64, u64),
+    /// A list of texts, one at least, of which none has a line feed.
+    Lines,
 }

@@ -34,8 +34,8 @@ pub(crate) fn stages_for(kind: Kind, table: &Value) -> &[Value]
     ensures { items_in (items_view result.now) ≡ stages_for kind (view table.now) }
 {
     match kind {
-        Kind::Stdin | Kind::Filter | Kind::Route => &[],
-        Kind::Console => stages_of(table),
+        Kind::Stdin | Kind::DemoLogs | Kind::Filter | Kind::Route => &[],
+        Kind::Console | Kind::Blackhole => stages_of(table),
     }
 }
 
@@ -47,7 +47,7 @@ fn room_at(stage: &Value) -> u32
         return STAGE_ROOM;
     };
     match whole_in(1, MOST_ROOM, value) {
-        Some(room) => room,
+        Some(room) => room as u32,
         None => STAGE_ROOM,
     }
 }
@@ -149,11 +149,11 @@ fn room_of(alloc: Global, part: Part<'_>) -> Result<u64, WantOfMemory>
     ensures { IfOk result (λ room. room ≡ room_of (part_view part.entry)) }
 {
     match kind_of(part) {
-        Some(Kind::Console) => {
+        Some(Kind::Console | Kind::Blackhole) => {
             let buffer = buffer_of(alloc, part.value)?;
             room_in(buffer.as_slice())
         }
-        _ => Ok(0),
+        Some(Kind::Stdin | Kind::DemoLogs | Kind::Filter | Kind::Route) | None => Ok(0),
     }
 }
 

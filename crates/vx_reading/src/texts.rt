@@ -1,6 +1,7 @@
 ghost use Rattle.std.specs.Prelude.{◌≡◌};
 ghost use Rattle.std.specs.List.{list_all};
 ghost use Rattle.vx_value.specs.Texts.{same_text, text_lt};
+ghost use Rattle.vx_reading.specs.Made.{is_unbroken};
 ghost use Rattle.vx_reading.specs.Options.{is_name, is_name_byte, is_route_name};
 ghost use Rattle.vx_reading.specs.Conditions.{is_one};
 
@@ -65,6 +66,18 @@ pub(crate) fn is_route_name(name: &str) -> bool
     ensures { result ≡ is_route_name name.now }
 {
     is_name(name) && !same_text(name, "_unmatched")
+}
+
+/// Whether a text has no line feed.
+pub(crate) fn is_unbroken(text: &str) -> bool
+    ensures { result ≡ is_unbroken text.now }
+{
+    for byte in text.as_bytes() {
+        if *byte == b'\n' {
+            return false;
+        }
+    }
+    true
 }
 
 /// Whether one of some texts is this.

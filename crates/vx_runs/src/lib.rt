@@ -18,6 +18,8 @@ mod faults;
 #[cfg(test)]
 mod fixtures;
 #[cfg(test)]
+mod generated;
+#[cfg(test)]
 mod json_runs;
 #[cfg(test)]
 mod memory_ends;
