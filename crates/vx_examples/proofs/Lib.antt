@@ -21,6 +21,7 @@ pub mod Conditions
 pub mod FilteredLegal
 pub mod RoutedLegal
 pub mod JoinedLegal
+mod RetriedLegal
 pub mod OverflowingLegal
 pub mod GeneratedLegal
 pub mod TransformRefusals

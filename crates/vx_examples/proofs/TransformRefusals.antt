@@ -22,13 +22,14 @@ use Rattle.vx_record.specs.Spending.{WasNewest}
 use Rattle.vx_record.specs.Inputs.{answered, to_answer, steps}
 use Rattle.vx_record.specs.Transforms.{Rule, judges, is_free, rule_of, IsTickDue, IsDue, PutsOut, Discards, reduced, put_on, left_over, judged, answered_events, AllMean, is_sound_output}
 use Rattle.vx_record.specs.Answering.{MayAnswer}
-use Rattle.vx_record.proofs.Ticks.{no_rule}
+use Rattle.vx_record.proofs.Ticks.{no_rule, not_ready}
 use Rattle.vx_record.proofs.Rules.{some_is, rule_is, mean_is}
 use Rattle.vx_examples.specs.Refused.{NeverLegal}
 use Rattle.vx_examples.specs.Parts.{event_with}
 use Rattle.vx_examples.specs.Filtered as filtered
 use Rattle.vx_examples.specs.Routed as routed
 use Rattle.vx_examples.specs.Joined as joined
+use Rattle.vx_examples.specs.Retried as retried
 use Rattle.vx_examples.specs.Overflowing as overflowing
 use Rattle.vx_examples.specs.Generated as generated
 use Rattle.vx_examples.specs.Chained as chained
@@ -36,7 +37,7 @@ use Rattle.vx_examples.proofs.ChainedLegal.{second_rule, repeats_rule}
 use Rattle.vx_examples.proofs.JoinedLegal.{rule as reduce_rule}
 use Rattle.vx_examples.proofs.GeneratedLegal.{q_lines, one_next}
 use Rattle.vx_examples.proofs.Refusals.{never, different}
-use Rattle.vx_examples.specs.RefusedTransforms.{answer_at_home, answer_of_a_sink, answer_that_loses, answer_that_doubles, answer_of_another_copy, answer_in_another_order, filter_that_keeps, lease_owing_an_answer, lease_owing_a_discard, second_answer, filtered_though_passed, take_behind_an_answer, split_of_another_port, split_of_another_event, tick_of_a_filter, lease_of_an_idle_transform, retired_with_a_kept_parcel, unread_though_a_way_is_read, split_of_an_unread_port, no_such_port, lease_before_the_tick, tick_at_another_moment, second_tick, flush_too_soon, joined_in_another_order, joined_with_another_event, young_group_put_out, split_of_a_part, notice_of_another_batch, other_lines, lines_past_the_count, refused_by_a_hole, push_past_the_first_stage, dropped_with_room_behind, take_past_the_first_stage, answer_after_an_abandon, tick_after_an_abandon, tick_at_home, flush_with_contents, ended_with_lines_left, lines_of_another_stream, bytes_into_a_hole, host_that_loses, repeat_put_out, second_put_out, host_without_a_copy, host_on_no_port, host_past_the_last_port, two_ticks, take_behind_a_tick, flush_that_keeps, ended_on_another_stream, retried_lease}
+use Rattle.vx_examples.specs.RefusedTransforms.{answer_at_home, answer_of_a_sink, answer_that_loses, answer_that_doubles, answer_of_another_copy, answer_in_another_order, filter_that_keeps, lease_owing_an_answer, lease_owing_a_discard, second_answer, filtered_though_passed, take_behind_an_answer, split_of_another_port, split_of_another_event, tick_of_a_filter, lease_of_an_idle_transform, retired_with_a_kept_parcel, unread_though_a_way_is_read, split_of_an_unread_port, no_such_port, lease_before_the_tick, tick_at_another_moment, second_tick, flush_too_soon, joined_in_another_order, joined_with_another_event, young_group_put_out, split_of_a_part, notice_of_another_batch, other_lines, lines_past_the_count, refused_by_a_hole, push_past_the_first_stage, dropped_with_room_behind, take_past_the_first_stage, answer_after_an_abandon, tick_after_an_abandon, tick_at_home, flush_with_contents, ended_with_lines_left, lines_of_another_stream, bytes_into_a_hole, host_that_loses, repeat_put_out, second_put_out, host_without_a_copy, host_on_no_port, host_past_the_last_port, two_ticks, take_behind_a_tick, flush_that_keeps, ended_on_another_stream, hasty_retry, restless_lease}
 
 -- a filter has no tick
 filter_never_due : (h : Record) (now : ℕ) → component_of h 1 ≡ Some filtered.filter_k → IsTickDue h 1 now → ⊥
@@ -519,9 +520,16 @@ ended_on_another_stream_is_refused l = let e = (l.0.row.generated q_lines refl).
 pub never_ended_on_another_stream : NeverLegal ended_on_another_stream
 never_ended_on_another_stream = never ended_on_another_stream ended_on_another_stream_is_refused
 
-retried_lease_is_refused : IsLegal retried_lease → ⊥
+hasty_retry_is_refused : IsLegal hasty_retry → ⊥
 unfolding utf8_lossy utf8_valid_len is_utf8 chars port_list lib.Utf8.encode
-retried_lease_is_refused l = let e = l.0.row.settled in cc
+hasty_retry_is_refused l = not_ready retried.after38 2 1999 refl refl l.0.row.ready
 
-pub never_retried_lease : NeverLegal retried_lease
-never_retried_lease = never retried_lease retried_lease_is_refused
+pub never_hasty_retry : NeverLegal hasty_retry
+never_hasty_retry = never hasty_retry hasty_retry_is_refused
+
+restless_lease_is_refused : IsLegal restless_lease → ⊥
+unfolding utf8_lossy utf8_valid_len is_utf8 chars port_list lib.Utf8.encode
+restless_lease_is_refused l = not_ready generated.after13 0 999 refl refl l.0.row.ready
+
+pub never_restless_lease : NeverLegal restless_lease
+never_restless_lease = never restless_lease restless_lease_is_refused

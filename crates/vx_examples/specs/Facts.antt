@@ -13,10 +13,10 @@ use Rattle.vx_plan.specs.Targets.{is_like, targets, acknowledged}
 use Rattle.vx_frame.specs.Frames.{frames}
 use Rattle.vx_ends.specs.declared.trouble.Reply.TheVariants.{Failed}
 use Rattle.vx_record.specs.declared.taken.Taken.TheVariants.{Bytes}
-use Rattle.vx_record.specs.declared.entry.Entry.TheVariants.{Lease, Home, Read, Idle, Take, Attempt}
+use Rattle.vx_record.specs.declared.entry.Entry.TheVariants.{Lease, Read, Idle, Take, Attempt}
 use Rattle.vx_record.specs.Records.{Record}
 use Rattle.vx_record.specs.SinkBatches.{is_timed_out, retry_from}
-use Rattle.vx_record.specs.Ready.{rests_until}
+use Rattle.vx_record.specs.Ready.{reading_moment}
 use Rattle.vx_record.specs.Reads.{taken, last_stream}
 use Rattle.vx_record.specs.Encoding.{given}
 use Rattle.vx_record.specs.Confirms.{confirmed}
@@ -32,9 +32,9 @@ use Rattle.vx_examples.specs.JsonLines as json_lines
 use Rattle.vx_examples.specs.Filtered as filtered
 use Rattle.vx_examples.specs.Routed as routed
 use Rattle.vx_examples.specs.Joined as joined
+use Rattle.vx_examples.specs.Retried as retried
 use Rattle.vx_examples.specs.Overflowing as overflowing
 use Rattle.vx_examples.specs.Generated as generated
-use Rattle.vx_examples.specs.RefusedTransforms.{failed_once}
 
 -- the counts of the first run
 abbrev pub SourceCounts : Type 0
@@ -174,18 +174,18 @@ LayersDontWait = acknowledged (layered (sink (codes "k") (codes "b8") block)) (c
 abbrev pub RetryWaits : Type 0
 RetryWaits = map (retry_wait acknowledging.settings) (1 ∷ 2 ∷ 3 ∷ 4 ∷ []) ≡ 1000 ∷ 1000 ∷ 2000 ∷ 2000 ∷ []
 
--- how long sources rest, and when a sink tries again, once runs can wait
+-- how long sources rest, and when a sink tries again
 abbrev pub RestsBehindARead : Type 0
-RestsBehindARead = rests_until generated.after13 0 ≡ 1000
+RestsBehindARead = reading_moment generated.after13 0 ≡ 1000
 
 abbrev pub RestsBehindAnIdle : Type 0
-RestsBehindAnIdle = rests_until (Idle 0 false ∷ filtered.after2) 0 ≡ 20
+RestsBehindAnIdle = reading_moment (Idle 0 false ∷ filtered.after2) 0 ≡ 20
 
 abbrev pub RestsBehindAFailedStart : Type 0
-RestsBehindAFailedStart = rests_until (Idle 0 true ∷ filtered.after2) 0 ≡ 1000
+RestsBehindAFailedStart = reading_moment (Idle 0 true ∷ filtered.after2) 0 ≡ 1000
 
 abbrev pub RetryMoment : Type 0
-RetryMoment = retry_from (Home 2 ∷ failed_once) 2 ≡ 2000
+RetryMoment = retry_from retried.after38 2 ≡ 2000
 
 -- ill-formed bytes
 abbrev pub Replaced : Type 0

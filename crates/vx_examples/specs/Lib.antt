@@ -21,6 +21,7 @@ pub mod RefusedJsonLines
 pub mod Filtered
 pub mod Routed
 pub mod Joined
+pub mod Retried
 pub mod Overflowing
 pub mod Generated
 pub mod RefusedTransforms

@@ -1,6 +1,6 @@
 -- Records that differ from the runs with transforms, stages, retries and generated lines in one entry.
 use Rattle.std.specs.Prelude.{◌^◌, [], ◌∷◌}
-use Rattle.vx_ends.specs.declared.trouble.Reply.TheVariants.{Ok, Failed, Refused}
+use Rattle.vx_ends.specs.declared.trouble.Reply.TheVariants.{Ok, Refused}
 use Rattle.vx_status.specs.declared.outcome.Outcome.TheVariants.{Filtered, NewestDropped, NoConsumer}
 use Rattle.vx_status.specs.declared.batch_status.BatchStatus.TheVariants as batch
 use Rattle.vx_record.specs.declared.taken.Taken.TheVariants.{Bytes, AllEnded}
@@ -11,6 +11,7 @@ use Rattle.vx_examples.specs.Parts.{event_with, child}
 use Rattle.vx_examples.specs.Filtered as filtered
 use Rattle.vx_examples.specs.Routed as routed
 use Rattle.vx_examples.specs.Joined as joined
+use Rattle.vx_examples.specs.Retried as retried
 use Rattle.vx_examples.specs.Overflowing as overflowing
 use Rattle.vx_examples.specs.Generated as generated
 use Rattle.vx_examples.specs.Chained as chained
@@ -231,10 +232,10 @@ flush_that_keeps = Answer 3 [] [] (8 ∷ []) ∷ keeping_host
 abbrev pub ended_on_another_stream : Record
 ended_on_another_stream = Read 0 1 AllEnded ∷ generated.after26
 
--- a sink whose attempt failed
-abbrev pub failed_once : Record
-failed_once = Attempt 2 (6 ∷ 7 ∷ 8 ∷ []) (97 ∷ []) Failed ∷ joined.after36
+-- a Lease of a sink whose attempt failed, before its wait is over
+abbrev pub hasty_retry : Record
+hasty_retry = Lease 2 0 1999 0 ∷ retried.after38
 
--- a Lease of it that would try it again, for which a run can't wait yet
-abbrev pub retried_lease : Record
-retried_lease = Lease 2 0 2000 0 ∷ Home 2 ∷ failed_once
+-- a Lease of a source that rests
+abbrev pub restless_lease : Record
+restless_lease = Lease 0 0 999 0 ∷ generated.after13

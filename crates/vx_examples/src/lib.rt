@@ -18,10 +18,11 @@ ghost use Rattle.vx_examples.specs.JsonLines.{run as json_lines};
 ghost use Rattle.vx_examples.specs.Filtered.{run as filtered};
 ghost use Rattle.vx_examples.specs.Routed.{run as routed};
 ghost use Rattle.vx_examples.specs.Joined.{run as joined};
+ghost use Rattle.vx_examples.specs.Retried.{run as retried};
 ghost use Rattle.vx_examples.specs.Overflowing.{run as overflowing};
 ghost use Rattle.vx_examples.specs.Generated.{run as generated};
 ghost use Rattle.vx_examples.specs.Chained.{run as chained};
-ghost use Rattle.vx_examples.specs.RefusedTransforms.{answer_at_home, answer_of_a_sink, answer_that_loses, answer_that_doubles, answer_of_another_copy, answer_in_another_order, filter_that_keeps, lease_owing_an_answer, lease_owing_a_discard, second_answer, filtered_though_passed, take_behind_an_answer, split_of_another_port, split_of_another_event, tick_of_a_filter, lease_of_an_idle_transform, retired_with_a_kept_parcel, unread_though_a_way_is_read, split_of_an_unread_port, no_such_port, lease_before_the_tick, tick_at_another_moment, second_tick, flush_too_soon, joined_in_another_order, joined_with_another_event, young_group_put_out, split_of_a_part, notice_of_another_batch, other_lines, lines_past_the_count, refused_by_a_hole, push_past_the_first_stage, dropped_with_room_behind, take_past_the_first_stage, answer_after_an_abandon, tick_after_an_abandon, tick_at_home, flush_with_contents, ended_with_lines_left, lines_of_another_stream, bytes_into_a_hole, host_that_loses, repeat_put_out, second_put_out, host_without_a_copy, host_on_no_port, host_past_the_last_port, two_ticks, ticked_host, take_behind_a_tick, keeping_host, flush_that_keeps, ended_on_another_stream, retried_lease};
+ghost use Rattle.vx_examples.specs.RefusedTransforms.{answer_at_home, answer_of_a_sink, answer_that_loses, answer_that_doubles, answer_of_another_copy, answer_in_another_order, filter_that_keeps, lease_owing_an_answer, lease_owing_a_discard, second_answer, filtered_though_passed, take_behind_an_answer, split_of_another_port, split_of_another_event, tick_of_a_filter, lease_of_an_idle_transform, retired_with_a_kept_parcel, unread_though_a_way_is_read, split_of_an_unread_port, no_such_port, lease_before_the_tick, tick_at_another_moment, second_tick, flush_too_soon, joined_in_another_order, joined_with_another_event, young_group_put_out, split_of_a_part, notice_of_another_batch, other_lines, lines_past_the_count, refused_by_a_hole, push_past_the_first_stage, dropped_with_room_behind, take_past_the_first_stage, answer_after_an_abandon, tick_after_an_abandon, tick_at_home, flush_with_contents, ended_with_lines_left, lines_of_another_stream, bytes_into_a_hole, host_that_loses, repeat_put_out, second_put_out, host_without_a_copy, host_on_no_port, host_past_the_last_port, two_ticks, ticked_host, take_behind_a_tick, keeping_host, flush_that_keeps, ended_on_another_stream, hasty_retry, restless_lease};
 ghost use Rattle.vx_examples.specs.RefusedPlans.{two_of_one_name, source_that_writes, source_that_listens, sink_without_a_stage, no_source, no_sink, sink_without_an_input, input_of_nobody, filters_in_a_round};
 ghost use Rattle.vx_examples.specs.RefusedJsonLines.{born_of_no_object, born_before_the_last_line, written_as_text};
 ghost use Rattle.vx_examples.specs.Facts.{SourceCounts, SinkCounts, SourceBytes, SinkBytes, Positions, NewestCounts, UnreadCounts, FailedCounts, UnconfirmedCounts, RefusedCounts, UndecodableCounts, FilterCounts, RouteCounts, ReduceCounts, JoinedCounts, TwoBatchCounts, OverflowCounts, GeneratorCounts, LayersWait, LayersDontWait, RestsBehindARead, RestsBehindAnIdle, RestsBehindAFailedStart, RetryMoment, Cut, CutOpen, CutShort, Likeness, Readers, NoReaders, Waits, NoWait, RetryWaits, Replaced, EmptyRead, RetryAtTheEnd, TimeoutAtTheEnd};
@@ -257,6 +258,8 @@ pub fn transforming_runs()
     ensures routed_closed { IsClosed routed }
     ensures joined_legal { IsLegal joined }
     ensures joined_closed { IsClosed joined }
+    ensures retried_legal { IsLegal retried }
+    ensures retried_closed { IsClosed retried }
     ensures overflowing_legal { IsLegal overflowing }
     ensures overflowing_closed { IsClosed overflowing }
     ensures generated_legal { IsLegal generated }
@@ -319,7 +322,8 @@ pub fn refused_transforms()
     ensures take_behind_a_tick { NeverLegal take_behind_a_tick }
     ensures flush_that_keeps { NeverLegal flush_that_keeps }
     ensures ended_on_another_stream { NeverLegal ended_on_another_stream }
-    ensures retried_lease { NeverLegal retried_lease }
+    ensures hasty_retry { NeverLegal hasty_retry }
+    ensures restless_lease { NeverLegal restless_lease }
 {}
 
 /// What stands before the refused entry is legal where that is no part of one of the runs.

@@ -23,7 +23,7 @@ use Rattle.vx_record.specs.Makers.{IsBy}
 use Rattle.vx_record.specs.Owing.{unspent_of, owes_spends_in, owes_discards, owes_answer, owes, is_done}
 use Rattle.vx_record.specs.Places.Place.{Held}
 use Rattle.vx_record.specs.Ready.{is_ready, is_close_due}
-use Rattle.vx_record.specs.SinkBatches.{is_full_batch, is_timed_out, is_last_batch, was_attempted, is_batch_closed}
+use Rattle.vx_record.specs.SinkBatches.{is_full_batch, is_timed_out, is_last_batch, was_attempted, is_batch_closed, retry_from}
 use Rattle.vx_record.specs.Starting.{MayLease}
 use Rattle.vx_record.specs.Tasks.{out_to}
 use Rattle.vx_record.specs.Turns.{is_out, at_lease, lease_now}
@@ -64,13 +64,13 @@ use Rattle.vx_ready.specs.Jobs.{IsJob}
 use Rattle.vx_ready.proofs.Closed.{closed_filled}
 use Rattle.vx_ready.proofs.Emptied.{holds_none}
 use Rattle.vx_ready.proofs.Knowing.{known, owes_none, seat_there}
-use Rattle.vx_ready.proofs.Untried.{untried, waits_for_none}
 use Rattle.vx_landing.proofs.Lending.{lent_room, room_lent}
 use Rattle.vx_landing.proofs.Seating.{not_same, well_stays}
 use Rattle.vx_hub.specs.Collecting.{IsOut, IsCollecting, IsGathering, IsTakeOf, HasTaken}
 use Rattle.vx_hub.specs.Leases.{MayGather, IsReadyFor, NoneFoundAt, NoneReady, HasGathered, HasHandedOut}
 use Rattle.vx_hub.specs.Standing.{IsWell, IsWellAt, LentWhileOut}
 use Rattle.vx_hub.proofs.Tasks.{keeps_task}
+use Rattle.vx_hub.proofs.Fresh.{due_waited, leased_waited, taken_waited, taking_waited}
 use Rattle.vx_hub.proofs.Endings.{home_is, retired_closed, settled_there}
 use Rattle.vx_hub.proofs.Judging.{buffer_leased, owes_neither, discards_leased}
 use Rattle.vx_hub.proofs.Resting.{adds_step, leaves_both}
@@ -168,12 +168,12 @@ module _ {P : Type 0} where
   pub may_take : {books : Books P} {i now taken : ℕ} → taken < 64 → IsCollecting books i now taken →
       is_batch_closed books.log i now ≡ false → MayTakeNow books.log i
   may_take {books} {i} below collecting unclosed = record {
-    going = unabandoned books.log collecting.is.untried.going;
+    going = unabandoned books.log collecting.is.clear.going;
     out = collecting.is.out;
     only_takes = collecting.is.only_takes;
     few = let most = collecting.few in omega (arith, most, below);
     unclosed = λ sink. ap (is_batch_closed books.log i) (sym collecting.is.moment) ∙ unclosed;
-    unticked = λ transform. let plain = sink_untransforming books.log i collecting.is.untried.sink in cc;
+    unticked = λ transform. let plain = sink_untransforming books.log i collecting.is.clear.sink in cc;
   }
 
   pub served_on : {old new : Books P} → IsServed old → new.run.plan ≡ old.run.plan → length new.seats ≡ length old.seats → IsServed new
@@ -184,17 +184,18 @@ module _ {P : Type 0} where
         i < length old.seats → IsCollecting old i now taken → Steps told_by (Take i s copies) old new →
         Leaves old new → IsSome (parcels_here new.places (Held i)) → HasTaken told_by i now taken old new
     taken_one {i} {now} {taken} {s} {copies} {old} {new} served within was steps leaves kept =
-        let rows = steps.stands.size in let size = steps.size in let most = was.few in let u = was.is.untried in
+        let rows = steps.stands.size in let size = steps.size in let most = was.few in let u = was.is.clear in
         let collecting : IsCollecting new i now (taken + 1) = record {
           is = record {
             out = rw steps.noted was.is.out;
             moment = rw steps.noted was.is.moment;
             only_takes = rw (steps.noted, itself i) was.is.only_takes;
-            untried = record {
+            clear = record {
               sink = rw steps.noted u.sink;
               settled = rw steps.noted (owes_taken old.log i s copies u.sink ∙ u.settled);
               going = rw steps.noted u.going;
             };
+            waited = taken_waited old.log new.log i s now copies steps.noted steps.stands.legal;
             kept = kept_at new.places i (omega (arith, rows, size, within)) kept;
             unread = rw steps.noted tt;
           };
@@ -221,16 +222,17 @@ pub may_attempt : {P : Type 0} {told_by : P → Told} {books : Books P} {i now :
 may_attempt {books = books} {i} {now} stands out closed =
     let h = books.log in
     let at_lease : is_batch_closed h i (lease_now h i) ≡ true = ap (is_batch_closed h i) (sym out.moment) ∙ closed in
-    let none = waits_for_none h i (untried h i stands.legal out.untried.settled (closed_filled h i now closed)) in
+    let waited = out.waited (closed_filled h i now closed) in
+    let moment = out.moment in
     record {
-      sink = out.untried.sink;
+      sink = out.clear.sink;
       batch_closed = at_lease;
       stays = elim (by_which (not (is_empty (held h i))) (is_full_batch h i) (is_timed_out h i (lease_now h i))
           (is_last_batch h i) (was_attempted h i) at_lease) [
             | inl alone ↦ inl alone
             | inr last ↦ inr (last, out.unread)
           ];
-      waited = omega (arith, none);
+      waited = omega (arith, waited, moment);
     }
 
 -- WHAT A LEASE LEADS TO
@@ -314,17 +316,19 @@ module _ {P : Type 0} {told_by : P → Told} {i worker now : ℕ} {task : Task P
   pub out_two : {two : Record} → OnlyAdds (IsTakeOf i) mid.log two → is_out two i ≡ true
   out_two {two} adds = let leased : is_out mid.log i ≡ true = rw (lent.steps.noted, itself i) in (gone_all two adds).aside i ∙ leased
 
-  collects : IsKept mid.places i → owes old.log i ≡ false → cause_of old.log ≡ None → sink_at old.log i ≡ true → IsCollecting mid i now 0
-  collects kept settled going sink = record {
+  collects : IsKept mid.places i → owes old.log i ≡ false → cause_of old.log ≡ None → sink_at old.log i ≡ true →
+      (0 < length (held old.log i) → retry_from old.log i ≤ now) → IsCollecting mid i now 0
+  collects kept settled going sink waited = record {
     is = record {
       out = rw (lent.steps.noted, itself i);
       moment = rw (lent.steps.noted, itself i);
       only_takes = rw (lent.steps.noted, itself i);
-      untried = record {
+      clear = record {
         sink = rw lent.steps.noted sink;
         settled = rw lent.steps.noted (owes_leased old.log i worker now ∙ settled);
         going = rw lent.steps.noted going;
       };
+      waited = leased_waited old.log mid.log i worker now lent.steps.noted lent.steps.stands.legal waited;
       kept = kept;
       unread = rw lent.steps.noted tt;
     };
@@ -368,10 +372,10 @@ module _ {P : Type 0} {told_by : P → Told} {i worker now : ℕ} {task : Task P
   gathers job.Read kept settled going (inr (inr is)) = absurd is.1
   gathers job.Collect kept settled going (inl is) = absurd is.1
   gathers job.Collect kept settled going (inr (inl is)) = absurd is.1
-  gathers job.Collect kept settled going (inr (inr is)) = collects kept settled going is.0
+  gathers job.Collect kept settled going (inr (inr is)) = collects kept settled going is.0 (taking_waited old.log i now is.1)
   gathers job.Attempt kept settled going (inl is) = absurd is.1
   gathers job.Attempt kept settled going (inr (inl is)) = absurd is.1
-  gathers job.Attempt kept settled going (inr (inr is)) = collects kept settled going is.0
+  gathers job.Attempt kept settled going (inr (inr is)) = collects kept settled going is.0 (λ some. due_waited old.log i now is.1)
   gathers job.Close kept settled going (inl is) = closing is.1
   gathers job.Close kept settled going (inr (inl is)) = absurd is.1
   gathers job.Close kept settled going (inr (inr is)) = closing is.1

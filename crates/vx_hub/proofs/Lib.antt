@@ -1,6 +1,7 @@
 mod Endings
 mod Served
 mod Judging
+mod Fresh
 mod Gathering
 mod Resting
 pub mod Begun
@@ -10,6 +11,7 @@ pub mod Listing
 pub mod Moving
 pub mod Remaining
 pub mod Running
+mod Sooner
 pub mod Unready
 pub mod Waiting
 pub mod Wiring

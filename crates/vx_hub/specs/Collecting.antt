@@ -1,5 +1,5 @@
 -- What a sink or a transform that is out takes.
-use Rattle.std.specs.Prelude.{◌≡◌, ◌≤◌, ◌+◌, ℕ, true, false, length, None}
+use Rattle.std.specs.Prelude.{◌≡◌, ◌<◌, ◌≤◌, ◌+◌, ℕ, true, false, length, None}
 use Rattle.std.specs.List.{list_all}
 use Rattle.vx_ends.specs.Told.{Told}
 use Rattle.vx_record.specs.declared.entry.Entry.{Entry}
@@ -7,11 +7,13 @@ use Rattle.vx_record.specs.declared.entry.Entry.TheVariants.{Take}
 use Rattle.vx_record.specs.Ceasing.{cause_of}
 use Rattle.vx_record.specs.Additions.{OnlyAdds}
 use Rattle.vx_record.specs.Installs.{sink_at, transform_at}
+use Rattle.vx_record.specs.Lists.{held}
 use Rattle.vx_record.specs.Owing.{owes, owes_discards, took_since}
 use Rattle.vx_record.specs.Abandoning.{abandoned}
 use Rattle.vx_record.specs.Places.Place.{Held}
 use Rattle.vx_record.specs.Records.{Record}
 use Rattle.vx_record.specs.Shifts.{at}
+use Rattle.vx_record.specs.SinkBatches.{retry_from}
 use Rattle.vx_record.specs.Turns.{is_out, since_lease, is_take_of, lease_now}
 use Rattle.vx_places.specs.Calls.{IsKept}
 use Rattle.vx_tasks.specs.Out.{IsUnread}
@@ -20,18 +22,19 @@ use Rattle.vx_moves.specs.Leaving.{Leaves}
 use Rattle.vx_moves.specs.Stands.{Stands}
 use Rattle.vx_ready.specs.Asking.{IsServed}
 
--- a sink owes nothing, in a run that wasn't given up: it attempted nothing of what it holds
-pub record IsUntried {P : Type 0} (books : Books P) (i : ℕ) : Type 0 where
+-- a sink owes nothing, in a run that wasn't given up
+pub record OwesNothing {P : Type 0} (books : Books P) (i : ℕ) : Type 0 where
   pub sink : sink_at books.log i ≡ true
   pub settled : owes books.log i ≡ false
   pub going : cause_of books.log ≡ None
 
--- it is out since a moment, and did nothing but take; what it holds isn't lent
+-- it is out since a moment, and did nothing but take; what it holds isn't lent, and needn't wait for an attempt
 pub record IsOut {P : Type 0} (books : Books P) (i now : ℕ) : Type 0 where
   pub out : is_out books.log i ≡ true
   pub moment : now ≡ lease_now books.log i
   pub only_takes : list_all (is_take_of i) (since_lease books.log i) ≡ true
-  pub untried : IsUntried books i
+  pub clear : OwesNothing books i
+  pub waited : 0 < length (held books.log i) → retry_from books.log i ≤ now
   pub kept : IsKept books.places i
   pub unread : IsUnread books.log
 

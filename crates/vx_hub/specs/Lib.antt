@@ -8,3 +8,4 @@ pub mod Pushing
 pub mod Remains
 pub mod Standing
 pub mod Telling
+pub mod Waiting

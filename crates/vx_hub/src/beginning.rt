@@ -3,9 +3,9 @@ ghost use Rattle.std.specs.Prelude.{◌≡◌, ◌∷◌, [], ◌<◌, ◌≤◌
 ghost use Rattle.vx_plan.specs.Numbers.{reader_numbers};
 ghost use Rattle.vx_record.specs.Copies.{counting};
 ghost use Rattle.vx_plan.specs.Components.{port_names, sink_stages, batch_max_events, batch_timeout};
-ghost use Rattle.vx_plan.specs.Options.{decoding, type_name};
+ghost use Rattle.vx_plan.specs.Options.{decoding, reading_interval, type_name};
 ghost use Rattle.vx_seats.specs.Beginning.{AreNew};
-ghost use Rattle.vx_seats.specs.Knowing.{batching_of};
+ghost use Rattle.vx_seats.specs.Knowing.{batching_of, schedule_of};
 ghost use Rattle.vx_hub.specs.Making.{is_served, all_served};
 ghost use Rattle.vx_moves.specs.Rooms.{hand_of};
 ghost use Rattle.vx_hub.specs.Beginning.{IsBegun, IsSourceFor, IsRoleBut, IsWorkerFor, is_working, AreFor, rooms_of, rooms_in};
@@ -17,6 +17,7 @@ use vx_json::{Decoding, DemoSettings};
 use vx_ledger::Outlet;
 use vx_plan::{Class, Component, Plan, Settings, StageList};
 use vx_seats::{Batching, Facts, Progress, Seat};
+use vx_sinkcore::Schedule;
 use vx_sourcecore::{Generator, Prefix, SourceCore};
 use vx_tasks::Role;
 use vx_value::{NumberList, Text, WantOfMemory};
@@ -57,6 +58,7 @@ fn make_seat<P: Port>(
         device: component.settings.has_device(),
         outlet,
         batching: batching(component),
+        interval: interval(&component.settings),
         facts: first_facts(),
         progress: Progress {
             unnoticed: 0,
@@ -78,7 +80,11 @@ fn first_facts() -> Facts
         confirm_failed: false,
         closed: false,
         retired: false,
+        leased_at: 0,
+        reads_from: 0,
         since: 0,
+        failures: 0,
+        failed_at: 0,
         owing: false,
         behind: false,
         starved: false,
@@ -125,6 +131,7 @@ fn batching(component: &Component) -> Option<Batching>
         Class::Sink => Some(Batching {
             max_events: most_events(&component.settings),
             timeout: timeout(&component.settings),
+            retries: schedule(&component.settings),
         }),
     }
 }
@@ -160,6 +167,30 @@ fn timeout(settings: &Settings) -> u64
     match settings.sink() {
         Some(sink) => to_millis(sink.batch_timeout_secs),
         None => 0,
+    }
+}
+
+/// How often a sink makes a failed attempt again, and how long it waits before; never where there is no sink.
+fn schedule(settings: &Settings) -> Schedule
+    ensures { result ≡ schedule_of settings.now }
+{
+    match settings.sink() {
+        Some(sink) => Schedule::new(
+            sink.request_retry_initial_backoff_secs,
+            sink.request_retry_max_duration_secs,
+            sink.request_retry_attempts,
+        ),
+        None => Schedule::new(0, 0, 0),
+    }
+}
+
+/// How long a source rests behind a read, in milliseconds.
+fn interval(settings: &Settings) -> u64
+    ensures { result ≡ reading_interval settings.now }
+{
+    match settings {
+        Settings::DemoLogs { interval, .. } => to_millis(*interval),
+        _ => 0,
     }
 }
 

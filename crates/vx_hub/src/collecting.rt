@@ -1,5 +1,5 @@
 // What a sink or a transform that is out takes before its work leaves.
-ghost use Rattle.std.specs.Prelude.{◌≡◌, ◌<◌, length, true, false};
+ghost use Rattle.std.specs.Prelude.{◌≡◌, ◌<◌, ◌||◌, length, true, false};
 ghost use Rattle.vx_record.specs.Additions.{OnlyAdds};
 ghost use Rattle.vx_record.specs.Installs.{sink_at};
 ghost use Rattle.vx_record.specs.Lists.{buffered, held};
@@ -11,15 +11,15 @@ ghost use Rattle.vx_moves.specs.Leaving.{Leaves};
 ghost use Rattle.vx_moves.specs.Stands.{Stands};
 ghost use Rattle.vx_places.specs.Calls.{IsKept};
 ghost use Rattle.vx_ready.specs.Asking.{IsServed};
-ghost use Rattle.vx_ready.specs.Jobs.{is_full_or_old as is_full_or_old_by};
+ghost use Rattle.vx_ready.specs.Jobs.{failed_before, is_full_or_old};
 ghost use Rattle.vx_tasks.specs.Out.{IsGiven};
-ghost use Rattle.vx_hub.specs.Collecting.{IsUntried, IsOut, IsCollecting, IsGathering, IsTakeOf, HasTaken, HasGatheredOne};
+ghost use Rattle.vx_hub.specs.Collecting.{OwesNothing, IsOut, IsCollecting, IsGathering, IsTakeOf, HasTaken, HasGatheredOne};
 ghost use Rattle.vx_hub.specs.Leases.{takes_first};
 
 use vx_ends::Port;
 use vx_moves::Books;
 use vx_ready::is_ending;
-use vx_seats::Batching;
+use vx_seats::{Batching, Facts};
 use vx_tasks::Job;
 
 /// How many parcels one lease takes from a buffer at the most.
@@ -132,28 +132,30 @@ pub(crate) fn is_closed_out<P: Port>(books: &Books<P>, i: u32, now: u64) -> bool
     requires stands { Stands P.told books.now }
     requires within { i < length books.now.seats }
     requires served { IsServed books.now }
-    requires untried { IsUntried books.now i }
+    requires clear { OwesNothing books.now i }
     requires kept { IsKept books.now.places i }
     ensures { result ≡ is_batch_closed_at books.now.log i now }
 {
     let held = count_held(books, i);
     let seat = books.seats.get(i);
-    let due = is_full_or_old(seat.batching, seat.facts.since, held, now);
+    let due = is_due(seat.batching, &seat.facts, held, now);
     if held == 0 {
         return false;
     }
     due || is_last(books, i)
 }
 
-/// Whether so many parcels are as many as a batch may have, or the oldest of them has waited long enough.
-fn is_full_or_old(batching: Option<Batching>, since: u64, held: usize, now: u64) -> bool
-    ensures { result ≡ is_full_or_old_by batching since held now }
+/// Whether so many parcels are as many as a batch may have, or the oldest of them has waited long enough, or an attempt of them failed.
+fn is_due(batching: Option<Batching>, facts: &Facts, held: usize, now: u64) -> bool
+    ensures { result ≡ (is_full_or_old batching facts.now.since held now || failed_before facts.now.failures) }
 {
     match batching {
         Some(batching) => {
-            held >= batching.max_events as usize || since.saturating_add(batching.timeout) <= now
+            held >= batching.max_events as usize
+                || facts.since.saturating_add(batching.timeout) <= now
+                || facts.failures > 0
         }
-        None => false,
+        None => facts.failures > 0,
     }
 }
 

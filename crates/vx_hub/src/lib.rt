@@ -4,6 +4,7 @@
 mod beginning;
 mod collecting;
 mod dropping;
+mod due;
 mod ending;
 mod fatal;
 mod hub;

@@ -73,7 +73,7 @@ fn ports_of<P: Port>(seats: Seats<P>, berths: Vec<Numbered<P>>) -> NumberedList<
 {
     let (mut seats, mut berths) = (seats, berths);
     for i in 0..seats.len() as u32 {
-        let Some((task, _)) = seats.leave(i) else {
+        let Some((task, _)) = seats.leave(i, 0) else {
             unreachable!();
         };
         let Task { mut port, role: _ } = task;

@@ -1,8 +1,8 @@
 -- What the notes of a landing need, what they add, and what becomes of an instance that is given up.
-use Rattle.std.proofs.Common.{zero, suc, ◌≡◌, ◌∙◌, ℕ, ◌<◌, Bool, true, false, List, [], ◌∷◌, length, take, Option, Some, None, IfSome, IsSomeAnd, refl, sym, subst, arith, inr}
+use Rattle.std.proofs.Common.{zero, suc, ◌≡◌, ◌∙◌, ℕ, ◌+◌, ◌<◌, ◌≤◌, Bool, true, false, List, [], ◌∷◌, length, take, Option, Some, None, IfSome, IsSomeAnd, refl, sym, subst, arith, inr}
 use Rattle.std.specs.Prelude.{◌==◌, is_some, slice_get}
 use Rattle.std.specs.List.{list_any}
-use Rattle.std.proofs.lemmas.Bool.{eqb-true, false_from_ne_true, lt-ltb}
+use Rattle.std.proofs.lemmas.Bool.{eqb-true, false_from_ne_true, leb-true, lt-ltb}
 use Rattle.std.proofs.lemmas.Option.{IfSome_then}
 use Rattle.std.proofs.Math.Seq.{take-length}
 use Rattle.vx_value.specs.Texts.{Word}
@@ -28,12 +28,13 @@ use Rattle.vx_record.specs.Lists.{held}
 use Rattle.vx_record.specs.Makers.{IsFor}
 use Rattle.vx_record.specs.Places.Place.{Held}
 use Rattle.vx_record.specs.Shifts.{at}
+use Rattle.vx_record.specs.SinkBatches.{attempts_allowed, failures_with, oldest_held}
 use Rattle.vx_record.specs.Sinking.{MayAttempt}
 use Rattle.vx_record.specs.Spending.{HasCause}
 use Rattle.vx_record.specs.Tasks.{of_task, is_number}
 use Rattle.vx_record.specs.Turns.{is_out, since_lease, is_turn_of, is_attempt_of}
 use Rattle.vx_record.proofs.Adding.{adds_none, adds_one}
-use Rattle.vx_record.proofs.Attempted.{attempts_one}
+use Rattle.vx_record.proofs.Alike.{alike, first_there}
 use Rattle.vx_record.proofs.Ceasing.{unabandoned, has_abandoned}
 use Rattle.vx_record.proofs.Shifting.{stands_at}
 use Rattle.vx_counts.proofs.Once.{itself}
@@ -55,7 +56,7 @@ use Rattle.vx_moves.specs.Returns.{HaveReturned}
 use Rattle.vx_moves.specs.Spends.{MaySpendAll, OnlySpends}
 use Rattle.vx_moves.specs.Stands.{Stands, Steps}
 use Rattle.vx_moves.proofs.Leaving.{rooms_both, each_both}
-use Rattle.vx_landing.specs.Landings.{ComesBehind, HasNoted, HasNotedRead, outcome_of}
+use Rattle.vx_landing.specs.Landings.{ComesBehind, HasNoted, HasNotedRead, decides, outcome_of}
 use Rattle.vx_landing.proofs.Owing.{spends_keep, spends_wider, was_out}
 
 -- THE RUN
@@ -96,20 +97,22 @@ taken_prefix zero w = refl
 taken_prefix (suc n) [] = refl
 taken_prefix (suc n) (b ∷ w) = rw (itself b) (taken_prefix n w)
 
--- an answered attempt is a cause to spend what it had
-answered_cause : (h : Record) (i c : ℕ) (copies : List ℕ) (bytes : Word) (answer : Reply) → 0 < count c copies →
-    HasCause (Attempt i copies bytes answer ∷ h) i c (outcome_of answer)
-answered_cause h i c copies bytes reply.Ok some = record { had = rw (itself i) some; answered = rw (itself i) refl }
-answered_cause h i c copies bytes reply.Refused some = record { had = rw (itself i) some; answered = rw (itself i) refl }
-answered_cause h i c copies bytes reply.Failed some =
-    rw (attempts_one (Attempt i copies bytes reply.Failed ∷ h) i, itself i, lt-ltb 0 (count c copies) some) (omega arith)
+-- an attempt that decides is a cause to spend what it had
+answered_cause : (h : Record) (i c : ℕ) (bytes : Word) (answer : Reply) → IsLegal h → decides h i answer ≡ true → 0 < count c (joined (held h i)) →
+    HasCause (Attempt i (joined (held h i)) bytes answer ∷ h) i c (outcome_of answer)
+answered_cause h i c bytes reply.Ok legal last some = record { had = rw (itself i) some; answered = rw (itself i) refl }
+answered_cause h i c bytes reply.Refused legal last some = record { had = rw (itself i) some; answered = rw (itself i) refl }
+answered_cause h i c bytes reply.Failed legal last some =
+    let same = (alike h i c (oldest_held h i) legal some (first_there c (joined (held h i)) some)).1 in
+    let few : attempts_allowed h i ≤ failures_with h i (oldest_held h i) + 1 = leb-true (attempts_allowed h i) (failures_with h i (oldest_held h i) + 1) last in
+    rw (itself i, lt-ltb 0 (count c (joined (held h i))) some) (omega (arith, same, few))
 
-pub may_spend : (h log : Record) (i : ℕ) (bytes : Word) (answer : Reply) → IsLegal h → log ≡ Attempt i (joined (held h i)) bytes answer ∷ h →
-    cause_of log ≡ None → MaySpendAll log (Held i) (outcome_of answer)
-may_spend h log i bytes answer legal noted going =
+pub may_spend : (h log : Record) (i : ℕ) (bytes : Word) (answer : Reply) → IsLegal h → decides h i answer ≡ true →
+    log ≡ Attempt i (joined (held h i)) bytes answer ∷ h → cause_of log ≡ None → MaySpendAll log (Held i) (outcome_of answer)
+may_spend h log i bytes answer legal last noted going =
     let not = unabandoned log going in
     rw noted (record {
-      cause = λ c among. answered_cause h i c (joined (held h i)) bytes answer (rw (stands_at h (Held i) legal) among);
+      cause = λ c among. answered_cause h i c bytes answer legal last (rw (stands_at h (Held i) legal) among);
       left = λ c over. let no = rw noted at not in cc;
     })
 

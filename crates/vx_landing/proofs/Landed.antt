@@ -59,11 +59,11 @@ use Rattle.vx_moves.specs.Leaving.{Leaves}
 use Rattle.vx_moves.specs.Returns.{AreSettled, IsReturned}
 use Rattle.vx_moves.specs.Stands.{Stands}
 use Rattle.vx_landing.specs.Failures.{LacksBirth}
-use Rattle.vx_landing.specs.Landings.{ComesBehind, HasBorneCut, HasLanded, HasNoted, HasNotedRead, HasSpentBy, IsBackWith, IsMarked, IsOwingNow, IsWellLanded, LandsOn, Owes, outcome_of}
+use Rattle.vx_landing.specs.Landings.{ComesBehind, HasBorneCut, HasLanded, HasNoted, HasNotedRead, HasSpentBy, IsBackWith, IsMarked, IsOwingNow, IsWellLanded, LandsOn, Owes, decides, outcome_of}
 use Rattle.vx_landing.specs.Standing.{IsWellAt, IsFedAt}
 use Rattle.vx_landing.proofs.Answering.{adds_step, for_own, leaves_both, spends_behind}
 use Rattle.vx_landing.proofs.Lending.{kept_on}
-use Rattle.vx_landing.proofs.Owing.{deeds_none, lacks_birth, owes_attempted, owes_barren, owes_borne, owes_none, settled_by, spends_keep, uncaused}
+use Rattle.vx_landing.proofs.Owing.{deeds_none, lacks_birth, owes_attempted, owes_barren, owes_borne, owes_none, owes_retried, settled_by, spends_keep, uncaused}
 use Rattle.vx_landing.proofs.Seating.{LeavesBe, NowOwes, NowStarves, be_both, be_here, be_stays, both_are, both_said, carried, carried_one, fed_well, lands, others_both, others_one, well_on}
 
 -- WHAT A TASK DOES
@@ -301,19 +301,24 @@ module _ {P : Type 0} {told_by : P → Told} {i : ℕ} {task : Task P} {old : Bo
       settled : cause_of new.log ≡ None → owes new.log i ≡ false
       behind : OnlyAdds (ComesBehind i) tried new.log
 
-    is_tried : (over : Bool) → abandoned old.log ≡ over → IsTried
-    is_tried true over =
-        let same = spent.over over in
+    -- where nothing is spent, the attempt alone
+    unspent : new ≡ spent.mid → (cause_of tried ≡ None → owes tried i ≡ false) → IsTried
+    unspent same settled =
         let log = ap (λ (books : Books P). books.log) same ∙ spent.noted.steps.noted in
         record {
           leaves = rw same spent.noted.leaves;
           size = rw same spent.noted.steps.size;
           arrived = rw same arrived;
-          settled = λ going. let not = rw log at (unabandoned new.log going) in cc;
+          settled = rw log settled;
           behind = adds_none (ComesBehind i) tried new.log log;
         }
-    is_tried false going =
-        let spends = spent.spent going in
+
+    is_tried : (over last : Bool) → abandoned old.log ≡ over → decides old.log i answer ≡ last → IsTried
+    is_tried true last over decided = unspent (spent.over over) (λ going. let not = unabandoned tried going in cc)
+    is_tried false false going decided =
+        unspent (spent.waits decided) (λ none. owes_retried old.log i (joined (held old.log i)) (take sent all.value) answer (owes_before b refl) decided)
+    is_tried false true going decided =
+        let spends = spent.spent going decided in
         record {
           leaves = leaves_both spent.noted.leaves spends.leaves;
           size = spends.size ∙ spent.noted.steps.size;
@@ -322,20 +327,20 @@ module _ {P : Type 0} {told_by : P → Told} {i : ℕ} {task : Task P} {old : Bo
               (λ h batch status is. let e = entry.Notice batch status in assumption (told_mute (told_by task.port) h e i tt is.told, come_mute task.role h e i tt is.come, is))
               spends.only arrived;
           settled = λ none. owes_attempted old.log new.log i (joined (held old.log i)) (take sent all.value) answer (outcome_of answer) (owes_before b refl)
-              (rw spent.noted.steps.noted at spends.only) spent.stands.legal (spent.none going);
+              (rw spent.noted.steps.noted at spends.only) spent.stands.legal (spent.none going decided);
           behind = rw spent.noted.steps.noted at (spends_behind spends);
         }
 
     pub landed_attempted : HasLanded told_by i task old new
     landed_attempted =
-        let t = is_tried (abandoned old.log) refl in
+        let t = is_tried (abandoned old.log) (decides old.log i answer) refl refl in
         landed_well stands within b refl spent.stands spent.only (be_stays t.leaves t.size) (well_on i t.leaves b.well) t.arrived t.settled
 
     pub well_attempted : IsWellLanded i old new
-    well_attempted = let t = is_tried (abandoned old.log) refl in record { fed = ap (λ (r : Run). r.short) t.leaves.run; seat = well_on i t.leaves b.well }
+    well_attempted = let t = is_tried (abandoned old.log) (decides old.log i answer) refl refl in record { fed = ap (λ (r : Run). r.short) t.leaves.run; seat = well_on i t.leaves b.well }
 
     pub attempt_behind : OnlyAdds (ComesBehind i) (entry.Attempt i (joined (at old.log (Held i))) (take sent all.value) answer ∷ old.log) new.log
-    attempt_behind = rw (stands_at old.log (Held i) stands.legal) at ((is_tried (abandoned old.log) refl).behind)
+    attempt_behind = rw (stands_at old.log (Held i) stands.legal) at ((is_tried (abandoned old.log) (decides old.log i answer) refl refl).behind)
 
   -- A READ
   module _ {took : Turned} (mid : Books P) (b : IsBackWith told_by old i task (done.Read took))

@@ -7,3 +7,4 @@ pub mod Owing
 pub mod Seating
 pub mod Serving
 pub mod ToldOut
+pub mod Deciding

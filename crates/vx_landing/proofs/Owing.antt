@@ -193,7 +193,7 @@ pub spends_wider : {i : ℕ} {outcome : Outcome} {old new : Record} (Wider : Rec
     ((h : Record) (b : ℕ) (status : BatchStatus) → Wider h (Notice b status)) → OnlyAdds (IsSpendOf i outcome) old new → OnlyAdds Wider old new
 spends_wider {i} {outcome} {old} {new} Wider spent noticed = adds_wider (IsSpendOf i outcome) Wider (of_spends Wider spent noticed) old new
 
--- what owes no spends has spent what it attempted
+-- what owes no spends has spent all of which its attempts decided
 pub settled_by : (h : Record) (i : ℕ) → owes_spends_in h h i ≡ false → AreSettled h i
 settled_by h i none going c tried = owed_spent h h i c none tried
 
@@ -281,6 +281,12 @@ owes_attempted h new i copies bytes reply outcome none adds legal bare =
     (else_on h (Attempt i copies bytes reply) i refl refl refl refl (else_none h i none)) in
     let settled = each_unspent new (decided new i) (λ c some. bare_spent new i c legal bare (attempted_held new i c legal (decided_tried new i c some))) in
     owes_none new i (entries_none new i (record { birth = rest.birth; spends = settled }) rest.discards) rest.answer
+
+-- behind one that decides nothing, nothing is owed more
+pub owes_retried : (h : Record) (i : ℕ) (copies : List ℕ) (bytes : Word) (reply : Reply) → owes h i ≡ false →
+    is_decided reply (failures_with h i (first_copy copies) + 1) (attempts_allowed h i) ≡ false → owes (Attempt i copies bytes reply ∷ h) i ≡ false
+owes_retried h i copies bytes reply none waits =
+    rw (itself i, waits) (owing_next h i (fruitful h i) (owes_answer h i) (born_enough h i none) refl none)
 
 -- ANSWERS
 answered_took : (transform took own : Bool) → own ≡ true → (transform && (not own && took)) ≡ false

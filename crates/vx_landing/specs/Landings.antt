@@ -1,5 +1,5 @@
 -- What the notes of a landing leave.
-use Rattle.std.specs.Prelude.{◌≡◌, ◌≢◌, ◌<◌, ◌⊎◌, ◌∷◌, ◌++◌, ◌||◌, if◌then◌else◌, take, ℕ, Bool, true, false, List, [], length, Option, Some, is_some, IfSome, IsSome, IsSomeAnd, slice_get}
+use Rattle.std.specs.Prelude.{◌≡◌, ◌≢◌, ◌<◌, ◌+◌, ◌⊎◌, ◌∷◌, ◌++◌, ◌||◌, if◌then◌else◌, nat_le, take, ℕ, Bool, true, false, List, [], length, Option, Some, None, is_some, IfSome, IsSome, IsSomeAnd, slice_get}
 use Rattle.std.specs.List.{list_any}
 use Rattle.vx_status.specs.declared.outcome.Outcome.{Outcome}
 use Rattle.vx_status.specs.declared.outcome.Outcome.TheVariants.{Delivered, Attempts, Refusal, Filtered}
@@ -15,13 +15,15 @@ use Rattle.vx_record.specs.Places.{Place, owner}
 use Rattle.vx_record.specs.Places.Place.{Held}
 use Rattle.vx_record.specs.Shifts.{at}
 use Rattle.vx_places.specs.Views.{parcels_here}
+use Rattle.vx_seats.specs.declared.facts.Batching.{Batching}
 use Rattle.vx_seats.specs.declared.seat.Seat.{Seat}
 use Rattle.vx_ledger.specs.declared.parcel.Parcel.{Parcel}
 use Rattle.vx_record.specs.Copies.{joined}
 use Rattle.vx_tasks.specs.declared.landing.Landing.{Landing}
 use Rattle.vx_record.specs.Confirms.{last_confirm, due}
 use Rattle.vx_record.specs.Installs.{device_at, is_closed}
-use Rattle.vx_record.specs.Owing.{owes_birth, owes_spends_in, owes_discards, owes_answer}
+use Rattle.vx_record.specs.SinkBatches.{failures_with, attempts_allowed, oldest_held}
+use Rattle.vx_record.specs.Owing.{is_decided, owes_birth, owes_spends_in, owes_discards, owes_answer}
 use Rattle.vx_record.specs.Records.{Record}
 use Rattle.vx_record.specs.Turns.{is_out, at_lease, since_lease, is_turn_of, is_attempt_of, is_confirm_of}
 use Rattle.vx_places.specs.Rooms.{SameRooms}
@@ -57,19 +59,29 @@ pub record HasNotedRead {P : Type 0} (told_by : P → Told) (untold : Bool) (i :
   pub only : OnlyAdds (IsFor i) old.log new.log
   pub leaves : LeavesUntold untold i old new
 
--- what becomes of the copies of an attempt that was answered so, the last that may be made
+-- whether an attempt that fails behind so many is the last that a sink makes
+abbrev pub is_last : Option Batching → ℕ → Bool
+is_last None failures = true
+is_last (Some batching) failures = nat_le batching.retries.attempts failures
+
+-- whether an attempt of all that an instance holds that is answered so decides what becomes of it
+abbrev pub decides : Record → ℕ → Reply → Bool
+decides h i answer = is_decided answer (failures_with h i (oldest_held h i) + 1) (attempts_allowed h i)
+
+-- what becomes of the copies of an attempt that was answered so, the last that is made
 abbrev pub outcome_of : Reply → Outcome
 outcome_of Ok = Delivered
 outcome_of Failed = Attempts
 outcome_of Refused = Refusal
 
--- an attempt was noted, and where the run isn't given up, all that the instance holds was spent by its answer
+-- an attempt was noted, and where it decides and the run isn't given up, all that the instance holds was spent by its answer
 pub record HasSpentBy {P : Type 0} (told_by : P → Told) (i : ℕ) (e : Entry) (answer : Reply) (old new : Books P) : Type 0 where
   pub mid : Books P
   pub noted : HasNoted told_by i e old mid
-  pub spent : abandoned old.log ≡ false → OnlySpends told_by i (outcome_of answer) mid new
+  pub spent : abandoned old.log ≡ false → decides old.log i answer ≡ true → OnlySpends told_by i (outcome_of answer) mid new
   pub over : abandoned old.log ≡ true → new ≡ mid
-  pub none : abandoned old.log ≡ false → at new.log (Held i) ≡ []
+  pub waits : decides old.log i answer ≡ false → new ≡ mid
+  pub none : abandoned old.log ≡ false → decides old.log i answer ≡ true → at new.log (Held i) ≡ []
   pub kept : IsSome (parcels_here new.places (Held i))
   pub stands : Stands told_by new
   pub only : OnlyAdds (IsFor i) old.log new.log

@@ -1,5 +1,5 @@
 // The notes of a landing: each is one entry of the instance that comes home.
-ghost use Rattle.std.specs.Prelude.{◌≡◌, ◌<◌, ◌≤◌, ◌&&◌, nat_lt, length, take, true, false, IfSome, IfNone, IsSome, IsSomeAnd, IfErr, OnOk, OnErr};
+ghost use Rattle.std.specs.Prelude.{◌≡◌, ◌<◌, ◌≤◌, ◌&&◌, ℕ, nat_lt, length, take, true, false, IfSome, IfNone, IsSome, IsSomeAnd, IfErr, OnOk, OnErr};
 ghost use Rattle.std.specs.Option.{is_none};
 ghost use Rattle.std.specs.List.{list_any};
 ghost use Rattle.vx_record.specs.declared.entry.Entry.TheVariants.{Read, Confirm, Idle, SourceLost, Attempt, Closed};
@@ -31,13 +31,14 @@ ghost use Rattle.vx_ledger.specs.declared.short.Short.TheVariants.{WantOfMemory 
 ghost use Rattle.vx_moves.specs.Answering.{MayAnswerNow};
 ghost use Rattle.vx_moves.specs.Bearing.{IsBirthShort};
 ghost use Rattle.vx_moves.specs.Stands.{Stands};
-ghost use Rattle.vx_landing.specs.Landings.{HasNoted, HasNotedRead, HasSpentBy, HasAnsweredBy, HasBorneCut, IsOwingNow, IsMarked, outcome_of as outcome_by};
+ghost use Rattle.vx_landing.specs.Landings.{HasNoted, HasNotedRead, HasSpentBy, HasAnsweredBy, HasBorneCut, IsOwingNow, IsMarked, decides as decides_by, is_last as is_last_by, outcome_of as outcome_by};
 
 use std::alloc::Global;
 use std::snapshot::Snapshot;
 use vx_ends::{Port, Position, Reply};
 use vx_ledger::Short;
 use vx_moves::Books;
+use vx_seats::Batching;
 use vx_sourcecore::{Cut, Turned};
 use vx_status::Outcome;
 use vx_tasks::{Confirmed, PortsList};
@@ -184,7 +185,32 @@ pub(crate) fn mark_starved<P: Port>(books: &mut Books<P>, i: u32)
     books.run.short = true;
 }
 
-// What becomes of the copies of an attempt, the last that may be made.
+// Whether an attempt of all that a sink holds that is answered so decides what becomes of it: it was answered, or no other may follow.
+fn decides<P: Port>(books: &Books<P>, i: u32, reply: Reply) -> bool
+    requires stands { Stands P.told books.now }
+    requires within { i < length books.now.seats }
+    requires may { MayAttemptNow books.now.log i }
+    ensures { result ≡ decides_by books.now.log i reply }
+{
+    let seat = books.seats.get(i);
+    match reply {
+        Reply::Ok => true,
+        Reply::Refused => true,
+        Reply::Failed => is_last(seat.batching, seat.facts.failures),
+    }
+}
+
+// Whether an attempt that fails behind so many is the last that a sink makes.
+fn is_last(batching: Option<Batching>, failures: u64) -> bool
+    ensures { (n : ℕ) → failures ≡ capped n → result ≡ is_last_by batching n }
+{
+    match batching {
+        Some(batching) => batching.retries.attempts <= failures,
+        None => true,
+    }
+}
+
+// What becomes of the copies of an attempt, the last that is made.
 fn outcome_of(reply: Reply) -> Outcome
     ensures { result ≡ outcome_by reply }
 {
@@ -195,7 +221,7 @@ fn outcome_of(reply: Reply) -> Outcome
     }
 }
 
-// Notes an attempt with all that the instance holds, and spends that by its answer, unless the run is given up.
+// Notes an attempt with all that the instance holds, and spends that by its answer where that decides, unless the run is given up.
 pub(crate) fn land_attempt<P: Port>(
     books: &mut Books<P>,
     i: u32,
@@ -215,7 +241,11 @@ pub(crate) fn land_attempt<P: Port>(
     requires swallowed { device_at books.old.log i ≡ false → reply ≡ WellTaken }
     ensures { HasSpentBy P.told i (Attempt i (joined (held books.old.log i)) (take sent all.now.value) reply) reply books.old books.new }
 {
+    let decided = decides(books, i, reply);
     note_attempt(books, i, all, sent, reply);
+    if !decided {
+        return;
+    }
     if books.run.abandoned.is_none() {
         books.spend_all_held(i, outcome_of(reply));
     }

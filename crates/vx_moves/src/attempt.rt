@@ -23,7 +23,7 @@ impl<P: Port> Books<P> {
         ensures steps { Steps P.told (Attempt i (joined (held self.old.log i)) (take sent all.now.value) reply) self.old self.new }
         ensures leaves { Leaves self.old self.new }
     {
-        self.seats.attempted(i, sent);
+        self.seats.attempted(i, sent, reply);
         self.log.note(&(i, all, sent, reply));
     }
 }

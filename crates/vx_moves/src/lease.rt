@@ -20,7 +20,7 @@ impl<P: Port> Books<P> {
         requires fit { IsFitAt self.old.seats i }
         ensures lent { HasLent P.told i worker now result.0 result.1 self.old self.new }
     {
-        let Some((task, positions)) = self.seats.leave(i) else {
+        let Some((task, positions)) = self.seats.leave(i, now) else {
             unreachable!();
         };
         self.run.latest = now;

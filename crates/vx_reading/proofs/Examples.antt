@@ -12,12 +12,13 @@ use Rattle.vx_plan.specs.First.{first_configuration, first_plan}
 use Rattle.vx_plan.specs.declared.component.Component.{Component}
 use Rattle.vx_plan.specs.declared.settings.Settings.{Settings}
 use Rattle.vx_plan.specs.declared.settings.Settings.TheVariants.{DemoLogs, Blackhole}
+use Rattle.vx_plan.specs.declared.sink_settings.SinkSettings.{SinkSettings}
 use Rattle.vx_plan.specs.declared.when_full.WhenFull.TheVariants.{Block, Overflow}
 use Rattle.vx_reading.specs.Findings.{findings, found, whole, precedes}
 use Rattle.vx_reading.specs.declared.finding.Finding.{Finding}
 use Rattle.vx_reading.specs.declared.trouble.Trouble.{Trouble}
 use Rattle.vx_reading.specs.declared.trouble.Trouble.TheVariants.{UnknownKind, UnknownOption, MissingOption, BadValue, TooMany}
-use Rattle.vx_reading.specs.Plans.{sink_defaults, plan_of}
+use Rattle.vx_reading.specs.Plans.{plan_of}
 
 -- the document of the first configuration
 abbrev pub first_members : Members
@@ -233,7 +234,7 @@ settings_by c = c.settings
 -- what it makes them of, where it says no more, and where it does
 little_is_said : (findings (generating two_texts demo_logs) ≡ [])
     × (map settings_by (plan_of (generating two_texts demo_logs)).components
-    ≡ DemoLogs (record { lines = codes "a" ∷ codes "b c" ∷ []; sequence = false; count = 9223372036854775807; seed = 0 }) 0 ∷ [])
+    ≡ DemoLogs (record { lines = codes "a" ∷ codes "b c" ∷ []; sequence = false; count = 9223372036854775807; seed = 0 }) 1 ∷ [])
 little_is_said = (refl, refl)
 
 abbrev more_said : Members
@@ -241,7 +242,7 @@ more_said = member (codes "seed") (integer (pos 7)) (member (codes "sequence") (
 
 more_is_said : (findings (generating two_texts more_said) ≡ [])
     × (map settings_by (plan_of (generating two_texts more_said)).components
-    ≡ DemoLogs (record { lines = codes "a" ∷ codes "b c" ∷ []; sequence = true; count = 9223372036854775807; seed = 7 }) 0 ∷ [])
+    ≡ DemoLogs (record { lines = codes "a" ∷ codes "b c" ∷ []; sequence = true; count = 9223372036854775807; seed = 7 }) 1 ∷ [])
 more_is_said = (refl, refl)
 
 -- a fault at the source
@@ -262,17 +263,29 @@ half_texts = refl
 one_text : findings (generating (string (codes "a")) demo_logs) ≡ source_fault (codes "lines") BadValue ∷ []
 one_text = refl
 
--- a source that makes its lines has to say of what, and rests for no second
+-- a source that makes its lines has to say of what, and rests for a day at the most
 of_nothing : findings (one_option (codes "sources") (one_option (codes "in") (table demo_logs)))
     ≡ source_fault (codes "format") MissingOption ∷ source_fault (codes "lines") MissingOption ∷ []
 of_nothing = refl
 
-resting : findings (generating two_texts (member (codes "interval") (integer (pos 1)) demo_logs)) ≡ source_fault (codes "interval") BadValue ∷ []
+resting : findings (generating two_texts (member (codes "interval") (integer (pos 86401)) demo_logs)) ≡ source_fault (codes "interval") BadValue ∷ []
 resting = refl
 
 -- it reads no component
 reading : findings (generating two_texts (member (codes "inputs") (array no_items) demo_logs)) ≡ source_fault (codes "inputs") UnknownOption ∷ []
 reading = refl
+
+-- what a sink has that says nothing of it
+abbrev sink_defaults : SinkSettings
+sink_defaults = record {
+  acknowledgements = false;
+  buffer = record { max_events = 500; when_full = Block } ∷ [];
+  batch_max_events = 1;
+  batch_timeout_secs = 1;
+  request_retry_attempts = 9223372036854775807;
+  request_retry_initial_backoff_secs = 1;
+  request_retry_max_duration_secs = 30;
+}
 
 -- a document whose one sink writes nothing
 abbrev swallowing : Data → Data

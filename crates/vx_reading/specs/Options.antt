@@ -172,13 +172,13 @@ most_whole = 2 ^ 63 - 1
 abbrev pub count_row : Row
 count_row = record { place = Alone (codes "count"); shape = Whole 0 most_whole; required = false }
 
--- how many seconds may lie between two lines: none, for now
-abbrev pub most_interval : ℕ
-most_interval = 0
+-- how many seconds an option may say: a day
+abbrev pub most_seconds : ℕ
+most_seconds = 86400
 
 -- how many seconds lie between two lines
 abbrev pub interval_row : Row
-interval_row = record { place = Alone (codes "interval"); shape = Whole 0 most_interval; required = false }
+interval_row = record { place = Alone (codes "interval"); shape = Whole 0 most_seconds; required = false }
 
 -- by what the texts are chosen
 abbrev pub seed_row : Row
@@ -192,14 +192,38 @@ most_print_interval = 2 ^ 53
 abbrev pub print_interval_row : Row
 print_interval_row = record { place = Alone (codes "print_interval_secs"); shape = Whole 0 most_print_interval; required = false }
 
+-- how many parcels a batch of a sink may have
+abbrev pub most_batch : ℕ
+most_batch = 10000
+
+-- with how many parcels a batch of a sink is closed
+abbrev pub batch_events_row : Row
+batch_events_row = record { place = Within (codes "batch") (codes "max_events"); shape = Whole 1 most_batch; required = false }
+
+-- how many seconds behind its first parcel it is closed
+abbrev pub batch_timeout_row : Row
+batch_timeout_row = record { place = Within (codes "batch") (codes "timeout_secs"); shape = Whole 1 most_seconds; required = false }
+
+-- how often a sink makes a failed attempt again
+abbrev pub retries_row : Row
+retries_row = record { place = Within (codes "request") (codes "retry_attempts"); shape = Whole 0 most_whole; required = false }
+
+-- how many seconds it waits the first time
+abbrev pub first_wait_row : Row
+first_wait_row = record { place = Within (codes "request") (codes "retry_initial_backoff_secs"); shape = Whole 1 most_seconds; required = false }
+
+-- and how many at the most
+abbrev pub longest_wait_row : Row
+longest_wait_row = record { place = Within (codes "request") (codes "retry_max_duration_secs"); shape = Whole 1 most_seconds; required = false }
+
 -- the options of each type
 abbrev pub rows_of : Kind → List Row
 rows_of Stdin = type_row ∷ length_row ∷ decoding_row ∷ []
 rows_of DemoLogs = type_row ∷ format_row ∷ lines_row ∷ sequence_row ∷ count_row ∷ interval_row ∷ seed_row ∷ []
 rows_of Filter = type_row ∷ inputs_row ∷ condition_row ∷ []
 rows_of Route = type_row ∷ inputs_row ∷ route_row ∷ reroute_row ∷ []
-rows_of Console = type_row ∷ inputs_row ∷ target_row ∷ codec_row ∷ acknowledgements_row ∷ buffer_row ∷ []
-rows_of Blackhole = type_row ∷ inputs_row ∷ print_interval_row ∷ acknowledgements_row ∷ buffer_row ∷ []
+rows_of Console = type_row ∷ inputs_row ∷ target_row ∷ codec_row ∷ acknowledgements_row ∷ buffer_row ∷ batch_events_row ∷ batch_timeout_row ∷ retries_row ∷ first_wait_row ∷ longest_wait_row ∷ []
+rows_of Blackhole = type_row ∷ inputs_row ∷ print_interval_row ∷ acknowledgements_row ∷ buffer_row ∷ batch_events_row ∷ batch_timeout_row ∷ retries_row ∷ first_wait_row ∷ longest_wait_row ∷ []
 
 -- the types, each with the table in which it stands and its name
 abbrev pub kinds : List Kind

@@ -1,5 +1,5 @@
 -- The plan of a document without faults.
-use Rattle.std.specs.Prelude.{ℕ, Bool, Option, Some, None, option_and_then, unwrap_or, List, [], ◌∷◌, map, codes, if◌then◌else◌, true, false, ◌^◌, ◌-◌}
+use Rattle.std.specs.Prelude.{ℕ, Bool, Option, Some, None, option_and_then, unwrap_or, List, [], ◌∷◌, map, codes, if◌then◌else◌, true, false}
 use Rattle.std.specs.List.{flat_map}
 use Rattle.vx_value.specs.Texts.{Word, same_text}
 use Rattle.toml.specs.Data.{Data, Items, get, as_str, as_array, as_bool}
@@ -22,8 +22,8 @@ use Rattle.vx_reading.specs.declared.kind.Kind.{Kind}
 use Rattle.vx_reading.specs.declared.kind.Kind.TheVariants.{Stdin, DemoLogs, Filter, Route, Console, Blackhole}
 use Rattle.vx_reading.specs.Components.{Part, parts, kind_of}
 use Rattle.vx_reading.specs.Judging.{Pair, pairs_in, items_in, whole_in}
-use Rattle.vx_reading.specs.Options.{most_length, most_whole, most_interval, most_print_interval}
-use Rattle.vx_reading.specs.Stages.{default_stage, buffer_of}
+use Rattle.vx_reading.specs.Options.{most_length, most_whole, most_print_interval, most_batch, most_seconds}
+use Rattle.vx_reading.specs.Stages.{buffer_of}
 
 -- a text, or another where it isn't given
 abbrev pub text_or : Word → Option Word → Word
@@ -133,26 +133,46 @@ demo_of value = record {
   seed = whole_at (codes "seed") most_whole 0 value;
 }
 
--- how many seconds lie between two lines of a source that makes them: none where it doesn't say
+-- how many seconds lie between two lines of a source that makes them: one where it doesn't say
 abbrev pub interval_of : Data → ℕ
-interval_of value = whole_at (codes "interval") most_interval 0 value
+interval_of value = whole_at (codes "interval") most_seconds 1 value
 
--- what every sink has that says nothing of it
-abbrev pub sink_defaults : SinkSettings
-sink_defaults = record {
-  acknowledgements = false;
-  buffer = default_stage ∷ [];
-  batch_max_events = 1;
-  batch_timeout_secs = 1;
-  request_retry_attempts = 2 ^ 63 - 1;
-  request_retry_initial_backoff_secs = 1;
-  request_retry_max_duration_secs = 30;
-}
+-- the whole number between two under a name of a table that stands under another name; where there is none, another
+abbrev pub whole_within : Word → Word → ℕ → ℕ → ℕ → Data → ℕ
+whole_within group name least most otherwise value =
+    unwrap_or (option_and_then (λ (inner : Data). option_and_then (whole_in least most) (get name inner)) (get group value)) otherwise
+
+-- with how many parcels a batch of a sink is closed: with one where it doesn't say
+abbrev pub batch_events_of : Data → ℕ
+batch_events_of value = whole_within (codes "batch") (codes "max_events") 1 most_batch 1 value
+
+-- how many seconds behind its first parcel it is closed: one where it doesn't say
+abbrev pub batch_timeout_of : Data → ℕ
+batch_timeout_of value = whole_within (codes "batch") (codes "timeout_secs") 1 most_seconds 1 value
+
+-- how often it makes a failed attempt again: as often as an option may say where it doesn't say
+abbrev pub retries_of : Data → ℕ
+retries_of value = whole_within (codes "request") (codes "retry_attempts") 0 most_whole most_whole value
+
+-- how many seconds it waits behind the first: one where it doesn't say
+abbrev pub first_wait_of : Data → ℕ
+first_wait_of value = whole_within (codes "request") (codes "retry_initial_backoff_secs") 1 most_seconds 1 value
+
+-- how many it waits at the most: 30 where it doesn't say
+abbrev pub longest_wait_of : Data → ℕ
+longest_wait_of value = whole_within (codes "request") (codes "retry_max_duration_secs") 1 most_seconds 30 value
 
 -- the options that every sink has: it acknowledges as the whole says where it doesn't say itself
 abbrev pub sink_of : Global → Data → SinkSettings
-sink_of global value =
-    record sink_defaults { acknowledgements = acknowledgements_of global.acknowledgements value; buffer = buffer_of value }
+sink_of global value = record {
+  acknowledgements = acknowledgements_of global.acknowledgements value;
+  buffer = buffer_of value;
+  batch_max_events = batch_events_of value;
+  batch_timeout_secs = batch_timeout_of value;
+  request_retry_attempts = retries_of value;
+  request_retry_initial_backoff_secs = first_wait_of value;
+  request_retry_max_duration_secs = longest_wait_of value;
+}
 
 -- the settings of a component of a type
 abbrev pub settings_of : Global → Data → Kind → Settings

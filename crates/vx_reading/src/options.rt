@@ -59,8 +59,8 @@ static STDIN_ROWS: [Row; 3] = [
 /// The largest whole number that a text can say: 2^63 - 1.
 pub(crate) const MOST_WHOLE: u64 = 0x7fff_ffff_ffff_ffff;
 
-/// How many seconds may lie between two lines of a source that makes them: none, for now.
-pub(crate) const MOST_INTERVAL: u64 = 0;
+/// How many seconds an option may say: a day.
+pub(crate) const MOST_SECONDS: u64 = 86_400;
 
 /// The options of a source that makes its lines of some texts.
 static DEMO_LOGS_ROWS: [Row; 7] = [
@@ -87,7 +87,7 @@ static DEMO_LOGS_ROWS: [Row; 7] = [
     },
     Row {
         place: Place::Alone("interval"),
-        shape: Shape::Whole(0, MOST_INTERVAL),
+        shape: Shape::Whole(0, MOST_SECONDS),
         required: false,
     },
     Row {
@@ -166,8 +166,46 @@ const BUFFER_ROW: Row = Row {
     required: false,
 };
 
+/// How many parcels a batch of a sink may have.
+pub(crate) const MOST_BATCH: u64 = 10_000;
+
+/// With how many parcels a batch is closed: an option of every sink.
+const BATCH_EVENTS_ROW: Row = Row {
+    place: Place::Within("batch", "max_events"),
+    shape: Shape::Whole(1, MOST_BATCH),
+    required: false,
+};
+
+/// How many seconds behind its first parcel a batch is closed: an option of every sink.
+const BATCH_TIMEOUT_ROW: Row = Row {
+    place: Place::Within("batch", "timeout_secs"),
+    shape: Shape::Whole(1, MOST_SECONDS),
+    required: false,
+};
+
+/// How often a failed attempt is made again: an option of every sink.
+const RETRIES_ROW: Row = Row {
+    place: Place::Within("request", "retry_attempts"),
+    shape: Shape::Whole(0, MOST_WHOLE),
+    required: false,
+};
+
+/// How many seconds a sink waits behind its first failed attempt: an option of every sink.
+const FIRST_WAIT_ROW: Row = Row {
+    place: Place::Within("request", "retry_initial_backoff_secs"),
+    shape: Shape::Whole(1, MOST_SECONDS),
+    required: false,
+};
+
+/// How many seconds it waits at the most: an option of every sink.
+const LONGEST_WAIT_ROW: Row = Row {
+    place: Place::Within("request", "retry_max_duration_secs"),
+    shape: Shape::Whole(1, MOST_SECONDS),
+    required: false,
+};
+
 /// The options of a sink that writes to standard output or standard error.
-static CONSOLE_ROWS: [Row; 6] = [
+static CONSOLE_ROWS: [Row; 11] = [
     TYPE_ROW,
     INPUTS_ROW,
     Row {
@@ -182,13 +220,18 @@ static CONSOLE_ROWS: [Row; 6] = [
     },
     ACKNOWLEDGEMENTS_ROW,
     BUFFER_ROW,
+    BATCH_EVENTS_ROW,
+    BATCH_TIMEOUT_ROW,
+    RETRIES_ROW,
+    FIRST_WAIT_ROW,
+    LONGEST_WAIT_ROW,
 ];
 
 /// How many seconds a sink that writes nothing may say: 2^53.
 pub(crate) const MOST_PRINT_INTERVAL: u64 = 0x20_0000_0000_0000;
 
 /// The options of a sink that writes nothing.
-static BLACKHOLE_ROWS: [Row; 5] = [
+static BLACKHOLE_ROWS: [Row; 10] = [
     TYPE_ROW,
     INPUTS_ROW,
     Row {
@@ -198,6 +241,11 @@ static BLACKHOLE_ROWS: [Row; 5] = [
     },
     ACKNOWLEDGEMENTS_ROW,
     BUFFER_ROW,
+    BATCH_EVENTS_ROW,
+    BATCH_TIMEOUT_ROW,
+    RETRIES_ROW,
+    FIRST_WAIT_ROW,
+    LONGEST_WAIT_ROW,
 ];
 
 /// The options of the whole configuration.

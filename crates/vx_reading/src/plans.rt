@@ -1,15 +1,15 @@
-ghost use Rattle.std.specs.Prelude.{◌≡◌, ◌++◌, ◌∷◌, [], IfOk, OnOk, map};
+ghost use Rattle.std.specs.Prelude.{◌≡◌, ◌≤◌, ◌++◌, ◌∷◌, [], IfOk, OnOk, map};
 ghost use Rattle.std.specs.Option.{option_map};
 ghost use Rattle.std.specs.List.{flat_map};
 ghost use Rattle.toml.specs.View.{view, items_view};
 ghost use Rattle.vx_reading.specs.Judging.{items_in, pairs_in as pairs_in_view};
 ghost use Rattle.vx_reading.specs.Components.{parts};
-ghost use Rattle.vx_reading.specs.Plans.{text_at, text_within, truth_at, truth_in, truth_either, acknowledgements_of, global_of, text_of, texts_at, inputs_of, inputs_for, target_named, length_of, decoding_named, codec_named, condition_of, condition_at, way_of, ways_of, is_rerouted, whole_at, is_numbered, demo_of, interval_of, sink_defaults, sink_of, settings_of, component, component_of, plan_of};
+ghost use Rattle.vx_reading.specs.Plans.{text_at, text_within, truth_at, truth_in, truth_either, acknowledgements_of, global_of, text_of, texts_at, inputs_of, inputs_for, target_named, length_of, decoding_named, codec_named, condition_of, condition_at, way_of, ways_of, is_rerouted, whole_at, is_numbered, demo_of, interval_of, whole_within, batch_events_of, batch_timeout_of, retries_of, first_wait_of, longest_wait_of, sink_of, settings_of, component, component_of, plan_of};
 ghost use Rattle.vx_reading.specs.Views.{pair_view, part_view, parts_view};
 
 use crate::judging::whole_in;
 use crate::kind::Kind;
-use crate::options::{MOST_INTERVAL, MOST_LENGTH, MOST_PRINT_INTERVAL, MOST_WHOLE};
+use crate::options::{MOST_BATCH, MOST_LENGTH, MOST_PRINT_INTERVAL, MOST_SECONDS, MOST_WHOLE};
 use crate::pair::{Pair, pairs_in};
 use crate::part::{Part, kind_of};
 use crate::stages::buffer_of;
@@ -18,7 +18,7 @@ use std::alloc::Global as Allocator;
 use toml::Value;
 use vx_plan::{
     Codec, Component, ComponentList, ConsoleTarget, Decoding, DemoSettings, Global, Plan, Route,
-    RouteList, Settings, SinkSettings, StageList,
+    RouteList, Settings, SinkSettings,
 };
 use vx_value::{Text, TextList, WantOfMemory};
 
@@ -303,32 +303,98 @@ fn demo_of(alloc: Allocator, table: &Value) -> Result<DemoSettings, WantOfMemory
     })
 }
 
-/// How many seconds lie between two lines of a source that makes them: none where it doesn't say.
+/// How many seconds lie between two lines of a source that makes them: one where it doesn't say.
 fn interval_of(table: &Value) -> u32
     ensures { result ≡ interval_of (view table.now) }
 {
     let Some(value) = table.get("interval") else {
-        return 0;
+        return 1;
     };
-    match whole_in(0, MOST_INTERVAL, value) {
+    match whole_in(0, MOST_SECONDS, value) {
         Some(seconds) => seconds as u32,
-        None => 0,
+        None => 1,
     }
 }
 
-/// What every sink has with that buffer, where it says nothing else.
-fn sink_with(buffer: StageList) -> SinkSettings
-    ensures { result ≡ record sink_defaults { buffer = buffer } }
+/// The whole number between two under a name of a table that stands under another name; where there is none, another.
+fn whole_within(
+    group: &str,
+    name: &str,
+    least: u64,
+    most: u64,
+    otherwise: u64,
+    table: &Value,
+) -> u64
+    requires { otherwise ≤ most }
+    ensures told { result ≡ whole_within group.now name.now least most otherwise (view table.now) }
+    ensures within { result ≤ most }
 {
-    SinkSettings {
-        acknowledgements: false,
-        buffer,
-        batch_max_events: 1,
-        batch_timeout_secs: 1,
-        request_retry_attempts: 0x7fff_ffff_ffff_ffff,
-        request_retry_initial_backoff_secs: 1,
-        request_retry_max_duration_secs: 30,
+    let Some(inner) = table.get(group) else {
+        return otherwise;
+    };
+    let Some(value) = inner.get(name) else {
+        return otherwise;
+    };
+    match whole_in(least, most, value) {
+        Some(number) => number,
+        None => otherwise,
     }
+}
+
+/// With how many parcels a batch of a sink is closed: with one where it doesn't say.
+fn batch_events_of(table: &Value) -> u32
+    ensures { result ≡ batch_events_of (view table.now) }
+{
+    whole_within("batch", "max_events", 1, MOST_BATCH, 1, table) as u32
+}
+
+/// How many seconds behind its first parcel a batch is closed: one where it doesn't say.
+fn batch_timeout_of(table: &Value) -> u32
+    ensures { result ≡ batch_timeout_of (view table.now) }
+{
+    whole_within("batch", "timeout_secs", 1, MOST_SECONDS, 1, table) as u32
+}
+
+/// How often a sink makes a failed attempt again: as often as an option may say where it doesn't say.
+fn retries_of(table: &Value) -> u64
+    ensures { result ≡ retries_of (view table.now) }
+{
+    whole_within(
+        "request",
+        "retry_attempts",
+        0,
+        MOST_WHOLE,
+        MOST_WHOLE,
+        table,
+    )
+}
+
+/// How many seconds it waits behind the first: one where it doesn't say.
+fn first_wait_of(table: &Value) -> u32
+    ensures { result ≡ first_wait_of (view table.now) }
+{
+    whole_within(
+        "request",
+        "retry_initial_backoff_secs",
+        1,
+        MOST_SECONDS,
+        1,
+        table,
+    ) as u32
+}
+
+/// How many it waits at the most: 30 where it doesn't say.
+fn longest_wait_of(table: &Value) -> u32
+    ensures { result ≡ longest_wait_of (view table.now) }
+{
+    whole_within(
+        "request",
+        "retry_max_duration_secs",
+        1,
+        MOST_SECONDS,
+        30,
+        table,
+    ) as u32
 }
 
 /// The options that every sink has: it acknowledges as the whole says where it doesn't say itself.
@@ -337,7 +403,12 @@ fn sink_of(alloc: Allocator, global: &Global, table: &Value) -> Result<SinkSetti
 {
     Ok(SinkSettings {
         acknowledgements: acknowledgements_of(global.acknowledgements, table),
-        ..sink_with(buffer_of(alloc, table)?)
+        buffer: buffer_of(alloc, table)?,
+        batch_max_events: batch_events_of(table),
+        batch_timeout_secs: batch_timeout_of(table),
+        request_retry_attempts: retries_of(table),
+        request_retry_initial_backoff_secs: first_wait_of(table),
+        request_retry_max_duration_secs: longest_wait_of(table),
     })
 }
 

@@ -14,7 +14,7 @@ use Rattle.vx_record.specs.Confirms.{is_confirm_due}
 use Rattle.vx_record.specs.Installs.{component_of, source_at, transform_at, sink_at, device_at, is_marked}
 use Rattle.vx_record.specs.Owing.{owes, all_noticed}
 use Rattle.vx_record.specs.Reads.{all_ended, is_lost}
-use Rattle.vx_record.specs.Ready.{reading_moment, is_heir, can_read}
+use Rattle.vx_record.specs.Ready.{reading_moment, is_heir, can_read, source_waits}
 use Rattle.vx_record.specs.Routing.{stopped, drains, is_out_from_before, is_dry, is_sent}
 use Rattle.vx_record.proofs.Ceasing.{unmarked}
 use Rattle.vx_record.proofs.Wired.{component_in_place}
@@ -139,22 +139,24 @@ module _ {P : Type 0} (told_by : P → Told) (books : Books P) (stands : Stands 
   heir_is = heir books.log books.run.plan i runs.component stands.legal stands.run.installed
       (sym (component_in_place books.log books.run.plan i stands.legal stands.run.installed) ∙ runs.there)
 
-  reads_at : (sent dry : Bool) → sent ≡ is_sent books.log i → dry ≡ is_dry books.log i → (now : ℕ) → (sent && not dry) ≡ can_read books.log i now
-  reads_at sent dry sent_is dry_is now =
-      ap (λ b. b && not dry) sent_is ∙ ap (λ b. is_sent books.log i && not b) dry_is
-      ∙ sym (and_true (is_sent books.log i && not (is_dry books.log i)) (nat_le (reading_moment books.log i) now) (grind (arith, nat_tests)))
+  -- a source can be read once it has rested
+  pub reads_at : (more : Bool) (now : ℕ) → more ≡ (is_sent books.log i && not (is_dry books.log i)) → (more && nat_le seat.facts.reads_from now) ≡ can_read books.log i now
+  reads_at more now more_is =
+      ap (λ b. b && nat_le seat.facts.reads_from now) more_is
+      ∙ ap (λ m. is_sent books.log i && not (is_dry books.log i) && nat_le m now) known.facts.reads_from
       ∙ sym (and_true (is_sent books.log i && not (is_dry books.log i) && nat_le (reading_moment books.log i) now) (is_heir books.log i) heir_is)
+
+  -- and waits until then
+  pub waits_at : (more : Bool) → more ≡ (is_sent books.log i && not (is_dry books.log i)) → (if more then Some seat.facts.reads_from else None) ≡ source_waits books.log i
+  waits_at more more_is =
+      ap (λ (b : Bool). if b then Some seat.facts.reads_from else None) (more_is ∙ sym (and_true (is_sent books.log i && not (is_dry books.log i)) (is_heir books.log i) heir_is))
+      ∙ ap (λ (m : ℕ). if is_sent books.log i && not (is_dry books.log i) && is_heir books.log i then Some m else None) known.facts.reads_from
 
 -- the seat of an instance that is there
 pub seat_there : {P : Type 0} (seats : List (Seat P)) (i : ℕ) → i < length seats → (seat : Seat P) × (slice_get seats i ≡ Some seat)
 seat_there [] i below = absurd (omega (arith, below))
 seat_there (seat ∷ seats) zero below = (seat, refl)
 seat_there (seat ∷ seats) (suc i) below = seat_there seats i (omega (arith, below))
-
-pub reads : {P : Type 0} (told_by : P → Told) (books : Books P) (stands : Stands told_by books) (i : ℕ) → i < length books.seats → (sent dry : Bool) → sent ≡ is_sent books.log i → dry ≡ is_dry books.log i → (now : ℕ) →
-    (sent && not dry) ≡ can_read books.log i now
-reads told_by books stands i within sent dry sent_is dry_is now =
-    let there = seat_there books.seats i within in reads_at told_by books stands i there.0 there.1 sent dry sent_is dry_is now
 
 -- whether everything is sent
 pub sent_same : {P : Type 0} (told_by : P → Told) (books : Books P) (i : ℕ) (sent : Bool) → Stands told_by books → (sent ≡ true) ↔ HasSent books.places i → sent ≡ is_sent books.log i

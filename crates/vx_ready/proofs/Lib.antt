@@ -5,7 +5,7 @@ pub mod Counting
 pub mod Surveys
 pub mod Naming
 pub mod Done
-pub mod Untried
+pub mod Failing
 pub mod Closed
 pub mod Emptied
 pub mod Working

@@ -1,18 +1,20 @@
 -- An instance that has something to do has work in the record, and one that hasn't has none.
-use Rattle.std.proofs.Common.{◌≡◌, ◌∙◌, ℕ, ◌<◌, Bool, true, false, ◌&&◌, ◌||◌, List, [], length, Option, Some, None, IfSome, IfNone, IsSomeAnd, inl, inr, refl, sym, ap, subst}
-use Rattle.std.specs.Prelude.{not, nat_le, slice_get}
-use Rattle.std.proofs.lemmas.Bool.{and_from as both, or_left as first_on, or_right as second_on}
+use Rattle.std.proofs.Common.{◌≡◌, ◌∙◌, ℕ, ◌<◌, ◌≤◌, Bool, true, false, ◌&&◌, ◌||◌, List, [], length, Option, Some, None, IfSome, IfNone, IsSomeAnd, inl, inr, refl, sym, ap, subst, arith}
+use Rattle.std.specs.Prelude.{not, nat_le, slice_get, if◌then◌else◌}
+use Rattle.std.proofs.lemmas.Bool.{and_from as both, and_right as second_off, or_left as first_on, or_right as second_on}
+use Rattle.std.proofs.lemmas.Bool.Decides.{nat_tests}
 use Rattle.vx_ends.specs.Told.{Told}
 use Rattle.vx_value.specs.Texts.{is_empty}
 use Rattle.vx_plan.specs.declared.class.Class.{Class}
 use Rattle.vx_plan.specs.declared.class.Class.TheVariants.{Source, Transform, Sink}
 use Rattle.vx_plan.specs.declared.component.Component.{Component}
+use Rattle.vx_plan.specs.Components.{is_source, is_sink}
 use Rattle.vx_record.specs.Records.{Record}
 use Rattle.vx_record.specs.Confirms.{is_confirm_due}
-use Rattle.vx_record.specs.Installs.{source_at, transform_at, sink_at, device_at, is_closed}
+use Rattle.vx_record.specs.Installs.{component_of, source_at, transform_at, sink_at, device_at, is_closed}
 use Rattle.vx_record.specs.Lists.{buffered, held}
-use Rattle.vx_record.specs.Owing.{is_done}
-use Rattle.vx_record.specs.Ready.{can_read, is_close_due, is_source_ready, is_attempt_due, can_take, is_sink_ready, is_flush_due, is_transform_ready, is_ready}
+use Rattle.vx_record.specs.Owing.{is_done, is_source_done, is_worker_done}
+use Rattle.vx_record.specs.Ready.{can_read, is_close_due, is_source_ready, is_attempt_due, can_take, is_sink_ready, is_flush_due, is_transform_ready, is_ready, source_waits, sink_waits, waits_until}
 use Rattle.vx_record.specs.Routing.{is_sent, is_ending}
 use Rattle.vx_record.specs.SinkBatches.{is_batch_closed, retry_from}
 use Rattle.vx_record.proofs.Ceasing.{unabandoned}
@@ -24,7 +26,7 @@ use Rattle.vx_moves.specs.Leasing.{IsFitAt}
 use Rattle.vx_moves.specs.Stands.{Stands}
 use Rattle.vx_ready.specs.Asking.{source_class, transform_class, sink_class, IsSettled, IsUsable, IsOpen}
 use Rattle.vx_ready.specs.Jobs.{IsLeasable, IsSourceJob, IsTransformJob, IsSinkJob, IsJob}
-use Rattle.vx_ready.proofs.Closed.{waits_not, closed_filled}
+use Rattle.vx_ready.proofs.Closed.{closed_filled, not_empty}
 use Rattle.vx_ready.proofs.Emptied.{holds_none}
 use Rattle.vx_ready.proofs.Knowing.{Runs, known, runs, source_is, transform_is, sink_is, home, going, at_home, owes_none, seat_there}
 
@@ -173,9 +175,71 @@ idle_there told_by books stands i within settled transform empty =
     let bare : held h i ≡ [] = holds_none h i stands.legal (unabandoned h (going told_by books stands i there.0 there.1 settled)) transform (stands.run.judging i transform) (owes_none told_by books stands i there.0 there.1 settled) in
     nothing_due (is_sent h i) (is_ending h i) (is_empty (buffered h i)) (is_empty (held h i)) empty (ap (λ (qs : List (List ℕ)). is_empty qs) bare)
 
--- a batch that is closed may be attempted
-pub attempts_there : {P : Type 0} (told_by : P → Told) (books : Books P) (stands : Stands told_by books) (i : ℕ) → i < length books.seats → IsSettled books i → (now : ℕ) → is_batch_closed books.log i now ≡ true → is_attempt_due books.log i now ≡ true
-attempts_there told_by books stands i within settled now closed =
-    let there = seat_there books.seats i within in
-    both (is_batch_closed books.log i now) (nat_le (retry_from books.log i) now) closed
-    (waits_not told_by books stands i there.0 there.1 (owes_none told_by books stands i there.0 there.1 settled) (going told_by books stands i there.0 there.1 settled) now (closed_filled books.log i now closed))
+-- a moment that has come, and one that hasn't
+soon : (moment from now : ℕ) → moment ≡ from → moment ≤ now → nat_le from now ≡ true
+soon moment from now is come = grind (arith, nat_tests)
+
+late : (moment from now : ℕ) → moment ≡ from → now < moment → nat_le from now ≡ false
+late moment from now is waits = grind (arith, nat_tests)
+
+-- a batch that is closed may be attempted once it has waited
+pub attempts_there : (h : Record) (i now moment : ℕ) → is_batch_closed h i now ≡ true → moment ≡ retry_from h i → moment ≤ now → is_attempt_due h i now ≡ true
+attempts_there h i now moment closed is waited = both (is_batch_closed h i now) (nat_le (retry_from h i) now) closed (soon moment (retry_from h i) now is waited)
+
+-- until then a sink has nothing to do: it takes no more, and isn't done, since it holds something
+unready : (closed waited more close : Bool) → closed ≡ true → waited ≡ false → close ≡ false → ((closed && waited) || (not closed && more) || close) ≡ false
+unready true true more close is off shut = cc
+unready true false more close is off shut = shut
+unready false waited more close is off shut = cc
+
+unsourced : (h : Record) (i : ℕ) → sink_at h i ≡ true → source_at h i ≡ false
+unsourced h i sink = go (component_of h i) sink
+  where
+    by : (class : Class) → (elim class [ Source ↦ false | Transform ↦ false | Sink ↦ true ]) ≡ true → (elim class [ Source ↦ true | Transform ↦ false | Sink ↦ false ]) ≡ false
+    by Source is = cc
+    by Transform is = refl
+    by Sink is = refl
+
+    go : (o : Option Component) → (elim o as (λ _. Bool) [ None ↦ false | Some c ↦ is_sink c ]) ≡ true → (elim o as (λ _. Bool) [ None ↦ false | Some c ↦ is_source c ]) ≡ false
+    go None is = refl
+    go (Some c) is = by c.class is
+
+undone : (h : Record) (i : ℕ) → sink_at h i ≡ true → 0 < length (held h i) → is_close_due h i ≡ false
+undone h i sink some =
+    let worker : is_done h i ≡ is_worker_done h i = ap (λ b. if b then is_source_done h i else is_worker_done h i) (unsourced h i sink) in
+    let full : is_worker_done h i ≡ false = second_off (is_ending h i && is_empty (buffered h i) && is_sent h i) (is_empty (held h i)) (not_empty (held h i) some) in
+    second_off (device_at h i && not (is_closed h i)) (is_done h i) (worker ∙ full)
+
+pub waiting_there : (h : Record) (i now moment : ℕ) → sink_at h i ≡ true → is_batch_closed h i now ≡ true → moment ≡ retry_from h i → now < moment → is_sink_ready h i now ≡ false
+waiting_there h i now moment sink closed is waits =
+    unready (is_batch_closed h i now) (nat_le (retry_from h i) now) (not (is_empty (buffered h i))) (is_close_due h i) closed (late moment (retry_from h i) now is waits)
+    (undone h i sink (closed_filled h i now closed))
+
+-- WAITS
+-- what is said of a moment, if there is one, by what is said of all
+pub some_then : {A F : Type 0} (o : Option A) → F → IfSome o (λ x. F)
+some_then None said = tt
+some_then (Some x) said = said
+
+-- an instance waits as its class does
+abbrev until_by : Record → ℕ → Option Component → Option ℕ
+until_by h i o = elim o [ None ↦ None | Some c ↦ elim c.class [ Source ↦ source_waits h i | Transform ↦ None | Sink ↦ sink_waits h i ] ]
+
+abbrev class_waits : Record → ℕ → Class → Option ℕ
+class_waits h i class = elim class [ Source ↦ source_waits h i | Transform ↦ None | Sink ↦ sink_waits h i ]
+
+until_is : (h : Record) (i : ℕ) (class : Class) → Runs h i class → class_waits h i class ≡ waits_until h i
+until_is h i class runs = ap (class_waits h i) runs.class_is ∙ sym (ap (until_by h i) runs.there)
+
+module _ {P : Type 0} (told_by : P → Told) (books : Books P) (stands : Stands told_by books) (i : ℕ) (seat : Seat P) (there : slice_get books.seats i ≡ Some seat) where
+  class_until : (class : Class) → seat.class ≡ class → class_waits books.log i class ≡ waits_until books.log i
+  class_until class is = until_is books.log i class (subst (Runs books.log i) is (runs told_by books stands i seat there))
+
+  pub source_until : seat.class ≡ Source → source_waits books.log i ≡ waits_until books.log i
+  source_until is = class_until Source is
+
+  pub transform_until : seat.class ≡ Transform → None ≡ waits_until books.log i
+  transform_until is = class_until Transform is
+
+  pub sink_until : seat.class ≡ Sink → sink_waits books.log i ≡ waits_until books.log i
+  sink_until is = class_until Sink is

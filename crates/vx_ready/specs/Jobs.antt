@@ -1,5 +1,6 @@
 -- What an instance has to do, as the record has it.
-use Rattle.std.specs.Prelude.{◌≡◌, ◌⊎◌, ℕ, ◌+◌, ◌≤◌, Bool, true, false, ◌||◌, Option, Some, None, nat_le}
+use Rattle.std.specs.Prelude.{◌≡◌, ◌⊎◌, ℕ, ◌+◌, ◌*◌, ◌==◌, ◌≤◌, Bool, true, false, ◌||◌, Option, Some, None, if◌then◌else◌, nat_le, nat_lt}
+use Rattle.vx_json.specs.Waits.{wait_after}
 use Rattle.vx_record.specs.Records.{Record, capped}
 use Rattle.vx_record.specs.Abandoning.{abandoned}
 use Rattle.vx_record.specs.Confirms.{is_confirm_due}
@@ -13,6 +14,7 @@ use Rattle.vx_record.specs.Turns.{worker_now}
 use Rattle.vx_moves.specs.declared.books.Books.{Books}
 use Rattle.vx_moves.specs.Leasing.{IsFitAt}
 use Rattle.vx_seats.specs.declared.facts.Batching.{Batching}
+use Rattle.vx_sinkcore.specs.declared.schedule.Schedule.{Schedule}
 use Rattle.vx_tasks.specs.declared.work.Job.{Job}
 use Rattle.vx_tasks.specs.declared.work.Job.TheVariants.{Read, Confirm, Collect, Attempt, Judge, Close}
 
@@ -26,6 +28,30 @@ pub record IsLeasable {P : Type 0} (books : Books P) (i now : ℕ) : Type 0 wher
 abbrev pub is_full_or_old : Option Batching → ℕ → ℕ → ℕ → Bool
 is_full_or_old None since held now = false
 is_full_or_old (Some batching) since held now = nat_le batching.max_events held || nat_le (capped (since + batching.timeout)) now
+
+-- so many parcels are as many as a batch may have
+abbrev pub is_full : Option Batching → ℕ → Bool
+is_full None held = false
+is_full (Some batching) held = nat_le batching.max_events held
+
+-- the moment from which on the oldest of them has waited long enough
+abbrev pub times_out : Option Batching → ℕ → ℕ
+times_out None since = 0
+times_out (Some batching) since = capped (since + batching.timeout)
+
+-- an attempt failed before
+abbrev pub failed_before : ℕ → Bool
+failed_before failures = nat_lt 0 failures
+
+-- how a sink makes its attempts again
+abbrev pub schedule_in : Option Batching → Schedule
+schedule_in None = record { initial_secs = 0; max_secs = 0; attempts = 0 }
+schedule_in (Some batching) = batching.retries
+
+-- the moment from which on what failed so often, and last at a moment, may be attempted again
+abbrev pub retry_moment : Schedule → ℕ → ℕ → ℕ
+retry_moment schedule failures failed_at =
+    if failures == 0 then 0 else capped (failed_at + wait_after schedule.initial_secs schedule.max_secs failures * 1000)
 
 -- a source has this to do
 abbrev pub IsSourceJob : Record → ℕ → ℕ → Job → Type 0

@@ -1,12 +1,13 @@
 // What an instance has to do.
-ghost use Rattle.std.specs.Prelude.{◌≡◌, ◌<◌, ℕ, length, true, false, IfSome, IfNone, IsTrue};
+ghost use Rattle.std.specs.Prelude.{◌≡◌, ◌<◌, length, true, false, IfSome, IfNone, IsTrue};
 ghost use Rattle.vx_record.specs.Installs.{source_at, transform_at, sink_at};
 ghost use Rattle.vx_record.specs.Ready.{is_close_due as is_close_due_at, is_source_ready, is_sink_ready, is_transform_ready, is_ready};
+ghost use Rattle.vx_record.specs.SinkBatches.{is_batch_closed as is_batch_closed_at};
 ghost use Rattle.vx_moves.specs.Stands.{Stands};
 ghost use Rattle.vx_ready.specs.Asking.{IsServed, IsHome, IsSettled, IsUsable, IsOpen};
 ghost use Rattle.vx_ready.specs.Jobs.{IsLeasable, IsJob, IsSourceJob, IsTransformJob, IsSinkJob};
 
-use crate::batches::is_batch_closed;
+use crate::batches::{is_batch_closed, retry_from};
 use crate::finishing::{is_done, is_unbuffered};
 use crate::sources::{can_read, has_device, is_confirm_due, is_sent};
 use vx_ends::Port;
@@ -17,9 +18,10 @@ use vx_tasks::Job;
 
 /// What an instance has to do at a moment, in milliseconds: a source is read while it can be, and what is to be confirmed is
 /// confirmed first once it can't; a transform judges what is buffered, once all that it put out is on its way; a sink attempts its
-/// batch once that is closed, and takes more before. An instance with a port that has nothing more to do is closed. `None` where
-/// there is nothing to do, where the instance isn't at home, or may owe something for want of memory, where its port is closed for
-/// good or may have given what no entry tells, where it ended, and where the run was given up.
+/// batch once that is closed and has waited behind its last failed attempt, and takes more before it is closed. An instance with a
+/// port that has nothing more to do is closed. `None` where there is nothing to do, where the instance isn't at home, or may owe
+/// something for want of memory, where its port is closed for good or may have given what no entry tells, where it ended, and where
+/// the run was given up.
 pub fn first_job<P: Port>(books: &Books<P>, i: u32, now: u64) -> Option<Job>
     requires stands { Stands P.told books.now }
     requires within { i < length books.now.seats }
@@ -36,7 +38,7 @@ pub fn first_job<P: Port>(books: &Books<P>, i: u32, now: u64) -> Option<Job>
         return None;
     }
     match books.seats.get(i).class {
-        Class::Source => source_job(books, i),
+        Class::Source => source_job(books, i, now),
         Class::Transform => transform_job(books, i),
         Class::Sink => sink_job(books, i, now),
     }
@@ -76,18 +78,18 @@ fn is_usable<P>(seat: &Seat<P>) -> bool
     !seat.facts.closed && !seat.facts.retired && !seat.facts.starved
 }
 
-/// What a source has to do.
-fn source_job<P: Port>(books: &Books<P>, i: u32) -> Option<Job>
+/// What a source has to do at a moment.
+fn source_job<P: Port>(books: &Books<P>, i: u32, now: u64) -> Option<Job>
     requires stands { Stands P.told books.now }
     requires within { i < length books.now.seats }
     requires served { IsServed books.now }
     requires settled { IsSettled books.now i }
     requires open { IsOpen books.now i }
     requires source { source_at books.now.log i ≡ true }
-    ensures some { (now : ℕ) → IfSome result (λ job. IsSourceJob books.now.log i now job) }
-    ensures none { (now : ℕ) → IfNone result (is_source_ready books.now.log i now ≡ false) }
+    ensures some { IfSome result (λ job. IsSourceJob books.now.log i now job) }
+    ensures none { IfNone result (is_source_ready books.now.log i now ≡ false) }
 {
-    if can_read(books, i) {
+    if can_read(books, i, now) {
         return Some(Job::Read);
     }
     if is_confirm_due(books, i) {
@@ -129,13 +131,29 @@ fn sink_job<P: Port>(books: &Books<P>, i: u32, now: u64) -> Option<Job>
     ensures none { IfNone result (is_sink_ready books.now.log i now ≡ false) }
 {
     if is_batch_closed(books, i, now) {
-        return Some(Job::Attempt);
+        return attempt_job(books, i, now);
     }
     if !is_unbuffered(books, i) {
         return Some(Job::Collect);
     }
     if is_close_due(books, i) {
         return Some(Job::Close);
+    }
+    None
+}
+
+/// What a sink has to do at a moment, whose batch is closed: it attempts that, unless it has to wait.
+fn attempt_job<P: Port>(books: &Books<P>, i: u32, now: u64) -> Option<Job>
+    requires stands { Stands P.told books.now }
+    requires within { i < length books.now.seats }
+    requires settled { IsSettled books.now i }
+    requires sink { sink_at books.now.log i ≡ true }
+    requires closed { is_batch_closed_at books.now.log i now ≡ true }
+    ensures some { IfSome result (λ job. IsSinkJob books.now.log i now job) }
+    ensures none { IfNone result (is_sink_ready books.now.log i now ≡ false) }
+{
+    if retry_from(books, i) <= now {
+        return Some(Job::Attempt);
     }
     None
 }

@@ -6,8 +6,9 @@ mod ending;
 mod finishing;
 mod jobs;
 mod sources;
+mod waits;
 
-pub use batches::is_batch_closed;
+pub use batches::{is_batch_closed, retry_from};
 pub use ending::is_ending;
 pub use finishing::is_done;
 pub use jobs::{first_job, is_open, is_settled};
@@ -15,3 +16,4 @@ pub use sources::{
     all_noticed, can_read, has_device, is_confirm_due, is_dry, is_sent, is_sink, is_source,
     is_transform,
 };
+pub use waits::waits_until;

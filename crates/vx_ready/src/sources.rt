@@ -1,5 +1,5 @@
 // What is asked of an instance by itself.
-ghost use Rattle.std.specs.Prelude.{◌≡◌, ◌<◌, ◌&&◌, ◌||◌, ℕ, length};
+ghost use Rattle.std.specs.Prelude.{◌≡◌, ◌<◌, ◌&&◌, ◌||◌, not, length};
 ghost use Rattle.vx_record.specs.Installs.{source_at, transform_at, sink_at, device_at};
 ghost use Rattle.vx_record.specs.Confirms.{is_confirm_due as is_confirm_due_at};
 ghost use Rattle.vx_record.specs.Owing.{all_noticed as all_noticed_at};
@@ -115,11 +115,22 @@ pub fn all_noticed<P: Port>(books: &Books<P>, i: u32) -> bool
     books.seats.get(i).progress.unnoticed == 0
 }
 
-/// Whether an instance that is a source can be read, at any moment: it isn't dry, and all that it put out is on its way.
-pub fn can_read<P: Port>(books: &Books<P>, i: u32) -> bool
+/// Whether an instance that is a source can be read at a moment, in milliseconds: it isn't dry, all that it put out is on its way, and
+/// it has rested.
+pub fn can_read<P: Port>(books: &Books<P>, i: u32, now: u64) -> bool
     requires stands { Stands P.told books.now }
     requires within { i < length books.now.seats }
-    ensures { (now : ℕ) → result ≡ can_read_at books.now.log i now }
+    ensures { result ≡ can_read_at books.now.log i now }
+{
+    let rested = books.seats.get(i).facts.reads_from <= now;
+    both(gives_more(books, i), rested)
+}
+
+/// Whether an instance that is a source can be read once it has rested: it isn't dry, and all that it put out is on its way.
+pub(crate) fn gives_more<P: Port>(books: &Books<P>, i: u32) -> bool
+    requires stands { Stands P.told books.now }
+    requires within { i < length books.now.seats }
+    ensures { result ≡ (is_sent_at books.now.log i && not (is_dry_at books.now.log i)) }
 {
     both(is_sent(books, i), !is_dry(books, i))
 }
@@ -129,4 +140,11 @@ pub(crate) fn both(a: bool, b: bool) -> bool
     ensures { result ≡ (a && b) }
 {
     a && b
+}
+
+/// Whether one of two holds.
+pub(crate) fn either(a: bool, b: bool) -> bool
+    ensures { result ≡ (a || b) }
+{
+    a || b
 }

@@ -1,9 +1,8 @@
 -- What was attempted is held until it is spent.
-use Rattle.std.proofs.Common.{◌≡◌, ℕ, zero, suc, ◌+◌, ◌<◌, ◌≤◌, Bool, true, false, List, [], ◌∷◌, ◌++◌, Option, Some, None, refl, sym, ap, subst, ◌∙◌, arith, inl, inr}
+use Rattle.std.proofs.Common.{◌≡◌, ℕ, zero, suc, ◌+◌, ◌<◌, ◌≤◌, Bool, true, false, List, [], ◌∷◌, ◌++◌, refl, sym, ap, subst, ◌∙◌, arith, inl, inr}
 use Rattle.std.specs.Prelude.{if◌then◌else◌, nat_lt, ◌==◌, ◌&&◌}
 use Rattle.std.proofs.lemmas.Bool.Decides.{nat_tests}
 use Rattle.std.proofs.lemmas.Bool.{cases_lt}
-use Rattle.vx_plan.specs.declared.component.Component.{Component}
 use Rattle.vx_record.specs.Records.{Record}
 use Rattle.vx_record.specs.declared.output.Output.{Output}
 use Rattle.vx_record.specs.declared.entry.Entry.{Entry}
@@ -12,8 +11,8 @@ use Rattle.vx_record.specs.Copies.{count, contains, joined, spends, all_of, time
 use Rattle.vx_record.specs.Places.{kind, leaves, put_out, puts}
 use Rattle.vx_record.specs.Places.Place.{Held}
 use Rattle.vx_record.specs.Lists.{without, and_rest, shrunk, held}
-use Rattle.vx_record.specs.Installs.{component_of, sink_at}
-use Rattle.vx_record.specs.SinkBatches.{attempts_with, attempts_allowed, retries_made}
+use Rattle.vx_record.specs.Installs.{sink_at}
+use Rattle.vx_record.specs.SinkBatches.{attempts_with}
 use Rattle.vx_record.specs.Moving.{IsConserved}
 use Rattle.vx_record.specs.Legal.{IsLegal}
 use Rattle.vx_record.proofs.Counts.{count-append, count-without, unless}
@@ -21,14 +20,6 @@ use Rattle.vx_record.proofs.Changes.{parcels_after, put_at}
 use Rattle.vx_record.proofs.Hands.{not_there, stands_still}
 use Rattle.vx_record.proofs.Answerers.{sink_untransforming, unanswering}
 use Rattle.vx_record.proofs.OnePlace.{conserved as legal_conserved}
-
--- one attempt is allowed, until the driver rests
-pub attempts_one : (h : Record) (i : ℕ) → attempts_allowed h i ≡ 1
-attempts_one h i = ap (λ n. n + 1) (go (component_of h i))
-  where
-    go : (o : Option Component) → ◌≡◌ {A = ℕ} (elim o [ None ↦ 0 | Some c ↦ retries_made c ]) 0
-    go None = refl
-    go (Some c) = refl
 
 pub joined_and_rest : (d : ℕ) (cs : List ℕ) (rest : List (List ℕ)) → count d (joined (and_rest cs rest)) ≡ count d cs + count d (joined rest)
 joined_and_rest d [] rest = omega arith

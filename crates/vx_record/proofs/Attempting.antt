@@ -1,6 +1,7 @@
 -- What is attempted: some copies, of a batch that is due, by a codec.
-use Rattle.std.proofs.Common.{◌≡◌, ℕ, ◌+◌, ◌<◌, Bool, true, false, ◌||◌, List, [], ◌∷◌, length, Option, Some, None, refl, sym, ap, subst, arith, eq-eqb}
-use Rattle.std.specs.Prelude.{not, nat_lt, is_some, if◌then◌else◌}
+use Rattle.std.proofs.Common.{◌≡◌, ℕ, ◌+◌, ◌<◌, Bool, true, false, ◌||◌, List, [], ◌∷◌, length, Option, Some, None, refl, sym, subst, arith, eq-eqb, inl, inr}
+use Rattle.std.specs.Prelude.{◌⊎◌, not, is_some, if◌then◌else◌}
+use Rattle.std.proofs.lemmas.Bool.{ltb-true}
 use Rattle.vx_value.specs.Texts.{is_empty}
 use Rattle.vx_plan.specs.declared.class.Class.{Class}
 use Rattle.vx_plan.specs.declared.class.Class.TheVariants.{Source, Transform, Sink}
@@ -18,12 +19,12 @@ use Rattle.vx_record.specs.Parcels.{first_copy}
 use Rattle.vx_record.specs.Stages.{stages_of}
 use Rattle.vx_record.specs.Installs.{component_of}
 use Rattle.vx_record.specs.Turns.{lease_now}
-use Rattle.vx_record.specs.SinkBatches.{oldest_held, is_full_batch, is_timed_out, is_last_batch, was_attempted}
+use Rattle.vx_record.specs.SinkBatches.{attempts_with, failures_with, oldest_held, is_full_batch, is_timed_out, is_last_batch, was_attempted}
 use Rattle.vx_record.specs.Promises.{AttemptNames, AttemptDue, AttemptEncodes}
 use Rattle.vx_record.proofs.Changes.{NoneEmpty, none_empty}
-use Rattle.vx_record.proofs.Promises.{and_left, and_right}
+use Rattle.vx_record.proofs.Promises.{and_left, and_right, either}
 use Rattle.vx_record.proofs.Bare.{none_held}
-use Rattle.vx_record.proofs.Untried.{held_untried}
+use Rattle.vx_record.proofs.Untried.{held_failed}
 
 -- the copies of some parcels
 some_joined : (ps : List (List ℕ)) → not (is_empty ps) ≡ true → NoneEmpty ps → 0 < length (joined ps)
@@ -41,18 +42,21 @@ first_counts : (cs : List ℕ) → 0 < length cs → 0 < count (first_copy cs) c
 first_counts [] some = absurd (omega (arith, some))
 first_counts (c ∷ cs) some = subst (λ (b : Bool). 0 < (if b then 1 else 0) + count c cs) (sym (eq-eqb c c refl)) (omega arith)
 
-last_off : (a w : Bool) → w ≡ false → (a || w) ≡ true → a ≡ true
-last_off true w off on = refl
-last_off false true off on = cc
-last_off false false off on = on
-
 pub attempt_due : AttemptDue
 attempt_due h i copies bytes answer legal row =
-    let some : 0 < length (joined (held h i)) = subst (λ (cs : List ℕ). 0 < length cs) row.all (attempt_names h i copies bytes answer row) in
-    let untried = held_untried h i copies bytes answer (oldest_held h i) legal row (first_counts (joined (held h i)) some) in
-    let fresh : was_attempted h i ≡ false = ap (λ (n : ℕ). nat_lt 0 n) untried in
-    last_off (is_full_batch h i || is_timed_out h i (lease_now h i) || is_last_batch h i) (was_attempted h i) fresh
-    (and_right (not (is_empty (held h i))) (is_full_batch h i || is_timed_out h i (lease_now h i) || is_last_batch h i || was_attempted h i) row.batch_closed)
+    go (either (is_full_batch h i || is_timed_out h i (lease_now h i) || is_last_batch h i) (was_attempted h i)
+    (and_right (not (is_empty (held h i))) (is_full_batch h i || is_timed_out h i (lease_now h i) || is_last_batch h i || was_attempted h i) row.batch_closed))
+  where
+    some : 0 < length (joined (held h i))
+    some = subst (λ (cs : List ℕ). 0 < length cs) row.all (attempt_names h i copies bytes answer row)
+
+    go : ((is_full_batch h i || is_timed_out h i (lease_now h i) || is_last_batch h i) ≡ true) ⊎ (was_attempted h i ≡ true) →
+        ((is_full_batch h i || is_timed_out h i (lease_now h i) || is_last_batch h i) ≡ true) ⊎ (0 < failures_with h i (oldest_held h i))
+    go (inl closed) = inl closed
+    go (inr tried) =
+        let each = (held_failed h i copies bytes answer (oldest_held h i) legal row (first_counts (joined (held h i)) some)).0 in
+        let more = ltb-true 0 (attempts_with h i (oldest_held h i)) tried in
+        inr (omega (arith, each, more))
 
 -- a sink with a port that can hold something has a codec
 has_codec : (class : Class) (settings : Settings) → (elim class [ Source ↦ false | Transform ↦ false | Sink ↦ true ]) ≡ true → has_device settings ≡ true →

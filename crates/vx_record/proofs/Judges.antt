@@ -34,7 +34,7 @@ use Rattle.vx_record.proofs.Hands.{not_there}
 use Rattle.vx_record.proofs.Answers.{count-shrunk, answer_holds}
 use Rattle.vx_record.proofs.Answerers.{sink_untransforming}
 use Rattle.vx_record.proofs.Waits.{all_spent, discards_go}
-use Rattle.vx_record.proofs.Attempted.{attempts_one, attempts_sink}
+use Rattle.vx_record.proofs.Attempted.{attempts_sink}
 use Rattle.vx_record.proofs.Promises.{last_counts, failed_counts}
 use Rattle.vx_record.proofs.Untried.{spent_on}
 use Rattle.vx_record.proofs.Spenders.{stands_live}
@@ -196,10 +196,9 @@ spends_other : (h : Record) (i c : ℕ) (outcome : Outcome) → IsLegal h → ab
 spends_other h i c Delivered legal run at gone row = absurd (unattempted h i c legal at (last_counts h i c row.cause.had))
 spends_other h i c Refusal legal run at gone row = absurd (unattempted h i c legal at (last_counts h i c row.cause.had))
 spends_other h i c Attempts legal run at gone row =
-    let one = attempts_one h i in
     let many = row.cause in
     let more = failed_counts h i c in
-    absurd (unattempted h i c legal at (omega (arith, one, many, more)))
+    absurd (unattempted h i c legal at (omega (arith, many, more)))
 spends_other h i c Filtered legal run at gone row =
     let spent = gone c row.cause in
     let unspent = row.live.2 in

@@ -24,8 +24,9 @@ pub mod Ceasing
 pub mod Answerers
 pub mod Attempted
 pub mod FirstPort
-pub mod Untried
 pub mod Promises
+pub mod Alike
+pub mod Untried
 pub mod Turning
 pub mod Bare
 pub mod Attempting
@@ -45,6 +46,7 @@ pub mod Judges
 pub mod Mine
 pub mod OwnTurns
 pub mod OwnReads
+pub mod Resting
 pub mod OwnConfirms
 pub mod OwnAttempts
 pub mod OwnAnswers

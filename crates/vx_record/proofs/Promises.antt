@@ -32,7 +32,7 @@ use Rattle.vx_record.proofs.Counts.{count-append}
 use Rattle.vx_record.proofs.OnePlace.{conserved}
 use Rattle.vx_record.proofs.Answers.{answer_holds}
 use Rattle.vx_record.proofs.Answerers.{answerer}
-use Rattle.vx_record.proofs.Attempted.{attempts_one, attempted_held, held_stays, unreleased}
+use Rattle.vx_record.proofs.Attempted.{attempted_held, held_stays, unreleased}
 use Rattle.vx_record.proofs.Ceasing.{has_cause, more_on, unmarked}
 use Rattle.vx_record.proofs.FirstPort.{open_routes, first_readers, source_on_first}
 
@@ -52,7 +52,7 @@ pub and_right : (a b : Bool) → (a && b) ≡ true → b ≡ true
 and_right true b e = e
 and_right false b e = cc
 
-either : (a b : Bool) → (a || b) ≡ true → (a ≡ true) ⊎ (b ≡ true)
+pub either : (a b : Bool) → (a || b) ≡ true → (a ≡ true) ⊎ (b ≡ true)
 either true b e = inl refl
 either false b e = inr e
 
@@ -295,10 +295,9 @@ pub decided_held : DecidedHeld
 decided_held h i c Delivered legal is row = attempted_held h i c legal (last_counts h i c row.cause.had) row.live.2
 decided_held h i c Refusal legal is row = attempted_held h i c legal (last_counts h i c row.cause.had) row.live.2
 decided_held h i c Attempts legal is row =
-    let one = attempts_one h i in
     let many = row.cause in
     let more = failed_counts h i c in
-    attempted_held h i c legal (omega (arith, one, many, more)) row.live.2
+    attempted_held h i c legal (omega (arith, many, more)) row.live.2
 decided_held h i c NoConsumer legal is row = absurd is
 decided_held h i c Abandoned legal is row = absurd is
 decided_held h i c Filtered legal is row = discarded_held h i c legal row.cause row.live.2

@@ -1,5 +1,5 @@
 -- What every legal record says of its entries beside their rows. None of it is a rule: all follows from the rows.
-use Rattle.std.specs.Prelude.{◌≡◌, ℕ, ◌<◌, ◌||◌, true, false, List, Some, None, [], ◌∷◌, is_some, length, slice_get}
+use Rattle.std.specs.Prelude.{◌≡◌, ℕ, ◌<◌, ◌⊎◌, ◌||◌, true, false, List, Some, None, [], ◌∷◌, is_some, length, slice_get}
 use Rattle.vx_ends.specs.declared.trouble.Reply.{Reply}
 use Rattle.vx_ends.specs.declared.trouble.Reply.TheVariants as reply
 use Rattle.vx_status.specs.declared.outcome.Outcome.{Outcome}
@@ -22,7 +22,8 @@ use Rattle.vx_record.specs.Abandoning.{abandoned}
 use Rattle.vx_record.specs.Starting.{MayLease}
 use Rattle.vx_record.specs.Sourcing.{MayTurn}
 use Rattle.vx_record.specs.Sinking.{MayAttempt}
-use Rattle.vx_record.specs.SinkBatches.{attempts_with, is_full_batch, is_timed_out, is_last_batch}
+use Rattle.vx_record.specs.SinkBatches.{attempts_with, failures_with, attempts_allowed, oldest_held, is_full_batch, is_timed_out, is_last_batch}
+use Rattle.vx_record.specs.Owing.{decided}
 use Rattle.vx_record.specs.Parcels.{parcel_ports, port_list}
 use Rattle.vx_record.specs.Sending.{MaySplit}
 use Rattle.vx_record.specs.Spending.{oldest, MaySpend, WasAnswered}
@@ -46,9 +47,10 @@ ClosedTakesNoMore = (h : Record) (i : ℕ) → IsLegal h → MayClose h i → so
 abbrev pub LeasedRuns : Type 0
 LeasedRuns = (h : Record) (i worker now polls : ℕ) → MayLease h i worker now polls → is_some (component_of h i) ≡ true
 
--- and has spent each copy that it attempted
+-- and has spent each copy of which an attempt of it decided
 abbrev pub LeasedSpent : Type 0
-LeasedSpent = (h : Record) (i worker now polls c : ℕ) → MayLease h i worker now polls → 0 < attempts_with h i c → 0 < times_spent h c
+LeasedSpent =
+    (h : Record) (i worker now polls c : ℕ) → MayLease h i worker now polls → 0 < count c (joined (decided h i)) → 0 < times_spent h c
 
 -- the plan in force may be installed
 abbrev pub InForceAccepted : Type 0
@@ -96,9 +98,11 @@ IsDecided Abandoned = ⊥
 abbrev pub DecidedHeld : Type 0
 DecidedHeld = (h : Record) (i c : ℕ) (outcome : Outcome) → IsLegal h → IsDecided outcome → MaySpend h i c outcome → 0 < count c (joined (held h i))
 
--- what is attempted the instance never attempted before
-abbrev pub HeldUntried : Type 0
-HeldUntried = (h : Record) (i : ℕ) (copies bytes : List ℕ) (answer : Reply) (c : ℕ) → IsLegal h → MayAttempt h i copies bytes answer → 0 < count c (joined (held h i)) → attempts_with h i c ≡ 0
+-- of what is attempted each attempt before failed, and fewer failed than may
+abbrev pub HeldFailed : Type 0
+HeldFailed =
+    (h : Record) (i : ℕ) (copies bytes : List ℕ) (answer : Reply) (c : ℕ) → IsLegal h → MayAttempt h i copies bytes answer →
+    0 < count c (joined (held h i)) → (attempts_with h i c ≡ failures_with h i c) × (failures_with h i c < attempts_allowed h i)
 
 -- a copy for which attempts failed was in the last attempt of the instance, and that failed
 abbrev pub SpentFailed : Type 0
@@ -120,11 +124,11 @@ SourceSplits =
 abbrev pub AttemptNames : Type 0
 AttemptNames = (h : Record) (i : ℕ) (copies bytes : List ℕ) (answer : Reply) → MayAttempt h i copies bytes answer → 0 < length copies
 
--- what is attempted is full, or old enough at the moment of the lease, or the last
+-- what is attempted is full, or old enough at the moment of the lease, or the last, or it failed before
 abbrev pub AttemptDue : Type 0
 AttemptDue =
     (h : Record) (i : ℕ) (copies bytes : List ℕ) (answer : Reply) → IsLegal h → MayAttempt h i copies bytes answer →
-    (is_full_batch h i || is_timed_out h i (lease_now h i) || is_last_batch h i) ≡ true
+    ((is_full_batch h i || is_timed_out h i (lease_now h i) || is_last_batch h i) ≡ true) ⊎ (0 < failures_with h i (oldest_held h i))
 
 -- what makes an attempt by a port has a codec
 abbrev pub AttemptEncodes : Type 0

@@ -1,5 +1,5 @@
 -- Which instances may be leased.
-use Rattle.std.specs.Prelude.{ℕ, ◌+◌, ◌≡◌, ◌⊎◌, Bool, true, false, not, ◌&&◌, ◌||◌, [], ◌∷◌, ◌==◌, if◌then◌else◌, nat_lt, nat_le}
+use Rattle.std.specs.Prelude.{ℕ, ◌+◌, ◌≡◌, ◌⊎◌, Bool, true, false, not, ◌&&◌, ◌||◌, Option, Some, None, [], ◌∷◌, ◌==◌, if◌then◌else◌, nat_lt, nat_le}
 use Rattle.std.specs.List.{list_any}
 use Rattle.vx_value.specs.Texts.{is_empty, same_text}
 use Rattle.vx_plan.specs.declared.component.Component.{Component}
@@ -12,7 +12,7 @@ use Rattle.vx_record.specs.Installs.{told, device_at, name_of, started, is_close
 use Rattle.vx_record.specs.Lists.{buffered, held}
 use Rattle.vx_record.specs.Routing.{is_dry, is_sent, is_ending}
 use Rattle.vx_record.specs.Confirms.{is_confirm_due}
-use Rattle.vx_record.specs.SinkBatches.{is_batch_closed, retry_from}
+use Rattle.vx_record.specs.SinkBatches.{is_full_batch, times_out, is_last_batch, was_attempted, is_batch_closed, retry_from}
 use Rattle.vx_record.specs.Transforms.{IsTickDue}
 use Rattle.vx_record.specs.Owing.{is_done}
 
@@ -20,18 +20,15 @@ use Rattle.vx_record.specs.Owing.{is_done}
 abbrev pub interval_of : Record → ℕ → ℕ
 interval_of = told 0 (λ (c : Component). reading_interval c.settings)
 
--- how long a source rests: behind a Read its interval, behind an Idle 20 milliseconds, or a second where the port failed to start
-abbrev pub rests_until : Record → ℕ → ℕ
-rests_until [] i = 0
-rests_until (Read j stream took ∷ h) i =
-    let before = rests_until h i in if j == i then capped (lease_now h i + interval_of h i) else before
-rests_until (Idle j failed ∷ h) i =
-    let before = rests_until h i in if j == i then capped (lease_now h i + (if failed then 1000 else 20)) else before
-rests_until (e ∷ h) i = rests_until h i
-
--- the moment from which on a source may be read: while a run can't wait, any, and not `rests_until`
+-- the moment from which on a source may be read: it rests behind a Read for its interval, behind an Idle for 20 milliseconds, or for a
+-- second where the port failed to start
 abbrev pub reading_moment : Record → ℕ → ℕ
-reading_moment h i = 0
+reading_moment [] i = 0
+reading_moment (Read j stream took ∷ h) i =
+    let before = reading_moment h i in if j == i then capped (lease_now h i + interval_of h i) else before
+reading_moment (Idle j failed ∷ h) i =
+    let before = reading_moment h i in if j == i then capped (lease_now h i + (if failed then 1000 else 20)) else before
+reading_moment (e ∷ h) i = reading_moment h i
 
 -- whether an instance is an older one of the same name, with a port that isn't closed
 abbrev pub blocks : Record → ℕ → ℕ → Bool
@@ -79,6 +76,22 @@ is_ready h i now =
     told false
     (λ (c : Component). elim c.class [ Source ↦ is_source_ready h i now | Transform ↦ is_transform_ready h i | Sink ↦ is_sink_ready h i now ])
     h i
+
+-- the moment for which a source waits, where it may be read once it has rested
+abbrev pub source_waits : Record → ℕ → Option ℕ
+source_waits h i = if is_sent h i && not (is_dry h i) && is_heir h i then Some (reading_moment h i) else None
+
+-- the moment for which a sink waits that holds something: its next attempt, or the end of its batch
+abbrev pub sink_waits : Record → ℕ → Option ℕ
+sink_waits h i =
+    if is_empty (held h i)
+    then None
+    else Some (if is_full_batch h i || is_last_batch h i || was_attempted h i then retry_from h i else times_out h i)
+
+-- the moment for which an instance waits, if it waits for one
+abbrev pub waits_until : Record → ℕ → Option ℕ
+waits_until h i =
+    told None (λ (c : Component). elim c.class [ Source ↦ source_waits h i | Transform ↦ None | Sink ↦ sink_waits h i ]) h i
 
 -- a transform with nothing to send is to act by itself
 pub record IsTickReady (h : Record) (i now : ℕ) : Type 0 where

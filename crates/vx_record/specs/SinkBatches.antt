@@ -4,7 +4,7 @@ use Rattle.vx_value.specs.Texts.{is_empty}
 use Rattle.vx_ends.specs.declared.trouble.Reply.{Reply}
 use Rattle.vx_ends.specs.declared.trouble.Reply.TheVariants as reply
 use Rattle.vx_plan.specs.declared.component.Component.{Component}
-use Rattle.vx_plan.specs.Components.{batch_max_events, batch_timeout, retry_wait}
+use Rattle.vx_plan.specs.Components.{batch_max_events, batch_timeout, retry_attempts, retry_wait}
 use Rattle.vx_record.specs.declared.entry.Entry.TheVariants.{Take, Attempt}
 use Rattle.vx_record.specs.Records.{Record, capped}
 use Rattle.vx_record.specs.Copies.{contains, joined}
@@ -46,13 +46,9 @@ failed_at (Attempt j copies bytes reply ∷ h) i c =
     if (j == i) && contains copies c && is_failed reply then lease_now h i else failed_at h i c
 failed_at (e ∷ h) i c = failed_at h i c
 
--- how often a failed attempt is made again: while a run can't wait, never, whatever the option `retry_attempts` says
-abbrev pub retries_made : Component → ℕ
-retries_made c = 0
-
 -- how many Attempts a sink batch may have
 abbrev pub attempts_allowed : Record → ℕ → ℕ
-attempts_allowed h i = told 0 retries_made h i + 1
+attempts_allowed h i = told 0 (λ (c : Component). retry_attempts c.settings) h i + 1
 
 -- how long a sink waits after its k-th failed attempt
 abbrev pub wait_after : Record → ℕ → ℕ → ℕ
@@ -66,7 +62,11 @@ oldest_held h i = first_copy (joined (held h i))
 abbrev pub is_full_batch : Record → ℕ → Bool
 is_full_batch h i = told false (λ (c : Component). nat_le (batch_max_events c.settings) (length (held h i))) h i
 
--- whether its oldest parcel has waited long enough
+-- the moment from which on its oldest parcel has waited long enough
+abbrev pub times_out : Record → ℕ → ℕ
+times_out h i = told 0 (λ (c : Component). capped (taken_at h i (oldest_held h i) + batch_timeout c.settings)) h i
+
+-- whether it has by that moment
 abbrev pub is_timed_out : Record → ℕ → ℕ → Bool
 is_timed_out h i now =
     told false (λ (c : Component). nat_le (capped (taken_at h i (oldest_held h i) + batch_timeout c.settings)) now) h i

@@ -9,6 +9,7 @@ use Rattle.vx_record.specs.Lists.{outputs, waiting, contents, held}
 use Rattle.vx_record.specs.Reads.{taken, ended_streams}
 use Rattle.vx_record.specs.Encoding.{given}
 use Rattle.vx_record.specs.Confirms.{confirmed}
+use Rattle.vx_record.specs.Ready.{reading_moment}
 use Rattle.vx_record.specs.Legal.{IsLegal}
 use Rattle.vx_record.specs.Tasks.{is_of, mine, out_to}
 use Rattle.vx_record.specs.Additions.{OnlyAdds}
@@ -58,6 +59,10 @@ SparedStays = (old new : Record) (i : ℕ) → OnlyAdds (Spares i) old new → m
 -- and the record that stood there at its last Lease
 abbrev pub LeaseStays : Type 0
 LeaseStays = (old new : Record) (i : ℕ) → OnlyAdds (Spares i) old new → at_lease new i ≡ at_lease old i
+
+-- and the moment from which on a source may be read
+abbrev pub ReadingStays : Type 0
+ReadingStays = (old new : Record) (i : ℕ) → OnlyAdds (Spares i) old new → reading_moment new i ≡ reading_moment old i
 
 -- what waits in its buffer grows at its end alone, so what it would take first stays
 abbrev pub ContentsGrow : Type 0

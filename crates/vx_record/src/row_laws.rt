@@ -1,6 +1,6 @@
 //! What every legal record says of its entries beside their rows. A law's function does nothing: what it ensures is proved.
 
-ghost use Rattle.vx_record.specs.Promises.{TurnUnlost, TurnUndry, ClosedTakesNoMore, LeasedRuns, LeasedSpent, InForceAccepted, ComponentInPlace, RetiredBare, UnaskedToStop, SpentAbandoned, TransformsFilter, UnconsumedUnread, SourceUnread, DecidedHeld, HeldUntried, SpentFailed, SplitReaders, SourceSplits, AttemptNames, AttemptDue, AttemptEncodes};
+ghost use Rattle.vx_record.specs.Promises.{TurnUnlost, TurnUndry, ClosedTakesNoMore, LeasedRuns, LeasedSpent, InForceAccepted, ComponentInPlace, RetiredBare, UnaskedToStop, SpentAbandoned, TransformsFilter, UnconsumedUnread, SourceUnread, DecidedHeld, HeldFailed, SpentFailed, SplitReaders, SourceSplits, AttemptNames, AttemptDue, AttemptEncodes};
 
 /// A source wasn't lost and isn't dry where it takes its turn; one whose port is closed for good was told the end of all, or was
 /// lost, or the run was given up.
@@ -15,7 +15,7 @@ pub fn plan_laws()
     ensures accepted { InForceAccepted }
 {}
 
-/// What is leased runs a component, which is the one in its place, and has spent what it attempted.
+/// What is leased runs a component, which is the one in its place, and has spent each copy of which an attempt decided.
 pub fn lease_laws()
     ensures runs { LeasedRuns }
     ensures in_place { ComponentInPlace }
@@ -40,10 +40,10 @@ pub fn spend_laws()
     ensures source_readers { SourceSplits }
 {}
 
-/// What is attempted was never attempted before, is due, and has a codec where there is a port; what is spent as failed was
-/// in the last attempt, which failed.
+/// Of what is attempted each attempt before failed, and fewer than may; it is due, and has a codec where there is a port; what is
+/// spent as failed was in the last attempt, which failed.
 pub fn attempt_laws()
-    ensures untried { HeldUntried }
+    ensures held { HeldFailed }
     ensures failed { SpentFailed }
     ensures names { AttemptNames }
     ensures due { AttemptDue }

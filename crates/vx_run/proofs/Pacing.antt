@@ -157,6 +157,12 @@ module _ (Gave : ℕ → Type 0) where
   pub turned_on : (old drained moved new : Record) → OnlyAdds (IsTimely Gave) old drained → OnlyAdds IsTimeless drained moved → OnlyAdds (IsTimely Gave) moved new → OnlyAdds (IsTimely Gave) old new
   turned_on old drained moved new first next last = timely_both old drained new first (timely_both drained moved new (timely_on drained moved next) last)
 
+  -- and one that hands nothing out
+  pub retired_turn : (old drained moved leased new : Record) → OnlyAdds (IsTimely Gave) old drained → OnlyAdds IsTimeless drained moved → OnlyAdds (IsTimely Gave) moved leased →
+      OnlyAdds IsTimeless leased new → OnlyAdds (IsTimely Gave) old new
+  retired_turn old drained moved leased new first next more last =
+      turned_on old drained moved new first next (timely_both moved leased new more (timely_on leased new last))
+
   -- and a whole record
   pub all_timely : (old new : Record) → AreTimely Gave old → OnlyAdds (IsTimely Gave) old new → AreTimely Gave new
   all_timely old new first adds = carry (IsTimely Gave) (AreTimely Gave) (λ h e follows kind keep. (kind, keep)) old new adds first

@@ -39,8 +39,11 @@ pub(crate) fn drive<R: Wait, P: Port, C: Clock>(rt: &R, alloc: Global, hub: &mut
     }
 }
 
+/// How long, in milliseconds, a run rests at the most where nobody has work.
+const REST: u64 = 20;
+
 /// One turn: drains sinks, and then moves parcels on. Where there are none to move, it does an instance's work, or ends an instance where
-/// none has work.
+/// none has work. Where none may end either, it rests.
 ///
 /// A source is so read only where nothing waits that can move, since a read may wait for long.
 fn turn<P: Port, C: Clock>(alloc: Global, hub: &mut Hub<P>, clock: &C)
@@ -54,8 +57,24 @@ fn turn<P: Port, C: Clock>(alloc: Global, hub: &mut Hub<P>, clock: &C)
     if move_parcels(hub) {
         return;
     }
-    if !lease(alloc, hub, clock, clock.now()) {
-        retire(hub);
+    let now = clock.now();
+    if lease(alloc, hub, clock, now) {
+        return;
+    }
+    if retire(hub) {
+        return;
+    }
+    rest(hub, clock, now);
+}
+
+/// Waits until the soonest moment for which an instance waits, and not for long.
+fn rest<P: Port, C: Clock>(hub: &Hub<P>, clock: &C, now: u64)
+    requires { IsHub P.told hub.now }
+{
+    let longest = now.saturating_add(REST);
+    match hub.due() {
+        Some(due) => clock.rest(due.min(longest)),
+        None => clock.rest(longest),
     }
 }
 
@@ -123,14 +142,14 @@ fn lease<P: Port, C: Clock>(alloc: Global, hub: &mut Hub<P>, clock: &C, now: u64
     }
 }
 
-/// Ends an instance, if one may end.
-fn retire<P: Port>(hub: &mut Hub<P>)
+/// Ends an instance, if one may end. Tells whether one did.
+fn retire<P: Port>(hub: &mut Hub<P>) -> bool
     requires hub { IsHub P.told hub.old }
     ensures hub { IsHub P.told hub.new }
     ensures on { OnlyAdds IsTimeless hub.old.books.log hub.new.books.log }
     ensures latest { hub.new.books.run.latest ≡ hub.old.books.run.latest }
 {
-    let _ended = hub.retire();
+    hub.retire().is_some()
 }
 
 /// Does the work of a task that was handed out, and brings it home.

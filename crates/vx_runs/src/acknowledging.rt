@@ -1,7 +1,7 @@
 //! Runs whose batches wait until they are delivered, before they are confirmed.
 
 use crate::fixtures::Play;
-use crate::runs::{EMPTY, FIRST, Run, ran};
+use crate::runs::{EMPTY, Run, WITHOUT_RETRIES, ran};
 use std::alloc::Global;
 use std::process::Abort;
 use std::sync::Wait;
@@ -9,7 +9,7 @@ use std::test::Fail;
 use vx_ends::Act;
 use vx_record::Tally;
 
-/// The first configuration, with acknowledgements.
+/// A console that makes no failed attempt again, with acknowledgements.
 const ACKNOWLEDGED: &str = "[acknowledgements]
 enabled = true
 
@@ -20,6 +20,7 @@ type = \"stdin\"
 type = \"console\"
 inputs = [\"in\"]
 encoding.codec = \"text\"
+request.retry_attempts = 0
 ";
 
 /// A line whose batch waits.
@@ -73,6 +74,7 @@ const CASES: &[Case] = &[
     Case {
         run: Run {
             source: &[Act::Fail],
+            lasted: 1_000,
             ..LINE
         },
         ..DELIVERED
@@ -162,7 +164,7 @@ const CONFIRMS: &[Case] = &[
     },
     Case {
         run: Run {
-            text: FIRST,
+            text: WITHOUT_RETRIES,
             acts: &[Act::Fail],
             given: &["", ""],
             ..LINE

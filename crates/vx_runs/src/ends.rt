@@ -1,7 +1,7 @@
 //! Runs whose ends fail, refuse or take less than they are given.
 
 use crate::fixtures::Play;
-use crate::runs::{EMPTY, Run, notices, ran, runs};
+use crate::runs::{EMPTY, Run, WITHOUT_RETRIES, notices, ran, runs};
 use std::alloc::Global;
 use std::process::Abort;
 use std::sync::Wait;
@@ -33,8 +33,9 @@ const DELIVERED: (u64, u64, u64) = (1, 0, 0);
 /// The notices of a batch that had an error.
 const ERRORED: (u64, u64, u64) = (0, 1, 0);
 
-/// A source that doesn't start.
+/// A source that doesn't start, a second after each try.
 const NEVER_STARTED: Run = Run {
+    lasted: 4_000,
     source: &[Act::Fail, Act::Fail, Act::Fail, Act::Fail, Act::Fail],
     status: 69,
     printed: "vector: source in failed after 0 bytes\n",
@@ -49,6 +50,7 @@ fn five_failed_starts_lose_the_source(rt: HostRuntime) -> Result<(), Fail> {
 
 /// A source that starts at the fifth time.
 const STARTED_AT_LAST: Run = Run {
+    lasted: 4_000,
     source: &[Act::Fail, Act::Fail, Act::Fail, Act::Fail],
     ..LINE
 };
@@ -60,6 +62,7 @@ fn four_failed_starts_are_tried_again(rt: HostRuntime) -> Result<(), Fail> {
 
 /// A source that starts at the second time.
 const STARTED_SOON: Run = Run {
+    lasted: 1_000,
     source: &[Act::Fail],
     ..LINE
 };
@@ -84,6 +87,7 @@ fn a_failed_confirm_is_told(rt: HostRuntime) -> Result<(), Fail> {
 
 /// A sink that fails when it is given the line.
 const NOT_GIVEN: Run = Run {
+    text: WITHOUT_RETRIES,
     acts: &[Act::Pass, Act::Fail],
     given: &["", ""],
     ..LINE
@@ -96,6 +100,7 @@ fn a_failed_give_is_an_error_of_its_batch(rt: HostRuntime) -> Result<(), Fail> {
 
 /// A sink that fails when it is to finish.
 const NOT_FINISHED: Run = Run {
+    text: WITHOUT_RETRIES,
     acts: &[Act::Pass, Act::Pass, Act::Fail],
     ..LINE
 };

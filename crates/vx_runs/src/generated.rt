@@ -132,6 +132,7 @@ type = \"demo_logs\"
 format = \"shuffle\"
 seed = 7
 count = 4
+interval = 0
 sequence = true
 lines = [\"a\", \"b\", \"c\"]
 
@@ -157,5 +158,30 @@ encoding.codec = \"json\"
 fn numbered_lines_are_written(rt: HostRuntime) -> Result<(), Fail> {
     let ended = ran(&rt, rt.alloc(), &NUMBERED)?;
     assert!(rt; notices(&ended) == (1, 0, 0));
+    Ok(())
+}
+
+/// Two lines, a second apart. The source finds that there are no more when it is asked once again, a second later.
+const RESTING: Run = Run {
+    text: "[sources.in]
+type = \"demo_logs\"
+format = \"shuffle\"
+count = 2
+lines = [\"a\"]
+
+[sinks.out]
+type = \"console\"
+inputs = [\"in\"]
+encoding.codec = \"text\"
+",
+    lasted: 2_000,
+    given: &["", "a\na\n"],
+    ..EMPTY
+};
+
+#[test]
+fn generated_lines_rest(rt: HostRuntime) -> Result<(), Fail> {
+    let ended = ran(&rt, rt.alloc(), &RESTING)?;
+    assert!(rt; notices(&ended) == (2, 0, 0));
     Ok(())
 }

@@ -4,6 +4,8 @@
 #[cfg(test)]
 mod acknowledging;
 #[cfg(test)]
+mod batches;
+#[cfg(test)]
 mod buffers;
 #[cfg(test)]
 mod by_hand;
@@ -27,6 +29,8 @@ mod memory_ends;
 mod plans;
 #[cfg(test)]
 mod printers;
+#[cfg(test)]
+mod retries;
 #[cfg(test)]
 mod runs;
 #[cfg(test)]

@@ -6,7 +6,8 @@ use std::process::Abort;
 use std::sync::Wait;
 use std::test::Fail;
 use vx_ends::{
-    Act, ConfigList, MemoryClock, MemoryPrinter, MemoryWorld, Printer, ScriptedList, StepList,
+    Act, Clock, ConfigList, MemoryClock, MemoryPrinter, MemoryWorld, Printer, ScriptedList,
+    StepList,
 };
 use vx_run::{Ended, vector};
 use vx_value::WantOfMemory;
@@ -20,6 +21,20 @@ type = \"console\"
 inputs = [\"in\"]
 encoding.codec = \"text\"
 ";
+
+/// The same, of a console that makes no failed attempt again.
+pub(crate) const WITHOUT_RETRIES: &str = "[sources.in]
+type = \"stdin\"
+
+[sinks.out]
+type = \"console\"
+inputs = [\"in\"]
+encoding.codec = \"text\"
+request.retry_attempts = 0
+";
+
+/// How many milliseconds later than it must a run may end.
+const LATE: u64 = 100;
 
 /// A call of the program between ends in memory, and what must come of it.
 #[derive(Drop)]
@@ -40,6 +55,8 @@ pub(crate) struct Run {
     pub(crate) acts: &'static [Act],
     /// The print to standard output from which on each one fails, if any.
     pub(crate) mute_from: Option<u64>,
+    /// The moment that the clock, which begins with 0, has to show at the end at least, in milliseconds, and by which it may be late.
+    pub(crate) lasted: u64,
     /// The exit status.
     pub(crate) status: u8,
     /// What is printed to standard error.
@@ -60,6 +77,7 @@ pub(crate) const EMPTY: Run = Run {
     sink: "out",
     acts: &[],
     mute_from: None,
+    lasted: 0,
     status: 0,
     printed: "",
     shown: "",
@@ -89,7 +107,7 @@ fn world(alloc: Global, run: &Run, steps: StepList) -> Result<MemoryWorld, WantO
     Ok(MemoryWorld::new(alloc, configs, scripts))
 }
 
-/// Calls the program in the world of a run, whose `in` plays these steps, and checks the status and what is shown.
+/// Calls the program in the world of a run, whose `in` plays these steps, and checks the status, what is shown, and how long it lasted.
 pub(crate) fn called<R: Wait + Abort, P: Printer>(
     rt: &R,
     alloc: Global,
@@ -113,6 +131,8 @@ pub(crate) fn called<R: Wait + Abort, P: Printer>(
         err,
     );
     assert_eq!(rt; ended.status, run.status);
+    assert!(rt; clock.now() >= run.lasted);
+    assert!(rt; clock.now() <= run.lasted.saturating_add(LATE));
     assert!(rt; out.printed() == run.shown.as_bytes());
     Ok(ended)
 }

@@ -20,7 +20,7 @@ use Rattle.vx_seats.specs.Laws.{AsideKnown, GivenUpKnown, NoticedAll, ConfirmDue
 use Rattle.vx_seats.proofs.Telling.{InstallsNothing, IsMute}
 use Rattle.vx_seats.proofs.Owing.{OwesNoMore}
 use Rattle.vx_seats.proofs.Progressing.{Stands, due_is, undue_unported}
-use Rattle.vx_seats.proofs.Holding.{HasSince, IsCalm, since_calm, unheld_unfirst}
+use Rattle.vx_seats.proofs.Holding.{HasSince, HasTried, IsCalm, IsQuiet, since_calm, tried_quiet, unheld_unfirst}
 use Rattle.vx_seats.proofs.Knowing.{counts_on, device_fits, knows_aside, still_known}
 use Rattle.vx_seats.proofs.Steps.{leaves_own, spent_known}
 
@@ -37,19 +37,20 @@ none_unnoticed h (birth ∷ rest) = go (is_noticed h birth.batch) (none_unnotice
 module _ {P : Type 0} (told_by : P → Told) where
   -- an entry of which a seat has nothing leaves what is known of it
   calm_known : (seat : Seat P) (h : Record) (e : Entry) (i : ℕ) → InstallsNothing e → IsMute e → OwesNoMore e → Stands h i e → LeavesBe h i e →
-      is_out (e ∷ h) i ≡ is_out h i → IsCalm e →
-      (HasSince (e ∷ h) i seat.facts.since → HasFacts seat.facts (e ∷ h) i) → IsLegal (e ∷ h) → IsKnown told_by seat h i → IsKnown told_by seat (e ∷ h) i
-  calm_known seat h e i none mute less stands leaves out calm facts legal k =
-      still_known h e i none mute less stands out (facts (since_calm seat.facts.since h e i calm k.facts.since)) (counts_on h e i legal leaves k.counts)
+      is_out (e ∷ h) i ≡ is_out h i → IsQuiet e → IsCalm e →
+      (HasSince (e ∷ h) i seat.facts.since → HasTried (e ∷ h) i seat.facts.failures seat.facts.failed_at → HasFacts seat.facts (e ∷ h) i) → IsLegal (e ∷ h) → IsKnown told_by seat h i → IsKnown told_by seat (e ∷ h) i
+  calm_known seat h e i none mute less stands leaves out quiet calm facts legal k =
+      still_known h e i none mute less stands out
+      (facts (since_calm seat.facts.since h e i calm k.facts.since) (tried_quiet seat.facts.failures seat.facts.failed_at h e i quiet k.facts.tried)) (counts_on h e i legal leaves k.counts)
       (IfSome_then seat.task k.home (λ task home. home.shut)) k
 
   pub aside_known : AsideKnown told_by
   aside_known (Split i ports copies event children) h seats aside legal =
-      knows_aside (Split i ports copies event children) tt (λ j seat k. calm_known seat h (Split i ports copies event children) j tt tt tt tt tt refl tt (λ since. assumption k.facts) legal k)
+      knows_aside (Split i ports copies event children) tt (λ j seat k. calm_known seat h (Split i ports copies event children) j tt tt tt tt tt refl tt tt (λ since tried. assumption k.facts) legal k)
   aside_known (Push i t s copies) h seats aside legal =
-      knows_aside (Push i t s copies) tt (λ j seat k. calm_known seat h (Push i t s copies) j tt tt tt tt tt refl tt (λ since. assumption k.facts) legal k)
-  aside_known (Tick i now) h seats aside legal = knows_aside (Tick i now) tt (λ j seat k. calm_known seat h (Tick i now) j tt tt tt tt tt refl tt (λ since. assumption k.facts) legal k)
-  aside_known (Abandon cause) h seats aside legal = knows_aside (Abandon cause) tt (λ j seat k. calm_known seat h (Abandon cause) j tt tt tt tt tt refl tt (λ since. assumption k.facts) legal k)
+      knows_aside (Push i t s copies) tt (λ j seat k. calm_known seat h (Push i t s copies) j tt tt tt tt tt refl tt tt (λ since tried. assumption k.facts) legal k)
+  aside_known (Tick i now) h seats aside legal = knows_aside (Tick i now) tt (λ j seat k. calm_known seat h (Tick i now) j tt tt tt tt tt refl tt tt (λ since tried. assumption k.facts) legal k)
+  aside_known (Abandon cause) h seats aside legal = knows_aside (Abandon cause) tt (λ j seat k. calm_known seat h (Abandon cause) j tt tt tt tt tt refl tt tt (λ since tried. assumption k.facts) legal k)
   aside_known e h seats aside legal = absurd aside
 
   pub given_up_known : GivenUpKnown told_by

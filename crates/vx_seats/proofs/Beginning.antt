@@ -1,5 +1,5 @@
 -- What is known of seats as they begin.
-use Rattle.std.proofs.Common.{◌≡◌, ◌≢◌, ◌∙◌, ℕ, zero, suc, ◌+◌, Bool, true, false, List, [], ◌∷◌, Option, Some, None, IfSome, IfNone, length, refl, sym, ap, slice_get}
+use Rattle.std.proofs.Common.{◌≡◌, ◌≢◌, ◌∙◌, ℕ, zero, suc, ◌+◌, Bool, true, false, List, [], ◌∷◌, Option, Some, None, IfSome, IfNone, length, refl, sym, ap, arith, slice_get}
 use Rattle.std.specs.Prelude.{map, IsSomeAnd}
 use Rattle.std.proofs.lemmas.Bool.{and_right}
 use Rattle.vx_value.specs.Texts.{Word}
@@ -14,7 +14,7 @@ use Rattle.vx_record.specs.declared.entry.Entry.TheVariants.{Install}
 use Rattle.vx_record.specs.Copies.{counting}
 use Rattle.vx_record.specs.Starting.{first_instances}
 use Rattle.vx_record.specs.Wirings.{begun}
-use Rattle.vx_record.specs.Installs.{Wiring, wiring, transform_at}
+use Rattle.vx_record.specs.Installs.{Wiring, wiring, sink_at, transform_at}
 use Rattle.vx_record.specs.Routing.{wired_targets}
 use Rattle.vx_record.specs.Sourcing.{must_wait}
 use Rattle.vx_record.proofs.FirstWiring.{started_stays, targets_of_first, wiring_of_first}
@@ -25,7 +25,7 @@ use Rattle.vx_tasks.specs.declared.task.Task.{Task}
 use Rattle.vx_tasks.specs.Home.{IsAtHome}
 use Rattle.vx_seats.specs.declared.facts.Facts.{Facts}
 use Rattle.vx_seats.specs.declared.seat.Seat.{Seat}
-use Rattle.vx_seats.specs.Knowing.{HasHome, IsKnown, Knows, judged_by, outlets_at, wired_outlets}
+use Rattle.vx_seats.specs.Knowing.{HasFailed, HasHome, IsKnown, Knows, judged_by, outlets_at, wired_outlets}
 use Rattle.vx_seats.specs.Beginning.{AreNew, IsFresh, AreFresh}
 
 length_counting : (from n : ℕ) → length (counting from n) ≡ n
@@ -79,7 +79,7 @@ module _ {P : Type 0} (told_by : P → Told) (plan : Plan) (once : Bool) (now : 
           component = rw (component_there (begun plan once now) plan i c (begun_legal plan once now accepted) refl at) fresh.fitted;
           outlet = fresh.outlet ∙ sym (outlets_of_first i c at);
         };
-        facts = assumption fresh.facts;
+        facts = (let tried : sink_at (begun plan once now) i ≡ true → HasFailed (begun plan once now) i seat.facts.failures seat.facts.failed_at [] = λ sink copy here. absurd (omega (arith, here)) in assumption (fresh.facts, tried));
         progress = record { unnoticed = fresh.progress.unnoticed; waits = fresh.progress.waits_are ∙ sym waits; prefix = fresh.progress.prefix (judged_by (begun plan once now)) };
         counts = λ none. fresh.counts ∙ sym (others_stay (Install 0 plan once (first_instances 0 plan.components) now) [] i (begun_legal plan once now accepted) tt);
         home = home_fresh seat.facts i seat.task fresh.facts fresh.home fresh.fit;

@@ -7,20 +7,21 @@ use Rattle.std.proofs.lemmas.Option.{IfSome_then}
 use Rattle.vx_ends.specs.Told.{Told}
 use Rattle.vx_plan.specs.declared.component.Component.{Component}
 use Rattle.vx_plan.specs.Components.{component_named}
-use Rattle.vx_plan.specs.Options.{has_device}
+use Rattle.vx_plan.specs.Options.{has_device, reading_interval}
 use Rattle.vx_record.specs.declared.entry.Entry.{Entry}
 use Rattle.vx_record.specs.declared.entry.Entry.TheVariants.{Install, Lease, Confirm}
 use Rattle.vx_record.specs.declared.tally.Tally.{Tally}
 use Rattle.vx_record.specs.Records.{Record}
 use Rattle.vx_record.specs.Legal.{IsLegal}
 use Rattle.vx_record.specs.Tasks.{is_of}
-use Rattle.vx_record.specs.Turns.{is_out}
+use Rattle.vx_record.specs.Turns.{is_out, lease_now}
+use Rattle.vx_record.specs.Ready.{interval_of}
 use Rattle.vx_record.specs.Reads.{all_ended}
 use Rattle.vx_record.specs.Installs.{Wiring, component_of, device_at, is_closed, is_retired, started, wiring}
 use Rattle.vx_record.specs.Ceasing.{lost_at}
 use Rattle.vx_record.specs.Sourcing.{failed_starts}
 use Rattle.vx_record.specs.Confirms.{is_unconfirmed, last_confirm, due}
-use Rattle.vx_record.proofs.OwnTurns.{out_own, closed_own, retired_own}
+use Rattle.vx_record.proofs.OwnTurns.{out_own, closed_own, moment_own, retired_own}
 use Rattle.vx_record.proofs.OwnLeases.{lease_apart}
 use Rattle.vx_record.proofs.OwnReads.{end_own, loss_own, starts_own}
 use Rattle.vx_record.proofs.OwnConfirms.{unconfirmed_own, last_own}
@@ -37,9 +38,9 @@ use Rattle.vx_seats.specs.declared.progress.Progress.{Progress}
 use Rattle.vx_seats.specs.declared.seat.Seat.{Seat}
 use Rattle.vx_seats.specs.Knowing.{wired_outlets, IsFitted, IsFittedTo, HasFacts, HasProgress, IsAtHomeBut, HasHome, IsKnown, Knows, asked}
 use Rattle.vx_seats.proofs.Staying.{each_set, size_set, there}
-use Rattle.vx_seats.proofs.Telling.{InstallsNothing, IsMute, stays, wiring_on, told_on, told_far, come_far, told_mute, come_mute}
+use Rattle.vx_seats.proofs.Telling.{InstallsNothing, IsMute, stays, wiring_on, told_on, told_far, rests_far, come_far, told_mute, come_mute}
 use Rattle.vx_seats.proofs.Owing.{OwesNoMore, owes_far, owes_still}
-use Rattle.vx_seats.proofs.Holding.{cause_earlier, since_far}
+use Rattle.vx_seats.proofs.Holding.{cause_earlier, since_far, tried_far}
 use Rattle.vx_seats.proofs.Progressing.{NotesNone, Stands, far_stands, progress_on}
 
 -- OTHERS
@@ -52,7 +53,10 @@ facts_far f h e i none is has = record {
   confirm_failed = has.confirm_failed ∙ sym (stays is_unconfirmed unconfirmed_own h e i is);
   closed = has.closed ∙ sym (stays is_closed closed_own h e i is);
   retired = has.retired ∙ sym (stays is_retired retired_own h e i is);
+  leased_at = has.leased_at ∙ sym (stays lease_now moment_own h e i is);
+  reads_from = has.reads_from ∙ sym (rests_far h e i is);
   since = since_far f.since h e i none is has.since;
+  tried = tried_far f.failures f.failed_at h e i none is has.tried;
 }
 
 -- what its port was asked to confirm
@@ -109,6 +113,14 @@ module _ {P : Type 0} where
       go : (o : Option Component) → IsSomeAnd o (IsFittedTo seat) → elim o as (λ _. Bool) [ None ↦ false | Some c ↦ has_device c.settings ] ≡ seat.device
       go None f = absurd f
       go (Some c) f = sym f.device
+
+  -- and it rests behind a read as that does
+  pub interval_fits : (seat : Seat P) (h : Record) (i : ℕ) → IsFitted seat h i → interval_of h i ≡ seat.interval
+  interval_fits seat h i fit = go (component_of h i) fit.component
+    where
+      go : (o : Option Component) → IsSomeAnd o (IsFittedTo seat) → elim o as (λ _. ℕ) [ None ↦ 0 | Some c ↦ reading_interval c.settings ] ≡ seat.interval
+      go None f = absurd f
+      go (Some c) f = sym f.interval
 
 -- TASKS AT HOME
 module _ {P : Type 0} (told_by : P → Told) where

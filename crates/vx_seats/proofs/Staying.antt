@@ -72,9 +72,9 @@ module _ {P : Type 0} where
     read_stays f c untold owing behind starved = writes (HasRead untold) (record was { facts = f; counts = c }) (assumption)
 
     -- its task leaves
-    pub left_stays : (is : Seat P) (task : Task P) (positions : Option (List Position)) → Leaves was is task positions →
+    pub left_stays : (moment : ℕ) (is : Seat P) (task : Task P) (positions : Option (List Position)) → Leaves moment was is task positions →
         OneSeat (IsLeft task) i now (slice_set items i is)
-    left_stays is task positions leaves = writes (IsLeft task) is (rw leaves.rest (assumption leaves.had))
+    left_stays moment is task positions leaves = writes (IsLeft task) is (rw leaves.rest (assumption leaves.had))
 
 -- what is said of a seat that was is said of the one that is
 carried : {A : Type 0} (o n : Option A) (R : A → A → Type 0) (F : A → Type 0) → ((was is : A) → R was is → F was → F is) →

@@ -26,6 +26,8 @@ use Rattle.vx_record.specs.Turns.{is_out, lease_now}
 use Rattle.vx_record.specs.Reads.{bytes_taken, is_end, all_ended}
 use Rattle.vx_record.specs.Installs.{component_of, device_at, source_at}
 use Rattle.vx_record.specs.Sourcing.{failed_starts}
+use Rattle.vx_record.specs.Ready.{interval_of}
+use Rattle.vx_record.specs.SinkBatches.{is_failed}
 use Rattle.vx_record.specs.Confirms.{Birth, births, is_delivered}
 use Rattle.vx_record.specs.Places.Place.{Waiting, Held}
 use Rattle.vx_record.specs.Shifts.{at}
@@ -50,8 +52,8 @@ use Rattle.vx_seats.specs.declared.seat.Seat.{Seat}
 use Rattle.vx_seats.specs.Knowing.{HasProgress, HasHome, IsAtHomeBut, IsFitted, IsFittedTo, IsKnown, Knows, asked, count_unnoticed, judged_by}
 use Rattle.vx_seats.specs.Calls.{CountsAt, HasTaskBack, IsAskedOf, IsBack, IsClosedBy, IsSettledAt, IsShutAt, Leaves, Shuts, TaskShuts}
 use Rattle.vx_seats.specs.Staying.{IsShut, OneSeat}
-use Rattle.vx_seats.proofs.Holding.{since_answered, since_calm, since_spent, since_took}
-use Rattle.vx_seats.proofs.Knowing.{CountsOwn, apart_of, but_by, counts_on, device_fits, facts_far, fitted_by, home_far, keeps, known_far, known_was, knows_next, leaves_far, out_known, own_steps, still_known}
+use Rattle.vx_seats.proofs.Holding.{since_answered, since_calm, since_spent, since_took, tried_answered, tried_attempted, tried_quiet, tried_spent, tried_took}
+use Rattle.vx_seats.proofs.Knowing.{CountsOwn, apart_of, but_by, counts_on, device_fits, facts_far, fitted_by, home_far, interval_fits, keeps, known_far, known_was, knows_next, leaves_far, out_known, own_steps, still_known}
 use Rattle.vx_seats.proofs.Owing.{owes_still}
 use Rattle.vx_seats.proofs.Progressing.{asked_due, births_apart, count_born, count_noticed, count_on, due_unnoticed, going_on, may_new, none_unported, progress_on, tells, unborn_unnoticed, unnoticed_few}
 use Rattle.vx_seats.proofs.Staying.{there, writes, written}
@@ -126,7 +128,7 @@ spent_known {told_by = told_by} {counts = counts} was h i j c outcome legal met 
     own : IsLegal (Spent j c outcome ∷ h) → (was.facts.behind ≡ false → Meets j (Spent j c outcome ∷ h) counts.tally) →
         IsKnown told_by (record was { counts = counts }) (Spent j c outcome ∷ h) j
     own legal met =
-        still_known h (Spent j c outcome) j tt tt tt tt refl (search (since_spent h j c was.facts.since outcome legal k.facts.since)) met
+        still_known h (Spent j c outcome) j tt tt tt tt refl (search (since_spent h j c was.facts.since outcome legal k.facts.since, tried_spent was.facts.failures was.facts.failed_at h j c outcome k.facts.tried)) met
         (IfSome_then was.task k.home (λ task home. home.shut)) k
 
 -- CLOSED PORTS
@@ -180,27 +182,31 @@ module _ {P : Type 0} {told_by : P → Told} (i : ℕ) {items now : List (Seat P
   -- AT HOME OR OUT
   pub closed_knows : (h : Record) → IsShutAt told_by now i → Leads told_by now (seated items i was (record was.facts { closed = true }) was.progress was.counts) h (Closed i)
   closed_knows h shut = own_steps i view l read (Closed i) (tt, λ j. refl, λ k j. tt, λ no. no) (λ legal k.
-      still_known h (Closed i) i tt tt tt tt refl (search (itself i, since_calm was.facts.since h (Closed i) i tt k.facts.since)) (counts_on h (Closed i) i legal tt k.counts)
+      still_known h (Closed i) i tt tt tt tt refl (search (itself i, since_calm was.facts.since h (Closed i) i tt k.facts.since, tried_quiet was.facts.failures was.facts.failed_at h (Closed i) i tt k.facts.tried)) (counts_on h (Closed i) i legal tt k.counts)
       (IfSome_then was.task (rw (there i view l read) at shut) (λ task is _. is)) k)
 
   pub retired_knows : (h : Record) → Leads told_by now (seated items i was (record was.facts { retired = true }) was.progress was.counts) h (Retired i)
   retired_knows h = own_steps i view l read (Retired i) (tt, λ j. refl, λ k j. tt, λ no. no) (λ legal k.
-      still_known h (Retired i) i tt tt tt tt refl (search (itself i, since_calm was.facts.since h (Retired i) i tt k.facts.since)) (counts_on h (Retired i) i legal tt k.counts)
+      still_known h (Retired i) i tt tt tt tt refl (search (itself i, since_calm was.facts.since h (Retired i) i tt k.facts.since, tried_quiet was.facts.failures was.facts.failed_at h (Retired i) i tt k.facts.tried)) (counts_on h (Retired i) i legal tt k.counts)
       (IfSome_then was.task k.home (λ task home. home.shut)) k)
 
   -- OUT
-  pub idle_knows : {after : ℕ} {failed : Bool} → (was.facts.failed_starts < 4 ⊎ (failed ≡ false) → after ≡ (if failed then was.facts.failed_starts + 1 else 0)) →
-      (h : Record) → Leads told_by now (seated items i was (record was.facts { failed_starts = after }) was.progress was.counts) h (Idle i failed)
-  idle_knows {after} {failed} set h = own_steps i view l read (Idle i failed) (tt, λ j. refl, λ k j. tt, λ no. no) (λ legal k.
+  pub idle_knows : {after rest from : ℕ} {failed : Bool} → (was.facts.failed_starts < 4 ⊎ (failed ≡ false) → after ≡ (if failed then was.facts.failed_starts + 1 else 0)) →
+      rest ≡ (if failed then 1000 else 20) → from ≡ capped (was.facts.leased_at + rest) →
+      (h : Record) → Leads told_by now (seated items i was (record was.facts { failed_starts = after; reads_from = from }) was.progress was.counts) h (Idle i failed)
+  idle_knows {after} {rest} {from} {failed} set is_rest is_from h = own_steps i view l read (Idle i failed) (tt, λ j. refl, λ k j. tt, λ no. no) (λ legal k.
       let few : was.facts.failed_starts < 4 ⊎ (failed ≡ false) = elim (cases_Bool failed) [ inl is ↦ inl (rw k.facts.failed_starts (legal.0.row.few is)) | inr is ↦ inr is ] in
       let starts : after ≡ (if failed then failed_starts h i + 1 else 0) = set few ∙ ap (λ (n : ℕ). if failed then n + 1 else 0) k.facts.failed_starts in
-      out_known h (Idle i failed) i tt refl legal.0.row.turn.out (search (itself i, starts, since_calm was.facts.since h (Idle i failed) i tt k.facts.since))
+      let rests : from ≡ capped (lease_now h i + (if failed then 1000 else 20)) = is_from ∙ rw (k.facts.leased_at, is_rest) refl in
+      out_known h (Idle i failed) i tt refl legal.0.row.turn.out
+      (search (itself i, starts, rests, since_calm was.facts.since h (Idle i failed) i tt k.facts.since, tried_quiet was.facts.failures was.facts.failed_at h (Idle i failed) i tt k.facts.tried))
       (progress_on was.progress h (Idle i failed) i tt k.progress) (counts_on h (Idle i failed) i legal tt k.counts) k)
 
   pub lost_knows : (after : ℕ) (failed : Bool) (h : Record) →
       Leads told_by now (seated items i was (record was.facts { lost = Some after }) was.progress was.counts) h (SourceLost i after failed)
   lost_knows after failed h = own_steps i view l read (SourceLost i after failed) (tt, λ j. refl, λ k j. tt, λ no. no) (λ legal k.
-      out_known h (SourceLost i after failed) i tt refl legal.0.row.turn.out (search (itself i, since_calm was.facts.since h (SourceLost i after failed) i tt k.facts.since))
+      out_known h (SourceLost i after failed) i tt refl legal.0.row.turn.out
+      (search (itself i, since_calm was.facts.since h (SourceLost i after failed) i tt k.facts.since, tried_quiet was.facts.failures was.facts.failed_at h (SourceLost i after failed) i tt k.facts.tried))
       (progress_on was.progress h (SourceLost i after failed) i tt k.progress) (counts_on h (SourceLost i after failed) i legal tt k.counts) k)
 
   -- what a source took is counted
@@ -208,49 +214,65 @@ module _ {P : Type 0} {told_by : P → Told} (i : ℕ) {items now : List (Seat P
   bytes_read h counts source knows =
       ap (λ (t : Tally). t.read) ((known_was i view l read knows).counts (rw (there i view l read) at counts) ∙ tally_is h i Source (source_is h i source))
 
-  pub read_knows : {counted behind over all : Bool} {new : Tally} {stream : ℕ} {took : Taken} (h : Record) →
-      behind ≡ (not counted || was.facts.behind) → over ≡ (all || was.facts.over) → all ≡ is_end took →
+  pub read_knows : {counted behind over all : Bool} {from : ℕ} {new : Tally} {stream : ℕ} {took : Taken} (h : Record) →
+      behind ≡ (not counted || was.facts.behind) → over ≡ (all || was.facts.over) → from ≡ capped (was.facts.leased_at + was.interval) → all ≡ is_end took →
       (counted ≡ true → Counted i h (Read i stream took) was.counts.tally new) →
-      Leads told_by now (seated items i was (record was.facts { over = over; failed_starts = 0; behind = behind }) was.progress (record { tally = new })) h (Read i stream took)
-  read_knows {counted} {behind} {over} {all} {new} {stream} {took} h is_behind is_over is_all counts = own_steps i view l read (Read i stream took) (tt, λ j. refl, λ k j. tt, λ no. no) (λ legal k.
+      Leads told_by now (seated items i was (record was.facts { over = over; failed_starts = 0; behind = behind; reads_from = from }) was.progress (record { tally = new })) h (Read i stream took)
+  read_knows {counted} {behind} {over} {all} {from} {new} {stream} {took} h is_behind is_over is_from is_all counts = own_steps i view l read (Read i stream took) (tt, λ j. refl, λ k j. tt, λ no. no) (λ legal k.
       let told : over ≡ (is_end took || all_ended h i) = rw (is_over, is_all, k.facts.over) refl in
-      out_known h (Read i stream took) i tt refl legal.0.row.turn.out (search (itself i, told, since_calm was.facts.since h (Read i stream took) i tt k.facts.since))
+      let rests : from ≡ capped (lease_now h i + interval_of h i) = is_from ∙ rw (k.facts.leased_at, interval_fits was h i k.fitted) refl in
+      out_known h (Read i stream took) i tt refl legal.0.row.turn.out
+      (search (itself i, told, rests, since_calm was.facts.since h (Read i stream took) i tt k.facts.since, tried_quiet was.facts.failures was.facts.failed_at h (Read i stream took) i tt k.facts.tried))
       (progress_on was.progress h (Read i stream took) i tt k.progress)
       (λ known. let two = or_parts (not counted) was.facts.behind (sym is_behind ∙ known) in counts (not-false counted two.0) legal (k.counts two.1)) k)
 
-  pub attempted_knows : {new : Tally} (h : Record) (copies : List ℕ) (gave : Word) (reply : Reply) →
+  pub attempted_knows : {failures failed : ℕ} {fails : Bool} {new : Tally} (h : Record) (copies : List ℕ) (gave : Word) (reply : Reply) →
+      fails ≡ is_failed reply → failures ≡ capped (was.facts.failures + (if fails then 1 else 0)) → failed ≡ (if fails then was.facts.leased_at else was.facts.failed_at) →
       Counted i h (Attempt i copies gave reply) was.counts.tally new →
-      Leads told_by now (seated items i was was.facts was.progress (record { tally = new })) h (Attempt i copies gave reply)
-  attempted_knows h copies gave reply counted = own_steps i view l read (Attempt i copies gave reply) (tt, λ j. refl, λ k j. tt, λ no. no) (λ legal k.
-      out_known h (Attempt i copies gave reply) i tt refl legal.0.row.out (search (since_calm was.facts.since h (Attempt i copies gave reply) i tt k.facts.since))
+      Leads told_by now (seated items i was (record was.facts { failures = failures; failed_at = failed }) was.progress (record { tally = new })) h (Attempt i copies gave reply)
+  attempted_knows {failures} {failed} {fails} h copies gave reply is_failing is_failures is_moment counted = own_steps i view l read (Attempt i copies gave reply) (tt, λ j. refl, λ k j. tt, λ no. no) (λ legal k.
+      let more : failures ≡ capped (was.facts.failures + (if is_failed reply then 1 else 0)) = is_failures ∙ rw is_failing refl in
+      let moment : failed ≡ (if is_failed reply then lease_now h i else was.facts.failed_at) = is_moment ∙ rw (is_failing, k.facts.leased_at) refl in
+      out_known h (Attempt i copies gave reply) i tt refl legal.0.row.out
+      (search (
+        since_calm was.facts.since h (Attempt i copies gave reply) i tt k.facts.since,
+        tried_attempted failures failed was.facts.failures was.facts.failed_at h i copies gave reply legal more moment k.facts.tried,
+      ))
       (progress_on was.progress h (Attempt i copies gave reply) i tt k.progress) (λ known. counted legal (k.counts known)) k)
 
   pub answered_knows : {new : Tally} (h : Record) (outputs : List Output) (discarded kept : List ℕ) → Counted i h (Answer i outputs discarded kept) was.counts.tally new →
       Leads told_by now (seated items i was was.facts was.progress (record { tally = new })) h (Answer i outputs discarded kept)
   answered_knows h outputs discarded kept counted = own_steps i view l read (Answer i outputs discarded kept) (tt, λ j. refl, λ k j. tt, λ no. no) (λ legal k.
-      out_known h (Answer i outputs discarded kept) i tt refl legal.0.row.out (search (since_answered was.facts.since h i outputs discarded kept legal))
+      out_known h (Answer i outputs discarded kept) i tt refl legal.0.row.out (search (since_answered was.facts.since h i outputs discarded kept legal, tried_answered was.facts.failures was.facts.failed_at h i outputs discarded kept legal))
       (progress_on was.progress h (Answer i outputs discarded kept) i tt k.progress) (λ known. counted legal (k.counts known)) k)
 
   pub confirmed_knows : {new : Tally} {positions : List Position} {made : Bool} (h : Record) → Counted i h (Confirm i positions made) was.counts.tally new →
       Leads told_by now (seated items i was (record was.facts { confirm_failed = not made }) was.progress (record { tally = new })) h (Confirm i positions made)
   confirmed_knows {new} {positions} {made} h counted = own_steps i view l read (Confirm i positions made) (tt, λ j. refl, λ k j. tt, λ no. no) (λ legal k.
-      out_known h (Confirm i positions made) i tt refl legal.0.row.out (search (itself i, since_calm was.facts.since h (Confirm i positions made) i tt k.facts.since))
+      out_known h (Confirm i positions made) i tt refl legal.0.row.out
+      (search (itself i, since_calm was.facts.since h (Confirm i positions made) i tt k.facts.since, tried_quiet was.facts.failures was.facts.failed_at h (Confirm i positions made) i tt k.facts.tried))
       (progress_on was.progress h (Confirm i positions made) i tt k.progress) (λ known. counted legal (k.counts known)) k)
 
-  pub took_knows : {since moment : ℕ} {first : Bool} {new : Tally} (h : Record) (s : ℕ) (copies : List ℕ) → since ≡ (if first then moment else was.facts.since) →
-      first ≡ is_empty (at h (Held i)) → moment ≡ lease_now h i → Counted i h (Take i s copies) was.counts.tally new →
-      Leads told_by now (seated items i was (record was.facts { since = since }) was.progress (record { tally = new })) h (Take i s copies)
-  took_knows {since} {moment} {first} h s copies is_since is_first is_now counted = own_steps i view l read (Take i s copies) (tt, λ j. refl, λ k j. tt, λ no. no) (λ legal k.
+  pub took_knows : {since failures failed moment : ℕ} {first : Bool} {new : Tally} (h : Record) (s : ℕ) (copies : List ℕ) → since ≡ (if first then moment else was.facts.since) →
+      failures ≡ (if first then 0 else was.facts.failures) → failed ≡ (if first then 0 else was.facts.failed_at) → first ≡ is_empty (at h (Held i)) → moment ≡ lease_now h i → Counted i h (Take i s copies) was.counts.tally new →
+      Leads told_by now (seated items i was (record was.facts { since = since; failures = failures; failed_at = failed }) was.progress (record { tally = new })) h (Take i s copies)
+  took_knows {since} {failures} {failed} {moment} {first} h s copies is_since is_failures is_failed is_first is_now counted = own_steps i view l read (Take i s copies) (tt, λ j. refl, λ k j. tt, λ no. no) (λ legal k.
       let kept : since ≡ (if is_empty (at h (Held i)) then lease_now h i else was.facts.since) = is_since ∙ rw (is_first, is_now) refl in
-      out_known h (Take i s copies) i tt refl legal.0.row.out (search (since_took h i s copies since was.facts.since legal kept k.facts.since))
+      let none : failures ≡ (if is_empty (at h (Held i)) then 0 else was.facts.failures) = is_failures ∙ rw is_first refl in
+      let never : failed ≡ (if is_empty (at h (Held i)) then 0 else was.facts.failed_at) = is_failed ∙ rw is_first refl in
+      out_known h (Take i s copies) i tt refl legal.0.row.out
+      (search (
+        since_took h i s copies since was.facts.since legal kept k.facts.since,
+        tried_took failures failed was.facts.failures was.facts.failed_at h i s copies legal none never k.facts.tried,
+      ))
       (progress_on was.progress h (Take i s copies) i tt k.progress) (λ known. counted legal (k.counts known)) k)
 
   -- LEASES AND HOMES
-  pub left_knows : {is : Seat P} {task : Task P} {positions : Option (List Position)} → Leaves was is task positions →
-      (h : Record) (worker moment polls : ℕ) → Leads told_by now (slice_set items i is) h (Lease i worker moment polls)
-  left_knows {is} leaves h worker moment polls = own_steps i view l read (Lease i worker moment polls) (tt, λ j. refl, λ k j. tt, λ no. no) (λ legal k. rw leaves.rest (record {
+  pub left_knows : {moment : ℕ} {is : Seat P} {task : Task P} {positions : Option (List Position)} → Leaves moment was is task positions →
+      (h : Record) (worker polls : ℕ) → Leads told_by now (slice_set items i is) h (Lease i worker moment polls)
+  left_knows {moment} {is} leaves h worker polls = own_steps i view l read (Lease i worker moment polls) (tt, λ j. refl, λ k j. tt, λ no. no) (λ legal k. rw leaves.rest (record {
     fitted = fitted_by refl k.fitted;
-    facts = search (since_calm was.facts.since h (Lease i worker moment polls) i tt k.facts.since);
+    facts = search (itself i, since_calm was.facts.since h (Lease i worker moment polls) i tt k.facts.since, tried_quiet was.facts.failures was.facts.failed_at h (Lease i worker moment polls) i tt k.facts.tried);
     progress = leased_progress i worker moment polls leaves.asked k.progress;
     counts = counts_on h (Lease i worker moment polls) i legal tt k.counts;
     home = tt;
@@ -258,14 +280,14 @@ module _ {P : Type 0} {told_by : P → Told} (i : ℕ) {items now : List (Seat P
   }))
 
   -- the task that is taken along was at home
-  pub left_home : {is : Seat P} {task : Task P} {positions : Option (List Position)} → Leaves was is task positions → (h : Record) → Knows told_by now h →
+  pub left_home : {moment : ℕ} {is : Seat P} {task : Task P} {positions : Option (List Position)} → Leaves moment was is task positions → (h : Record) → Knows told_by now h →
       HasHome told_by was.facts h i task
   left_home leaves h knows = rw leaves.had at (known_was i view l read knows).home
 
   -- and what it takes along is due
-  pub left_due : {is : Seat P} {task : Task P} {positions : Option (List Position)} → Leaves was is task positions → (h : Record) (worker moment polls : ℕ) →
+  pub left_due : {moment : ℕ} {is : Seat P} {task : Task P} {positions : Option (List Position)} → Leaves moment was is task positions → (h : Record) (worker polls : ℕ) →
       IsSettledAt now i → Knows told_by now h → IsLegal (Lease i worker moment polls ∷ h) → AreDue (Lease i worker moment polls ∷ h) i positions
-  left_due {positions = positions} leaves h worker moment polls settled knows legal =
+  left_due {moment = moment} {positions = positions} leaves h worker polls settled knows legal =
       let k = known_was i view l read knows in
       let same : was.device ≡ device_at h i = sym (device_fits was h i k.fitted) in
       elim (cases_Bool (device_at h i)) [
@@ -280,7 +302,7 @@ module _ {P : Type 0} {told_by : P → Told} (i : ℕ) {items now : List (Seat P
       let back : IsBack told_by was.facts h i task = rw (there i view l read) at there_is in
       record {
         fitted = fitted_by refl k.fitted;
-        facts = search (since_calm was.facts.since h (Home i) i tt k.facts.since);
+        facts = search (since_calm was.facts.since h (Home i) i tt k.facts.since, tried_quiet was.facts.failures was.facts.failed_at h (Home i) i tt k.facts.tried);
         progress = progress_on was.progress h (Home i) i tt k.progress;
         counts = counts_on h (Home i) i legal tt k.counts;
         home = record {
@@ -314,7 +336,7 @@ module _ {P : Type 0} {told_by : P → Told} (i : ℕ) {items now : List (Seat P
       let number : n ≡ count_unnoticed h (births h i) + 1 = is_n ∙ ap (λ (m : ℕ). capped (m + 1)) before ∙ omega (arith, few, fits) in
       let may = may_new h batch was.progress.prefix.waits (record { stream = stream; end = end }) legal.1 legal.0.row.number in
       out_known h (Born i batch place copies made waits stream end) i tt refl (bearer h i (record { events = made; stream = stream; end = end }) legal.1 legal.0.row.yields).1
-      (search (since_calm was.facts.since h (Born i batch place copies made waits stream end) i tt k.facts.since))
+      (search (since_calm was.facts.since h (Born i batch place copies made waits stream end) i tt k.facts.since, tried_quiet was.facts.failures was.facts.failed_at h (Born i batch place copies made waits stream end) i tt k.facts.tried))
       (record {
         unnoticed = number ∙ sym (count_born h (births h i) birth none) ∙ sym (ap (count_unnoticed h) grown);
         waits = keeps ∙ k.progress.waits;

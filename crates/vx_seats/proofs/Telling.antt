@@ -11,6 +11,7 @@ use Rattle.vx_record.specs.Legal.{IsLegal}
 use Rattle.vx_record.specs.Tasks.{is_of, IsOwn}
 use Rattle.vx_record.specs.Installs.{wiring, component_of, device_at, told}
 use Rattle.vx_record.specs.Reads.{taken}
+use Rattle.vx_record.specs.Ready.{reading_moment}
 use Rattle.vx_record.specs.PortCounts.{finish_count}
 use Rattle.vx_record.proofs.Mine.{others}
 use Rattle.vx_record.proofs.Senders.{same_told}
@@ -57,6 +58,12 @@ told_on other f h e i none = same_told other f (e ∷ h) h i (wiring_on h e i no
 -- what a port tells
 pub told_far : (t : Told) (h : Record) (e : Entry) (i : ℕ) → InstallsNothing e → is_of i e ≡ false → IsTold t h i → IsTold t (e ∷ h) i
 told_far t h e i none is = told_same t h (e ∷ h) i (others h e i is) (component_on h e i none)
+
+-- the moment from which on a source may be read
+pub rests_far : (h : Record) (e : Entry) (i : ℕ) → is_of i e ≡ false → reading_moment (e ∷ h) i ≡ reading_moment h i
+rests_far h (Read j stream took) i is = rw is refl
+rests_far h (Idle j failed) i is = rw is refl
+rests_far h e i is = refl
 
 -- and how far its task has come
 pub come_far : (role : Role) (h : Record) (e : Entry) (i : ℕ) → IsLegal (e ∷ h) → InstallsNothing e → is_of i e ≡ false → HasCome h i role → HasCome (e ∷ h) i role

@@ -25,6 +25,8 @@ pub record AreNew (f : Facts) : Type 0 where
   pub confirm_failed : f.confirm_failed ≡ false
   pub closed : f.closed ≡ false
   pub retired : f.retired ≡ false
+  pub leased_at : f.leased_at ≡ 0
+  pub reads_from : f.reads_from ≡ 0
   pub owing : f.owing ≡ false
   pub behind : f.behind ≡ false
   pub starved : f.starved ≡ false

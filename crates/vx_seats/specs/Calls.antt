@@ -61,10 +61,10 @@ pub record IsAskedOf (device : Bool) (answer : Option (List Position)) (p q : Pr
   pub due : device ≡ true → (judged : Judgement) → (bs : List Birth) → (asked : List Position) → IsPrefixOf p.prefix judged bs asked → IsAskFor answer (ends_of (take_while judged.may bs)) asked
   pub none : device ≡ false → answer ≡ None
 
--- the task of a seat is taken along, with what is to be confirmed to its port
-pub record Leaves {P : Type 0} (was is : Seat P) (task : Task P) (positions : Option (List Position)) : Type 0 where
+-- the task of a seat is taken along at a moment, with what is to be confirmed to its port
+pub record Leaves {P : Type 0} (now : ℕ) (was is : Seat P) (task : Task P) (positions : Option (List Position)) : Type 0 where
   pub had : was.task ≡ Some task
-  pub rest : is ≡ record was { progress = is.progress; task = None }
+  pub rest : is ≡ record was { facts = record was.facts { leased_at = now }; progress = is.progress; task = None }
   pub asked : IsAskedOf was.device positions was.progress is.progress
 
 -- a port that is closed tells what it told, and counts nothing

@@ -1,16 +1,17 @@
 -- When what is known of the instances is what a record has of them.
-use Rattle.std.specs.Prelude.{◌≡◌, ◌≢◌, ℕ, ◌+◌, ◌||◌, ◌&&◌, not, Bool, true, false, List, [], ◌∷◌, length, map, Option, Some, None, IfSome, IfNone, IsSomeAnd, slice_get, if◌then◌else◌}
+use Rattle.std.specs.Prelude.{◌≡◌, ◌≢◌, ℕ, ◌+◌, ◌<◌, ◌||◌, ◌&&◌, not, Bool, true, false, List, [], ◌∷◌, length, map, Option, Some, None, IfSome, IfNone, IsSomeAnd, slice_get, if◌then◌else◌}
 use Rattle.vx_ends.specs.Told.{Told}
 use Rattle.vx_ends.specs.declared.position.Position.{Position}
 use Rattle.vx_plan.specs.declared.component.Component.{Component}
-use Rattle.vx_plan.specs.Components.{batch_max_events, batch_timeout}
-use Rattle.vx_plan.specs.Components.{component_named, is_sink, port_names}
-use Rattle.vx_plan.specs.Options.{has_device}
-use Rattle.vx_record.specs.Records.{Record}
+use Rattle.vx_plan.specs.declared.settings.Settings.{Settings}
+use Rattle.vx_plan.specs.declared.sink_settings.SinkSettings.{SinkSettings}
+use Rattle.vx_plan.specs.Components.{batch_max_events, batch_timeout, component_named, is_sink, of_sink, port_names, retry_attempts}
+use Rattle.vx_plan.specs.Options.{has_device, reading_interval}
+use Rattle.vx_record.specs.Records.{Record, capped}
 use Rattle.vx_record.specs.Routing.{wired_targets}
-use Rattle.vx_record.specs.Copies.{counting}
+use Rattle.vx_record.specs.Copies.{count, counting, joined}
 use Rattle.vx_record.specs.Installs.{Wiring, wired, component_of, device_at, sink_at, started, is_closed, is_retired}
-use Rattle.vx_record.specs.Turns.{is_out, at_lease}
+use Rattle.vx_record.specs.Turns.{is_out, at_lease, lease_now}
 use Rattle.vx_record.specs.Reads.{all_ended}
 use Rattle.vx_record.specs.Ceasing.{lost_at, cause_of}
 use Rattle.vx_record.specs.Sourcing.{failed_starts, must_wait}
@@ -19,7 +20,9 @@ use Rattle.vx_record.specs.Owing.{owes}
 use Rattle.vx_record.specs.Parcels.{first_copy}
 use Rattle.vx_record.specs.Places.Place.{Held}
 use Rattle.vx_record.specs.Shifts.{at}
-use Rattle.vx_record.specs.SinkBatches.{attempts_with, taken_at}
+use Rattle.vx_record.specs.SinkBatches.{attempts_with, failures_with, failed_at, taken_at}
+use Rattle.vx_record.specs.Ready.{reading_moment}
+use Rattle.vx_sinkcore.specs.declared.schedule.Schedule.{Schedule}
 use Rattle.vx_sourcecore.specs.Prefixes.{Judgement, IsPrefixOf}
 use Rattle.vx_counts.specs.Meets.{Meets}
 use Rattle.vx_tasks.specs.declared.task.Role.TheVariants.{Unfit}
@@ -31,10 +34,18 @@ use Rattle.vx_seats.specs.declared.facts.Facts.{Facts}
 use Rattle.vx_seats.specs.declared.progress.Progress.{Progress}
 use Rattle.vx_seats.specs.declared.seat.Seat.{Seat}
 
+-- how a sink makes its attempts again
+abbrev pub schedule_of : Settings → Schedule
+schedule_of settings = record {
+  initial_secs = of_sink 0 (λ (s : SinkSettings). s.request_retry_initial_backoff_secs) settings;
+  max_secs = of_sink 0 (λ (s : SinkSettings). s.request_retry_max_duration_secs) settings;
+  attempts = retry_attempts settings;
+}
+
 -- how a component collects, if it is a sink
 abbrev pub batching_of : Component → Option Batching
 batching_of c =
-    if is_sink c then Some (record { max_events = batch_max_events c.settings; timeout = batch_timeout c.settings }) else None
+    if is_sink c then Some (record { max_events = batch_max_events c.settings; timeout = batch_timeout c.settings; retries = schedule_of c.settings }) else None
 
 -- a seat is for a component
 pub record IsFittedTo {P : Type 0} (seat : Seat P) (c : Component) : Type 0 where
@@ -42,6 +53,7 @@ pub record IsFittedTo {P : Type 0} (seat : Seat P) (c : Component) : Type 0 wher
   pub class : seat.class ≡ c.class
   pub device : seat.device ≡ has_device c.settings
   pub batching : seat.batching ≡ batching_of c
+  pub interval : seat.interval ≡ reading_interval c.settings
 
 -- the instances that read each port of a wired one, in the order of the ports
 abbrev pub wired_outlets : Wiring → List (List ℕ)
@@ -63,6 +75,11 @@ IsSince h i since [] = Unit {0}
 IsSince h i since (copies ∷ rest) =
     cause_of h ≡ None → attempts_with h i (first_copy copies) ≡ 0 → since ≡ taken_at h i (first_copy copies)
 
+-- what is kept of failures is how often attempts with each copy that the instance holds failed, and when the last of them did
+abbrev pub HasFailed : Record → ℕ → ℕ → ℕ → List (List ℕ) → Type 0
+HasFailed h i failures failed held =
+    (c : ℕ) → 0 < count c (joined held) → (failures ≡ capped (failures_with h i c)) × (failed ≡ failed_at h i c)
+
 -- what happened to the instance
 pub record HasFacts (f : Facts) (h : Record) (i : ℕ) : Type 0 where
   pub over : f.over ≡ all_ended h i
@@ -71,7 +88,10 @@ pub record HasFacts (f : Facts) (h : Record) (i : ℕ) : Type 0 where
   pub confirm_failed : f.confirm_failed ≡ is_unconfirmed h i
   pub closed : f.closed ≡ is_closed h i
   pub retired : f.retired ≡ is_retired h i
+  pub leased_at : f.leased_at ≡ lease_now h i
+  pub reads_from : f.reads_from ≡ reading_moment h i
   pub since : sink_at h i ≡ true → IsSince h i f.since (at h (Held i))
+  pub tried : sink_at h i ≡ true → HasFailed h i f.failures f.failed_at (at h (Held i))
 
 -- how many of some births have no notice yet
 abbrev pub count_unnoticed : Record → List Birth → ℕ

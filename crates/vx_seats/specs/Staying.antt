@@ -19,6 +19,7 @@ pub record SameWiring {P : Type 0} (was is : Seat P) : Type 0 where
   pub device : is.device ≡ was.device
   pub outlet : is.outlet ≡ was.outlet
   pub batching : is.batching ≡ was.batching
+  pub interval : is.interval ≡ was.interval
 
 -- what isn't known any more is as it was: what it owes, what it counts, and what its port gave
 pub record SameFlags {P : Type 0} (was is : Seat P) : Type 0 where

@@ -22,6 +22,8 @@ pub struct Seat<P> {
     pub outlet: Outlet,
     /// How it collects, if it is a sink.
     pub batching: Option<Batching>,
+    /// How long it rests behind a read, if it is a source, in milliseconds.
+    pub interval: u64,
     pub facts: Facts,
     pub progress: Progress,
     pub counts: Counts,
@@ -29,15 +31,16 @@ pub struct Seat<P> {
     pub task: Option<Task<P>>,
 }
 
-/// Takes the task of a seat along, with what is to be confirmed to its port. Where the component has none, that is let go.
-pub(crate) fn leave_seat<P>(seat: &mut Seat<P>) -> Option<(Task<P>, Option<PositionList>)>
-    ensures some { IfSome result (λ r. Leaves seat.old seat.new r.0 r.1) }
+/// Takes the task of a seat along at a moment, with what is to be confirmed to its port. Where the component has none, that is let go.
+pub(crate) fn leave_seat<P>(seat: &mut Seat<P>, now: u64) -> Option<(Task<P>, Option<PositionList>)>
+    ensures some { IfSome result (λ r. Leaves now seat.old seat.new r.0 r.1) }
     ensures none { IfNone result (seat.old.task ≡ None) }
     ensures same { IfNone result (seat.new ≡ seat.old) }
 {
     match seat.task.take() {
         Some(task) => {
             let positions = seat.progress.prefix.take_due();
+            seat.facts.leased_at = now;
             Some((task, for_device(seat.device, positions)))
         }
         None => None,

@@ -1,5 +1,4 @@
 ghost use Rattle.std.specs.Prelude.{◌≡◌, ◌<◌, ◌+◌, ◌⊎◌, ◌||◌, ◌&&◌, not, if◌then◌else◌, ℕ, Bool, true, false, List, [], ◌∷◌, length, IfOk, IfSome, IfNone, IsSome, Some, None, is_some, slice_get, count_by};
-ghost use Rattle.vx_ends.specs.declared.trouble.Reply.{Reply};
 ghost use Rattle.vx_value.specs.Texts.{Word, is_empty};
 ghost use Rattle.vx_record.specs.Records.{Record, capped};
 ghost use Rattle.vx_record.specs.Legal.{IsLegal};
@@ -7,6 +6,7 @@ ghost use Rattle.vx_record.specs.Installs.{source_at};
 ghost use Rattle.vx_record.specs.Reads.{bytes_taken, bytes_of, is_end};
 ghost use Rattle.vx_record.specs.Tallies.{is_batch_of, is_first, is_newest, is_unread, any_copy};
 ghost use Rattle.vx_record.specs.Turns.{lease_now};
+ghost use Rattle.vx_record.specs.SinkBatches.{is_failed as is_failed_by};
 ghost use Rattle.vx_record.specs.Shifts.{at};
 ghost use Rattle.vx_record.specs.Places.Place.{Outputs, Waiting, Held};
 ghost use Rattle.vx_plan.specs.declared.class.Class.TheVariants.{Sink};
@@ -34,7 +34,7 @@ use crate::seat::{Seat, leave_seat, shut_seat};
 use std::alloc::Global;
 use std::marker::Model;
 use vx_counts::Counts;
-use vx_ends::{Port, Position, PositionList};
+use vx_ends::{Port, Position, PositionList, Reply};
 use vx_ledger::Notice;
 use vx_plan::Class;
 use vx_sourcecore::{Ends, NewLines};
@@ -86,20 +86,21 @@ impl<P: Port> Seats<P> {
         &self.seats[i as usize]
     }
 
-    /// Takes the task of an instance along, with what is to be confirmed to its port, if it is at home. It is leased with that.
-    pub fn leave(&mut self, i: u32) -> Option<(Task<P>, Option<PositionList>)>
+    /// Takes the task of an instance along, with what is to be confirmed to its port, if it is at home. It is leased with that at a
+    /// moment, in milliseconds.
+    pub fn leave(&mut self, i: u32, now: u64) -> Option<(Task<P>, Option<PositionList>)>
         requires { i < length self.old }
         ensures size { length self.new ≡ length self.old }
         ensures left { IfSome result (λ r. OneSeat (IsLeft r.0) i self.old self.new) }
         ensures home { IfSome result (λ r. (h : Record) → Knows P.told self.old h → HadHome P.told self.old h i r.0) }
-        ensures due { IfSome result (λ r. (h : Record) → (worker now polls : ℕ) → IsSettledAt self.old i → Knows P.told self.old h →
+        ensures due { IfSome result (λ r. (h : Record) → (worker polls : ℕ) → IsSettledAt self.old i → Knows P.told self.old h →
             IsLegal (Lease i worker now polls ∷ h) → AreDue (Lease i worker now polls ∷ h) i r.1) }
-        ensures knows { IfSome result (λ r. (h : Record) → (worker now polls : ℕ) → Knows P.told self.old h → IsLegal (Lease i worker now polls ∷ h) →
+        ensures knows { IfSome result (λ r. (h : Record) → (worker polls : ℕ) → Knows P.told self.old h → IsLegal (Lease i worker now polls ∷ h) →
             Knows P.told self.new (Lease i worker now polls ∷ h)) }
         ensures nobody { IfNone result (HadNobody self.old i) }
         ensures same { IfNone result (self.new ≡ self.old) }
     {
-        leave_seat(&mut self.seats[i as usize])
+        leave_seat(&mut self.seats[i as usize], now)
     }
 
     /// Brings the task of an instance home.
@@ -113,7 +114,7 @@ impl<P: Port> Seats<P> {
     }
 
     /// A source took so many bytes, or was told an end, and that completed some lines; or memory was wanting for these, and then what
-    /// it counts isn't known any more. `all` tells the end of all.
+    /// it counts isn't known any more. `all` tells the end of all. The source rests for its interval from its lease on.
     pub fn read(&mut self, i: u32, bytes: u64, new: Option<NewLines>, all: bool)
         requires { i < length self.old }
         ensures size { length self.new ≡ length self.old }
@@ -126,6 +127,7 @@ impl<P: Port> Seats<P> {
         seat.facts.behind = either(!counted, seat.facts.behind);
         seat.facts.over = either(all, seat.facts.over);
         seat.facts.failed_starts = 0;
+        seat.facts.reads_from = seat.facts.leased_at.saturating_add(seat.interval);
     }
 
     /// Takes the memory for one batch more of a source, which ends at a position, and for its notice.
@@ -208,7 +210,7 @@ impl<P: Port> Seats<P> {
         self.seats[i as usize].facts.retired = true;
     }
 
-    /// A source found nothing, or its port failed to start.
+    /// A source found nothing, or its port failed to start. It rests from its lease on.
     pub fn idle(&mut self, i: u32, failed: bool)
         requires { i < length self.old }
         ensures size { length self.new ≡ length self.old }
@@ -217,6 +219,7 @@ impl<P: Port> Seats<P> {
     {
         let facts = &mut self.seats[i as usize].facts;
         facts.failed_starts = starts_after(facts.failed_starts, failed);
+        facts.reads_from = facts.leased_at.saturating_add(rest_after(failed));
     }
 
     /// A source is lost. Answers after how many bytes, at most 2^64 - 1.
@@ -243,7 +246,9 @@ impl<P: Port> Seats<P> {
     {
         let seat = &mut self.seats[i as usize];
         seat.counts.took();
-        seat.facts.since = since_after(seat.facts.since, now, first);
+        seat.facts.since = number_after(seat.facts.since, now, first);
+        seat.facts.failures = number_after(seat.facts.failures, 0, first);
+        seat.facts.failed_at = number_after(seat.facts.failed_at, 0, first);
     }
 
     /// A transform answered: it put out so many parcels, each once whatever its ports, and discarded so many of those that it took.
@@ -319,15 +324,19 @@ impl<P: Port> Seats<P> {
         self.seats[i as usize].facts.starved = true;
     }
 
-    /// A sink gave its port so many bytes.
-    pub fn attempted(&mut self, i: u32, bytes: u64)
+    /// A sink gave its port so many bytes, and was answered.
+    pub fn attempted(&mut self, i: u32, bytes: u64, reply: Reply)
         requires { i < length self.old }
         ensures size { length self.new ≡ length self.old }
         ensures stays { EachSeat Stays self.old self.new }
-        ensures knows { (h : Record) → (copies : List ℕ) → (gave : Word) → (reply : Reply) → bytes ≡ capped (length gave) → Knows P.told self.old h →
+        ensures knows { (h : Record) → (copies : List ℕ) → (gave : Word) → bytes ≡ capped (length gave) → Knows P.told self.old h →
             IsLegal (Attempt i copies gave reply ∷ h) → Knows P.told self.new (Attempt i copies gave reply ∷ h) }
     {
-        self.seats[i as usize].counts.attempted(bytes);
+        let seat = &mut self.seats[i as usize];
+        let failed = is_failed(reply);
+        seat.counts.attempted(bytes);
+        seat.facts.failures = failures_after(seat.facts.failures, failed);
+        seat.facts.failed_at = number_after(seat.facts.failed_at, seat.facts.leased_at, failed);
     }
 
     /// Positions were confirmed to the port of a source, if that was `made`.
@@ -348,6 +357,31 @@ fn starts_after(before: u32, failed: bool) -> u32
     ensures { before < 4 ⊎ (failed ≡ false) → result ≡ (if failed then before + 1 else 0) }
 {
     if failed { before.saturating_add(1) } else { 0 }
+}
+
+/// How long a source rests that found nothing, or whose port failed to start, in milliseconds.
+fn rest_after(failed: bool) -> u64
+    ensures { result ≡ (if failed then 1000 else 20) }
+{
+    if failed { 1000 } else { 20 }
+}
+
+/// Whether an attempt failed.
+fn is_failed(reply: Reply) -> bool
+    ensures { result ≡ is_failed_by reply }
+{
+    matches!(reply, Reply::Failed)
+}
+
+/// How often an attempt of what is held failed, after one more attempt.
+fn failures_after(before: u64, failed: bool) -> u64
+    ensures { result ≡ capped (before + (if failed then 1 else 0)) }
+{
+    if failed {
+        before.saturating_add(1)
+    } else {
+        before
+    }
 }
 
 /// Whether one of two holds.
@@ -372,11 +406,11 @@ fn is_sink(class: Class) -> bool
     matches!(class, Class::Sink)
 }
 
-/// The moment of the oldest parcel, behind one more.
-fn since_after(before: u64, now: u64, first: bool) -> u64
-    ensures { result ≡ (if first then now else before) }
+/// A number that is kept, or the one that is set in its place.
+fn number_after(before: u64, now: u64, set: bool) -> u64
+    ensures { result ≡ (if set then now else before) }
 {
-    if first { now } else { before }
+    if set { now } else { before }
 }
 
 /// Counts a spend of a copy that was held, if it is that of a sink's first copy.

@@ -1,6 +1,7 @@
 use Rattle.vx_examples.proofs.FilteredLegal.{legal36 as filtered_legal, closed36 as filtered_closed}
 use Rattle.vx_examples.proofs.RoutedLegal.{legal36 as routed_legal, closed36 as routed_closed}
 use Rattle.vx_examples.proofs.JoinedLegal.{legal54 as joined_legal, closed54 as joined_closed}
+use Rattle.vx_examples.proofs.RetriedLegal.{legal55 as retried_legal, closed55 as retried_closed}
 use Rattle.vx_examples.proofs.OverflowingLegal.{legal34 as overflowing_legal, closed34 as overflowing_closed}
 use Rattle.vx_examples.proofs.GeneratedLegal.{legal30 as generated_legal, closed30 as generated_closed}
 use Rattle.vx_examples.proofs.ChainedLegal.{legal58 as chained_legal, closed58 as chained_closed}
@@ -23,6 +24,12 @@ returns-clause-joined_legal c = joined_legal
 
 pub returns-clause-joined_closed : goal.returns-clause-joined_closed
 returns-clause-joined_closed c = joined_closed
+
+pub returns-clause-retried_legal : goal.returns-clause-retried_legal
+returns-clause-retried_legal c = retried_legal
+
+pub returns-clause-retried_closed : goal.returns-clause-retried_closed
+returns-clause-retried_closed c = retried_closed
 
 pub returns-clause-overflowing_legal : goal.returns-clause-overflowing_legal
 returns-clause-overflowing_legal c = overflowing_legal

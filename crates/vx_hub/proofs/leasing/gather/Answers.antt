@@ -10,7 +10,7 @@ pub returns-then-takes_first : goal.returns-then-takes_first
 returns-then-takes_first g c =
     let out = c.collect.ensures in
     let new = c.collect.new.books in
-    let owes = owes_neither new.log c.args.i out.collecting.untried.settled in record {
+    let owes = owes_neither new.log c.args.i out.collecting.clear.settled in record {
       gathered = record {
         stands = out.stands;
         served = out.served;

@@ -1,4 +1,4 @@
-use Rattle.std.proofs.Common.{refl}
+use Rattle.std.proofs.Common.{◌∙◌, refl, sym}
 use Rattle.vx_record.proofs.Adding.{adds_both}
 use Rattle.vx_record.proofs.Ceasing.{unabandoned}
 use Rattle.vx_landing.proofs.Answering.{may_spend, none_known, over_known, spends_own}
@@ -13,7 +13,7 @@ pub spend_all_held-requires-clause-may : goal.spend_all_held-requires-clause-may
 spend_all_held-requires-clause-may g c =
     let mid = c.note_attempt.new.books in
     let steps = c.note_attempt.ensures.steps in
-    rw c.outcome_of.ensures (may_spend c.args.books.now.log mid.log c.args.i _ c.args.reply c.requires.stands.legal steps.noted
+    rw c.outcome_of.ensures (may_spend c.args.books.now.log mid.log c.args.i _ c.args.reply c.requires.stands.legal (sym c.decides-decided.ensures ∙ c.if-not-decided.false) steps.noted
     (none_known g.P.Port.told mid steps.stands c.if-is_none.ensures))
 
 pub returns-then-is_none : goal.returns-then-is_none
@@ -25,9 +25,10 @@ returns-then-is_none g c =
     record {
       mid = mid;
       noted = noted;
-      spent = λ _. spent;
+      spent = λ _ _. spent;
       over = λ over. cc;
-      none = λ _. c.spend_all_held.ensures.none;
+      waits = λ waits. let last = sym c.decides-decided.ensures ∙ c.if-not-decided.false in cc;
+      none = λ _ _. c.spend_all_held.ensures.none;
       kept = c.spend_all_held.ensures.kept;
       stands = spent.stands;
       only = adds_both _ _ _ _ noted.only (spends_own spent);
@@ -42,9 +43,28 @@ returns-else-is_none g c =
     record {
       mid = mid;
       noted = noted;
-      spent = λ going. cc;
+      spent = λ going last. cc;
       over = λ _. refl;
-      none = λ going. cc;
+      waits = λ _. refl;
+      none = λ going last. cc;
+      kept = kept_on c.args.books.now.places mid.places c.args.i (rw r.stands.size r.within) noted.leaves.rooms r.kept;
+      stands = noted.steps.stands;
+      only = noted.only;
+    }
+
+pub returns-then-not-decided : goal.returns-then-not-decided
+returns-then-not-decided g c =
+    let r = c.requires in
+    let mid = c.note_attempt.new.books in
+    let noted = c.note_attempt.ensures in
+    let waits = sym c.decides-decided.ensures ∙ c.if-not-decided.true in
+    record {
+      mid = mid;
+      noted = noted;
+      spent = λ going last. cc;
+      over = λ _. refl;
+      waits = λ _. refl;
+      none = λ going last. cc;
       kept = kept_on c.args.books.now.places mid.places c.args.i (rw r.stands.size r.within) noted.leaves.rooms r.kept;
       stands = noted.steps.stands;
       only = noted.only;

@@ -1,4 +1,4 @@
-use Rattle.std.proofs.Common.{◌∙◌, sym, refl, true, false, arith}
+use Rattle.std.proofs.Common.{◌∙◌, sym, refl, ap, true, false, ◌||◌, arith}
 use Rattle.vx_record.specs.SinkBatches.{is_last_batch}
 use Rattle.vx_ready.proofs.Closed.{closed_some}
 use Rattle.vx_ready.proofs.Knowing.{going, owes_none}
@@ -6,15 +6,16 @@ use Rattle.vx_ready.proofs.batches.is_batch_closed.Goals as goal
 
 pub returns-then-due : goal.returns-then-due
 returns-then-due g c =
-    let books = c.args.books.now in
-    let bare = owes_none g.P.Port.told books c.requires.stands c.args.i c.get-seat.result.now c.get-seat.ensures c.requires.settled in
-    let goes = going g.P.Port.told books c.requires.stands c.args.i c.get-seat.result.now c.get-seat.ensures c.requires.settled in
-    c.if-due.true ∙ closed_some g.P.Port.told books c.requires.stands c.args.i c.get-seat.result.now c.get-seat.ensures bare goes c.args.now c.count_held-held.result true (is_last_batch books.log c.args.i) c.requires.sink c.count_held-held.ensures
-    (omega (arith, c.if-held-eq0.false)) (sym c.if-due.true ∙ c.is_full_or_old-due.ensures) refl
+    let bare = owes_none g.P.Port.told c.args.books.now c.requires.stands c.args.i c.get-seat.result.now c.get-seat.ensures c.requires.settled in
+    let goes = going g.P.Port.told c.args.books.now c.requires.stands c.args.i c.get-seat.result.now c.get-seat.ensures c.requires.settled in
+    c.if-due.true ∙ closed_some g.P.Port.told c.args.books.now c.requires.stands c.args.i c.get-seat.result.now c.get-seat.ensures bare goes c.requires.sink (omega (arith, c.if-held-eq0.false, c.count_held-held.ensures))
+    c.args.now c.count_held-held.result c.is_full_or_old-full.result true (is_last_batch c.args.books.now.log c.args.i) c.count_held-held.ensures c.is_full_or_old-full.ensures
+    (sym c.if-due.true ∙ c.either-due.ensures ∙ ap (λ b. c.is_full_or_old-full.result || b) c.failed_before.ensures) refl
 
 pub returns-else-due : goal.returns-else-due
 returns-else-due g c =
     let bare = owes_none g.P.Port.told c.args.books.now c.requires.stands c.args.i c.get-seat.result.now c.get-seat.ensures c.requires.settled in
     let goes = going g.P.Port.told c.args.books.now c.requires.stands c.args.i c.get-seat.result.now c.get-seat.ensures c.requires.settled in
-    closed_some g.P.Port.told c.args.books.now c.requires.stands c.args.i c.get-seat.result.now c.get-seat.ensures bare goes c.args.now c.count_held-held.result false c.is_last.result c.requires.sink c.count_held-held.ensures
-    (omega (arith, c.if-held-eq0.false)) (sym c.if-due.false ∙ c.is_full_or_old-due.ensures) c.is_last.ensures
+    closed_some g.P.Port.told c.args.books.now c.requires.stands c.args.i c.get-seat.result.now c.get-seat.ensures bare goes c.requires.sink (omega (arith, c.if-held-eq0.false, c.count_held-held.ensures))
+    c.args.now c.count_held-held.result c.is_full_or_old-full.result false c.is_last.result c.count_held-held.ensures c.is_full_or_old-full.ensures
+    (sym c.if-due.false ∙ c.either-due.ensures ∙ ap (λ b. c.is_full_or_old-full.result || b) c.failed_before.ensures) c.is_last.ensures

@@ -6,16 +6,16 @@ pub source_job-requires-clause-source : goal.source_job-requires-clause-source
 source_job-requires-clause-source g c = source_so g.P.Port.told c.args.books.now c.requires.stands c.args.i c.get.result.now c.get.ensures c.in-Source.is
 
 pub returns-in-Source-clause-some : goal.returns-in-Source-clause-some
-returns-in-Source-clause-some g c = IfSome_then c.source_job.result (c.source_job.ensures.some c.args.now) (λ job does.
+returns-in-Source-clause-some g c = IfSome_then c.source_job.result c.source_job.ensures.some (λ job does.
     source_works g.P.Port.told c.args.books.now c.requires.stands c.args.i c.get.result.now c.get.ensures (c.is_settled.ensures.settled c.if-not-is_settled.false) (c.is_open.ensures.open c.if-not-is_open.false) c.args.now job c.in-Source.is does)
 
 pub returns-in-Source-clause-leasable : goal.returns-in-Source-clause-leasable
-returns-in-Source-clause-leasable g c = IfSome_then c.source_job.result (c.source_job.ensures.some c.args.now) (λ job does.
+returns-in-Source-clause-leasable g c = IfSome_then c.source_job.result c.source_job.ensures.some (λ job does.
     source_leased g.P.Port.told c.args.books.now c.requires.stands c.args.i c.get.result.now c.get.ensures (c.is_settled.ensures.settled c.if-not-is_settled.false) (c.is_open.ensures.open c.if-not-is_open.false) c.args.now job c.in-Source.is does)
 
 pub returns-in-Source-clause-none : goal.returns-in-Source-clause-none
 returns-in-Source-clause-none g c settled open_at = none_map _ _ c.source_job.result
-    (source_none g.P.Port.told c.args.books.now c.requires.stands c.args.i c.get.result.now c.get.ensures settled open_at c.args.now c.in-Source.is) (c.source_job.ensures.none c.args.now)
+    (source_none g.P.Port.told c.args.books.now c.requires.stands c.args.i c.get.result.now c.get.ensures settled open_at c.args.now c.in-Source.is) c.source_job.ensures.none
 
 pub transform_job-requires-clause-transform : goal.transform_job-requires-clause-transform
 transform_job-requires-clause-transform g c = transform_so g.P.Port.told c.args.books.now c.requires.stands c.args.i c.get.result.now c.get.ensures c.in-Transform.is

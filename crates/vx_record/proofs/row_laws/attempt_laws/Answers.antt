@@ -1,9 +1,9 @@
-use Rattle.vx_record.proofs.Untried.{held_untried, spent_failed}
+use Rattle.vx_record.proofs.Untried.{held_failed, spent_failed}
 use Rattle.vx_record.proofs.Attempting.{attempt_names, attempt_due, attempt_encodes}
 use Rattle.vx_record.proofs.row_laws.attempt_laws.Goals as goal
 
-pub returns-clause-untried : goal.returns-clause-untried
-returns-clause-untried c = held_untried
+pub returns-clause-held : goal.returns-clause-held
+returns-clause-held c = held_failed
 
 pub returns-clause-failed : goal.returns-clause-failed
 returns-clause-failed c = spent_failed

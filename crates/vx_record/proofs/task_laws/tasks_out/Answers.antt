@@ -1,5 +1,6 @@
 use Rattle.vx_record.proofs.TasksOut.{out_to_worker, leased_from_home, out_made_by, others_spare, workers_spare, none_spares, tasks_spare, taskless_spares, spared_stays, tasks_out}
 use Rattle.vx_record.proofs.OwnLeases.{lease_stays}
+use Rattle.vx_record.proofs.Resting.{reading_spared}
 use Rattle.vx_record.proofs.OwnContents.{contents_grow}
 use Rattle.vx_record.proofs.Spenders.{spent_by_taker}
 use Rattle.vx_record.proofs.task_laws.tasks_out.Goals as goal
@@ -36,6 +37,9 @@ returns-clause-out c = tasks_out
 
 pub returns-clause-lease : goal.returns-clause-lease
 returns-clause-lease c = lease_stays
+
+pub returns-clause-reading : goal.returns-clause-reading
+returns-clause-reading c = reading_spared
 
 pub returns-clause-contents : goal.returns-clause-contents
 returns-clause-contents c = contents_grow

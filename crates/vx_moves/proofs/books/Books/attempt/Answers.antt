@@ -10,4 +10,4 @@ returns-clause-steps g c =
     let all = c.args.all.now.value in
     let many : c.args.sent ≡ capped (length (take c.args.sent all)) = omega (arith, c.ranges.sent.fits, c.requires.fits, length-take c.args.sent all) in
     plain_step s (assumption) c.requires.may c.requires.left c.note.ensures
-    (c.attempted.ensures.knows c.args.self.now.log _ _ c.args.reply many s.seats) c.attempted.ensures.size
+    (c.attempted.ensures.knows c.args.self.now.log _ _ many s.seats) c.attempted.ensures.size

@@ -56,13 +56,13 @@ returns g c =
       };
       kept = lease_kept d.places d.log i worker now s.kept;
       rooms = assumption s.rooms;
-    }) (gave.knows d.log worker now 0 s.seats) (λ _. aside_kept d.balance d.log (Lease i worker now 0) tt s.balance) refl c.leave.ensures.size in
+    }) (gave.knows d.log worker 0 s.seats) (λ _. aside_kept d.balance d.log (Lease i worker now 0) tt s.balance) refl c.leave.ensures.size in
     record {
       lent = record {
         steps = steps;
         home = rw c.note.ensures (lent_home g.P.Port.told (slice_get d.seats i) d.log i worker now c.in-Some.task
             (there d.seats i c.requires.within) (gave.home d.log s.seats) c.requires.fit.fed);
-        due = rw c.note.ensures (gave.due d.log worker now 0 c.requires.fit.settled s.seats (steps.follows, s.legal));
+        due = rw c.note.ensures (gave.due d.log worker 0 c.requires.fit.settled s.seats (steps.follows, s.legal));
         seats = gave.left;
         rooms = λ j. (refl, refl);
         run = refl;

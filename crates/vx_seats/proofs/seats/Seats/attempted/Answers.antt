@@ -4,8 +4,9 @@ use Rattle.vx_seats.proofs.Steps.{attempted_knows}
 use Rattle.vx_seats.proofs.seats.Seats.attempted.Goals as goal
 
 pub returns-clause-knows : goal.returns-clause-knows
-returns-clause-knows g c = λ h copies gave reply bytes.
-    attempted_knows c.args.i c.self.view_is c.requires c.index_mut.ensures.value h copies gave reply (λ legal. c.attempted.ensures h c.args.i copies gave reply legal bytes)
+returns-clause-knows g c = λ h copies gave bytes.
+    attempted_knows c.args.i c.self.view_is c.requires c.index_mut-seat.ensures.value h copies gave c.args.reply c.is_failed-failed.ensures c.failures_after-seat.ensures c.number_after-seat.ensures
+    (λ legal. c.attempted.ensures h c.args.i copies gave c.args.reply legal bytes)
 
 pub returns-clause-stays : goal.returns-clause-stays
-returns-clause-stays g c = stay c.args.i c.self.view_is c.requires c.index_mut.ensures.value _ _ _ refl refl refl
+returns-clause-stays g c = stay c.args.i c.self.view_is c.requires c.index_mut-seat.ensures.value _ _ _ refl refl refl

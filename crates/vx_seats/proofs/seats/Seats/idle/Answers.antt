@@ -4,7 +4,7 @@ use Rattle.vx_seats.proofs.Steps.{idle_knows}
 use Rattle.vx_seats.proofs.seats.Seats.idle.Goals as goal
 
 pub returns-clause-knows : goal.returns-clause-knows
-returns-clause-knows g c = idle_knows c.args.i c.self.view_is c.requires c.index_mut.ensures.value c.starts_after-facts.ensures
+returns-clause-knows g c = idle_knows c.args.i c.self.view_is c.requires c.index_mut.ensures.value c.starts_after-facts.ensures c.rest_after.ensures c.saturating_add-facts.ensures
 
 pub returns-clause-stays : goal.returns-clause-stays
 returns-clause-stays g c = stay c.args.i c.self.view_is c.requires c.index_mut.ensures.value _ _ _ refl refl refl

@@ -14,4 +14,4 @@ pub returns-clause-nobody : goal.returns-clause-nobody
 returns-clause-nobody g c = if_none_then c.leave_seat.result (λ none. rw (there c.args.i c.self.view_is c.requires c.index_mut.ensures.value) none) c.leave_seat.ensures.none
 
 pub returns-clause-left : goal.returns-clause-left
-returns-clause-left g c = IfSome_then c.leave_seat.result c.leave_seat.ensures.some (λ r leaves. left_stays c.args.i c.self.view_is c.requires c.index_mut.ensures.value c.leave_seat.new.seat r.0 r.1 leaves)
+returns-clause-left g c = IfSome_then c.leave_seat.result c.leave_seat.ensures.some (λ r leaves. left_stays c.args.i c.self.view_is c.requires c.index_mut.ensures.value c.args.now c.leave_seat.new.seat r.0 r.1 leaves)

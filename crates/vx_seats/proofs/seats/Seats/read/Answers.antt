@@ -6,7 +6,7 @@ use Rattle.vx_seats.proofs.seats.Seats.read.Goals as goal
 
 pub returns-clause-knows : goal.returns-clause-knows
 returns-clause-knows g c = λ h stream took bytes ends new.
-    read_knows c.args.i c.self.view_is c.requires c.index_mut-seat.ensures.value h c.either-seat.ensures c.either-seat-2.ensures ends
+    read_knows c.args.i c.self.view_is c.requires c.index_mut-seat.ensures.value h c.either-seat.ensures c.either-seat-2.ensures c.saturating_add-seat.ensures ends
     (λ counted legal. c.count_read-counted.ensures.counts counted h c.args.i stream took legal bytes new)
 
 pub returns-clause-stays : goal.returns-clause-stays

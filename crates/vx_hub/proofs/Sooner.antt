@@ -1,0 +1,62 @@
+-- The soonest of the moments for which instances wait.
+use Rattle.std.proofs.Common.{◌≡◌, ◌∙◌, ◌⊎◌, ℕ, zero, suc, ◌+◌, ◌<◌, ◌≤◌, length, Option, Some, None, IfSome, inl, inr, sym, subst, arith}
+use Rattle.std.specs.Prelude.{min}
+use Rattle.std.proofs.lemmas.Bool.{cases_eq}
+use Rattle.vx_record.specs.Ready.{waits_until}
+use Rattle.vx_moves.specs.declared.books.Books.{Books}
+use Rattle.vx_ready.specs.Asking.{IsSettled, IsOpen}
+use Rattle.vx_hub.specs.Waiting.{WaitsAt, SomeoneWaits, IsSoonest, sooner}
+
+-- of those below a number and of one more
+below_or : (F : ℕ → Type 0) (n i : ℕ) → i < n + 1 → ((i < n) → F i) → F n → F i
+below_or F n i l below here = elim (cases_eq i n) [
+  | inl same ↦ subst F (sym same) here
+  | inr other ↦ below (omega (arith, l, other))
+]
+
+-- the sooner of two moments is one of them, and is no later than either
+which : (a b : ℕ) → (a ≤ b) ⊎ (b ≤ a)
+which zero b = inl (omega arith)
+which (suc a) zero = inr (omega arith)
+which (suc a) (suc b) = elim (which a b) [ inl l ↦ inl (omega (arith, l)) | inr l ↦ inr (omega (arith, l)) ]
+
+one_of : (x y : ℕ) → (min x y ≡ x) ⊎ (min x y ≡ y)
+one_of x y = elim (which x y) [ inl l ↦ inl (omega (arith, l)) | inr l ↦ inr (omega (arith, l)) ]
+
+-- what was found of an instance
+pub record IsWaitOf {P : Type 0} (books : Books P) (i : ℕ) (found : Option ℕ) : Type 0 where
+  pub waits : IsSettled books i → IsOpen books i → found ≡ waits_until books.log i
+  pub settled : IfSome found (λ moment. IsSettled books i)
+  pub open_at : IfSome found (λ moment. IsOpen books i)
+
+module _ {P : Type 0} (books : Books P) where
+  waits_at : (i m : ℕ) → IsWaitOf books i (Some m) → WaitsAt books i m
+  waits_at i m found = record { settled = found.settled; open_at = found.open_at; until = sym (found.waits found.settled found.open_at) }
+
+  one_moment : (i m moment : ℕ) → IsWaitOf books i (Some m) → WaitsAt books i moment → m ≡ moment
+  one_moment i m moment found waits = let same = found.waits waits.settled waits.open_at ∙ waits.until in cc
+
+  no_moment : (i moment : ℕ) → IsWaitOf books i None → WaitsAt books i moment → ⊥
+  no_moment i moment found waits = let same = found.waits waits.settled waits.open_at ∙ waits.until in cc
+
+  pub one_more : (n : ℕ) → n < length books.seats → (soonest found : Option ℕ) → IsSoonest books n soonest → IsWaitOf books n found → IsSoonest books (n + 1) (sooner soonest found)
+  one_more n within None None none found = λ i moment l waits.
+      below_or (λ j. WaitsAt books j moment → ⊥) n i l (λ less. none i moment less) (λ here. no_moment n moment found here) waits
+  one_more n within None (Some m) none found = (
+    record { who = n; within = within; waits = waits_at n m found },
+    λ i moment l waits. below_or (λ j. WaitsAt books j moment → m ≤ moment) n i l (λ less here. absurd (none i moment less here))
+        (λ here. let same = one_moment n m moment found here in omega (arith, same)) waits,
+  )
+  one_more n within (Some x) None some found = (
+    some.0,
+    λ i moment l waits. below_or (λ j. WaitsAt books j moment → x ≤ moment) n i l (λ less here. some.1 i moment less here)
+        (λ here. absurd (no_moment n moment found here)) waits,
+  )
+  one_more n within (Some x) (Some m) some found = (
+    elim (one_of x m) [
+      | inl same ↦ subst (λ (s : ℕ). SomeoneWaits books s) (sym same) some.0
+      | inr same ↦ subst (λ (s : ℕ). SomeoneWaits books s) (sym same) (record { who = n; within = within; waits = waits_at n m found })
+    ],
+    λ i moment l waits. below_or (λ j. WaitsAt books j moment → min x m ≤ moment) n i l (λ less here. let later = some.1 i moment less here in omega (arith, later))
+        (λ here. let same = one_moment n m moment found here in omega (arith, same)) waits,
+  )

@@ -1,0 +1,51 @@
+// Until when nobody has work.
+ghost use Rattle.std.specs.Prelude.{◌≡◌, ◌<◌, true, false, None, length};
+ghost use Rattle.vx_moves.specs.Stands.{Stands};
+ghost use Rattle.vx_ready.specs.Asking.{IsServed};
+ghost use Rattle.vx_hub.specs.Standing.{IsHub};
+ghost use Rattle.vx_hub.specs.Waiting.{IsSoonest, sooner as sooner_of};
+
+use crate::hub::Hub;
+use vx_ends::Port;
+use vx_moves::Books;
+use vx_ready::waits_until;
+
+impl<P: Port> Hub<P> {
+    /// The soonest of the moments, in milliseconds, for which instances at home wait: a source to be read again, a sink to write a batch
+    /// that will be old enough, or one that failed once more. `None` exactly where none waits, or a call answered `Fatal`, or the run was
+    /// given up. It takes no memory, and looks at each instance, so it is for where nobody has work.
+    pub fn due(&self) -> Option<u64>
+        requires { IsHub P.told self.now }
+        ensures soonest { self.now.fatal ≡ false → IsSoonest self.now.books (length self.now.books.seats) result }
+        ensures sound { self.now.fatal ≡ true → result ≡ None }
+    {
+        if self.fatal {
+            return None;
+        }
+        soonest(&self.books)
+    }
+}
+
+/// The soonest of the moments for which instances at home wait.
+fn soonest<P: Port>(books: &Books<P>) -> Option<u64>
+    requires stands { Stands P.told books.now }
+    requires served { IsServed books.now }
+    ensures { IsSoonest books.now (length books.now.seats) result }
+{
+    let mut soonest = None;
+    for i in 0..books.seats.len() as u32 {
+        soonest = sooner(soonest, waits_until(books, i));
+    }
+    soonest
+}
+
+/// The sooner of two moments, if there are any.
+fn sooner(a: Option<u64>, b: Option<u64>) -> Option<u64>
+    ensures { result ≡ sooner_of a b }
+{
+    match (a, b) {
+        (Some(a), Some(b)) => Some(a.min(b)),
+        (Some(a), None) => Some(a),
+        (None, b) => b,
+    }
+}

@@ -1,0 +1,97 @@
+// The moment for which an instance waits.
+ghost use Rattle.std.specs.Prelude.{◌≡◌, ◌<◌, length, true, None, IfSome};
+ghost use Rattle.vx_record.specs.Installs.{sink_at};
+ghost use Rattle.vx_record.specs.Ready.{source_waits as source_waits_at, sink_waits as sink_waits_at, waits_until as waits_until_at};
+ghost use Rattle.vx_moves.specs.Stands.{Stands};
+ghost use Rattle.vx_ready.specs.Asking.{IsServed, IsSettled, IsOpen};
+ghost use Rattle.vx_ready.specs.Jobs.{is_full as is_full_by, times_out as times_out_by};
+
+use crate::batches::{failed_before, is_last, retry_from};
+use crate::finishing::count_held;
+use crate::jobs::{is_open, is_settled};
+use crate::sources::{either, gives_more};
+use vx_ends::Port;
+use vx_moves::Books;
+use vx_plan::Class;
+use vx_seats::Batching;
+
+/// The moment for which an instance at home waits, in milliseconds: a source that rests, a sink that makes an attempt again or whose
+/// batch gets old. `None` where there is none, where the instance isn't at home, or may owe something for want of memory, where its
+/// port is closed for good or may have given what no entry tells, where it ended, and where the run was given up.
+pub fn waits_until<P: Port>(books: &Books<P>, i: u32) -> Option<u64>
+    requires stands { Stands P.told books.now }
+    requires within { i < length books.now.seats }
+    requires served { IsServed books.now }
+    ensures waits { IsSettled books.now i → IsOpen books.now i → result ≡ waits_until_at books.now.log i }
+    ensures settled { IfSome result (λ moment. IsSettled books.now i) }
+    ensures open { IfSome result (λ moment. IsOpen books.now i) }
+{
+    if !is_settled(books, i) {
+        return None;
+    }
+    if !is_open(books, i) {
+        return None;
+    }
+    match books.seats.get(i).class {
+        Class::Source => source_waits(books, i),
+        Class::Transform => None,
+        Class::Sink => sink_waits(books, i),
+    }
+}
+
+/// The moment from which on a source may be read, if it can be once it has rested.
+fn source_waits<P: Port>(books: &Books<P>, i: u32) -> Option<u64>
+    requires stands { Stands P.told books.now }
+    requires within { i < length books.now.seats }
+    ensures { result ≡ source_waits_at books.now.log i }
+{
+    let moment = books.seats.get(i).facts.reads_from;
+    if gives_more(books, i) {
+        Some(moment)
+    } else {
+        None
+    }
+}
+
+/// The moment for which a sink at home waits that holds something.
+fn sink_waits<P: Port>(books: &Books<P>, i: u32) -> Option<u64>
+    requires stands { Stands P.told books.now }
+    requires within { i < length books.now.seats }
+    requires served { IsServed books.now }
+    requires settled { IsSettled books.now i }
+    requires sink { sink_at books.now.log i ≡ true }
+    ensures { result ≡ sink_waits_at books.now.log i }
+{
+    let held = count_held(books, i);
+    let seat = books.seats.get(i);
+    let full = is_full(seat.batching, held);
+    let due = either(full, failed_before(seat.facts.failures));
+    let ready = either(due, is_last(books, i));
+    if held == 0 {
+        return None;
+    }
+    if ready {
+        return Some(retry_from(books, i));
+    }
+    Some(times_out(seat.batching, seat.facts.since))
+}
+
+/// Whether so many parcels are as many as a batch may have.
+fn is_full(batching: Option<Batching>, held: usize) -> bool
+    ensures { result ≡ is_full_by batching held }
+{
+    match batching {
+        Some(batching) => held >= batching.max_events as usize,
+        None => false,
+    }
+}
+
+/// The moment from which on the oldest parcel has waited long enough.
+fn times_out(batching: Option<Batching>, since: u64) -> u64
+    ensures { result ≡ times_out_by batching since }
+{
+    match batching {
+        Some(batching) => since.saturating_add(batching.timeout),
+        None => 0,
+    }
+}
