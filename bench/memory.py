@@ -3,7 +3,8 @@
 
 It runs with 10,000, 1,000,000 and 10,000,000 lines of 100 bytes, as text and as JSON, made while they are read, so that no file
 is kept. What it writes is read and counted. Then its input is a pipe that doesn't block and into which nothing is written for
-ten seconds; after that a line is, and the pipe is closed. It prints the greatest memory of each run, and by how much they differ.
+ten seconds; after that a line is, and the pipe is closed. It prints the greatest memory of each run, by how much they differ, and how
+long the silent one kept a processor.
 
 A first argument is the greatest number of lines. It needs Python 3, GNU `time` and the program as `./vector` builds it.
 """
@@ -37,9 +38,9 @@ def feed(pipe, kind, count):
 
 
 def greatest(path, feeder, expected, blocking=True):
-    """Runs the program of a configuration under `time`, and gives the greatest memory that it had, in kilobytes."""
+    """Runs the program of a configuration under `time`, and gives the greatest memory that it had, in kilobytes, and the seconds of a processor."""
     told = path.with_suffix(".told")
-    words = ["/usr/bin/time", "--format", "%M", "--output", str(told), VECTOR, "--config", str(path)]
+    words = ["/usr/bin/time", "--format", "%M %U %S", "--output", str(told), VECTOR, "--config", str(path)]
     source, into = os.pipe()
     os.set_blocking(source, blocking)
     process = subprocess.Popen(words, stdin=source, stdout=subprocess.PIPE)
@@ -52,7 +53,8 @@ def greatest(path, feeder, expected, blocking=True):
     writer.join()
     if process.wait() or read != expected:
         sys.exit(f"status {process.returncode}, {read} bytes in the place of {expected}")
-    return int(told.read_text())
+    memory, *busy = told.read_text().split()
+    return int(memory), sum(map(float, busy))
 
 
 def silent(pipe):
@@ -68,11 +70,11 @@ def main():
         for kind in CODECS:
             path = configuration_file(folder, kind)
             for count in (10_000, 1_000_000, most):
-                used = greatest(path, lambda pipe: feed(pipe, kind, count), 100 * count)
+                used, _ = greatest(path, lambda pipe: feed(pipe, kind, count), 100 * count)
                 print(f"{kind:6} {count:10} lines {used:8} KB", flush=True)
                 found.append(used)
-        used = greatest(configuration_file(folder, "text"), silent, 100, blocking=False)
-        print(f"text   nothing for {SILENCE} seconds {used:6} KB")
+        used, busy = greatest(configuration_file(folder, "text"), silent, 100, blocking=False)
+        print(f"text   nothing for {SILENCE} seconds {used:6} KB, {busy:.2f} s of a processor")
         found.append(used)
     print(f"the greatest differs from the least by {max(found) - min(found)} KB")
 

@@ -111,6 +111,13 @@ int posix_memalign(void **made, size_t alignment, size_t size)
 """
 
 
+def without_retries(folder, path):
+    """The path of a configuration like another, whose consoles make no failed attempt again."""
+    at = Path(folder) / "without_retries.toml"
+    at.write_text(Path(path).read_text().replace('type = "console"\n', 'type = "console"\nrequest.retry_attempts = 0\n'))
+    return str(at)
+
+
 def lines_of(given):
     """The lines that have to come out: each ill-formed part replaced, and lines that are too long left out."""
     lines = given.split(b"\n")
@@ -193,8 +200,14 @@ def lines_as_they_come():
 
 
 def a_reader_that_leaves():
-    """The run ends by itself, with a status and by no signal, where nobody reads its output any more."""
-    ran = subprocess.Popen([PROGRAM, "--config", FIRST], stdin=subprocess.PIPE, stdout=subprocess.PIPE, stderr=subprocess.PIPE)
+    """The run ends by itself, with a status and by no signal, where nobody reads its output any more and no attempt is made again."""
+    with tempfile.TemporaryDirectory() as folder:
+        words = [PROGRAM, "--config", without_retries(folder, FIRST)]
+        leaves_early(subprocess.Popen(words, stdin=subprocess.PIPE, stdout=subprocess.PIPE, stderr=subprocess.PIPE))
+
+
+def leaves_early(ran):
+    """Checks a run of whose output the first line alone is read."""
     head = subprocess.Popen(["head", "-n", "1"], stdin=ran.stdout, stdout=subprocess.PIPE)
     ran.stdout.close()
     try:
@@ -214,8 +227,9 @@ def a_reader_that_leaves():
 
 def ends_that_fail():
     """A device without room, an input that can't be read, and a run that was killed."""
-    with open("/dev/full", "wb") as full:
-        ran = subprocess.run([PROGRAM, "--config", FIRST], input=b"a\n" * 1000, stdout=full, stderr=subprocess.PIPE, timeout=PATIENCE)
+    with open("/dev/full", "wb") as full, tempfile.TemporaryDirectory() as folder:
+        words = [PROGRAM, "--config", without_retries(folder, FIRST)]
+        ran = subprocess.run(words, input=b"a\n" * 1000, stdout=full, stderr=subprocess.PIPE, timeout=PATIENCE)
     check("a full device", (ran.returncode, ran.stderr) == (0, b""), (ran.returncode, ran.stderr[:200]))
     folder = os.open("/", os.O_RDONLY)
     ran = subprocess.run([PROGRAM, "--config", FIRST], stdin=folder, capture_output=True, timeout=PATIENCE)
@@ -275,10 +289,11 @@ def late_readers():
     comes_late("an output that would block", lines, ["--config", FIRST], 6, (0, lines, b""))
     comes_late("two outputs that would block", lines, ["--config", TWO], 1, (0, lines, lines))
     comes_late("acknowledged, two outputs that would block", lines, ["--config", ACKNOWLEDGED], 1, (0, lines, lines))
-    ran = begun(lines, ["--config", FIRST], False)
-    time.sleep(1)
-    ran.stdout.close()
-    seen = read_late(ran, 0)
+    with tempfile.TemporaryDirectory() as folder:
+        ran = begun(lines, ["--config", without_retries(folder, FIRST)], False)
+        time.sleep(1)
+        ran.stdout.close()
+        seen = read_late(ran, 0)
     check("a reader that leaves an output that would block", seen == (0, b"", b""), (seen[0], seen[2][:200]))
 
 
@@ -428,8 +443,9 @@ def acknowledged():
     lines = b"".join(b"%d\n" % i for i in range(100_000))
     seen = run(lines, ["--config", ACKNOWLEDGED])
     check("acknowledged, many lines", seen == (0, lines, lines), seen[0])
-    with open("/dev/full", "wb") as full:
-        ran = subprocess.run([PROGRAM, "--config", ACKNOWLEDGED], input=b"a\nb\n", stdout=full, stderr=subprocess.PIPE, timeout=PATIENCE)
+    with open("/dev/full", "wb") as full, tempfile.TemporaryDirectory() as folder:
+        words = [PROGRAM, "--config", without_retries(folder, ACKNOWLEDGED)]
+        ran = subprocess.run(words, input=b"a\nb\n", stdout=full, stderr=subprocess.PIPE, timeout=PATIENCE)
     check("acknowledged, the first console full", (ran.returncode, ran.stderr) == (0, b"a\nb\n"), (ran.returncode, ran.stderr))
 
 
@@ -561,12 +577,94 @@ def buffers():
         check("a buffer that overflows, and then blocks", (status, sorted(out.splitlines(), key=int), err) == (0, [line.strip() for line in lines], b""), (status, out[:200], err))
 
 
+BATCHED = """\
+[sources.in]
+type = "stdin"
+
+[sinks.out]
+type = "console"
+target = "stderr"
+inputs = ["in"]
+encoding.codec = "text"
+batch = {{ max_events = {}, timeout_secs = {} }}
+request.retry_attempts = 0
+"""
+
+
+def attempts_in_time(folder, pause):
+    """How often a console that collects two lines writes, where the second comes so many seconds behind the first."""
+    ran = subprocess.Popen([PROGRAM, "--config", "other.toml", "--stats"], cwd=folder, stdin=subprocess.PIPE, stdout=subprocess.PIPE, stderr=subprocess.PIPE)
+    ran.stdin.write(b"a\n")
+    ran.stdin.flush()
+    time.sleep(pause)
+    out, err = ran.communicate(b"b\n", PATIENCE)
+    return (ran.returncode, err, counted(out.splitlines()[1], b"attempts"))
+
+
+def batches():
+    """Sinks that collect some lines before they write."""
+    lines = b"".join(b"%d\n" % k for k in range(10_001))
+    with tempfile.TemporaryDirectory() as folder:
+        at = Path(folder) / "other.toml"
+        for most, attempts in [(1, 10_001), (4, 2_501), (1_000, 11), (10_000, 2)]:
+            at.write_text(BATCHED.format(most, 86_400))
+            status, out, err = run(lines, ["--config", "other.toml", "--stats"], cwd=folder)
+            wanted = b"sink out taken=10001 newest=0 attempts=%d delivered=10001 errored=0 rejected=0 bytes=%d" % (attempts, len(lines))
+            check(f"batches of {most}", (status, out.splitlines()[1], err == lines) == (0, wanted, True), (status, out))
+        at.write_text(BATCHED.format(3, 86_400))
+        with open("/dev/full", "wb") as full:
+            ran = subprocess.run([PROGRAM, "--config", str(at), "--stats"], input=b"a\n" * 10, stdout=subprocess.PIPE, stderr=full, timeout=PATIENCE)
+        lost = b"sink out taken=10 newest=0 attempts=4 delivered=0 errored=10 rejected=0 bytes=0"
+        check("batches to a full device", (ran.returncode, ran.stdout.splitlines()[1:]) == (0, [lost]), (ran.returncode, ran.stdout))
+        at.write_text(BATCHED.format(2, 1))
+        seen = attempts_in_time(folder, 0), attempts_in_time(folder, 1.5)
+        check("a batch that is closed by its age", seen == ((0, b"a\nb\n", 1), (0, b"a\nb\n", 2)), seen)
+
+
+def reader_that_comes_back(folder):
+    """What two readers of one pipe got, the second of which came two seconds behind the first, and how the run ended between them."""
+    pipe = Path(folder) / "pipe"
+    os.mkfifo(pipe)
+    first = os.open(pipe, os.O_RDONLY | os.O_NONBLOCK)
+    into = os.open(pipe, os.O_WRONLY)
+    ran = subprocess.Popen([PROGRAM, "--config", FIRST, "--stats"], stdin=subprocess.PIPE, stdout=into, stderr=subprocess.PIPE)
+    os.close(into)
+    ran.stdin.write(b"a\n")
+    ran.stdin.flush()
+    select.select([first], [], [], PATIENCE)
+    seen = [os.read(first, 4096)]
+    os.close(first)
+    ran.stdin.write(b"b\nc\n")
+    ran.stdin.close()
+    time.sleep(2)
+    with open(pipe, "rb") as second:
+        seen.append(second.read())
+    return ran.wait(PATIENCE), seen
+
+
+def retries():
+    """Outputs that fail for some time: what couldn't be written is written again, later and later."""
+    with tempfile.TemporaryDirectory() as folder:
+        status, seen = reader_that_comes_back(folder)
+        lines = seen[1].splitlines()
+        counted_so = counted(lines[-1], b"delivered"), counted(lines[-1], b"errored"), counted(lines[-1], b"attempts") > 3
+        check("a reader that comes back", (status, seen[0], lines[:2], counted_so) == (0, b"a\n", [b"b", b"c"], (3, 0, True)), (status, seen))
+        at = Path(folder) / "other.toml"
+        at.write_text(Path(FIRST).read_text() + "request = { retry_attempts = 3, retry_max_duration_secs = 1 }\ntarget = \"stderr\"\n")
+        begun_at = time.monotonic()
+        with open("/dev/full", "wb") as full:
+            ran = subprocess.run([PROGRAM, "--config", str(at), "--stats"], input=b"a\n", stdout=subprocess.PIPE, stderr=full, timeout=PATIENCE)
+        took = time.monotonic() - begun_at
+        lost = b"sink out taken=1 newest=0 attempts=4 delivered=0 errored=1 rejected=0 bytes=0"
+        check("three attempts more, a second apart", (ran.returncode, ran.stdout.splitlines()[1:], 3 <= took < 10) == (0, [lost], True), (ran.returncode, ran.stdout, took))
+
+
 def counts():
     """Counts behind a run: of what was lost where an output fails, and where they can't be printed themselves."""
     lines = b"a\n" * 1_000
     with tempfile.TemporaryDirectory() as folder:
         at = Path(folder) / "other.toml"
-        at.write_text(BUFFERED.format("target = \"stderr\"", 500, "block", 1, "block").replace(OVERFLOW.format(1, "block"), ""))
+        at.write_text(BUFFERED.format("target = \"stderr\"\nrequest.retry_attempts = 0", 500, "block", 1, "block").replace(OVERFLOW.format(1, "block"), ""))
         words = [PROGRAM, "--config", str(at), "--stats"]
         lost = b"sink out taken=1000 newest=0 attempts=1000 delivered=0 errored=1000 rejected=0 bytes=0"
         with open("/dev/full", "wb") as full:
@@ -618,6 +716,7 @@ format = "shuffle"
 lines = ["a", "b\\tc", "{text}"]
 count = {count}
 seed = {seed}
+interval = 0
 sequence = true
 
 [sinks.hole]
@@ -675,4 +774,4 @@ def judgements():
 
 
 if __name__ == "__main__":
-    sys.exit(go_through([consoles, acknowledged, judgements, json_lines, transforms, buffers, counts, generated, inputs, bytes_of_all_kinds, lines_as_they_come, a_reader_that_leaves, late_readers, signals, short_writes, wanting_memory, late_texts, ends_that_fail, many_lines]))
+    sys.exit(go_through([consoles, acknowledged, judgements, json_lines, transforms, buffers, batches, retries, counts, generated, inputs, bytes_of_all_kinds, lines_as_they_come, a_reader_that_leaves, late_readers, signals, short_writes, wanting_memory, late_texts, ends_that_fail, many_lines]))

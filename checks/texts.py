@@ -98,7 +98,6 @@ SINK_OPTIONS = [
     ('encoding.codec = "text"\ntarget = "file"', "bad value at sinks.out.target"),
     ('encoding.codec = "text"\ntarget = true', "bad value at sinks.out.target"),
     ('encoding.codec = "text"\ntarget = inf', "bad value at sinks.out.target"),
-    ('encoding.codec = "text"\nbatch.max_events = 2', "unknown option sinks.out.batch"),
     ('encoding.codec = "text"', None),
     ('encoding.codec = "json"', None),
     ('encoding.codec = "text"\nacknowledgements = true', None),
@@ -137,6 +136,38 @@ BUFFERS = [
     ('encoding.codec = "text"\n' + 8 * OVERFLOWING.split("\n", 1)[1] + "[[sinks.out.buffer]]\n", "too many at sinks.out.buffer: 9, limit 8"),
     (OVERFLOWING + "max_events = 600000\n[[sinks.out.buffer]]\nmax_events = 600000\n", "too many at sinks: 1200000, limit 1000000"),
     (OVERFLOWING + "max_events = 400000\n[[sinks.out.buffer]]\nmax_events = 600000\n", None),
+]
+
+# how the sink collects
+BATCHES = [
+    ('encoding.codec = "text"\nbatch.max_events = 2', None),
+    ('encoding.codec = "text"\nbatch = {}', None),
+    ('encoding.codec = "text"\nbatch = { max_events = 10000, timeout_secs = 86400 }', None),
+    ('encoding.codec = "text"\nbatch = 1', "unknown option sinks.out.batch"),
+    ('encoding.codec = "text"\nbatch.max_bytes = 1', "unknown option sinks.out.batch.max_bytes"),
+    ('encoding.codec = "text"\nbatch.max_events = 0', "bad value at sinks.out.batch.max_events"),
+    ('encoding.codec = "text"\nbatch.max_events = 10001', "bad value at sinks.out.batch.max_events"),
+    ('encoding.codec = "text"\nbatch.max_events = 4294967297', "bad value at sinks.out.batch.max_events"),
+    ('encoding.codec = "text"\nbatch.max_events = "1"', "bad value at sinks.out.batch.max_events"),
+    ('encoding.codec = "text"\nbatch.timeout_secs = 0', "bad value at sinks.out.batch.timeout_secs"),
+    ('encoding.codec = "text"\nbatch.timeout_secs = 86401', "bad value at sinks.out.batch.timeout_secs"),
+    ('encoding.codec = "text"\nbatch.timeout_secs = 1.0', "bad value at sinks.out.batch.timeout_secs"),
+    ('encoding.codec = "text"\nbatch = { max_events = 0, timeout_secs = 0 }', "bad value at sinks.out.batch.max_events"),
+]
+
+# how the sink tries again
+RETRIES = [
+    ('encoding.codec = "text"\nrequest.retry_attempts = 0', None),
+    ('encoding.codec = "text"\nrequest = {}', None),
+    ('encoding.codec = "text"\nrequest = { retry_attempts = 9223372036854775807, retry_initial_backoff_secs = 86400, retry_max_duration_secs = 1 }', None),
+    ('encoding.codec = "text"\nrequest = 1', "unknown option sinks.out.request"),
+    ('encoding.codec = "text"\nrequest.timeout_secs = 1', "unknown option sinks.out.request.timeout_secs"),
+    ('encoding.codec = "text"\nrequest.retry_attempts = -1', "bad value at sinks.out.request.retry_attempts"),
+    ('encoding.codec = "text"\nrequest.retry_attempts = "1"', "bad value at sinks.out.request.retry_attempts"),
+    ('encoding.codec = "text"\nrequest.retry_initial_backoff_secs = 0', "bad value at sinks.out.request.retry_initial_backoff_secs"),
+    ('encoding.codec = "text"\nrequest.retry_initial_backoff_secs = 86401', "bad value at sinks.out.request.retry_initial_backoff_secs"),
+    ('encoding.codec = "text"\nrequest.retry_max_duration_secs = 0', "bad value at sinks.out.request.retry_max_duration_secs"),
+    ('encoding.codec = "text"\nrequest.retry_max_duration_secs = 86401', "bad value at sinks.out.request.retry_max_duration_secs"),
 ]
 
 # options of the source
@@ -179,7 +210,9 @@ DEMO_OPTIONS = [
     (NO_COUNT + "count = -1", "bad value at sources.in.count"),
     (NO_COUNT + "count = 1.0", "bad value at sources.in.count"),
     (MADE + "interval = 0", None),
-    (MADE + "interval = 1", "bad value at sources.in.interval"),
+    (MADE + "interval = 86400", None),
+    (MADE + "interval = 86401", "bad value at sources.in.interval"),
+    (MADE + "interval = 0.5", "bad value at sources.in.interval"),
     (MADE + "seed = 9223372036854775807", None),
     (MADE + "seed = -1", "bad value at sources.in.seed"),
     (MADE + "max_length = 1", "unknown option sources.in.max_length"),
@@ -195,7 +228,10 @@ HOLE_OPTIONS = [
     ("print_interval_secs = -1", "bad value at sinks.out.print_interval_secs"),
     ('target = "stdout"', "unknown option sinks.out.target"),
     ('encoding.codec = "text"', "unknown option sinks.out.encoding"),
-    ("acknowledgements = true\nbuffer.max_events = 1", None),
+    ("acknowledgements = true\nbuffer.max_events = 1\nbatch.max_events = 10000", None),
+    ("batch.timeout_secs = 86401", "bad value at sinks.out.batch.timeout_secs"),
+    ("request.retry_attempts = 0", None),
+    ("request.retry_attempts = -1", "bad value at sinks.out.request.retry_attempts"),
     ('buffer.when_full = "overflow"', "bad value at sinks.out.buffer.when_full"),
 ]
 
@@ -410,7 +446,7 @@ def judged(folder, text, why, variables=None):
 def configurations():
     """Configurations, each with why it isn't accepted, or accepted."""
     tables = [
-        ("", WHOLE, ""), (SOURCE, COMPONENTS, "\n" + SINK), (BEFORE_OPTIONS, SINK_OPTIONS, "\n"), (BEFORE_OPTIONS, BUFFERS, "\n"), (SOURCE, SOURCE_OPTIONS, "\n" + SINK),
+        ("", WHOLE, ""), (SOURCE, COMPONENTS, "\n" + SINK), (BEFORE_OPTIONS, SINK_OPTIONS, "\n"), (BEFORE_OPTIONS, BUFFERS, "\n"), (BEFORE_OPTIONS, BATCHES, "\n"), (BEFORE_OPTIONS, RETRIES, "\n"), (SOURCE, SOURCE_OPTIONS, "\n" + SINK),
         (SOURCE.replace("stdin", "demo_logs"), DEMO_OPTIONS, "\n" + SINK), (BEFORE_OPTIONS.replace("console", "blackhole"), HOLE_OPTIONS, "\n"),
         (BEFORE_FILTER, FILTER_OPTIONS, "\n"), (BEFORE_ROUTE, ROUTE_OPTIONS, "\n"), (BEFORE_ROUTED, ROUTE_INPUTS, "\n"),
         (BEFORE_INPUTS, INPUTS, "\n"), ("", TWO_FAULTS, ""), ("", FORMS, ""), ("", NAMES, ""),
