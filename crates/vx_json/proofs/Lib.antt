@@ -18,6 +18,7 @@ pub mod Reaching
 pub mod Levels
 pub mod Readings
 pub mod Putting
+pub mod Drafting
 pub mod WrittenTexts
 pub mod Shallow
 pub mod WrittenAgain

@@ -11,6 +11,7 @@ pub mod WordViews
 pub mod ModeViews
 pub mod Faults
 pub mod Puts
+pub mod Drafts
 pub mod Writable
 pub mod Objects
 pub mod LineEvents

@@ -1,4 +1,5 @@
-use vx_value::{FieldList, Text, ValueList};
+use crate::draft::Draft;
+use vx_value::{Text, ValueList};
 
 /// What is open around a value.
 #[derive(Drop)]
@@ -6,5 +7,5 @@ pub enum Frame {
     /// An array, with its values so far.
     Items(ValueList),
     /// An object, with its fields so far and the name whose value comes.
-    Fields(FieldList, Text),
+    Fields(Draft, Text),
 }

@@ -4,6 +4,7 @@
 mod codec;
 mod decoding;
 mod demo_settings;
+mod draft;
 mod encode;
 mod frame;
 mod json_fault;

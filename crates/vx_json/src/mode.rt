@@ -1,7 +1,8 @@
+use crate::draft::Draft;
 use crate::number_place::NumberPlace;
 use crate::text_place::TextPlace;
 use crate::word_place::WordPlace;
-use vx_value::{FieldList, Text, Value};
+use vx_value::{Text, Value};
 
 /// Where a reader stands.
 #[derive(Drop)]
@@ -13,11 +14,11 @@ pub enum Mode {
     /// Behind an opening brace.
     FirstName,
     /// Behind a comma of an object, with its fields so far.
-    NextName(FieldList),
+    NextName(Draft),
     /// In a name, with the bytes that it has so far.
-    InName(FieldList, TextPlace, Vec<u8>),
+    InName(Draft, TextPlace, Vec<u8>),
     /// Behind a name.
-    Colon(FieldList, Text),
+    Colon(Draft, Text),
     /// Behind a value.
     Behind(Value),
     /// In a word.

@@ -11,7 +11,7 @@ use vx_value::{Field, FieldList, Text, Value, WantOfMemory};
 
 /// How the last name stands to another; before it where there is none.
 #[inline(always)]
-fn last_order(fields: &FieldList, name: &str) -> Ordering
+pub(crate) fn last_order(fields: &FieldList, name: &str) -> Ordering
     ensures order { result ≡ last_order fields.now name.now }
     ensures rising { IsTrue (names_rise fields.now) }
 {

@@ -5,12 +5,13 @@ ghost use Rattle.vx_json.specs.Numbers.{is_digit};
 ghost use Rattle.vx_json.specs.Openings.{IsOpened};
 ghost use Rattle.vx_json.specs.Runs.{is_plain, are_plain, all_digits, takes_digits, IsClosed, LeadsLevel};
 
+use crate::draft::Draft;
 use crate::mode::Mode;
 use crate::number_place::NumberPlace;
 use crate::text_place::TextPlace;
 use std::alloc::Global;
 use std::mem;
-use vx_value::{FieldList, Text, Value, WantOfMemory};
+use vx_value::{Text, Value, WantOfMemory};
 
 /// Whether a byte inside a text is a character that stands for itself.
 fn is_plain(b: u8) -> bool
@@ -114,7 +115,7 @@ impl Opened {
     }
 
     /// Where a reader stands behind it, if it is a name.
-    fn into_name(self, fields: FieldList) -> Mode
+    fn into_name(self, fields: Draft) -> Mode
         ensures first { (w : List ℕ) → IsOpened w self → fields ≡ [] → (st : List machine.Frame) →
             LeadsLevel machine.AtFirstName st w (mode_view result) }
         ensures next { (w : List ℕ) → IsOpened w self → (st : List machine.Frame) →
@@ -229,14 +230,14 @@ impl Mode {
             },
             Mode::FirstName => match begin_quoted(alloc, bytes)? {
                 Some((opened, n)) => {
-                    *self = opened.into_name(FieldList::new(alloc));
+                    *self = opened.into_name(Draft::new(alloc));
                     Ok(n)
                 }
                 None => Ok(0),
             },
             Mode::NextName(fields) => match begin_quoted(alloc, bytes)? {
                 Some((opened, n)) => {
-                    let fields = mem::replace(fields, FieldList::new(alloc));
+                    let fields = mem::replace(fields, Draft::new(alloc));
                     *self = opened.into_name(fields);
                     Ok(n)
                 }

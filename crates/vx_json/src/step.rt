@@ -9,11 +9,11 @@ ghost use Rattle.vx_json.specs.MoveViews.{move_view, move_bytes, move_place, mov
 ghost use Rattle.vx_json.specs.ModeViews.{mode_view, stack_view, state_view};
 ghost use Rattle.vx_json.specs.WordViews.{word_rest, word_datum};
 
+use crate::draft::Draft;
 use crate::frame::Frame;
 use crate::mode::Mode;
 use crate::number_move::{may_end, number_move, number_value};
 use crate::number_place::NumberPlace;
-use crate::put_field::put_field;
 use crate::text_move::TextMove;
 use crate::text_place::TextPlace;
 use crate::word_place::WordPlace;
@@ -81,13 +81,13 @@ fn first_name(alloc: Global, b: u8) -> Option<Mode>
     }
     match b {
         b'}' => Some(Mode::Behind(Value::Fields(FieldList::new(alloc)))),
-        b'"' => Some(Mode::InName(FieldList::new(alloc), TextPlace::Plain, Vec::new(alloc))),
+        b'"' => Some(Mode::InName(Draft::new(alloc), TextPlace::Plain, Vec::new(alloc))),
         _ => None,
     }
 }
 
 /// Where a byte leads behind a comma of an object.
-fn next_name(alloc: Global, fields: FieldList, b: u8) -> Option<Mode>
+fn next_name(alloc: Global, fields: Draft, b: u8) -> Option<Mode>
     ensures { (st : List machine.Frame) → state_view result st ≡ step (machine.AtName fields) st b }
 {
     if is_blank(b) {
@@ -102,7 +102,7 @@ fn next_name(alloc: Global, fields: FieldList, b: u8) -> Option<Mode>
 /// Where a byte leads behind a name.
 #[tactic(auto, using(crate::proofs::StackRules::stacks))]
 fn colon(
-    fields: FieldList,
+    fields: Draft,
     name: Text,
     stack: &mut Vec<Frame>,
     b: u8,
@@ -204,7 +204,7 @@ fn in_text(
 /// Where a byte leads inside a name.
 fn in_name(
     alloc: Global,
-    fields: FieldList,
+    fields: Draft,
     place: TextPlace,
     text: Vec<u8>,
     b: u8,
@@ -256,7 +256,7 @@ fn behind_item(
 #[inline(always)]
 fn behind_field(
     alloc: Global,
-    fields: FieldList,
+    fields: Draft,
     name: Text,
     value: Value,
     b: u8,
@@ -265,10 +265,13 @@ fn behind_field(
         state_view next st ≡ end_move (datum_of value) (machine.InFields fields name ∷ st) b) }
 {
     let mut fields = fields;
-    put_field(alloc, &mut fields, name, value)?;
+    fields.put(alloc, name, value)?;
     match b {
         b',' => Ok(Some(Mode::NextName(fields))),
-        b'}' => Ok(Some(Mode::Behind(Value::Fields(fields)))),
+        b'}' => {
+            let fields = fields.finish(alloc)?;
+            Ok(Some(Mode::Behind(Value::Fields(fields))))
+        }
         _ => Ok(None),
     }
 }
