@@ -2,11 +2,13 @@
 #![tactic(auto)]
 
 mod back;
+mod both_back;
 mod output;
 mod shelf;
 mod transform;
 
 pub use back::Back;
+pub use both_back::BothBack;
 pub use output::Output;
 pub use shelf::Shelf;
 pub use transform::Transform;

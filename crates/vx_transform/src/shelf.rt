@@ -1,12 +1,13 @@
-ghost use Rattle.std.specs.Prelude.{◌≡◌, ◌↔◌, [], ◌∷◌, OnOk, OnErr, IfErr, IfSome, IfNone, IsNone};
+ghost use Rattle.std.specs.Prelude.{◌≡◌, ◌↔◌, [], ◌∷◌, ◌++◌, OnOk, OnErr, IfErr, IfSome, IfNone, IsNone};
 ghost use Rattle.vx_transform.specs.Shelves.{put, discard, copies_on, copies_put_out, copies_dropped};
 
 use crate::back::Back;
+use crate::both_back::BothBack;
 use crate::output::Output;
 use std::alloc::Global;
 use std::collections::VecDeque;
 use std::marker::Model;
-use vx_ledger::Parcel;
+use vx_ledger::{Finalizers, MergeRefused, Parcel, SharedEvent};
 
 /// What a transform gave, until somebody takes it: parcels that it put out, and parcels that it discarded.
 ///
@@ -53,6 +54,59 @@ impl Shelf {
                 let Output { ports: _, parcel } = full.value;
                 Err(Back { parcel })
             }
+        }
+    }
+
+    /// Puts two parcels out on some ports, one behind the other. For want of memory both come back, and the shelf is as
+    /// before.
+    pub fn put_both(&mut self, ports: u128, first: Parcel, second: Parcel) -> Result<(), BothBack>
+        ensures ok { OnOk result (self.new ≡ put (put self.old (record { ports = ports; parcel = first })) (record { ports = ports; parcel = second })) }
+        ensures err { OnErr result (self.new ≡ self.old) }
+        ensures first { IfErr result (λ refused. refused.first ≡ first) }
+        ensures second { IfErr result (λ refused. refused.second ≡ second) }
+    {
+        match self.outputs.reserve(2) {
+            Ok(()) => {}
+            Err(_) => return Err(BothBack { first, second }),
+        }
+        let parcel = first;
+        match self.outputs.push_back(Output { ports, parcel }) {
+            Ok(()) => {}
+            Err(_) => unreachable!(),
+        }
+        let parcel = second;
+        match self.outputs.push_back(Output { ports, parcel }) {
+            Ok(()) => Ok(()),
+            Err(_) => unreachable!(),
+        }
+    }
+
+    /// Puts an event out on some ports with the copies of two lists, one behind the other. For want of memory both lists
+    /// come back, and the shelf is as before.
+    pub fn put_joined(
+        &mut self,
+        ports: u128,
+        event: SharedEvent,
+        first: Finalizers,
+        second: Finalizers,
+    ) -> Result<(), MergeRefused>
+        ensures ok { OnOk result (self.new ≡ put self.old (record { ports = ports; parcel = record { event = event; finalizers = first ++ second } })) }
+        ensures err { OnErr result (self.new ≡ self.old) }
+        ensures first { IfErr result (λ refused. refused.first ≡ first) }
+        ensures second { IfErr result (λ refused. refused.second ≡ second) }
+    {
+        match self.outputs.reserve(1) {
+            Ok(()) => {}
+            Err(_) => return Err(MergeRefused { first, second }),
+        }
+        let finalizers = match Finalizers::merge(first, second) {
+            Ok(finalizers) => finalizers,
+            Err(refused) => return Err(refused),
+        };
+        let parcel = Parcel { event, finalizers };
+        match self.outputs.push_back(Output { ports, parcel }) {
+            Ok(()) => Ok(()),
+            Err(_) => unreachable!(),
         }
     }
 

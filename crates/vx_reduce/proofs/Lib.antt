@@ -1,0 +1,10 @@
+pub mod Merged
+pub mod StepsAt
+pub mod MergeSteps
+pub mod EntryLaws
+pub mod Indexed
+pub mod GroupLaws
+pub mod Moving
+pub mod Expiring
+pub mod Surrender
+pub mod Answered
