@@ -2,23 +2,17 @@
 #![tactic(auto)]
 
 mod environment;
-mod os_clock;
-mod os_output;
-mod os_port;
-mod os_printer;
-mod os_world;
 mod words;
 
-use os_clock::OsClock;
-use os_printer::OsPrinter;
-use os_world::OsWorld;
 use std::process::ExitCode;
+use vx_ends_os::{HeldStreams, OsClock, OsPrinter, OsWorld};
 
 /// The status where not even the words or the environment find memory.
 const WANT_OF_MEMORY: u8 = 71;
 
 /// Runs what the words ask for, and ends with the status of that run.
 fn main(rt: HostRuntime) -> ExitCode {
+    let _held = HeldStreams::new(rt);
     let alloc = rt.alloc();
     let Ok(words) = words::read(&rt, alloc) else {
         return ExitCode::from(WANT_OF_MEMORY);

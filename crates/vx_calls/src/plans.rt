@@ -20,8 +20,8 @@ fn has_one_reader(rt: &impl Abort, alloc: Global, plan: &Plan) -> Result<(), Fai
 fn is_standard_output(rt: &impl Abort, spec: &PortSpec) {
     assert_eq!(rt; spec.name.as_str(), "out");
     match spec.form {
-        Form::Stdin => assert!(rt; false, "it is no standard input"),
         Form::Console { err } => assert!(rt; !err),
+        _ => assert!(rt; false, "it is something else"),
     }
 }
 

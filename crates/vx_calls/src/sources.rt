@@ -85,11 +85,18 @@ fn has_ended_all(rt: &impl Abort, turned: Turned) -> Result<(), Fail> {
     has_cut(rt, &cut, 0, 0, NewLines::none())
 }
 
+/// A source that reads events of a file, in lines of at most five bytes.
+fn core(alloc: Global) -> Result<SourceCore, WantOfMemory> {
+    let source_type = Text::copy_of(alloc, "file")?;
+    let file = Text::copy_of(alloc, "app.log")?;
+    SourceCore::new(alloc, 5, Decoding::Json, source_type, Some(file))
+}
+
 #[test]
 fn a_source_turns(rt: HostRuntime) -> Result<(), Fail> {
     let alloc = rt.alloc();
     let mut port = port(alloc)?;
-    let mut core = SourceCore::new(alloc, 5, Decoding::Json, Text::copy_of(alloc, "file")?)?;
+    let mut core = core(alloc)?;
     has_read(&rt, core.turn(&mut port)?)?;
     assert!(rt; matches!(core.turn(&mut port)?, Turned::Idle));
     assert!(rt; matches!(core.turn(&mut port)?, Turned::Failed { at_start: false }));
@@ -104,7 +111,7 @@ fn a_port_that_may_not_be_there(rt: HostRuntime) -> Result<(), Fail> {
     assert!(rt; none.start().is_err());
     none.close();
     let mut some = Some(port(alloc)?);
-    let mut core = SourceCore::new(alloc, 5, Decoding::Json, Text::copy_of(alloc, "file")?)?;
+    let mut core = core(alloc)?;
     has_read(&rt, core.turn(&mut some)?)?;
     some.close();
     Ok(())

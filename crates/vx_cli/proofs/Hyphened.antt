@@ -13,7 +13,7 @@ use Rattle.clap.specs.Faults.{bundle_fault, bundle_step_fault, flags_fault, long
 use Rattle.clap.proofs.OnLiterals.{clap_on_literals}
 use Rattle.vx_value.specs.Texts.{Word}
 use Rattle.vx_cli.specs.Commands.{IsCommand, IsNoCommand}
-use Rattle.vx_cli.specs.Grammars.{config_option, run_grammar, stats_flag, validate_grammar}
+use Rattle.vx_cli.specs.Grammars.{config_option, once_flag, run_grammar, stats_flag, validate_grammar}
 use Rattle.vx_cli.specs.Spellings.{IsHyphened}
 use Rattle.vx_cli.specs.declared.command.Command.TheVariants.{Run, Validate}
 use Rattle.vx_cli.proofs.Spelled.{is_faulty, no_run, no_validate, run_of, validate_of}
@@ -51,6 +51,9 @@ config = top.rules
 abbrev config_rule : Rule
 config_rule = with_index 1 (filled config_option)
 
+abbrev once_rule : Rule
+once_rule = with_index 1 (filled once_flag)
+
 abbrev stats_rule : Rule
 stats_rule = with_index 1 (filled stats_flag)
 
@@ -62,17 +65,22 @@ option_faulty : (a : Rule) (v : Option Text) → is_faulty (option_fault config 
 option_faulty a None = refl
 option_faulty a (Some v) = refl
 
-flag_known : (t : Bool) (v : Option Text) → is_faulty (long_fault config false (cond t (Some stats_rule) None) v waiting) ≡ true
-flag_known false v = refl
-flag_known true None = option_faulty stats_rule None
-flag_known true (Some w) = refl
+stats_known : (t : Bool) (v : Option Text) → is_faulty (long_fault config false (cond t (Some stats_rule) None) v waiting) ≡ true
+stats_known false v = refl
+stats_known true None = option_faulty stats_rule None
+stats_known true (Some w) = refl
 
-option_known : (s t : Bool) (v : Option Text) → is_faulty (long_fault config false (cond s (Some config_rule) (cond t (Some stats_rule) None)) v waiting) ≡ true
-option_known true t v = option_faulty config_rule v
-option_known false t v = flag_known t v
+once_known : (o t : Bool) (v : Option Text) → is_faulty (long_fault config false (cond o (Some once_rule) (cond t (Some stats_rule) None)) v waiting) ≡ true
+once_known false t v = stats_known t v
+once_known true t None = option_faulty once_rule None
+once_known true t (Some w) = refl
+
+option_known : (s o t : Bool) (v : Option Text) → is_faulty (long_fault config false (cond s (Some config_rule) (cond o (Some once_rule) (cond t (Some stats_rule) None))) v waiting) ≡ true
+option_known true o t v = option_faulty config_rule v
+option_known false o t v = once_known o t v
 
 long_faulty : (name : Text) (v : Option Text) → is_faulty (long_fault config false (arg_by_long config name) v waiting) ≡ true
-long_faulty name v = option_known (bytes_eq (codes "config") name || false) (bytes_eq (codes "stats") name || false) v
+long_faulty name v = option_known (bytes_eq (codes "config") name || false) (bytes_eq (codes "once") name || false) (bytes_eq (codes "stats") name || false) v
 
 short_known : (t : Bool) (left : Text) (next : Held → Kinds) → is_faulty (short_fault config false (cond t (Some config_rule) None) left waiting next) ≡ true
 short_known false left next = refl
@@ -226,9 +234,9 @@ validate_dashes = no_validate _ refl
 
 -- ---- a hyphen alone
 
-pub run_hyphen : IsCommand (codes "--config" ∷ codes "-" ∷ []) (Run (codes "-") false) × IsCommand (codes "-c" ∷ codes "-" ∷ []) (Run (codes "-") false)
+pub run_hyphen : IsCommand (codes "--config" ∷ codes "-" ∷ []) (Run (codes "-") false false) × IsCommand (codes "-c" ∷ codes "-" ∷ []) (Run (codes "-") false false)
 unfolding clap_on_literals
-run_hyphen = (run_of _ _ false refl refl refl refl, run_of _ _ false refl refl refl refl)
+run_hyphen = (run_of _ _ false false refl refl refl refl refl, run_of _ _ false false refl refl refl refl refl)
 
 pub validate_hyphen : IsCommand (codes "validate" ∷ codes "-" ∷ []) (Validate (codes "-"))
 unfolding clap_on_literals

@@ -19,14 +19,15 @@ same_path words a b p q =
     same_Some a b (sym path ∙ q.path)
 
 pub one_command : (words : List Word) (a b : Command) → IsCommand words a → IsCommand words b → a ≡ b
-one_command words (Run a s) (Run b t) p q =
+one_command words (Run a m s) (Run b n t) p q =
     let file : a ≡ b = same_Some a b (sym p.0.config ∙ q.0.config) in
-    let asked : s ≡ t = sym p.1 ∙ q.1 in cc
-one_command words (Run a s) (Validate b) p q = absurd (p.0.unnamed q.rest q.named)
-one_command words (Validate a) (Run b t) p q = absurd (q.0.unnamed p.rest p.named)
+    let once : m ≡ n = sym p.1.0 ∙ q.1.0 in
+    let asked : s ≡ t = sym p.1.1 ∙ q.1.1 in cc
+one_command words (Run a m s) (Validate b) p q = absurd (p.0.unnamed q.rest q.named)
+one_command words (Validate a) (Run b n t) p q = absurd (q.0.unnamed p.rest p.named)
 one_command words (Validate a) (Validate b) p q = ap Validate (same_path words a b p q)
 
 -- what is in no grammar is no command
 pub never_both : (words : List Word) (command : Command) → IsNoCommand words → IsCommand words command → ⊥
-never_both words (Run file stats) outside is = outside.run is.0.unnamed is.0.taken
+never_both words (Run file once stats) outside is = outside.run is.0.unnamed is.0.taken
 never_both words (Validate file) outside is = outside.validate is.rest is.named is.taken

@@ -4,7 +4,7 @@ use Rattle.std.proofs.lemmas.Bool.Decides.{nat_tests}
 use Rattle.clap.specs.Words.{App, Kinds, fault_of}
 use Rattle.clap.proofs.OnLiterals.{clap_on_literals}
 use Rattle.vx_value.specs.Texts.{Word}
-use Rattle.vx_cli.specs.Commands.{HasValue, IsCommand, IsNoCommand, IsTaken, IsValidate, NamesValidate, has_stats}
+use Rattle.vx_cli.specs.Commands.{HasValue, IsCommand, IsNoCommand, IsTaken, IsValidate, NamesValidate, has_once, has_stats}
 use Rattle.vx_cli.specs.Grammars.{run_grammar, validate_grammar}
 use Rattle.vx_cli.specs.Spellings.{IsPlain}
 use Rattle.vx_cli.specs.declared.command.Command.TheVariants.{Run, Validate}
@@ -31,9 +31,9 @@ unnamed words other rest e =
     let bad : true ≡ false = subst P same other in cc
 
 -- what a run needs
-pub run_of : (words : List Word) (file : Word) (stats : Bool) → (first_byte words == 118) ≡ false → IsTaken run_grammar words
-    → HasValue run_grammar words (codes "config") file → has_stats words ≡ stats → IsCommand words (Run file stats)
-run_of words file stats other taken value asked = (record { unnamed = unnamed words other; taken = taken; config = value }, asked)
+pub run_of : (words : List Word) (file : Word) (once stats : Bool) → (first_byte words == 118) ≡ false → IsTaken run_grammar words
+    → HasValue run_grammar words (codes "config") file → has_once words ≡ once → has_stats words ≡ stats → IsCommand words (Run file once stats)
+run_of words file once stats other taken value ends asked = (record { unnamed = unnamed words other; taken = taken; config = value }, (ends, asked))
 
 -- what a judging needs
 pub validate_of : (rest : List Word) (file : Word) → IsTaken validate_grammar rest
@@ -52,6 +52,11 @@ unfolding clap_on_literals
 long-value [] plain = refl
 long-value (b ∷ word) plain = simp (no_hyphen b word plain)
 
+long-endless : (file : Word) → IsPlain file → has_once (codes "--config" ∷ file ∷ []) ≡ false
+unfolding clap_on_literals
+long-endless [] plain = refl
+long-endless (b ∷ word) plain = simp (no_hyphen b word plain)
+
 long-silent : (file : Word) → IsPlain file → has_stats (codes "--config" ∷ file ∷ []) ≡ false
 unfolding clap_on_literals
 long-silent [] plain = refl
@@ -66,6 +71,11 @@ short-value : (file : Word) → IsPlain file → HasValue run_grammar (codes "-c
 unfolding clap_on_literals
 short-value [] plain = refl
 short-value (b ∷ word) plain = simp (no_hyphen b word plain)
+
+short-endless : (file : Word) → IsPlain file → has_once (codes "-c" ∷ file ∷ []) ≡ false
+unfolding clap_on_literals
+short-endless [] plain = refl
+short-endless (b ∷ word) plain = simp (no_hyphen b word plain)
 
 short-silent : (file : Word) → IsPlain file → has_stats (codes "-c" ∷ file ∷ []) ≡ false
 unfolding clap_on_literals
@@ -82,31 +92,43 @@ unfolding clap_on_literals
 validate-value [] plain = refl
 validate-value (b ∷ word) plain = simp (no_hyphen b word plain)
 
-pub long : (file : Word) → IsPlain file → IsCommand (codes "--config" ∷ file ∷ []) (Run file false)
-long file plain = run_of _ file false refl (long-taken file plain) (long-value file plain) (long-silent file plain)
+pub long : (file : Word) → IsPlain file → IsCommand (codes "--config" ∷ file ∷ []) (Run file false false)
+long file plain = run_of _ file false false refl (long-taken file plain) (long-value file plain) (long-endless file plain) (long-silent file plain)
 
-pub long_sign : (file : Word) → IsCommand ((codes "--config=" ++ file) ∷ []) (Run file false)
+pub long_sign : (file : Word) → IsCommand ((codes "--config=" ++ file) ∷ []) (Run file false false)
 unfolding clap_on_literals
-long_sign file = run_of _ file false refl refl refl refl
+long_sign file = run_of _ file false false refl refl refl refl refl
 
-pub short : (file : Word) → IsPlain file → IsCommand (codes "-c" ∷ file ∷ []) (Run file false)
-short file plain = run_of _ file false refl (short-taken file plain) (short-value file plain) (short-silent file plain)
+pub short : (file : Word) → IsPlain file → IsCommand (codes "-c" ∷ file ∷ []) (Run file false false)
+short file plain = run_of _ file false false refl (short-taken file plain) (short-value file plain) (short-endless file plain) (short-silent file plain)
 
-pub short_sign : (file : Word) → IsCommand ((codes "-c=" ++ file) ∷ []) (Run file false)
+pub short_sign : (file : Word) → IsCommand ((codes "-c=" ++ file) ∷ []) (Run file false false)
 unfolding clap_on_literals
-short_sign file = run_of _ file false refl refl refl refl
+short_sign file = run_of _ file false false refl refl refl refl refl
 
-pub short_at_once : (b : ℕ) (rest : Word) → b ≢ 61 → IsCommand ((codes "-c" ++ b ∷ rest) ∷ []) (Run (b ∷ rest) false)
+pub short_at_once : (b : ℕ) (rest : Word) → b ≢ 61 → IsCommand ((codes "-c" ++ b ∷ rest) ∷ []) (Run (b ∷ rest) false false)
 unfolding clap_on_literals
-short_at_once b rest other = run_of _ _ false refl (simp (apart b 61 other)) (simp (apart b 61 other)) (simp (apart b 61 other))
+short_at_once b rest other = run_of _ _ false false refl (simp (apart b 61 other)) (simp (apart b 61 other)) (simp (apart b 61 other)) (simp (apart b 61 other))
 
-pub stats : (file : Word) → IsCommand ((codes "--config=" ++ file) ∷ codes "--stats" ∷ []) (Run file true)
+pub stats : (file : Word) → IsCommand ((codes "--config=" ++ file) ∷ codes "--stats" ∷ []) (Run file false true)
 unfolding clap_on_literals
-stats file = run_of _ file true refl refl refl refl
+stats file = run_of _ file false true refl refl refl refl refl
 
-pub stats_first : (file : Word) → IsCommand (codes "--stats" ∷ (codes "--config=" ++ file) ∷ []) (Run file true)
+pub stats_first : (file : Word) → IsCommand (codes "--stats" ∷ (codes "--config=" ++ file) ∷ []) (Run file false true)
 unfolding clap_on_literals
-stats_first file = run_of _ file true refl refl refl refl
+stats_first file = run_of _ file false true refl refl refl refl refl
+
+pub once : (file : Word) → IsCommand ((codes "--config=" ++ file) ∷ codes "--once" ∷ []) (Run file true false)
+unfolding clap_on_literals
+once file = run_of _ file true false refl refl refl refl refl
+
+pub once_first : (file : Word) → IsCommand (codes "--once" ∷ (codes "--config=" ++ file) ∷ []) (Run file true false)
+unfolding clap_on_literals
+once_first file = run_of _ file true false refl refl refl refl refl
+
+pub once_and_stats : (file : Word) → IsCommand (codes "--stats" ∷ (codes "--config=" ++ file) ∷ codes "--once" ∷ []) (Run file true true)
+unfolding clap_on_literals
+once_and_stats file = run_of _ file true true refl refl refl refl refl
 
 pub validate : (file : Word) → IsPlain file → IsCommand (codes "validate" ∷ file ∷ []) (Validate file)
 validate file plain = validate_of _ file (validate-taken file plain) (validate-value file plain)
@@ -176,6 +198,18 @@ stats_twice file = no_run _ refl refl
 pub stats_value : (file value : Word) → IsNoCommand ((codes "--stats=" ++ value) ∷ (codes "--config=" ++ file) ∷ [])
 unfolding clap_on_literals
 stats_value file value = no_run _ refl refl
+
+pub once_alone : IsNoCommand (codes "--once" ∷ [])
+unfolding clap_on_literals
+once_alone = no_run _ refl refl
+
+pub once_twice : (file : Word) → IsNoCommand (codes "--once" ∷ codes "--once" ∷ (codes "--config=" ++ file) ∷ [])
+unfolding clap_on_literals
+once_twice file = no_run _ refl refl
+
+pub once_value : (file value : Word) → IsNoCommand ((codes "--once=" ++ value) ∷ (codes "--config=" ++ file) ∷ [])
+unfolding clap_on_literals
+once_value file value = no_run _ refl refl
 
 more-faulty : (file word : Word) → IsPlain word → is_faulty (fault_of run_grammar ((codes "--config=" ++ file) ∷ word ∷ [])) ≡ true
 unfolding clap_on_literals

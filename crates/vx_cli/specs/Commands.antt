@@ -31,6 +31,10 @@ abbrev pub is_set : Option Word → Bool
 is_set None = false
 is_set (Some value) = same_text value (codes "true")
 
+-- whether the words ask for a run that ends with the files that are there
+abbrev pub has_once : List Word → Bool
+has_once words = is_set (first_of (codes "once") (matches_of run_grammar words))
+
 -- whether the words ask for what each component counted
 abbrev pub has_stats : List Word → Bool
 has_stats words = is_set (first_of (codes "stats") (matches_of run_grammar words))
@@ -44,7 +48,7 @@ pub record IsValidate (words : List Word) (file : Word) : Type 0 where
 
 -- the words are that command
 abbrev pub IsCommand : List Word → Command → Type 0
-IsCommand words (Run config stats) = IsRun words config × (has_stats words ≡ stats)
+IsCommand words (Run config once stats) = IsRun words config × ((has_once words ≡ once) × (has_stats words ≡ stats))
 IsCommand words (Validate path) = IsValidate words path
 
 -- the words are in no command's grammar

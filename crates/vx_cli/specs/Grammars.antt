@@ -25,9 +25,16 @@ required_value name = record (new_rule name) { required = true; action = Some Se
 abbrev pub config_option : Rule
 config_option = record (required_value (codes "config")) { short = Some 99; long = Some (codes "config") }
 
--- `--stats`
+-- a flag, by its long name
+abbrev pub flag : Word → Rule
+flag name = record (new_rule name) { long = Some name; action = Some SetTrue }
+
+-- `--once` and `--stats`
+abbrev pub once_flag : Rule
+once_flag = flag (codes "once")
+
 abbrev pub stats_flag : Rule
-stats_flag = record (new_rule (codes "stats")) { long = Some (codes "stats"); action = Some SetTrue }
+stats_flag = flag (codes "stats")
 
 -- FILE
 abbrev pub path_word : Rule
@@ -35,7 +42,7 @@ path_word = required_value (codes "path")
 
 -- the command that runs a pipeline
 abbrev pub run_grammar : App
-run_grammar = grammar_of (codes "run") (config_option ∷ stats_flag ∷ [])
+run_grammar = grammar_of (codes "run") (config_option ∷ once_flag ∷ stats_flag ∷ [])
 
 -- the command that judges a configuration
 abbrev pub validate_grammar : App

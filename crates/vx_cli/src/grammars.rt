@@ -1,7 +1,7 @@
 ghost use Rattle.std.specs.Prelude.{◌≡◌, [], IfOk, codes, false};
 ghost use Rattle.clap.specs.Words.{app_of, rule_of};
 ghost use Rattle.vx_cli.specs.Building.{GivesValue, IsBare, IsNamed, IsRequired};
-ghost use Rattle.vx_cli.specs.Grammars.{config_option, grammar_of, path_word, required_value, run_grammar, stats_flag, validate_grammar};
+ghost use Rattle.vx_cli.specs.Grammars.{config_option, flag, grammar_of, path_word, required_value, run_grammar, validate_grammar};
 
 use clap::{Arg, ArgAction, Command};
 use std::alloc::{AllocError, Global};
@@ -12,7 +12,10 @@ pub fn run_grammar<'a>(alloc: Global) -> Result<Command<'a>, AllocError>
     ensures value { IfOk result (λ command. GivesValue command (codes "config")) }
 {
     let command = grammar(alloc, "run");
-    command.arg(config_option(alloc))?.arg(stats_flag(alloc))
+    command
+        .arg(config_option(alloc))?
+        .arg(flag(alloc, "once"))?
+        .arg(flag(alloc, "stats"))
 }
 
 /// The command that judges a configuration.
@@ -44,14 +47,12 @@ fn config_option<'a>(alloc: Global) -> Arg<'a>
     required_value(alloc, "config").short('c').long("config")
 }
 
-/// The flag `--stats`.
-fn stats_flag<'a>(alloc: Global) -> Arg<'a>
-    ensures rule { rule_of result ≡ stats_flag }
-    ensures named { IsNamed (codes "stats") result }
+/// A flag, by its long name.
+fn flag<'a>(alloc: Global, name: &'a str) -> Arg<'a>
+    ensures rule { rule_of result ≡ flag name.entry.now }
+    ensures named { IsNamed name.entry.now result }
 {
-    Arg::new(alloc, "stats")
-        .long("stats")
-        .action(ArgAction::SetTrue)
+    Arg::new(alloc, name).long(name).action(ArgAction::SetTrue)
 }
 
 /// An argument with one value, which has to be given.

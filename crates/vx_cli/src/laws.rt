@@ -17,25 +17,29 @@ pub fn one_command()
     ensures apart { (words : List Word) (command : Command) → IsNoCommand words → IsCommand words command → ⊥ }
 {}
 
-/// How a file is named: by each spelling of the option, and to `validate`; and how the counts are asked for.
+/// How a file is named: by each spelling of the option, and to `validate`; and how the counts, and an end with the files that are there,
+/// are asked for.
 ///
 /// Behind `=`, and behind the `--` of `validate`, it is any word. Right behind `-c` it has a byte, and doesn't begin
 /// with `=`. As a word of its own it doesn't begin with a hyphen, or is a hyphen alone; `refusals` tells of other words.
 pub fn spellings()
-    ensures long { (file : Word) → IsPlain file → IsCommand (codes "--config" ∷ file ∷ []) (Run file false) }
-    ensures long_sign { (file : Word) → IsCommand ((codes "--config=" ++ file) ∷ []) (Run file false) }
-    ensures short { (file : Word) → IsPlain file → IsCommand (codes "-c" ∷ file ∷ []) (Run file false) }
-    ensures short_sign { (file : Word) → IsCommand ((codes "-c=" ++ file) ∷ []) (Run file false) }
-    ensures short_at_once { (b : ℕ) (rest : Word) → b ≢ 61 → IsCommand ((codes "-c" ++ b ∷ rest) ∷ []) (Run (b ∷ rest) false) }
-    ensures hyphen { IsCommand (codes "--config" ∷ codes "-" ∷ []) (Run (codes "-") false) × IsCommand (codes "-c" ∷ codes "-" ∷ []) (Run (codes "-") false) }
-    ensures stats { (file : Word) → IsCommand ((codes "--config=" ++ file) ∷ codes "--stats" ∷ []) (Run file true) }
-    ensures stats_first { (file : Word) → IsCommand (codes "--stats" ∷ (codes "--config=" ++ file) ∷ []) (Run file true) }
+    ensures long { (file : Word) → IsPlain file → IsCommand (codes "--config" ∷ file ∷ []) (Run file false false) }
+    ensures long_sign { (file : Word) → IsCommand ((codes "--config=" ++ file) ∷ []) (Run file false false) }
+    ensures short { (file : Word) → IsPlain file → IsCommand (codes "-c" ∷ file ∷ []) (Run file false false) }
+    ensures short_sign { (file : Word) → IsCommand ((codes "-c=" ++ file) ∷ []) (Run file false false) }
+    ensures short_at_once { (b : ℕ) (rest : Word) → b ≢ 61 → IsCommand ((codes "-c" ++ b ∷ rest) ∷ []) (Run (b ∷ rest) false false) }
+    ensures hyphen { IsCommand (codes "--config" ∷ codes "-" ∷ []) (Run (codes "-") false false) × IsCommand (codes "-c" ∷ codes "-" ∷ []) (Run (codes "-") false false) }
+    ensures stats { (file : Word) → IsCommand ((codes "--config=" ++ file) ∷ codes "--stats" ∷ []) (Run file false true) }
+    ensures stats_first { (file : Word) → IsCommand (codes "--stats" ∷ (codes "--config=" ++ file) ∷ []) (Run file false true) }
+    ensures once { (file : Word) → IsCommand ((codes "--config=" ++ file) ∷ codes "--once" ∷ []) (Run file true false) }
+    ensures once_first { (file : Word) → IsCommand (codes "--once" ∷ (codes "--config=" ++ file) ∷ []) (Run file true false) }
+    ensures once_and_stats { (file : Word) → IsCommand (codes "--stats" ∷ (codes "--config=" ++ file) ∷ codes "--once" ∷ []) (Run file true true) }
     ensures validate { (file : Word) → IsPlain file → IsCommand (codes "validate" ∷ file ∷ []) (Validate file) }
     ensures validate_hyphen { IsCommand (codes "validate" ∷ codes "-" ∷ []) (Validate (codes "-")) }
     ensures behind_dashes { (file : Word) → IsCommand (codes "validate" ∷ codes "--" ∷ file ∷ []) (Validate file) }
 {}
 
-/// Words that are no command: too few, the option or the flag twice, a value of the flag, a word too many, and the words for help and
+/// Words that are no command: too few, the option or a flag twice, a value of a flag, a word too many, and the words for help and
 /// version.
 ///
 /// A text that begins with a hyphen and has more behind it is no value of the option in a word of its own, and no first
@@ -50,6 +54,9 @@ pub fn refusals()
     ensures stats_alone { IsNoCommand (codes "--stats" ∷ []) }
     ensures stats_twice { (file : Word) → IsNoCommand (codes "--stats" ∷ codes "--stats" ∷ (codes "--config=" ++ file) ∷ []) }
     ensures stats_value { (file value : Word) → IsNoCommand ((codes "--stats=" ++ value) ∷ (codes "--config=" ++ file) ∷ []) }
+    ensures once_alone { IsNoCommand (codes "--once" ∷ []) }
+    ensures once_twice { (file : Word) → IsNoCommand (codes "--once" ∷ codes "--once" ∷ (codes "--config=" ++ file) ∷ []) }
+    ensures once_value { (file value : Word) → IsNoCommand ((codes "--once=" ++ value) ∷ (codes "--config=" ++ file) ∷ []) }
     ensures more { (file word : Word) → IsPlain word → IsNoCommand ((codes "--config=" ++ file) ∷ word ∷ []) }
     ensures validate_alone { IsNoCommand (codes "validate" ∷ []) }
     ensures validate_two { (file word : Word) → IsPlain file → IsPlain word → IsNoCommand (codes "validate" ∷ file ∷ word ∷ []) }

@@ -15,7 +15,7 @@ use vx_value::{Text, TextList};
 /// The command that a list of words is. The words leave out the program's own name.
 ///
 /// Where the first word is `validate`, the others are its one FILE. Every other list of words runs a pipeline: it has
-/// `-c FILE` or `--config FILE`, once, and may have the flag `--stats`, once. The value of a long option is the next word, or
+/// `-c FILE` or `--config FILE`, once, and may have the flags `--once` and `--stats`, each once. The value of a long option is the next word, or
 /// follows `=`; the value of a short one is the next word, or follows at once, and then one `=` in front of it is left out.
 ///
 /// `Usage` comes exactly where the words are in no command's grammar. Want of memory comes at any words.
@@ -62,8 +62,13 @@ fn read_run<'a>(alloc: Global, words: &'a [&'a str]) -> Result<Command, CliFault
 {
     let matches = matches_of(run_grammar(alloc)?, words)?;
     let config = value_of(alloc, &matches, "config")?;
+    let once = is_set(&matches, "once");
     let stats = is_set(&matches, "stats");
-    Ok(Command::Run { config, stats })
+    Ok(Command::Run {
+        config,
+        once,
+        stats,
+    })
 }
 
 /// The command that judges a configuration, by its words.

@@ -3,23 +3,48 @@ ghost use Rattle.std.specs.Prelude.{◌≡◌, IfOk};
 use std::alloc::Global;
 use vx_value::{Text, WantOfMemory};
 
-/// What a port has to be. More forms come with the components that use them.
+/// What a port has to be.
 #[derive(Drop)]
 pub enum Form {
     /// Standard input.
     Stdin,
     /// Standard output, or standard error where `err` is set.
-    Console { err: bool },
+    Console {
+        err: bool,
+    },
+    /// A file that is read as it grows, from the place on that its checkpoint names; where `once` is set, to its end alone.
+    FileIn {
+        path: Text,
+        once: bool,
+        /// Where its checkpoint stands.
+        checkpoint: Text,
+    },
+    /// A file that is appended to.
+    FileOut {
+        path: Text,
+    },
 }
 
 impl Form {
     /// The same form once more.
-    pub fn copy(&self, _alloc: Global) -> Result<Self, WantOfMemory>
+    pub fn copy(&self, alloc: Global) -> Result<Self, WantOfMemory>
         ensures { IfOk result (λ copy. copy ≡ self.now) }
     {
         match self {
             Form::Stdin => Ok(Form::Stdin),
             Form::Console { err } => Ok(Form::Console { err: *err }),
+            Form::FileIn {
+                path,
+                once,
+                checkpoint,
+            } => Ok(Form::FileIn {
+                path: path.copy(alloc)?,
+                once: *once,
+                checkpoint: checkpoint.copy(alloc)?,
+            }),
+            Form::FileOut { path } => Ok(Form::FileOut {
+                path: path.copy(alloc)?,
+            }),
         }
     }
 }

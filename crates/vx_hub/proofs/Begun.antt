@@ -1,5 +1,5 @@
 -- A hub as it begins.
-use Rattle.std.proofs.Common.{◌≡◌, ◌≢◌, ◌∙◌, ℕ, zero, suc, ◌+◌, ◌<◌, ◌≤◌, inl, inr, Bool, true, false, List, [], ◌∷◌, ◌++◌, Option, Some, None, IfSome, length, refl, sym, ap, arith, get_or}
+use Rattle.std.proofs.Common.{◌≡◌, ◌≢◌, ◌∙◌, ℕ, zero, suc, ◌+◌, ◌<◌, ◌≤◌, inl, inr, Bool, true, false, List, [], ◌∷◌, ◌++◌, Option, Some, None, IfSome, length, refl, sym, ap, subst, arith, get_or}
 use Rattle.std.specs.Prelude.{◌^◌, ◌&&◌, if◌then◌else◌, map, IsSomeAnd, slice_get, slice_set, vec_capacity}
 use Rattle.std.proofs.lemmas.Bool.{and_from, cases_eq, cases_lt}
 use Rattle.std.proofs.lemmas.List.{length_push}
@@ -11,6 +11,7 @@ use Rattle.vx_plan.specs.declared.stage.Stage.{Stage}
 use Rattle.vx_plan.specs.Accepted.{IsPlan}
 use Rattle.vx_plan.specs.Components.{is_transform, stages}
 use Rattle.vx_plan.specs.Options.{has_device}
+use Rattle.vx_ends.specs.declared.port_spec.PortSpec.{PortSpec}
 use Rattle.vx_plan.specs.Ports.{port_of}
 use Rattle.vx_record.specs.declared.entry.Entry.TheVariants.{Install}
 use Rattle.vx_record.specs.Records.{Record}
@@ -21,6 +22,7 @@ use Rattle.vx_record.specs.Places.Place.{Outputs, Held}
 use Rattle.vx_record.specs.Reads.{all_ended}
 use Rattle.vx_record.specs.Starting.{first_instances}
 use Rattle.vx_record.specs.Wirings.{begun}
+use Rattle.vx_record.proofs.FirstWiring.{found, wiring_of_first}
 use Rattle.vx_record.proofs.Wired.{begun_legal, component_there, component_in_place}
 use Rattle.vx_pick.specs.declared.picker.Picker.{Picker}
 use Rattle.vx_sourcecore.specs.Turns.{NothingLeft}
@@ -37,7 +39,7 @@ use Rattle.vx_places.proofs.Steps.{holds_step, still_shifts, same_holds, none_ho
 use Rattle.vx_tasks.specs.declared.task.Role.{Role}
 use Rattle.vx_tasks.specs.declared.task.Role.TheVariants.{Source, Generator, Sink, Blackhole, Transform, Unfit}
 use Rattle.vx_tasks.specs.Home.{HasCome, IsAtHome}
-use Rattle.vx_tasks.specs.Telling.{IsTold, HasCounted, spec_of}
+use Rattle.vx_tasks.specs.Telling.{IsTold, HasCounted, spec_by, spec_of}
 use Rattle.vx_seats.specs.declared.seat.Seat.{Seat}
 use Rattle.vx_seats.specs.Beginning.{AreNew, IsFresh, AreFresh}
 use Rattle.vx_seats.specs.Knowing.{Knows}
@@ -195,13 +197,13 @@ pickers_size (d ∷ rest) [] all = absurd all
 pickers_size (d ∷ rest) (picker ∷ pickers) all = ap suc (pickers_size rest pickers all.1)
 
 -- SEATS
-untouched_at : {P : Type 0} (told_by : P → Told) (components : List Component) (ports : List (Named P)) →
-    AreUntouched told_by components ports → (i : ℕ) →
-    IfSome (slice_get ports i) (λ named. IfSome (slice_get components i) (λ c. IsUntouched (port_of c) (told_by named.port)))
-untouched_at told_by components [] all i = tt
-untouched_at told_by [] (n ∷ ports) all i = absurd all
-untouched_at told_by (d ∷ rest) (n ∷ ports) all zero = all.0
-untouched_at told_by (d ∷ rest) (n ∷ ports) all (suc i) = untouched_at told_by rest ports all.1 i
+untouched_at : {P : Type 0} (told_by : P → Told) (needs : Component → Option PortSpec) (components : List Component) (ports : List (Named P)) →
+    AreUntouched told_by needs components ports → (i : ℕ) →
+    IfSome (slice_get ports i) (λ named. IfSome (slice_get components i) (λ c. IsUntouched (needs c) (told_by named.port)))
+untouched_at told_by needs components [] all i = tt
+untouched_at told_by needs [] (n ∷ ports) all i = absurd all
+untouched_at told_by needs (d ∷ rest) (n ∷ ports) all zero = all.0
+untouched_at told_by needs (d ∷ rest) (n ∷ ports) all (suc i) = untouched_at told_by needs rest ports all.1 i
 
 fit_role : (role : Role) (c : Component) → IsRoleFor role c → role ≢ Unfit
 fit_role (Source core) c is = λ e. cc
@@ -224,11 +226,17 @@ module _ {plan : Plan} (accepted : IsPlan plan) (i : ℕ) {c : Component}
   abbrev h : Record
   h = begun plan once now
 
-  told_first : (told : Told) → IsUntouched (port_of c) told → IsTold told h i
+  -- the port is made for what its component needs
+  spec_first : spec_of h i ≡ port_of once plan.global.data_dir c
+  spec_first =
+      ap spec_by (wiring_of_first plan once now i c there)
+      ∙ ap (λ (o : Option Component). elim o as (λ _. Option PortSpec) [ None ↦ None | Some d ↦ port_of once plan.global.data_dir d ]) (found plan.components i c accepted.named there)
+
+  told_first : (told : Told) → IsUntouched (port_of once plan.global.data_dir c) told → IsTold told h i
   told_first told u =
       let device : Bool = device_at h i in
       let over : device ≡ true → all_ended h i ≡ true → NothingLeft told = λ on e. cc in
-      let spec : Fits (spec_of (component_of h i)) told.spec = rw runs u.made_for in
+      let spec : Fits (spec_of h i) told.spec = subst (λ (o : Option PortSpec). Fits o told.spec) (sym spec_first) u.made_for in
       let taken : (stream : ℕ) → IfSome (told.taken stream) (λ bytes. bytes ≡ (if device then [] else [])) =
       λ stream. IfSome_then (told.taken stream) (u.taken stream) (λ bytes is. is ∙ sym (either device [])) in
       let finishes : HasCounted told.exact (if device then 0 else 0) told.finishes = rw (either {X = ℕ} device 0) u.finishes in
@@ -253,20 +261,20 @@ module _ {plan : Plan} (accepted : IsPlan plan) (i : ℕ) {c : Component}
   come_first (Transform picker) is = rw runs is
   come_first Unfit is = absurd is
 
-module _ {P : Type 0} {told_by : P → Told} {plan : Plan} (accepted : IsPlan plan) where
+module _ {P : Type 0} {told_by : P → Told} {plan : Plan} (accepted : IsPlan plan) (once : Bool) where
   -- a seat that has its role and its port
   fresh_seat : (i : ℕ) (c : Component) (was : Seat P) (role : Role) (port : P) →
-      slice_get plan.components i ≡ Some c → IsBegun plan was c → IsRoleFor role c → IsUntouched (port_of c) (told_by port) →
-      IsFresh told_by plan i (record was { task = Some (record { port = port; role = role }) }) c
+      slice_get plan.components i ≡ Some c → IsBegun plan was c → IsRoleFor role c → IsUntouched (port_of once plan.global.data_dir c) (told_by port) →
+      IsFresh told_by plan once i (record was { task = Some (record { port = port; role = role }) }) c
   fresh_seat i c was role port there begins is untouched =
-      let home : (once : Bool) (now : ℕ) → IsAtHome told_by (begun plan once now) i (record { port = port; role = role }) = λ once now.
+      let home : (now : ℕ) → IsAtHome told_by (begun plan once now) i (record { port = port; role = role }) = λ now.
       record { told = told_first accepted i there once now (told_by port) untouched; come = come_first accepted i there once now role is } in
       assumption (home, fit_role role c is, begins.counts i, begins)
 
   pub all_fresh : (seats : List (Seat P)) (roles : List Role) (ports : List (Named P)) (seated : List (Seat P)) →
       AreFor (IsBegun plan) plan.components seats → AreFor IsRoleFor plan.components roles →
-      AreUntouched told_by plan.components ports → length seated ≡ length plan.components →
-      AreSeatedFrom 0 seats roles ports seated → AreFresh told_by plan seated
+      AreUntouched told_by (port_of once plan.global.data_dir) plan.components ports → length seated ≡ length plan.components →
+      AreSeatedFrom 0 seats roles ports seated → AreFresh told_by plan once seated
   all_fresh seats roles ports seated begins fit untouched size each = record {
     size = size;
     each = λ i. IfSome_then (slice_get seated i) (each i (omega arith)) (λ seat is.
@@ -276,7 +284,7 @@ module _ {P : Type 0} {told_by : P → Told} {plan : Plan} (accepted : IsPlan pl
         let begun_by : IsSomeAnd (slice_get plan.components i) (IsBegun plan was) = rw was_there at (begins i) in
         with_some (slice_get plan.components i) begun_by (λ c there begin.
         let fits : IsRoleFor role c = rw (role_there, there) at (fit i) in
-        let bare : IsUntouched (port_of c) (told_by named.port) = rw (named_there, there) at (untouched_at told_by plan.components ports untouched i) in
+        let bare : IsUntouched (port_of once plan.global.data_dir c) (told_by named.port) = rw (named_there, there) at (untouched_at told_by (port_of once plan.global.data_dir) plan.components ports untouched i) in
         rw (there, made) (fresh_seat i c was role named.port there begin fits bare))))));
   }
 
@@ -334,7 +342,7 @@ judging_first plan once now accepted served i = let h = begun plan once now in j
 -- ALL OF IT
 module _ {P : Type 0} {told_by : P → Told} {plan : Plan} {once : Bool} {now : ℕ} {room : Room P}
     {seats : List (Seat P)} (accepted : IsPlan plan) (few : length plan.components < 2 ^ 32)
-    (served : all_served plan.components ≡ true) (made : HasRoomFor plan room) (fresh : AreFresh told_by plan seats)
+    (served : all_served plan.components ≡ true) (made : HasRoomFor plan room) (fresh : AreFresh told_by plan once seats)
     (knows : Knows told_by seats (begun plan once now)) where
   abbrev books_first : Record → Books P
   books_first log = record {

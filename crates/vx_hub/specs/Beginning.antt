@@ -6,7 +6,7 @@ use Rattle.vx_plan.specs.declared.settings.Settings.{Settings}
 use Rattle.vx_plan.specs.declared.stage.Stage.{Stage}
 use Rattle.vx_plan.specs.Components.{port_names, stages, longest_line, is_transform}
 use Rattle.vx_plan.specs.Numbers.{reader_numbers}
-use Rattle.vx_plan.specs.Options.{decoding, demo_of, encoding, has_device, reading_interval, type_name}
+use Rattle.vx_plan.specs.Options.{file_read, decoding, demo_of, encoding, has_device, reading_interval, type_name}
 use Rattle.vx_plan.specs.Targets.{acknowledged}
 use Rattle.vx_record.specs.Copies.{counting}
 use Rattle.vx_record.specs.Places.{Place}
@@ -42,7 +42,7 @@ pub record IsBegun {P : Type 0} (plan : Plan) (seat : Seat P) (c : Component) : 
 
 -- a source begins for the lines of a component, and has the codec by which that decodes them
 pub record IsSourceFor (settings : Settings) (core : SourceCore) : Type 0 where
-  pub fresh : IsFresh (longest_line settings) core.decoding (type_name settings) core
+  pub fresh : IsFresh (longest_line settings) core.decoding (type_name settings) (file_read settings) core
   pub decoding_is : decoding settings ≡ Some core.decoding
 
 -- how many lines a source that makes them makes at once

@@ -22,6 +22,7 @@ use Rattle.vx_record.specs.Lists.{buffered}
 use Rattle.vx_record.specs.Owing.{owes_discards, owes_answer}
 use Rattle.vx_record.specs.Ready.{is_ready}
 use Rattle.vx_value.specs.Texts.{is_empty}
+use Rattle.vx_record.specs.SinkBatches.{is_batch_closed}
 use Rattle.vx_record.specs.Turns.{is_out, since_lease}
 use Rattle.vx_moves.specs.declared.books.Books.{Books}
 use Rattle.vx_ready.specs.Asking.{IsServed, IsSettled, IsOpen}
@@ -91,6 +92,10 @@ abbrev pub ComesTo : Job → Job → Type 0
 ComesTo job.Collect todo = takes_first todo ≡ true
 ComesTo job.Attempt todo = takes_first todo ≡ true
 ComesTo asked todo = todo ≡ asked
+
+-- a sink goes on taking only where its batch, with all that it took, isn't closed at a moment
+abbrev pub IsUnclosed : Record → ℕ → ℕ → Job → Type 0
+IsUnclosed h i now todo = todo ≡ job.Collect → is_batch_closed h i now ≡ false
 
 -- an instance had something to do at a moment, and this is what that came to
 pub record HadWork (h : Record) (now i : ℕ) (todo : Job) : Type 0 where

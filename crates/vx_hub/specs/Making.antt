@@ -4,7 +4,6 @@ use Rattle.vx_ends.specs.Told.{Told, Fits}
 use Rattle.vx_ends.specs.declared.port_spec.PortSpec.{PortSpec}
 use Rattle.vx_plan.specs.declared.component.Component.{Component}
 use Rattle.vx_plan.specs.declared.plan.Plan.{Plan}
-use Rattle.vx_plan.specs.Ports.{port_of}
 use Rattle.vx_plan.specs.Components.{is_transform}
 use Rattle.vx_pick.specs.declared.picker.Picker.{Picker}
 use Rattle.vx_pick.specs.Picks.{Picks}
@@ -29,12 +28,12 @@ pub record IsUntouched (spec : Option PortSpec) (told : Told) : Type 0 where
   pub finishes : HasCounted told.exact 0 told.finishes
   pub confirms : HasCounted told.exact 0 told.confirms
 
--- nothing went through the ports, and each is made for the component in its place
-abbrev pub AreUntouched : {P : Type 0} → (P → Told) → List Component → List (Named P) → Type 0
-AreUntouched told_by components [] = Unit {0}
-AreUntouched told_by [] (named ∷ rest) = ⊥
-AreUntouched told_by (component ∷ components) (named ∷ rest) =
-    IsUntouched (port_of component) (told_by named.port) × AreUntouched told_by components rest
+-- nothing went through the ports, and each is made for what the component in its place needs
+abbrev pub AreUntouched : {P : Type 0} → (P → Told) → (Component → Option PortSpec) → List Component → List (Named P) → Type 0
+AreUntouched told_by needs components [] = Unit {0}
+AreUntouched told_by needs [] (named ∷ rest) = ⊥
+AreUntouched told_by needs (component ∷ components) (named ∷ rest) =
+    IsUntouched (needs component) (told_by named.port) × AreUntouched told_by needs components rest
 
 -- a transform has what picks by its settings, and what is none has nothing
 abbrev pub IsPickerFor : Component → Option Picker → Type 0

@@ -3,7 +3,7 @@ ghost use Rattle.std.specs.Prelude.{◌≡◌, ◌∷◌, [], ◌<◌, ◌≤◌
 ghost use Rattle.vx_plan.specs.Numbers.{reader_numbers};
 ghost use Rattle.vx_record.specs.Copies.{counting};
 ghost use Rattle.vx_plan.specs.Components.{port_names, sink_stages, batch_max_events, batch_timeout};
-ghost use Rattle.vx_plan.specs.Options.{decoding, reading_interval, type_name};
+ghost use Rattle.vx_plan.specs.Options.{file_read, decoding, reading_interval, type_name};
 ghost use Rattle.vx_seats.specs.Beginning.{AreNew};
 ghost use Rattle.vx_seats.specs.Knowing.{batching_of, schedule_of};
 ghost use Rattle.vx_hub.specs.Making.{is_served, all_served};
@@ -232,13 +232,17 @@ fn make_worker(alloc: Global, settings: &Settings) -> Result<Role, WantOfMemory>
     ensures { IfOk result (IsWorkerFor settings.now) }
 {
     match settings {
-        Settings::Stdin { .. } => Ok(Role::Source(make_source(alloc, settings)?)),
+        Settings::Stdin { .. } | Settings::FileIn { .. } => {
+            Ok(Role::Source(make_source(alloc, settings)?))
+        }
         Settings::DemoLogs { demo, interval } => {
             let core = make_source(alloc, settings)?;
             let texts = copy_demo(alloc, demo)?;
             Ok(Role::Generator(Generator::new(core, texts, lines_at_once(*interval))))
         }
-        Settings::Console { encoding_codec, .. } => Ok(Role::Sink(*encoding_codec)),
+        Settings::Console { encoding_codec, .. } | Settings::FileOut { encoding_codec, .. } => {
+            Ok(Role::Sink(*encoding_codec))
+        }
         Settings::Blackhole { .. } => Ok(Role::Blackhole),
         Settings::Filter { .. }
         | Settings::Route { .. }
@@ -257,7 +261,18 @@ fn make_source(alloc: Global, settings: &Settings) -> Result<SourceCore, WantOfM
     let limit = settings.line_limit().unwrap_or(0);
     let decoding = settings.decoding().unwrap_or(Decoding::Bytes);
     let name = Text::copy_of(alloc, source_type(settings))?;
-    SourceCore::new(alloc, limit, decoding, name)
+    let file = file_of(alloc, settings)?;
+    SourceCore::new(alloc, limit, decoding, name, file)
+}
+
+/// The path of the file that a component reads, once more, if it reads one.
+fn file_of(alloc: Global, settings: &Settings) -> Result<Option<Text>, WantOfMemory>
+    ensures { IfOk result (λ file. file ≡ file_read settings.now) }
+{
+    match settings.file() {
+        Some(path) => Ok(Some(path.copy(alloc)?)),
+        None => Ok(None),
+    }
 }
 
 /// The name of a source's type.
@@ -267,6 +282,7 @@ fn source_type(settings: &Settings) -> &str
 {
     match settings {
         Settings::Stdin { .. } => "stdin",
+        Settings::FileIn { .. } => "file",
         Settings::DemoLogs { .. } => "demo_logs",
         _ => unreachable!(),
     }

@@ -14,7 +14,7 @@ ghost use Rattle.vx_ready.specs.Asking.{IsServed};
 ghost use Rattle.vx_ready.specs.Jobs.{failed_before, is_full_or_old};
 ghost use Rattle.vx_tasks.specs.Out.{IsGiven};
 ghost use Rattle.vx_hub.specs.Collecting.{OwesNothing, IsOut, IsCollecting, IsGathering, IsTakeOf, HasTaken, HasGatheredOne};
-ghost use Rattle.vx_hub.specs.Leases.{takes_first};
+ghost use Rattle.vx_hub.specs.Leases.{takes_first, IsUnclosed};
 
 use vx_ends::Port;
 use vx_moves::Books;
@@ -97,6 +97,7 @@ pub(crate) fn decide<P: Port>(books: &Books<P>, i: u32, now: u64) -> Job
     requires out { IsOut books.now i now }
     ensures given { IsGiven books.now.log i result }
     ensures sinks { takes_first result ≡ true }
+    ensures unclosed { IsUnclosed books.now.log i now result }
 {
     if is_closed_out(books, i, now) {
         Job::Attempt

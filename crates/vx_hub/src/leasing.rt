@@ -9,7 +9,7 @@ ghost use Rattle.vx_moves.specs.Rooms.{IsHandOf};
 ghost use Rattle.vx_moves.specs.Stands.{Stands};
 ghost use Rattle.vx_tasks.specs.Out.{HasLeft};
 ghost use Rattle.vx_ready.specs.Asking.{IsServed};
-ghost use Rattle.vx_hub.specs.Leases.{HasLeased, IsReadyFor, HasReadySink, NoneFilled, NoneHasWork, GoesFirst, takes_first as takes_first_by, ComesTo, HadWork, MayGather, HasGathered, HasHandedOut};
+ghost use Rattle.vx_hub.specs.Leases.{HasLeased, IsReadyFor, HasReadySink, NoneFilled, NoneHasWork, GoesFirst, takes_first as takes_first_by, ComesTo, IsUnclosed, HadWork, MayGather, HasGathered, HasHandedOut};
 ghost use Rattle.vx_landing.specs.Landings.{HasTask};
 ghost use Rattle.vx_hub.specs.Standing.{IsHub, IsWell, LentWhileOut, OthersKeep};
 
@@ -54,6 +54,7 @@ impl<P: Port> Hub<P> {
         ensures noted { IfSome result (λ work. HasLeased work.instance worker (max now self.old.books.run.latest) self.old.books.log self.new.books.log) }
         ensures latest { IfSome result (λ work. self.new.books.run.latest ≡ max now self.old.books.run.latest) }
         ensures works { IfSome result (λ work. HadWork self.old.books.log (max now self.old.books.run.latest) work.instance work.job) }
+        ensures unclosed { IfSome result (λ work. IsUnclosed self.new.books.log work.instance (max now self.old.books.run.latest) work.job) }
         ensures had { IfSome result (λ work. HasTask self.old.books.seats work.instance work.task) }
         ensures others { IfSome result (λ work. OthersKeep work.instance self.old.books.seats self.new.books.seats) }
         ensures sound { self.old.fatal ≡ true → result ≡ None }
@@ -86,6 +87,7 @@ fn hand_out<P: Port>(books: &mut Books<P>, i: u32, job: Job, worker: u32, now: u
     ensures out { HasHandedOut P.told i worker now books.old books.new result }
     ensures within { result.instance < length books.new.seats }
     ensures comes { ComesTo job result.job }
+    ensures unclosed { IsUnclosed books.new.log i now result.job }
 {
     let (task, positions) = books.lease(i, worker, now);
     let job = gather(books, i, job, now);
@@ -111,6 +113,7 @@ fn gather<P: Port>(books: &mut Books<P>, i: u32, job: Job, now: u64) -> Job
     requires untaken { owes_answer books.old.log i ≡ false }
     ensures gathered { HasGathered P.told i books.old books.new result }
     ensures comes { ComesTo job result }
+    ensures unclosed { IsUnclosed books.new.log i now result }
 {
     if takes_first(job) {
         collect(books, i, now);

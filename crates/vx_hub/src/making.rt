@@ -6,6 +6,7 @@ ghost use Rattle.vx_record.specs.Wirings.{begun};
 ghost use Rattle.vx_places.specs.Views.{Same};
 ghost use Rattle.vx_places.specs.Rooms.{AddsRooms};
 ghost use Rattle.vx_hub.specs.Beginning.{HasRoomFor, HaveRooms, AreVacant, AreRoledFrom, AreSeatedFrom, rooms_of};
+ghost use Rattle.vx_plan.specs.Ports.{port_of};
 ghost use Rattle.vx_hub.specs.Making.{all_served, AreUntouched, ArePickers};
 ghost use Rattle.vx_ready.specs.Asking.{source_class};
 ghost use Rattle.vx_hub.specs.Standing.{AreSources, IsHub};
@@ -43,7 +44,7 @@ impl<P: Port> Hub<P> {
     pub fn new(alloc: Global, parts: Parts<P>, now: u64) -> Result<Self, NewRefused<P>>
         requires ports { length parts.ports ≡ length parts.plan.components }
         requires few { length parts.plan.components < 2 ^ 32 }
-        requires untouched { AreUntouched P.told parts.plan.components parts.ports }
+        requires untouched { AreUntouched P.told (port_of parts.once parts.plan.global.data_dir) parts.plan.components parts.ports }
         requires accepted { IsPlan parts.plan }
         requires served { all_served parts.plan.components ≡ true }
         requires pickers { ArePickers parts.plan.components parts.pickers }
@@ -142,7 +143,7 @@ fn add_place(alloc: Global, places: &mut Places, component: &Component) -> Resul
 fn begin<P: Port>(alloc: Global, parts: Parts<P>, room: Room<P>, now: u64) -> Hub<P>
     requires ports { length parts.ports ≡ length parts.plan.components }
     requires few { length parts.plan.components < 2 ^ 32 }
-    requires untouched { AreUntouched P.told parts.plan.components parts.ports }
+    requires untouched { AreUntouched P.told (port_of parts.once parts.plan.global.data_dir) parts.plan.components parts.ports }
     requires accepted { IsPlan parts.plan }
     requires served { all_served parts.plan.components ≡ true }
     requires pickers { ArePickers parts.plan.components parts.pickers }

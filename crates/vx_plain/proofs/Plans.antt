@@ -12,7 +12,7 @@ use Rattle.vx_plan.specs.declared.when_full.WhenFull.TheVariants.{Block}
 use Rattle.vx_plan.specs.Components.{is_source, stages, transform_stages, sink_stages}
 use Rattle.vx_plan.specs.Numbers.{reader_numbers}
 use Rattle.vx_record.specs.Records.{Record}
-use Rattle.vx_record.specs.Installs.{Wiring, in_force, wired, source_at}
+use Rattle.vx_record.specs.Installs.{Wiring, in_force, once_in, wired, source_at}
 use Rattle.vx_record.specs.Routing.{wired_targets}
 use Rattle.vx_record.specs.Wirings.{begun}
 use Rattle.vx_record.specs.Stages.{stages_of, first_room, room_from, first_filled, filled_from, drops_newest, last_drops}
@@ -59,8 +59,8 @@ readers_wired plan h i port legal force = go (slice_get plan.components i) refl
     go (Some c) at =
         ap (λ (o : Option Wiring). elim o [ None ↦ [] | Some w ↦ wired_targets port w ])
         (wired_so h plan i c legal force at
-        ∙ sym (wired_so (begun plan false 0) plan i c (begun_legal plan false 0 (in_force_accepted h plan legal force)) refl at))
-        ∙ targets_of_first plan false 0 i port c at
+        ∙ sym (wired_so (begun plan (once_in h) 0) plan i c (begun_legal plan (once_in h) 0 (in_force_accepted h plan legal force)) refl at))
+        ∙ targets_of_first plan (once_in h) 0 i port c at
 
 -- STAGES
 -- a transform has one stage, which blocks

@@ -7,7 +7,7 @@ use Rattle.vx_ends.specs.Told.{Told}
 use Rattle.vx_ends.specs.Texts.{text_at}
 use Rattle.vx_ends.specs.declared.world.Config.{Config}
 use Rattle.vx_reading.specs.Reading.{IsReading}
-use Rattle.vx_cli.specs.Commands.{IsCommand, has_stats}
+use Rattle.vx_cli.specs.Commands.{IsCommand, has_once, has_stats}
 use Rattle.vx_cli.specs.declared.command.Command.{Command}
 use Rattle.vx_cli.specs.declared.command.Command.TheVariants.{Run, Validate}
 use Rattle.vx_run.specs.Running.{HasInstalled}
@@ -62,8 +62,8 @@ in_force_asked : (words : List Word) (environment : List Variable) (configs : Li
     IsReady words environment (Some configs) plan → HasInstalled words environment (Some configs) h None → in_force h ≡ Some plan
 in_force_asked words environment configs h plan one_command one_plan asks (inl installed) =
     let ready = installed.ready in
-    let same_run : Run ready.file (has_stats words) ≡ Run asks.file (has_stats words) =
-    one_command words (Run ready.file (has_stats words)) (Run asks.file (has_stats words)) (ready.asked, refl) (asks.asked, refl) in
+    let same_run : Run ready.file (has_once words) (has_stats words) ≡ Run asks.file (has_once words) (has_stats words) =
+    one_command words (Run ready.file (has_once words) (has_stats words)) (Run asks.file (has_once words) (has_stats words)) (ready.asked, (refl, refl)) (asks.asked, (refl, refl)) in
     let same_file : ready.file ≡ asks.file = cc in
     let text : text_at configs asks.file ≡ Some ready.stands.bytes = subst (λ (file : Word). text_at configs file ≡ Some ready.stands.bytes) same_file ready.stands.text in
     let same_bytes : ready.stands.bytes ≡ asks.stands.bytes = some_is ready.stands.bytes asks.stands.bytes (sym text ∙ asks.stands.text) in
@@ -71,8 +71,8 @@ in_force_asked words environment configs h plan one_command one_plan asks (inl i
     one_plan environment asks.stands.bytes installed.plan plan (subst (λ (w : Word). IsReading environment w (Ok installed.plan)) same_bytes ready.stands.read) asks.stands.read in
     installed.began.installed ∙ ap (λ (p : Plan). Some p) same_plan
 in_force_asked words environment configs h plan one_command one_plan asks (inr judged) =
-    let no : Validate judged.valid.file ≡ Run asks.file (has_stats words) =
-    one_command words (Validate judged.valid.file) (Run asks.file (has_stats words)) judged.valid.asked (asks.asked, refl) in
+    let no : Validate judged.valid.file ≡ Run asks.file (has_once words) (has_stats words) =
+    one_command words (Validate judged.valid.file) (Run asks.file (has_once words) (has_stats words)) judged.valid.asked (asks.asked, (refl, refl)) in
     cc
 
 -- the law by the clauses of the top call, of the record

@@ -9,7 +9,7 @@ use Rattle.vx_plan.specs.declared.class.Class.TheVariants.{Source, Transform, Si
 use Rattle.vx_plan.specs.declared.component.Component.{Component}
 use Rattle.vx_plan.specs.declared.plan.Plan.{Plan}
 use Rattle.vx_plan.specs.declared.settings.Settings.{Settings}
-use Rattle.vx_plan.specs.declared.settings.Settings.TheVariants.{Stdin, DemoLogs, Filter, Route, Sample, Dedupe, Reduce, Host, Console, Blackhole}
+use Rattle.vx_plan.specs.declared.settings.Settings.TheVariants.{Stdin, FileIn, DemoLogs, Filter, Route, Sample, Dedupe, Reduce, Host, Console, FileOut, Blackhole}
 use Rattle.vx_plan.specs.Graphs.{nodes_of}
 use Rattle.vx_plan.specs.Components.{is_source, is_sink, stages}
 
@@ -21,6 +21,7 @@ names_differ (c ∷ rest) = not (list_any (λ (d : Component). same_text d.name 
 -- the class to which a type belongs
 abbrev pub settings_class : Settings → Class
 settings_class (Stdin max_length codec) = Source
+settings_class (FileIn most path from codec) = Source
 settings_class (DemoLogs demo interval) = Source
 settings_class (Filter condition) = Transform
 settings_class (Route routes reroute) = Transform
@@ -29,6 +30,7 @@ settings_class (Dedupe fields most) = Transform
 settings_class (Reduce group_by starts_when ends_when expire flush strategies) = Transform
 settings_class Host = Transform
 settings_class (Console target codec sink) = Sink
+settings_class (FileOut path compression codec sink) = Sink
 settings_class (Blackhole seconds sink) = Sink
 
 -- whether two classes are the same

@@ -7,31 +7,40 @@ use Rattle.vx_json.specs.declared.decoding.Decoding.TheVariants.{Bytes}
 use Rattle.vx_json.specs.declared.demo_settings.DemoSettings.{DemoSettings}
 use Rattle.vx_plan.specs.declared.route.Route.{Route as Way}
 use Rattle.vx_plan.specs.declared.settings.Settings.{Settings}
-use Rattle.vx_plan.specs.declared.settings.Settings.TheVariants.{Stdin, DemoLogs, Filter, Route, Sample, Dedupe, Reduce, Host, Console, Blackhole}
+use Rattle.vx_plan.specs.declared.settings.Settings.TheVariants.{Stdin, FileIn, DemoLogs, Filter, Route, Sample, Dedupe, Reduce, Host, Console, FileOut, Blackhole}
 use Rattle.vx_plan.specs.declared.sink_settings.SinkSettings.{SinkSettings}
 
 -- what a sink shares with all sinks
 abbrev pub sink_options : Settings → Option SinkSettings
 sink_options (Console target codec sink) = Some sink
+sink_options (FileOut path compression codec sink) = Some sink
 sink_options (Blackhole seconds sink) = Some sink
 sink_options other = None
 
 -- the length of the longest line that a source takes, without its line feed; generated lines may be of any length that a number of 32 bits tells
 abbrev pub line_limit : Settings → Option ℕ
 line_limit (Stdin max_length codec) = Some max_length
+line_limit (FileIn most path from codec) = Some most
 line_limit (DemoLogs demo interval) = Some (2 ^ 32 - 1)
 line_limit other = None
 
 -- how a source makes events of lines
 abbrev pub decoding : Settings → Option Decoding
 decoding (Stdin max_length codec) = Some codec
+decoding (FileIn most path from codec) = Some codec
 decoding (DemoLogs demo interval) = Some Bytes
 decoding other = None
 
 -- how a sink writes events
 abbrev pub encoding : Settings → Option Codec
 encoding (Console target codec sink) = Some codec
+encoding (FileOut path compression codec sink) = Some codec
 encoding other = None
+
+-- the path of the file that a source reads
+abbrev pub file_read : Settings → Option Word
+file_read (FileIn most path from codec) = Some path
+file_read other = None
 
 -- what generated input is made of
 abbrev pub demo_of : Settings → Option DemoSettings
@@ -46,12 +55,15 @@ reading_interval other = 0
 -- whether a component works with a port: transforms, generators and black holes have none
 abbrev pub has_device : Settings → Bool
 has_device (Stdin max_length codec) = true
+has_device (FileIn most path from codec) = true
 has_device (Console target codec sink) = true
+has_device (FileOut path compression codec sink) = true
 has_device other = false
 
 -- the name of the type
 abbrev pub type_name : Settings → Word
 type_name (Stdin max_length codec) = 115 ∷ 116 ∷ 100 ∷ 105 ∷ 110 ∷ []
+type_name (FileIn most path from codec) = codes "file"
 type_name (DemoLogs demo interval) = codes "demo_logs"
 type_name (Filter condition) = codes "filter"
 type_name (Route routes reroute) = codes "route"
@@ -60,6 +72,7 @@ type_name (Dedupe fields most) = codes "dedupe"
 type_name (Reduce group_by starts_when ends_when expire flush strategies) = codes "reduce"
 type_name Host = codes "host"
 type_name (Console target codec sink) = 99 ∷ 111 ∷ 110 ∷ 115 ∷ 111 ∷ 108 ∷ 101 ∷ []
+type_name (FileOut path compression codec sink) = codes "file"
 type_name (Blackhole seconds sink) = codes "blackhole"
 
 -- a text, if there is one

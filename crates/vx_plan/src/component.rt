@@ -36,10 +36,17 @@ impl Component {
     }
 
     /// The port that the component needs; `None` exactly where it has no device.
-    pub fn port(&self, alloc: Global) -> Result<Option<PortSpec>, WantOfMemory>
-        ensures { IfOk result (λ port. port ≡ port_of self.now) }
+    ///
+    /// `once` says whether the run ends with the files that are there. Checkpoints stand in `folder`.
+    pub fn port(
+        &self,
+        alloc: Global,
+        once: bool,
+        folder: &str,
+    ) -> Result<Option<PortSpec>, WantOfMemory>
+        ensures { IfOk result (λ port. port ≡ port_of once folder.now self.now) }
     {
-        match self.settings.form() {
+        match self.settings.form(alloc, once, folder, self.name.as_str())? {
             None => Ok(None),
             Some(form) => Ok(Some(PortSpec {
                 name: self.name.copy(alloc)?,

@@ -1,8 +1,10 @@
 //! An accepted configuration: its components, their settings and who reads whom.
 #![tactic(auto)]
 
+mod checkpoint;
 mod class;
 mod component;
+mod compression;
 mod console_target;
 mod copies;
 mod first;
@@ -10,6 +12,7 @@ mod global;
 mod laws;
 mod names;
 mod plan;
+mod read_from;
 mod route;
 mod settings;
 mod sink_settings;
@@ -20,11 +23,13 @@ mod when_full;
 
 pub use class::Class;
 pub use component::{Component, ComponentList};
+pub use compression::Compression;
 pub use console_target::ConsoleTarget;
 pub use first::first_plan;
 pub use global::Global;
 pub use laws::{acknowledged_chains, first_plan_stands, graph_targets};
 pub use plan::Plan;
+pub use read_from::ReadFrom;
 pub use route::{Route, RouteList};
 pub use settings::Settings;
 pub use sink_settings::SinkSettings;

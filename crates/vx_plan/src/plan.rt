@@ -115,7 +115,7 @@ impl Plan {
 
     /// The port that a component needs; `None` exactly where it has no device, or isn't in the plan.
     ///
-    /// `once` says whether its run ends with the input that is there; no type that there is minds.
+    /// `once` says whether the run ends with the files that are there.
     pub fn port_spec(
         &self,
         alloc: Allocator,
@@ -125,7 +125,7 @@ impl Plan {
         ensures { IfOk result (λ spec. spec ≡ port_spec self.now name.now once) }
     {
         match self.component(name) {
-            Some(component) => component.port(alloc),
+            Some(component) => component.port(alloc, once, self.global.data_dir.as_str()),
             None => Ok(None),
         }
     }

@@ -2,13 +2,16 @@ ghost use Rattle.std.specs.Prelude.{◌≡◌, ◌<◌, [], length, slice_index_
 ghost use Rattle.std.specs.Option.{option_copied};
 ghost use Rattle.vx_plan.specs.Components.{of_sink};
 ghost use Rattle.vx_plan.specs.declared.sink_settings.SinkSettings.{SinkSettings};
-ghost use Rattle.vx_plan.specs.Ports.{form_of};
-ghost use Rattle.vx_plan.specs.Options.{sink_options, line_limit, decoding, encoding, has_device, transform_ports};
+ghost use Rattle.vx_plan.specs.Ports.{checkpoint_path, form_of};
+ghost use Rattle.vx_plan.specs.Options.{sink_options, line_limit, decoding, encoding, file_read, has_device, transform_ports};
 
+use crate::checkpoint::checkpoint_path;
+use crate::compression::Compression;
 use crate::console_target::ConsoleTarget;
 use crate::copies::{
     copy_demo, copy_fields, copy_optional, copy_paths, copy_routes, copy_strategies,
 };
+use crate::read_from::ReadFrom;
 use crate::route::RouteList;
 use crate::sink_settings::SinkSettings;
 use std::alloc::Global;
@@ -24,6 +27,15 @@ pub enum Settings {
     Stdin {
         /// How many bytes a line may have, without its line feed: 1 to 16,777,216.
         max_length: u32,
+        decoding_codec: Decoding,
+    },
+    /// A source that reads a file.
+    FileIn {
+        /// How many bytes a line may have, without its line feed: 1 to 16,777,216.
+        max_line_bytes: u32,
+        /// The path of the file.
+        include: Text,
+        read_from: ReadFrom,
         decoding_codec: Decoding,
     },
     /// A source that makes its lines itself.
@@ -72,6 +84,13 @@ pub enum Settings {
         encoding_codec: Codec,
         sink: SinkSettings,
     },
+    /// A sink that appends to a file.
+    FileOut {
+        path: Text,
+        compression: Compression,
+        encoding_codec: Codec,
+        sink: SinkSettings,
+    },
     /// A sink that writes nothing.
     Blackhole {
         /// Without effect.
@@ -86,7 +105,9 @@ impl Settings {
         ensures { option_copied result ≡ sink_options self.now }
     {
         match self {
-            Settings::Console { sink, .. } | Settings::Blackhole { sink, .. } => Some(sink),
+            Settings::Console { sink, .. }
+            | Settings::FileOut { sink, .. }
+            | Settings::Blackhole { sink, .. } => Some(sink),
             _ => None,
         }
     }
@@ -97,6 +118,7 @@ impl Settings {
     {
         match self {
             Settings::Stdin { max_length, .. } => Some(*max_length),
+            Settings::FileIn { max_line_bytes, .. } => Some(*max_line_bytes),
             Settings::DemoLogs { .. } => Some(u32::MAX),
             _ => None,
         }
@@ -107,7 +129,9 @@ impl Settings {
         ensures { result ≡ decoding self.now }
     {
         match self {
-            Settings::Stdin { decoding_codec, .. } => Some(*decoding_codec),
+            Settings::Stdin { decoding_codec, .. } | Settings::FileIn { decoding_codec, .. } => {
+                Some(*decoding_codec)
+            }
             Settings::DemoLogs { .. } => Some(Decoding::Bytes),
             _ => None,
         }
@@ -118,7 +142,19 @@ impl Settings {
         ensures { result ≡ encoding self.now }
     {
         match self {
-            Settings::Console { encoding_codec, .. } => Some(*encoding_codec),
+            Settings::Console { encoding_codec, .. } | Settings::FileOut { encoding_codec, .. } => {
+                Some(*encoding_codec)
+            }
+            _ => None,
+        }
+    }
+
+    /// The path of the file that a source reads; `None` for a component that reads none.
+    pub fn file(&self) -> Option<&Text>
+        ensures { option_copied result ≡ file_read self.now }
+    {
+        match self {
+            Settings::FileIn { include, .. } => Some(include),
             _ => None,
         }
     }
@@ -138,21 +174,40 @@ impl Settings {
         ensures { result ≡ has_device self.now }
     {
         match self {
-            Settings::Stdin { .. } | Settings::Console { .. } => true,
+            Settings::Stdin { .. }
+            | Settings::FileIn { .. }
+            | Settings::Console { .. }
+            | Settings::FileOut { .. } => true,
             _ => false,
         }
     }
 
-    /// The form of the port that the component works with; `None` exactly where it works with none.
-    pub fn form(&self) -> Option<Form>
-        ensures { result ≡ form_of self.now }
+    /// The form of the port that a component of that name works with; `None` exactly where it works with none.
+    ///
+    /// `once` says whether the run ends with the files that are there. Checkpoints stand in `folder`.
+    pub(crate) fn form(
+        &self,
+        alloc: Global,
+        once: bool,
+        folder: &str,
+        name: &str,
+    ) -> Result<Option<Form>, WantOfMemory>
+        ensures { IfOk result (λ form. form ≡ form_of once (checkpoint_path folder.now name.now) self.now) }
     {
         match self {
-            Settings::Stdin { .. } => Some(Form::Stdin),
-            Settings::Console { target, .. } => Some(Form::Console {
+            Settings::Stdin { .. } => Ok(Some(Form::Stdin)),
+            Settings::FileIn { include, .. } => Ok(Some(Form::FileIn {
+                path: include.copy(alloc)?,
+                once,
+                checkpoint: checkpoint_path(alloc, folder, name)?,
+            })),
+            Settings::Console { target, .. } => Ok(Some(Form::Console {
                 err: *target == ConsoleTarget::Stderr,
-            }),
-            _ => None,
+            })),
+            Settings::FileOut { path, .. } => Ok(Some(Form::FileOut {
+                path: path.copy(alloc)?,
+            })),
+            _ => Ok(None),
         }
     }
 
@@ -198,6 +253,28 @@ impl Settings {
                 sink,
             } => Ok(Settings::Console {
                 target: *target,
+                encoding_codec: *encoding_codec,
+                sink: sink.copy(alloc)?,
+            }),
+            Settings::FileIn {
+                max_line_bytes,
+                include,
+                read_from,
+                decoding_codec,
+            } => Ok(Settings::FileIn {
+                max_line_bytes: *max_line_bytes,
+                include: include.copy(alloc)?,
+                read_from: *read_from,
+                decoding_codec: *decoding_codec,
+            }),
+            Settings::FileOut {
+                path,
+                compression,
+                encoding_codec,
+                sink,
+            } => Ok(Settings::FileOut {
+                path: path.copy(alloc)?,
+                compression: *compression,
                 encoding_codec: *encoding_codec,
                 sink: sink.copy(alloc)?,
             }),

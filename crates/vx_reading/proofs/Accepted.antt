@@ -17,7 +17,7 @@ use Rattle.vx_plan.specs.declared.plan.Plan.{Plan}
 use Rattle.vx_plan.specs.declared.stage.Stage.{Stage}
 use Rattle.vx_plan.proofs.Tests.{or_there, and_made, and_both, passing}
 use Rattle.vx_reading.specs.declared.kind.Kind.{Kind}
-use Rattle.vx_reading.specs.declared.kind.Kind.TheVariants.{Stdin, DemoLogs, Filter, Route, Console, Blackhole}
+use Rattle.vx_reading.specs.declared.kind.Kind.TheVariants.{Stdin, FileIn, DemoLogs, Filter, Route, Console, FileOut, Blackhole}
 use Rattle.vx_reading.specs.declared.plan_fault.PlanFault.{PlanFault}
 use Rattle.vx_reading.specs.Components.{Part, parts, kind_of, type_in}
 use Rattle.vx_reading.specs.Names.{AreApart, names_of, AreApartByClass}
@@ -55,10 +55,12 @@ sink_reads Sink inputs e = refl
 -- a component of a type whose class is that of its part has options of its class
 kind_fits : (whole : Options) (part : Part) (kind : Kind) → same_class (kind_class kind) part.class ≡ true → fits_class (component whole part kind) ≡ true
 kind_fits whole part Stdin same = and_made (same_class Source part.class) (not (is_source (component whole part Stdin)) || true) same (or_there (not (is_source (component whole part Stdin))) true refl)
+kind_fits whole part FileIn same = and_made (same_class Source part.class) (not (is_source (component whole part FileIn)) || true) same (or_there (not (is_source (component whole part FileIn))) true refl)
 kind_fits whole part DemoLogs same = and_made (same_class Source part.class) (not (is_source (component whole part DemoLogs)) || true) same (or_there (not (is_source (component whole part DemoLogs))) true refl)
 kind_fits whole part Filter same = and_made (same_class Transform part.class) (not (is_source (component whole part Filter)) || is_empty (component whole part Filter).inputs) same (transform_reads part.class (component whole part Filter).inputs same)
 kind_fits whole part Route same = and_made (same_class Transform part.class) (not (is_source (component whole part Route)) || is_empty (component whole part Route).inputs) same (transform_reads part.class (component whole part Route).inputs same)
 kind_fits whole part Console same = and_made (same_class Sink part.class) (not (is_source (component whole part Console)) || is_empty (component whole part Console).inputs) same (sink_reads part.class (component whole part Console).inputs same)
+kind_fits whole part FileOut same = and_made (same_class Sink part.class) (not (is_source (component whole part FileOut)) || is_empty (component whole part FileOut).inputs) same (sink_reads part.class (component whole part FileOut).inputs same)
 kind_fits whole part Blackhole same = and_made (same_class Sink part.class) (not (is_source (component whole part Blackhole)) || is_empty (component whole part Blackhole).inputs) same (sink_reads part.class (component whole part Blackhole).inputs same)
 
 -- a buffer has some stage
@@ -71,6 +73,12 @@ kind_staged : (whole : Options) (part : Part) (kind : Kind) → same_class (kind
 kind_staged whole part Stdin same = go part.class same
   where
     go : (class : Class) → same_class Source class ≡ true → has_stage (record (component whole part Stdin) { class = class }) ≡ true
+    go Source e = refl
+    go Transform e = refl
+    go Sink e = cc
+kind_staged whole part FileIn same = go part.class same
+  where
+    go : (class : Class) → same_class Source class ≡ true → has_stage (record (component whole part FileIn) { class = class }) ≡ true
     go Source e = refl
     go Transform e = refl
     go Sink e = cc
@@ -95,6 +103,12 @@ kind_staged whole part Route same = go part.class same
 kind_staged whole part Console same = go part.class same
   where
     go : (class : Class) → same_class Sink class ≡ true → has_stage (record (component whole part Console) { class = class }) ≡ true
+    go Source e = refl
+    go Transform e = refl
+    go Sink e = some_stage (map stage_of (stages_of part.value))
+kind_staged whole part FileOut same = go part.class same
+  where
+    go : (class : Class) → same_class Sink class ≡ true → has_stage (record (component whole part FileOut) { class = class }) ≡ true
     go Source e = refl
     go Transform e = refl
     go Sink e = some_stage (map stage_of (stages_of part.value))

@@ -9,9 +9,13 @@ use Rattle.vx_subst.specs.Pieces.{Bare, pieces_after, piece_of, form_of, bare, b
 use Rattle.vx_subst.specs.Replaced.{replaced, first_lacking, becomes, lacks, text_of, lacking}
 use Rattle.vx_plan.specs.Components.{acknowledges, stages}
 use Rattle.vx_plan.specs.First.{first_configuration, first_plan}
+use Rattle.vx_json.specs.declared.codec.Codec.TheVariants as codec
+use Rattle.vx_json.specs.declared.decoding.Decoding.TheVariants as decoding
 use Rattle.vx_plan.specs.declared.component.Component.{Component}
+use Rattle.vx_plan.specs.declared.compression.Compression.TheVariants as compression
+use Rattle.vx_plan.specs.declared.read_from.ReadFrom.TheVariants.{Beginning}
 use Rattle.vx_plan.specs.declared.settings.Settings.{Settings}
-use Rattle.vx_plan.specs.declared.settings.Settings.TheVariants.{DemoLogs, Blackhole}
+use Rattle.vx_plan.specs.declared.settings.Settings.TheVariants.{FileIn, DemoLogs, FileOut, Blackhole}
 use Rattle.vx_plan.specs.declared.sink_settings.SinkSettings.{SinkSettings}
 use Rattle.vx_plan.specs.declared.when_full.WhenFull.TheVariants.{Block, Overflow}
 use Rattle.vx_reading.specs.Findings.{findings, found, whole, precedes}
@@ -307,3 +311,85 @@ swallowing_to : findings (one_option (codes "sinks") (one_option (codes "out") (
     (member (codes "target") (string (codes "stdout")) (member (codes "type") (string (codes "blackhole")) no_members)))))
     ≡ found (record { section = 3; name = codes "out" }) (codes "sinks.out.target") UnknownOption ∷ []
 swallowing_to = refl
+
+-- a document whose one source reads a file
+abbrev reading_file : Data → Members → Data
+reading_file include more =
+    one_option (codes "sources") (one_option (codes "in") (table (member (codes "include") include more)))
+
+abbrev file_type : Members
+file_type = member (codes "type") (string (codes "file")) no_members
+
+abbrev one_file : Data
+one_file = array (item (string (codes "app.log")) no_items)
+
+-- what it is where it says no more, and where it does
+file_is_read : (findings (reading_file one_file file_type) ≡ [])
+    × (map settings_by (plan_of (reading_file one_file file_type)).components ≡ FileIn 102400 (codes "app.log") Beginning decoding.Bytes ∷ [])
+file_is_read = (refl, refl)
+
+abbrev more_of_file : Members
+more_of_file = member (codes "max_line_bytes") (integer (pos 16777216)) (member (codes "read_from") (string (codes "beginning")) file_type)
+
+more_is_read : (findings (reading_file one_file more_of_file) ≡ [])
+    × (map settings_by (plan_of (reading_file one_file more_of_file)).components ≡ FileIn 16777216 (codes "app.log") Beginning decoding.Bytes ∷ [])
+more_is_read = (refl, refl)
+
+-- no file, two files, a pattern, a file that stands in no list, and none at all
+no_file : findings (reading_file (array no_items) file_type) ≡ source_fault (codes "include") BadValue ∷ []
+no_file = refl
+
+two_files : findings (reading_file (array (item (string (codes "a")) (item (string (codes "b")) no_items))) file_type)
+    ≡ source_fault (codes "include") BadValue ∷ []
+two_files = refl
+
+star_in_file : findings (reading_file (array (item (string (codes "*.log")) no_items)) file_type) ≡ source_fault (codes "include") BadValue ∷ []
+star_in_file = refl
+
+mark_in_file : findings (reading_file (array (item (string (codes "a?.log")) no_items)) file_type) ≡ source_fault (codes "include") BadValue ∷ []
+mark_in_file = refl
+
+bracket_in_file : findings (reading_file (array (item (string (codes "a[0].log")) no_items)) file_type) ≡ source_fault (codes "include") BadValue ∷ []
+bracket_in_file = refl
+
+file_as_text : findings (reading_file (string (codes "app.log")) file_type) ≡ source_fault (codes "include") BadValue ∷ []
+file_as_text = refl
+
+file_is_lacking : findings (one_option (codes "sources") (one_option (codes "in") (table file_type))) ≡ source_fault (codes "include") MissingOption ∷ []
+file_is_lacking = refl
+
+-- it is read from its beginning, and no line is longer than may be said
+read_from_end : findings (reading_file one_file (member (codes "read_from") (string (codes "end")) file_type)) ≡ source_fault (codes "read_from") BadValue ∷ []
+read_from_end = refl
+
+long_lines : findings (reading_file one_file (member (codes "max_line_bytes") (integer (pos 16777217)) file_type))
+    ≡ source_fault (codes "max_line_bytes") BadValue ∷ []
+long_lines = refl
+
+-- a document whose one sink appends to a file, with an option before its path
+abbrev appending : Word → Data → Data → Data
+appending name value path =
+    one_option (codes "sinks") (one_option (codes "f") (table
+    (member name value
+    (member (codes "encoding") (one_option (codes "codec") (string (codes "text")))
+    (member (codes "path") path file_type)))))
+
+-- it doesn't compress what it writes, whether it says so or not
+uncompressed : (findings (appending (codes "compression") (string (codes "none")) (string (codes "errors.txt"))) ≡ [])
+    × (map settings_by (plan_of (appending (codes "compression") (string (codes "none")) (string (codes "errors.txt")))).components
+    ≡ FileOut (codes "errors.txt") compression.None codec.Text sink_defaults ∷ [])
+uncompressed = (refl, refl)
+
+compressed : findings (appending (codes "compression") (string (codes "gzip")) (string (codes "errors.txt")))
+    ≡ found (record { section = 3; name = codes "f" }) (codes "sinks.f.compression") BadValue ∷ []
+compressed = refl
+
+-- a path that is a template, and a sink that has none
+template_as_path : findings (appending (codes "compression") (string (codes "none")) (string (codes "{{ host }}.txt")))
+    ≡ found (record { section = 3; name = codes "f" }) (codes "sinks.f.path") BadValue ∷ []
+template_as_path = refl
+
+path_is_lacking : findings (one_option (codes "sinks") (one_option (codes "f") (table
+    (member (codes "encoding") (one_option (codes "codec") (string (codes "text"))) file_type))))
+    ≡ found (record { section = 3; name = codes "f" }) (codes "sinks.f.path") MissingOption ∷ []
+path_is_lacking = refl

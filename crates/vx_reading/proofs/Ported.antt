@@ -13,7 +13,7 @@ use Rattle.vx_plan.specs.declared.global.Global.{Global}
 use Rattle.vx_plan.specs.declared.plan.Plan.{Plan}
 use Rattle.vx_plan.proofs.Tests.{and_made}
 use Rattle.vx_reading.specs.declared.kind.Kind.{Kind}
-use Rattle.vx_reading.specs.declared.kind.Kind.TheVariants.{Stdin, DemoLogs, Filter, Route, Console, Blackhole}
+use Rattle.vx_reading.specs.declared.kind.Kind.TheVariants.{Stdin, FileIn, DemoLogs, Filter, Route, Console, FileOut, Blackhole}
 use Rattle.vx_reading.specs.Components.{Part, parts, kind_of}
 use Rattle.vx_reading.specs.Findings.{findings}
 use Rattle.vx_reading.specs.Made.{is_made}
@@ -33,6 +33,12 @@ kind_made : (whole : Global) (part : Part) (kind : Kind) → same_class (kind_cl
 kind_made whole part Stdin same few lines = go part.class same
   where
     go : (class : Class) → same_class Source class ≡ true → is_made (record (component whole part Stdin) { class = class }) ≡ true
+    go Source e = refl
+    go Transform e = cc
+    go Sink e = cc
+kind_made whole part FileIn same few lines = go part.class same
+  where
+    go : (class : Class) → same_class Source class ≡ true → is_made (record (component whole part FileIn) { class = class }) ≡ true
     go Source e = refl
     go Transform e = cc
     go Sink e = cc
@@ -57,6 +63,12 @@ kind_made whole part Route same few lines = go part.class same
 kind_made whole part Console same few lines = go part.class same
   where
     go : (class : Class) → same_class Sink class ≡ true → is_made (record (component whole part Console) { class = class }) ≡ true
+    go Source e = cc
+    go Transform e = cc
+    go Sink e = refl
+kind_made whole part FileOut same few lines = go part.class same
+  where
+    go : (class : Class) → same_class Sink class ≡ true → is_made (record (component whole part FileOut) { class = class }) ≡ true
     go Source e = cc
     go Transform e = cc
     go Sink e = refl

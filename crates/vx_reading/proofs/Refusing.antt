@@ -41,10 +41,12 @@ placed_texts (settings.Reduce group_by starts_when ends_when expire flush strate
     ∙ ap (λ (xs : List Word). xs ++ texts_of (placed_any (codes "starts_when") starts_when)) (any_texts (codes "ends_when") ends_when)
     ∙ ap (λ (ys : List Word). if_any ends_when ++ ys) (any_texts (codes "starts_when") starts_when)
 placed_texts (settings.Stdin max_length codec) = refl
+placed_texts (settings.FileIn most path from codec) = refl
 placed_texts (settings.DemoLogs demo interval) = refl
 placed_texts (settings.Dedupe fields most) = refl
 placed_texts settings.Host = refl
 placed_texts (settings.Console target codec sink) = refl
+placed_texts (settings.FileOut path compression codec sink) = refl
 placed_texts (settings.Blackhole seconds sink) = refl
 
 -- WHERE THERE IS NO FAULT

@@ -1,12 +1,12 @@
 -- What a table gives, and how each value of it is judged.
-use Rattle.std.specs.Prelude.{ℕ, ℤ, pos, negsuc, Bool, false, true, not, ◌&&◌, ◌||◌, Option, Some, None, option_and_then, List, [], ◌∷◌, length, map, find, count_by, codes, if◌then◌else◌, nat_lt, nat_le}
+use Rattle.std.specs.Prelude.{ℕ, ℤ, pos, negsuc, Bool, false, true, not, ◌&&◌, ◌||◌, ◌==◌, Option, Some, None, option_and_then, List, [], ◌∷◌, length, map, find, count_by, codes, if◌then◌else◌, nat_lt, nat_le}
 use Rattle.std.specs.List.{list_any, list_all, flat_map}
 use Rattle.vx_value.specs.Texts.{Word, same_text, is_empty}
 use Rattle.toml.specs.Data.{Data, Items, no_items, item, Members, no_members, member, get, as_table, as_array, as_str, as_integer, as_bool}
 use Rattle.vx_reading.specs.declared.trouble.Trouble.{Trouble}
 use Rattle.vx_reading.specs.declared.trouble.Trouble.TheVariants.{UnknownOption, BadValue, TooMany}
 use Rattle.vx_reading.specs.Made.{is_unbroken}
-use Rattle.vx_reading.specs.Options.{Place, Alone, Within, Either, Each, Shape, Truth, AnyText, OneOf, Texts, Whole, Condition, Stages, Lines, Row, covers, fits_place}
+use Rattle.vx_reading.specs.Options.{Place, Alone, Within, Either, Each, Shape, Truth, AnyText, OneOf, Texts, Whole, Condition, Stages, Lines, OneFile, FixedText, Row, covers, fits_place}
 
 -- a name and the value under it
 pub record Pair : Type 0 where
@@ -131,6 +131,34 @@ are_lines items = not (is_empty items) && list_all is_line items
 abbrev pub is_lines : Data → Bool
 is_lines value = elim (as_array value) [ None ↦ false | Some items ↦ are_lines (items_in items) ]
 
+-- whether a byte stands in a text
+abbrev pub has_byte : ℕ → Word → Bool
+has_byte byte text = list_any (λ b. b == byte) text
+
+-- whether a text is a pattern, which may stand for many files: `*`, `?` or `[` stands in it
+abbrev pub is_pattern : Word → Bool
+is_pattern text = (has_byte 42 text || has_byte 63 text) || has_byte 91 text
+
+-- whether a text is a template, which each event may fill in: `{` stands in it
+abbrev pub is_template : Word → Bool
+is_template text = has_byte 123 text
+
+-- whether a value is a text that is no pattern
+abbrev pub is_file : Data → Bool
+is_file value = elim (as_str value) [ None ↦ false | Some text ↦ not (is_pattern text) ]
+
+-- whether a list has one value, and that is such a text
+abbrev pub are_one_file : List Data → Bool
+are_one_file items = (length items == 1) && list_all is_file items
+
+-- whether a value is such a list
+abbrev pub is_one_file : Data → Bool
+is_one_file value = elim (as_array value) [ None ↦ false | Some items ↦ are_one_file (items_in items) ]
+
+-- whether a value is a text that is no template
+abbrev pub is_fixed : Data → Bool
+is_fixed value = elim (as_str value) [ None ↦ false | Some text ↦ not (is_template text) ]
+
 -- what is wrong with a value, by what it has to be
 abbrev pub fits : Shape → Data → Option Trouble
 fits Truth value = if is_truth value then None else Some BadValue
@@ -141,6 +169,8 @@ fits (Whole least most) value = elim (whole_in least most value) [ None ↦ Some
 fits Condition value = if is_text value || is_vrl value then None else Some BadValue
 fits (Stages most) value = fits_stages most (stages_in value)
 fits Lines value = if is_lines value then None else Some BadValue
+fits OneFile value = if is_one_file value then None else Some BadValue
+fits FixedText value = if is_fixed value then None else Some BadValue
 
 -- the row of what is given at a place
 abbrev pub row_at : List Row → Place → Option Row

@@ -6,7 +6,7 @@ use Rattle.vx_plan.specs.declared.class.Class.{Class}
 use Rattle.vx_plan.specs.declared.class.Class.TheVariants.{Source, Transform, Sink}
 pub use Rattle.vx_plan.specs.Accepted.{same_class}
 use Rattle.vx_reading.specs.declared.kind.Kind.{Kind}
-use Rattle.vx_reading.specs.declared.kind.Kind.TheVariants.{Stdin, DemoLogs, Filter, Route, Console, Blackhole}
+use Rattle.vx_reading.specs.declared.kind.Kind.TheVariants.{Stdin, FileIn, DemoLogs, Filter, Route, Console, FileOut, Blackhole}
 
 -- where an option stands in a table: by itself; in a table of its own, whose name comes first; in either way, by itself under the
 -- first name, or in a table of that name under the second; or under each name in a table of its own, so many times at most
@@ -17,7 +17,8 @@ pub data Place : Type 0 where
   Each : Word → ℕ → Place
 
 -- what a value has to be: a truth, a text, one of some texts, a list of texts, at most so many, a whole number between two, both
--- among them, a condition, the stages of a buffer, at most so many, or a list of some texts without line feeds
+-- among them, a condition, the stages of a buffer, at most so many, a list of some texts without line feeds, a list of one text that is
+-- no pattern, or a text that is no template
 pub data Shape : Type 0 where
   Truth : Shape
   AnyText : Shape
@@ -27,6 +28,8 @@ pub data Shape : Type 0 where
   Condition : Shape
   Stages : ℕ → Shape
   Lines : Shape
+  OneFile : Shape
+  FixedText : Shape
 
 -- an option: where it stands, what its value has to be, and whether it has to be there
 pub record Row : Type 0 where
@@ -115,6 +118,26 @@ length_row = record { place = Alone (codes "max_length"); shape = Whole 1 most_l
 -- how a source makes an event of a line
 abbrev pub decoding_row : Row
 decoding_row = record { place = Within (codes "decoding") (codes "codec"); shape = OneOf (codes "bytes" ∷ codes "json" ∷ []); required = false }
+
+-- the longest line that a source takes from its file
+abbrev pub line_bytes_row : Row
+line_bytes_row = record { place = Alone (codes "max_line_bytes"); shape = Whole 1 most_length; required = false }
+
+-- which file a source reads
+abbrev pub include_row : Row
+include_row = record { place = Alone (codes "include"); shape = OneFile; required = true }
+
+-- where it reads from that has no checkpoint
+abbrev pub read_from_row : Row
+read_from_row = record { place = Alone (codes "read_from"); shape = OneOf (codes "beginning" ∷ []); required = false }
+
+-- to which file a sink appends
+abbrev pub path_row : Row
+path_row = record { place = Alone (codes "path"); shape = FixedText; required = true }
+
+-- how a sink compresses what it writes
+abbrev pub compression_row : Row
+compression_row = record { place = Alone (codes "compression"); shape = OneOf (codes "none" ∷ []); required = false }
 
 -- how many stages a buffer may have
 abbrev pub most_stages : ℕ
@@ -219,30 +242,36 @@ longest_wait_row = record { place = Within (codes "request") (codes "retry_max_d
 -- the options of each type
 abbrev pub rows_of : Kind → List Row
 rows_of Stdin = type_row ∷ length_row ∷ decoding_row ∷ []
+rows_of FileIn = type_row ∷ line_bytes_row ∷ include_row ∷ read_from_row ∷ decoding_row ∷ []
 rows_of DemoLogs = type_row ∷ format_row ∷ lines_row ∷ sequence_row ∷ count_row ∷ interval_row ∷ seed_row ∷ []
 rows_of Filter = type_row ∷ inputs_row ∷ condition_row ∷ []
 rows_of Route = type_row ∷ inputs_row ∷ route_row ∷ reroute_row ∷ []
 rows_of Console = type_row ∷ inputs_row ∷ target_row ∷ codec_row ∷ acknowledgements_row ∷ buffer_row ∷ batch_events_row ∷ batch_timeout_row ∷ retries_row ∷ first_wait_row ∷ longest_wait_row ∷ []
+rows_of FileOut = type_row ∷ inputs_row ∷ path_row ∷ compression_row ∷ codec_row ∷ acknowledgements_row ∷ buffer_row ∷ batch_events_row ∷ batch_timeout_row ∷ retries_row ∷ first_wait_row ∷ longest_wait_row ∷ []
 rows_of Blackhole = type_row ∷ inputs_row ∷ print_interval_row ∷ acknowledgements_row ∷ buffer_row ∷ batch_events_row ∷ batch_timeout_row ∷ retries_row ∷ first_wait_row ∷ longest_wait_row ∷ []
 
 -- the types, each with the table in which it stands and its name
 abbrev pub kinds : List Kind
-kinds = Stdin ∷ DemoLogs ∷ Filter ∷ Route ∷ Console ∷ Blackhole ∷ []
+kinds = Stdin ∷ FileIn ∷ DemoLogs ∷ Filter ∷ Route ∷ Console ∷ FileOut ∷ Blackhole ∷ []
 
 abbrev pub kind_class : Kind → Class
 kind_class Stdin = Source
+kind_class FileIn = Source
 kind_class DemoLogs = Source
 kind_class Filter = Transform
 kind_class Route = Transform
 kind_class Console = Sink
+kind_class FileOut = Sink
 kind_class Blackhole = Sink
 
 abbrev pub kind_name : Kind → Word
 kind_name Stdin = codes "stdin"
+kind_name FileIn = codes "file"
 kind_name DemoLogs = codes "demo_logs"
 kind_name Filter = codes "filter"
 kind_name Route = codes "route"
 kind_name Console = codes "console"
+kind_name FileOut = codes "file"
 kind_name Blackhole = codes "blackhole"
 
 -- the type of that name in a table

@@ -9,17 +9,19 @@ use Rattle.vx_json.specs.declared.decoding.Decoding.{Decoding}
 use Rattle.vx_json.specs.declared.decoding.Decoding.TheVariants as decoding
 use Rattle.vx_json.specs.declared.demo_settings.DemoSettings.{DemoSettings}
 use Rattle.vx_plan.specs.declared.component.Component.{Component}
+use Rattle.vx_plan.specs.declared.compression.Compression.TheVariants as compression
 use Rattle.vx_plan.specs.declared.console_target.ConsoleTarget.{ConsoleTarget}
 use Rattle.vx_plan.specs.declared.console_target.ConsoleTarget.TheVariants.{Stdout, Stderr}
 use Rattle.vx_plan.specs.declared.global.Global.{Global}
 use Rattle.vx_plan.specs.declared.plan.Plan.{Plan}
+use Rattle.vx_plan.specs.declared.read_from.ReadFrom.TheVariants.{Beginning}
 use Rattle.vx_plan.specs.declared.route.Route.{Route as Way}
 use Rattle.vx_plan.specs.declared.settings.Settings.{Settings}
 use Rattle.vx_plan.specs.declared.settings.Settings.TheVariants as settings
 use Rattle.vx_plan.specs.declared.sink_settings.SinkSettings.{SinkSettings}
 pub use Rattle.vx_plan.specs.Graphs.{nodes_of}
 use Rattle.vx_reading.specs.declared.kind.Kind.{Kind}
-use Rattle.vx_reading.specs.declared.kind.Kind.TheVariants.{Stdin, DemoLogs, Filter, Route, Console, Blackhole}
+use Rattle.vx_reading.specs.declared.kind.Kind.TheVariants.{Stdin, FileIn, DemoLogs, Filter, Route, Console, FileOut, Blackhole}
 use Rattle.vx_reading.specs.Components.{Part, parts, kind_of}
 use Rattle.vx_reading.specs.Judging.{Pair, pairs_in, items_in, whole_in}
 use Rattle.vx_reading.specs.Options.{most_length, most_whole, most_print_interval, most_batch, most_seconds}
@@ -82,9 +84,9 @@ abbrev pub target_named : Option Word → ConsoleTarget
 target_named None = Stdout
 target_named (Some text) = if same_text text (codes "stderr") then Stderr else Stdout
 
--- the length of the longest line that a source takes: 102,400 bytes where it doesn't say
-abbrev pub length_of : Data → ℕ
-length_of value = unwrap_or (option_and_then (whole_in 1 most_length) (get (codes "max_length") value)) 102400
+-- the length of the longest line that a source takes, under a name of its table: 102,400 bytes where it doesn't say
+abbrev pub length_at : Word → Data → ℕ
+length_at name value = unwrap_or (option_and_then (whole_in 1 most_length) (get name value)) 102400
 
 -- how a source makes an event of a line: the line is the message where it doesn't say
 abbrev pub decoding_named : Option Word → Decoding
@@ -95,6 +97,19 @@ decoding_named (Some text) = if same_text text (codes "json") then decoding.Json
 abbrev pub codec_named : Option Word → Codec
 codec_named None = codec.Text
 codec_named (Some text) = if same_text text (codes "json") then codec.Json else codec.Text
+
+-- the first of some texts; where there is none, the empty text
+abbrev pub first_text : List Word → Word
+first_text [] = []
+first_text (text ∷ rest) = text
+
+-- the file that a source reads: the first of its list, which has one
+abbrev pub include_of : Data → Word
+include_of value = first_text (texts_at (codes "include") value)
+
+-- the file to which a sink appends
+abbrev pub path_of : Data → Word
+path_of value = text_or [] (text_at (codes "path") value)
 
 -- the condition that a value is: a text, or that under `source` in a table
 abbrev pub condition_of : Data → Word
@@ -177,22 +192,28 @@ sink_of global value = record {
 -- the settings of a component of a type
 abbrev pub settings_of : Global → Data → Kind → Settings
 settings_of global value Stdin =
-    settings.Stdin (length_of value) (decoding_named (text_within (codes "decoding") (codes "codec") value))
+    settings.Stdin (length_at (codes "max_length") value) (decoding_named (text_within (codes "decoding") (codes "codec") value))
+settings_of global value FileIn =
+    settings.FileIn (length_at (codes "max_line_bytes") value) (include_of value) Beginning (decoding_named (text_within (codes "decoding") (codes "codec") value))
 settings_of global value DemoLogs = settings.DemoLogs (demo_of value) (interval_of value)
 settings_of global value Filter = settings.Filter (condition_at (codes "condition") value)
 settings_of global value Route = settings.Route (ways_of value) (is_rerouted value)
 settings_of global value Console =
     settings.Console (target_named (text_at (codes "target") value)) (codec_named (text_within (codes "encoding") (codes "codec") value)) (sink_of global value)
+settings_of global value FileOut =
+    settings.FileOut (path_of value) compression.None (codec_named (text_within (codes "encoding") (codes "codec") value)) (sink_of global value)
 settings_of global value Blackhole =
     settings.Blackhole (whole_at (codes "print_interval_secs") most_print_interval 0 value) (sink_of global value)
 
 -- the inputs of a component of a type; a source has none
 abbrev pub inputs_for : Kind → Data → List Word
 inputs_for Stdin value = []
+inputs_for FileIn value = []
 inputs_for DemoLogs value = []
 inputs_for Filter value = inputs_of value
 inputs_for Route value = inputs_of value
 inputs_for Console value = inputs_of value
+inputs_for FileOut value = inputs_of value
 inputs_for Blackhole value = inputs_of value
 
 -- the component of a type

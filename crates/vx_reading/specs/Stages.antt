@@ -7,7 +7,7 @@ use Rattle.vx_plan.specs.declared.stage.Stage.{Stage}
 use Rattle.vx_plan.specs.declared.when_full.WhenFull.{WhenFull}
 use Rattle.vx_plan.specs.declared.when_full.WhenFull.TheVariants.{Block, DropNewest, Overflow}
 use Rattle.vx_reading.specs.declared.kind.Kind.{Kind}
-use Rattle.vx_reading.specs.declared.kind.Kind.TheVariants.{Stdin, DemoLogs, Filter, Route, Console, Blackhole}
+use Rattle.vx_reading.specs.declared.kind.Kind.TheVariants.{Stdin, FileIn, DemoLogs, Filter, Route, Console, FileOut, Blackhole}
 use Rattle.vx_reading.specs.Components.{Part, kind_of}
 use Rattle.vx_reading.specs.Judging.{whole_in, stages_in}
 use Rattle.vx_reading.specs.Options.{most_room}
@@ -19,10 +19,12 @@ stages_of value = elim (get (codes "buffer") value) [ None ↦ [] | Some inner �
 -- the same of a component of a type; one that is no sink gives none
 abbrev pub stages_for : Kind → Data → List Data
 stages_for Stdin value = []
+stages_for FileIn value = []
 stages_for DemoLogs value = []
 stages_for Filter value = []
 stages_for Route value = []
 stages_for Console value = stages_of value
+stages_for FileOut value = stages_of value
 stages_for Blackhole value = stages_of value
 
 -- for how many events a stage has room: 500 where it says no number that it may
@@ -68,10 +70,12 @@ room_in stages = sum_by (λ (s : Stage). s.max_events) stages
 -- the same of the buffer of a component of a type; only those of sinks count
 abbrev pub room_for : Kind → Data → ℕ
 room_for Stdin value = 0
+room_for FileIn value = 0
 room_for DemoLogs value = 0
 room_for Filter value = 0
 room_for Route value = 0
 room_for Console value = room_in (buffer_of value)
+room_for FileOut value = room_in (buffer_of value)
 room_for Blackhole value = room_in (buffer_of value)
 
 abbrev pub room_of : Part → ℕ

@@ -13,7 +13,7 @@ use Rattle.vx_reading.specs.declared.shape.Shape.TheVariants as shapes
 use Rattle.vx_reading.specs.Components.{Part}
 use Rattle.vx_reading.specs.Findings.{Owner}
 use Rattle.vx_reading.specs.Judging.{Given, Pair}
-use Rattle.vx_reading.specs.Options.{Place, Alone, Within, Either, Each, Shape, Truth, AnyText, OneOf, Texts, Whole, Condition, Stages, Lines, Row}
+use Rattle.vx_reading.specs.Options.{Place, Alone, Within, Either, Each, Shape, Truth, AnyText, OneOf, Texts, Whole, Condition, Stages, Lines, OneFile, FixedText, Row}
 
 abbrev pub place_view : place.Place → Place
 place_view (places.Alone name) = Alone name.now
@@ -30,6 +30,8 @@ shape_view (shapes.Whole least most) = Whole least most
 shape_view shapes.Condition = Condition
 shape_view (shapes.Stages most) = Stages most
 shape_view shapes.Lines = Lines
+shape_view shapes.OneFile = OneFile
+shape_view shapes.FixedText = FixedText
 
 abbrev pub row_view : row.Row → Row
 row_view r = record { place = place_view r.place; shape = shape_view r.shape; required = r.required }

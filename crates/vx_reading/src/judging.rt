@@ -3,14 +3,14 @@ ghost use Rattle.std.specs.Option.{option_map};
 ghost use Rattle.std.specs.List.{list_any, list_all};
 ghost use Rattle.toml.specs.View.{view, items_view};
 ghost use Rattle.vx_value.specs.Texts.{same_text};
-ghost use Rattle.vx_reading.specs.Judging.{fits, fits_texts, fits_stages, stages_in, is_table as is_table_view, judged, items_in, is_truth, is_text, is_one_of, between, whole_in, row_at, is_vrl, names_vrl, has_text, is_line, are_lines, is_lines, judged_by};
+ghost use Rattle.vx_reading.specs.Judging.{fits, fits_texts, fits_stages, stages_in, is_table as is_table_view, judged, items_in, is_truth, is_text, is_one_of, between, whole_in, row_at, is_vrl, names_vrl, has_text, is_line, are_lines, is_lines, is_file, are_one_file, is_one_file, is_fixed, judged_by};
 ghost use Rattle.vx_reading.specs.Views.{shape_view, rows_view, row_view, place_view, given_view};
 
 use crate::given::{Given, covers, fits_place, is_table};
 use crate::place::Place;
 use crate::row::Row;
 use crate::shape::Shape;
-use crate::texts::{is_unbroken, same_text};
+use crate::texts::{is_pattern, is_template, is_unbroken, same_text};
 use crate::trouble::Trouble;
 use std::slice;
 use toml::Value;
@@ -210,6 +210,56 @@ fn is_lines(value: &Value) -> bool
     }
 }
 
+/// Whether a value is a text that is no pattern.
+fn is_file(value: &Value) -> bool
+    ensures { result ≡ is_file (view value.now) }
+{
+    match value.as_str() {
+        Some(text) => !is_pattern(text),
+        None => false,
+    }
+}
+
+/// Whether each of some values is a text that is no pattern.
+fn has_files(items: &[Value]) -> bool
+    ensures { result ≡ list_all is_file (items_in (items_view items.now)) }
+{
+    for item in items {
+        if !is_file(item) {
+            return false;
+        }
+    }
+    true
+}
+
+/// Whether there is one value, and that is a text that is no pattern.
+#[tactic(auto, using(crate::proofs::Lists::items_in_length))]
+fn are_one_file(items: &[Value]) -> bool
+    ensures { result ≡ are_one_file (items_in (items_view items.now)) }
+{
+    items.len() == 1 && has_files(items)
+}
+
+/// Whether a value is a list of one such text.
+fn is_one_file(value: &Value) -> bool
+    ensures { result ≡ is_one_file (view value.now) }
+{
+    match value.as_array() {
+        Some(items) => are_one_file(items.as_slice()),
+        None => false,
+    }
+}
+
+/// Whether a value is a text that is no template.
+fn is_fixed(value: &Value) -> bool
+    ensures { result ≡ is_fixed (view value.now) }
+{
+    match value.as_str() {
+        Some(text) => !is_template(text),
+        None => false,
+    }
+}
+
 /// What is wrong with a value, by what it has to be.
 fn fits(shape: Shape, value: &Value) -> Option<Trouble>
     ensures { result ≡ fits (shape_view shape) (view value.now) }
@@ -229,6 +279,8 @@ fn fits(shape: Shape, value: &Value) -> Option<Trouble>
         Shape::Condition if is_text(value) || is_vrl(value) => None,
         Shape::Stages(most) => fits_stages(most, stages_in(value)),
         Shape::Lines if is_lines(value) => None,
+        Shape::OneFile if is_one_file(value) => None,
+        Shape::FixedText if is_fixed(value) => None,
         _ => Some(Trouble::BadValue),
     }
 }

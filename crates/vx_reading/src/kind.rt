@@ -3,6 +3,8 @@
 pub(crate) enum Kind {
     /// A source that reads standard input.
     Stdin,
+    /// A source that reads a file.
+    FileIn,
     /// A source that makes its lines of some texts.
     DemoLogs,
     /// A transform that passes what its condition accepts.
@@ -11,6 +13,8 @@ pub(crate) enum Kind {
     Route,
     /// A sink that writes to standard output or standard error.
     Console,
+    /// A sink that appends to a file.
+    FileOut,
     /// A sink that writes nothing.
     Blackhole,
 }

@@ -41,6 +41,13 @@ const TYPE_ROW: Row = Row {
 /// The longest line that a source may allow, in bytes, without its line feed.
 pub(crate) const MOST_LENGTH: u64 = 16_777_216;
 
+/// How a source makes an event of a line: an option of every source that reads.
+const DECODING_ROW: Row = Row {
+    place: Place::Within("decoding", "codec"),
+    shape: Shape::OneOf(&["bytes", "json"]),
+    required: false,
+};
+
 /// The options of a source that reads standard input.
 static STDIN_ROWS: [Row; 3] = [
     TYPE_ROW,
@@ -49,11 +56,28 @@ static STDIN_ROWS: [Row; 3] = [
         shape: Shape::Whole(1, MOST_LENGTH),
         required: false,
     },
+    DECODING_ROW,
+];
+
+/// The options of a source that reads a file.
+static FILE_IN_ROWS: [Row; 5] = [
+    TYPE_ROW,
     Row {
-        place: Place::Within("decoding", "codec"),
-        shape: Shape::OneOf(&["bytes", "json"]),
+        place: Place::Alone("max_line_bytes"),
+        shape: Shape::Whole(1, MOST_LENGTH),
         required: false,
     },
+    Row {
+        place: Place::Alone("include"),
+        shape: Shape::OneFile,
+        required: true,
+    },
+    Row {
+        place: Place::Alone("read_from"),
+        shape: Shape::OneOf(&["beginning"]),
+        required: false,
+    },
+    DECODING_ROW,
 ];
 
 /// The largest whole number that a text can say: 2^63 - 1.
@@ -204,6 +228,13 @@ const LONGEST_WAIT_ROW: Row = Row {
     required: false,
 };
 
+/// How a sink writes an event: an option of every sink that writes.
+const CODEC_ROW: Row = Row {
+    place: Place::Within("encoding", "codec"),
+    shape: Shape::OneOf(&["text", "json"]),
+    required: true,
+};
+
 /// The options of a sink that writes to standard output or standard error.
 static CONSOLE_ROWS: [Row; 11] = [
     TYPE_ROW,
@@ -213,11 +244,31 @@ static CONSOLE_ROWS: [Row; 11] = [
         shape: Shape::OneOf(&["stdout", "stderr"]),
         required: false,
     },
+    CODEC_ROW,
+    ACKNOWLEDGEMENTS_ROW,
+    BUFFER_ROW,
+    BATCH_EVENTS_ROW,
+    BATCH_TIMEOUT_ROW,
+    RETRIES_ROW,
+    FIRST_WAIT_ROW,
+    LONGEST_WAIT_ROW,
+];
+
+/// The options of a sink that appends to a file.
+static FILE_OUT_ROWS: [Row; 12] = [
+    TYPE_ROW,
+    INPUTS_ROW,
     Row {
-        place: Place::Within("encoding", "codec"),
-        shape: Shape::OneOf(&["text", "json"]),
+        place: Place::Alone("path"),
+        shape: Shape::FixedText,
         required: true,
     },
+    Row {
+        place: Place::Alone("compression"),
+        shape: Shape::OneOf(&["none"]),
+        required: false,
+    },
+    CODEC_ROW,
     ACKNOWLEDGEMENTS_ROW,
     BUFFER_ROW,
     BATCH_EVENTS_ROW,
@@ -261,10 +312,12 @@ pub(crate) fn rows_of(kind: Kind) -> &'static [Row]
 {
     match kind {
         Kind::Stdin => &STDIN_ROWS,
+        Kind::FileIn => &FILE_IN_ROWS,
         Kind::DemoLogs => &DEMO_LOGS_ROWS,
         Kind::Filter => &FILTER_ROWS,
         Kind::Route => &ROUTE_ROWS,
         Kind::Console => &CONSOLE_ROWS,
+        Kind::FileOut => &FILE_OUT_ROWS,
         Kind::Blackhole => &BLACKHOLE_ROWS,
     }
 }
@@ -282,10 +335,12 @@ pub(crate) fn kind_named(class: Class, name: &str) -> Option<Kind>
 {
     match class {
         Class::Source if same_text("stdin", name) => Some(Kind::Stdin),
+        Class::Source if same_text("file", name) => Some(Kind::FileIn),
         Class::Source if same_text("demo_logs", name) => Some(Kind::DemoLogs),
         Class::Transform if same_text("filter", name) => Some(Kind::Filter),
         Class::Transform if same_text("route", name) => Some(Kind::Route),
         Class::Sink if same_text("console", name) => Some(Kind::Console),
+        Class::Sink if same_text("file", name) => Some(Kind::FileOut),
         Class::Sink if same_text("blackhole", name) => Some(Kind::Blackhole),
         _ => None,
     }

@@ -4,7 +4,7 @@ ghost use Rattle.std.specs.List.{flat_map};
 ghost use Rattle.toml.specs.View.{view, items_view};
 ghost use Rattle.vx_reading.specs.Judging.{items_in, pairs_in as pairs_in_view};
 ghost use Rattle.vx_reading.specs.Components.{parts};
-ghost use Rattle.vx_reading.specs.Plans.{text_at, text_within, truth_at, truth_in, truth_either, acknowledgements_of, global_of, text_of, texts_at, inputs_of, inputs_for, target_named, length_of, decoding_named, codec_named, condition_of, condition_at, way_of, ways_of, is_rerouted, whole_at, is_numbered, demo_of, interval_of, whole_within, batch_events_of, batch_timeout_of, retries_of, first_wait_of, longest_wait_of, sink_of, settings_of, component, component_of, plan_of};
+ghost use Rattle.vx_reading.specs.Plans.{text_at, text_within, truth_at, truth_in, truth_either, acknowledgements_of, global_of, text_of, texts_at, inputs_of, inputs_for, target_named, length_at, include_of, path_of, decoding_named, codec_named, condition_of, condition_at, way_of, ways_of, is_rerouted, whole_at, is_numbered, demo_of, interval_of, whole_within, batch_events_of, batch_timeout_of, retries_of, first_wait_of, longest_wait_of, sink_of, settings_of, component, component_of, plan_of};
 ghost use Rattle.vx_reading.specs.Views.{pair_view, part_view, parts_view};
 
 use crate::judging::whole_in;
@@ -17,8 +17,8 @@ use crate::texts::same_text;
 use std::alloc::Global as Allocator;
 use toml::Value;
 use vx_plan::{
-    Codec, Component, ComponentList, ConsoleTarget, Decoding, DemoSettings, Global, Plan, Route,
-    RouteList, Settings, SinkSettings,
+    Codec, Component, ComponentList, Compression, ConsoleTarget, Decoding, DemoSettings, Global,
+    Plan, ReadFrom, Route, RouteList, Settings, SinkSettings,
 };
 use vx_value::{Text, TextList, WantOfMemory};
 
@@ -151,8 +151,10 @@ fn inputs_for(alloc: Allocator, kind: Kind, table: &Value) -> Result<TextList, W
     ensures { IfOk result (λ inputs. inputs ≡ inputs_for kind (view table.now)) }
 {
     match kind {
-        Kind::Stdin | Kind::DemoLogs => Ok(TextList::new(alloc)),
-        Kind::Filter | Kind::Route | Kind::Console | Kind::Blackhole => inputs_of(alloc, table),
+        Kind::Stdin | Kind::FileIn | Kind::DemoLogs => Ok(TextList::new(alloc)),
+        Kind::Filter | Kind::Route | Kind::Console | Kind::FileOut | Kind::Blackhole => {
+            inputs_of(alloc, table)
+        }
     }
 }
 
@@ -166,11 +168,11 @@ fn target_named(name: Option<&str>) -> ConsoleTarget
     }
 }
 
-/// The length of the longest line that a source takes.
-fn length_of(table: &Value) -> u32
-    ensures { result ≡ length_of (view table.now) }
+/// The length of the longest line that a source takes, under a name of its table.
+fn length_at(name: &str, table: &Value) -> u32
+    ensures { result ≡ length_at name.now (view table.now) }
 {
-    let Some(value) = table.get("max_length") else {
+    let Some(value) = table.get(name) else {
         return LINE_LIMIT;
     };
     match whole_in(1, MOST_LENGTH, value) {
@@ -196,6 +198,27 @@ fn codec_named(name: Option<&str>) -> Codec
     match name {
         Some(text) if same_text(text, "json") => Codec::Json,
         _ => Codec::Text,
+    }
+}
+
+/// The file that a source reads: the first of its list, which has one.
+fn include_of(alloc: Allocator, table: &Value) -> Result<Text, WantOfMemory>
+    ensures { IfOk result (λ path. path ≡ include_of (view table.now)) }
+{
+    let texts = texts_at(alloc, "include", table)?;
+    match texts.get(0) {
+        Some(text) => text.copy(alloc),
+        None => Text::copy_of(alloc, ""),
+    }
+}
+
+/// The file to which a sink appends.
+fn path_of(alloc: Allocator, table: &Value) -> Result<Text, WantOfMemory>
+    ensures { IfOk result (λ path. path ≡ path_of (view table.now)) }
+{
+    match text_at("path", table) {
+        Some(text) => Text::copy_of(alloc, text),
+        None => Text::copy_of(alloc, ""),
     }
 }
 
@@ -423,7 +446,13 @@ fn settings_of(
 {
     match kind {
         Kind::Stdin => Ok(Settings::Stdin {
-            max_length: length_of(table),
+            max_length: length_at("max_length", table),
+            decoding_codec: decoding_named(text_within("decoding", "codec", table)),
+        }),
+        Kind::FileIn => Ok(Settings::FileIn {
+            max_line_bytes: length_at("max_line_bytes", table),
+            include: include_of(alloc, table)?,
+            read_from: ReadFrom::Beginning,
             decoding_codec: decoding_named(text_within("decoding", "codec", table)),
         }),
         Kind::DemoLogs => Ok(Settings::DemoLogs {
@@ -439,6 +468,12 @@ fn settings_of(
         }),
         Kind::Console => Ok(Settings::Console {
             target: target_named(text_at("target", table)),
+            encoding_codec: codec_named(text_within("encoding", "codec", table)),
+            sink: sink_of(alloc, global, table)?,
+        }),
+        Kind::FileOut => Ok(Settings::FileOut {
+            path: path_of(alloc, table)?,
+            compression: Compression::None,
             encoding_codec: codec_named(text_within("encoding", "codec", table)),
             sink: sink_of(alloc, global, table)?,
         }),

@@ -17,4 +17,8 @@ pub(crate) enum Shape {
     Whole(u64, u64),
     /// A list of texts, one at least, of which none has a line feed.
     Lines,
+    /// A list of one text, in which no `*`, `?` or `[` stands.
+    OneFile,
+    /// A text in which no `{` stands.
+    FixedText,
 }

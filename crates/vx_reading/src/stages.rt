@@ -34,8 +34,8 @@ pub(crate) fn stages_for(kind: Kind, table: &Value) -> &[Value]
     ensures { items_in (items_view result.now) ≡ stages_for kind (view table.now) }
 {
     match kind {
-        Kind::Stdin | Kind::DemoLogs | Kind::Filter | Kind::Route => &[],
-        Kind::Console | Kind::Blackhole => stages_of(table),
+        Kind::Stdin | Kind::FileIn | Kind::DemoLogs | Kind::Filter | Kind::Route => &[],
+        Kind::Console | Kind::FileOut | Kind::Blackhole => stages_of(table),
     }
 }
 
@@ -149,11 +149,13 @@ fn room_of(alloc: Global, part: Part<'_>) -> Result<u64, WantOfMemory>
     ensures { IfOk result (λ room. room ≡ room_of (part_view part.entry)) }
 {
     match kind_of(part) {
-        Some(Kind::Console | Kind::Blackhole) => {
+        Some(Kind::Console | Kind::FileOut | Kind::Blackhole) => {
             let buffer = buffer_of(alloc, part.value)?;
             room_in(buffer.as_slice())
         }
-        Some(Kind::Stdin | Kind::DemoLogs | Kind::Filter | Kind::Route) | None => Ok(0),
+        Some(Kind::Stdin | Kind::FileIn | Kind::DemoLogs | Kind::Filter | Kind::Route) | None => Ok(
+            0,
+        ),
     }
 }
 

@@ -4,6 +4,7 @@ ghost use Rattle.vx_value.specs.Texts.{same_text, text_lt};
 ghost use Rattle.vx_reading.specs.Made.{is_unbroken};
 ghost use Rattle.vx_reading.specs.Options.{is_name, is_name_byte, is_route_name};
 ghost use Rattle.vx_reading.specs.Conditions.{is_one};
+ghost use Rattle.vx_reading.specs.Judging.{has_byte, is_pattern, is_template};
 
 use std::cmp::Ordering;
 use vx_value::TextList;
@@ -78,6 +79,32 @@ pub(crate) fn is_unbroken(text: &str) -> bool
         }
     }
     true
+}
+
+/// Whether a byte stands in a text.
+fn has_byte(byte: u8, text: &str) -> bool
+    ensures { result ≡ has_byte byte text.now }
+{
+    for other in text.as_bytes() {
+        if *other == byte {
+            return true;
+        }
+    }
+    false
+}
+
+/// Whether a text is a pattern, which may stand for many files: `*`, `?` or `[` stands in it.
+pub(crate) fn is_pattern(text: &str) -> bool
+    ensures { result ≡ is_pattern text.now }
+{
+    has_byte(b'*', text) || has_byte(b'?', text) || has_byte(b'[', text)
+}
+
+/// Whether a text is a template, which each event may fill in: `{` stands in it.
+pub(crate) fn is_template(text: &str) -> bool
+    ensures { result ≡ is_template text.now }
+{
+    has_byte(b'{', text)
 }
 
 /// Whether one of some texts is this.

@@ -7,7 +7,7 @@ use Rattle.vx_plan.specs.declared.class.Class.{Class}
 use Rattle.vx_plan.specs.declared.class.Class.TheVariants.{Source, Transform, Sink}
 use Rattle.vx_plan.specs.declared.component.Component.{Component}
 use Rattle.vx_plan.specs.declared.settings.Settings.{Settings}
-use Rattle.vx_plan.specs.declared.settings.Settings.TheVariants.{Stdin, Console}
+use Rattle.vx_plan.specs.declared.settings.Settings.TheVariants.{Stdin, FileIn, Console, FileOut}
 use Rattle.vx_plan.specs.declared.stage.Stage.{Stage}
 use Rattle.vx_plan.specs.Components.{stages, is_sink, transform_stages, sink_stages}
 use Rattle.vx_plan.specs.Options.{encoding, has_device}
@@ -64,7 +64,9 @@ has_codec : (class : Class) (settings : Settings) → (elim class [ Source ↦ f
 has_codec Source settings is device some = cc
 has_codec Transform settings is device some = cc
 has_codec Sink (Stdin max_length codec) is device some = absurd (some refl)
+has_codec Sink (FileIn most path from codec) is device some = absurd (some refl)
 has_codec Sink (Console target codec sink) is device some = refl
+has_codec Sink (FileOut path compression codec sink) is device some = refl
 has_codec Sink settings is device some = cc
 
 off_on : false ≡ true → ⊥

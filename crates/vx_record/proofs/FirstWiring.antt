@@ -82,12 +82,12 @@ numbers_of_all components (name ∷ rest) = λ k. numbers_first 0 components nam
 
 -- how the k-th instance is wired
 pub wiring_of_first : (plan : Plan) (once : Bool) (now k : ℕ) (c : Component) → slice_get plan.components k ≡ Some c →
-    wiring (begun plan once now) k ≡ Some (record { plan = plan; instances = first_instances 0 plan.components; name = c.name })
+    wiring (begun plan once now) k ≡ Some (record { plan = plan; once = once; instances = first_instances 0 plan.components; name = c.name })
 wiring_of_first plan once now k c at =
     let zero_on : 0 + k ≡ k = omega arith in
     let named = name_of_first 0 plan.components k c at in
     let here : name_at (first_instances 0 plan.components) k ≡ Some c.name = ap (name_at (first_instances 0 plan.components)) (sym zero_on) ∙ named in
-    ap (λ (o : Option Word). elim o [ None ↦ None | Some name ↦ Some (record { plan = plan; instances = first_instances 0 plan.components; name = name }) ]) here
+    ap (λ (o : Option Word). elim o [ None ↦ None | Some name ↦ Some (record { plan = plan; once = once; instances = first_instances 0 plan.components; name = name }) ]) here
 
 pub targets_of_first : TargetsOfFirst
 targets_of_first plan once now k port c at =

@@ -7,7 +7,7 @@ use Rattle.vx_plan.specs.declared.class.Class.{Class}
 use Rattle.vx_plan.specs.declared.class.Class.TheVariants.{Source, Transform, Sink}
 use Rattle.vx_plan.specs.declared.component.Component.{Component}
 use Rattle.vx_plan.specs.declared.settings.Settings.{Settings}
-use Rattle.vx_plan.specs.declared.settings.Settings.TheVariants.{Stdin, Console}
+use Rattle.vx_plan.specs.declared.settings.Settings.TheVariants.{Stdin, FileIn, Console, FileOut}
 use Rattle.vx_plan.specs.declared.stage.Stage.{Stage}
 use Rattle.vx_plan.specs.Options.{has_device}
 use Rattle.vx_condition.specs.Steps.{Test}
@@ -261,7 +261,9 @@ closed_device (e ∷ h) i legal is = closed_device h i legal.1 is
 -- and nothing that has one acts by itself
 ruleless : (settings : Settings) (tests : List Test) (rule : Rule) → has_device settings ≡ true → rule_of settings tests ≡ Some rule → ⊥
 ruleless (Stdin max_length codec) tests rule device ruled = cc
+ruleless (FileIn most path from codec) tests rule device ruled = cc
 ruleless (Console target codec sink) tests rule device ruled = cc
+ruleless (FileOut path compression codec sink) tests rule device ruled = cc
 ruleless settings tests rule device ruled = cc
 
 unticked : (h : Record) (i now : ℕ) → device_at h i ≡ true → IsTickReady h i now → ⊥

@@ -85,7 +85,7 @@ started_told (Install version plan once instances now ∷ h) i f legal is = go (
         omega (arith, more, all)
     go None e =
         let same : wiring (Install version plan once instances now ∷ h) i ≡ wiring [] i =
-        ap (λ (o : Option Word). elim o [ None ↦ wiring h i | Some name ↦ Some (record { plan = plan; instances = instances; name = name }) ]) e ∙ ap (λ (k : Record). wiring k i) legal.0.row.first in
+        ap (λ (o : Option Word). elim o [ None ↦ wiring h i | Some name ↦ Some (record { plan = plan; once = once; instances = instances; name = name }) ]) e ∙ ap (λ (k : Record). wiring k i) legal.0.row.first in
         let no : false ≡ true = sym (same_told false f (Install version plan once instances now ∷ h) [] i same) ∙ is in cc
 started_told (e ∷ h) i f legal is =
     let l = started_told h i f legal.1 is in

@@ -11,7 +11,7 @@ use Rattle.vx_record.specs.Records.{Record}
 use Rattle.vx_record.specs.declared.entry.Entry.TheVariants.{Install}
 use Rattle.vx_record.specs.declared.instance.Instance.{Instance}
 use Rattle.vx_record.specs.Starting.{first_instances}
-use Rattle.vx_record.specs.Installs.{Wiring, wiring, name_at, component_of, in_force}
+use Rattle.vx_record.specs.Installs.{Wiring, wiring, name_at, component_of, in_force, once_in}
 use Rattle.vx_record.specs.Wirings.{begun}
 use Rattle.vx_record.specs.Legal.{IsLegal}
 use Rattle.vx_record.specs.Promises.{InForceAccepted, ComponentInPlace}
@@ -32,25 +32,25 @@ name_first components instances k c at are =
     ap (λ (is : List Instance). name_at is k) are ∙ ap (name_at (first_instances 0 components)) zero_on ∙ name_of_first 0 components k c at
 
 -- an instance that an Install names is wired by it
-named_wiring : (made : Plan) (instances : List Instance) (name : Word) (o : Option Word) (w : Option Wiring) → o ≡ Some name →
-    ◌≡◌ {A = Option Wiring} (elim o [ None ↦ w | Some n ↦ Some (record { plan = made; instances = instances; name = n }) ]) (Some (record { plan = made; instances = instances; name = name }))
-named_wiring made instances name o w is = ap (λ (x : Option Word). elim x [ None ↦ w | Some n ↦ Some (record { plan = made; instances = instances; name = n }) ]) is
+named_wiring : (made : Plan) (once : Bool) (instances : List Instance) (name : Word) (o : Option Word) (w : Option Wiring) → o ≡ Some name →
+    ◌≡◌ {A = Option Wiring} (elim o [ None ↦ w | Some n ↦ Some (record { plan = made; once = once; instances = instances; name = n }) ]) (Some (record { plan = made; once = once; instances = instances; name = name }))
+named_wiring made once instances name o w is = ap (λ (x : Option Word). elim x [ None ↦ w | Some n ↦ Some (record { plan = made; once = once; instances = instances; name = n }) ]) is
 
-same_wiring : (made plan : Plan) (instances : List Instance) (name : Word) → instances ≡ first_instances 0 made.components → made ≡ plan →
-    ◌≡◌ {A = Option Wiring} (Some (record { plan = made; instances = instances; name = name })) (Some (record { plan = plan; instances = first_instances 0 plan.components; name = name }))
-same_wiring made plan instances name are same =
-    ap (λ (is : List Instance). Some (record { plan = made; instances = is; name = name })) are
-    ∙ ap (λ (p : Plan). Some (record { plan = p; instances = first_instances 0 p.components; name = name })) same
+same_wiring : (made plan : Plan) (once : Bool) (instances : List Instance) (name : Word) → instances ≡ first_instances 0 made.components → made ≡ plan →
+    ◌≡◌ {A = Option Wiring} (Some (record { plan = made; once = once; instances = instances; name = name })) (Some (record { plan = plan; once = once; instances = first_instances 0 plan.components; name = name }))
+same_wiring made plan once instances name are same =
+    ap (λ (is : List Instance). Some (record { plan = made; once = once; instances = is; name = name })) are
+    ∙ ap (λ (p : Plan). Some (record { plan = p; once = once; instances = first_instances 0 p.components; name = name })) same
 
 -- and is wired as the plan that is in force has it
 pub wired_so : (h : Record) (plan : Plan) (i : ℕ) (c : Component) → IsLegal h → in_force h ≡ Some plan → slice_get plan.components i ≡ Some c →
-    wiring h i ≡ Some (record { plan = plan; instances = first_instances 0 plan.components; name = c.name })
+    wiring h i ≡ Some (record { plan = plan; once = once_in h; instances = first_instances 0 plan.components; name = c.name })
 wired_so [] plan i c legal force at = cc
 wired_so (Install version made once instances now ∷ h) plan i c legal force at =
     let same : made ≡ plan = cc in
     let here : slice_get made.components i ≡ Some c = ap (λ (p : Plan). slice_get p.components i) same ∙ at in
-    named_wiring made instances c.name (name_at instances i) (wiring h i) (name_first made.components instances i c here legal.0.row.all_new)
-    ∙ same_wiring made plan instances c.name legal.0.row.all_new same
+    named_wiring made once instances c.name (name_at instances i) (wiring h i) (name_first made.components instances i c here legal.0.row.all_new)
+    ∙ same_wiring made plan once instances c.name legal.0.row.all_new same
 wired_so (e ∷ h) plan i c legal force at = wired_so h plan i c legal.1 force at
 
 -- so it runs the component of that name
@@ -84,7 +84,7 @@ unwired_past (Install version made once instances now ∷ h) plan i legal force 
     let zero_on : i ≡ 0 + i = omega arith in
     let none : name_at instances i ≡ None = ap (λ is. name_at is i) row.all_new ∙ ap (name_at (first_instances 0 made.components)) zero_on ∙ name_past 0 made.components i (ap (λ (p : Plan). slice_get p.components i) same ∙ past) in
     let kept : wiring (Install version made once instances now ∷ h) i ≡ wiring h i =
-    ap (λ (o : Option Word). elim o [ None ↦ wiring h i | Some name ↦ Some (record { plan = made; instances = instances; name = name }) ]) none in
+    ap (λ (o : Option Word). elim o [ None ↦ wiring h i | Some name ↦ Some (record { plan = made; once = once; instances = instances; name = name }) ]) none in
     kept ∙ ap (λ (k : Record). wiring k i) row.first
 unwired_past (e ∷ h) plan i legal force past = unwired_past h plan i legal.1 force past
 

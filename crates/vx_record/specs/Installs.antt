@@ -19,6 +19,12 @@ in_force [] = None
 in_force (Install version plan once instances now ∷ h) = Some plan
 in_force (e ∷ h) = in_force h
 
+-- whether files end with what they have: what the last Install says
+abbrev pub once_in : Record → Bool
+once_in [] = false
+once_in (Install version plan once instances now ∷ h) = once
+once_in (e ∷ h) = once_in h
+
 -- whether an Install gives an instance work, as a kept or a new one
 abbrev pub works : Instance → Bool
 works instance = elim instance.start [ Kept ↦ true | New ↦ true | Draining ↦ false ]
@@ -39,6 +45,7 @@ name_at (instance ∷ rest) i = if (instance.number == i) && works instance then
 -- an instance as the last Install has it that gives it work
 pub record Wiring : Type 0 where
   pub plan : Plan
+  pub once : Bool
   pub instances : List Instance
   pub name : Word
 
@@ -46,7 +53,7 @@ pub record Wiring : Type 0 where
 abbrev pub wiring : Record → ℕ → Option Wiring
 wiring [] i = None
 wiring (Install version plan once instances now ∷ h) i =
-    elim (name_at instances i) [ None ↦ wiring h i | Some name ↦ Some (record { plan = plan; instances = instances; name = name }) ]
+    elim (name_at instances i) [ None ↦ wiring h i | Some name ↦ Some (record { plan = plan; once = once; instances = instances; name = name }) ]
 wiring (e ∷ h) i = wiring h i
 
 -- what a wiring says of the instance, or a value where there is none

@@ -1,5 +1,5 @@
 -- The laws over every legal record, and over every record of which some of that holds.
-use Rattle.std.specs.Prelude.{ℕ, ◌+◌, ◌^◌, ◌<◌, ◌≤◌, ◌≡◌, true, false, Some, None, List, [], ◌∷◌, ◌++◌, length, drop, slice_get, map, if◌then◌else◌, ◌==◌, ◌↔◌, codes}
+use Rattle.std.specs.Prelude.{ℕ, ◌+◌, ◌^◌, ◌<◌, ◌≤◌, ◌≡◌, true, false, Option, Some, None, List, [], ◌∷◌, ◌++◌, length, drop, slice_get, map, if◌then◌else◌, ◌==◌, ◌↔◌, codes}
 use Rattle.std.specs.Str.Lossy.{utf8_lossy}
 use Rattle.vx_value.specs.Texts.{Word}
 use Rattle.vx_value.specs.Datum.{NamedDatum, Words}
@@ -8,7 +8,7 @@ use Rattle.vx_json.specs.declared.decoding.Decoding.{Decoding}
 use Rattle.vx_json.specs.declared.decoding.Decoding.TheVariants as decoding
 use Rattle.vx_json.specs.LineEvents.{IsLineEvent}
 use Rattle.vx_plan.specs.declared.settings.Settings.{Settings}
-use Rattle.vx_plan.specs.Options.{type_name}
+use Rattle.vx_plan.specs.Options.{type_name, file_read}
 use Rattle.vx_plan.specs.declared.stage.Stage.{Stage}
 use Rattle.vx_ends.specs.declared.trouble.Reply.{Reply}
 use Rattle.vx_record.specs.Records.{Record, capped}
@@ -223,18 +223,24 @@ PrefixGrows =
 abbrev pub LineGives : Type 0
 LineGives =
     (d : Decoding) (settings : Settings) (line : Frame) (fields : List NamedDatum) →
-    (line_events d settings line ≡ record { fields = fields } ∷ []) ↔ IsLineEvent d (type_name settings) None line.bytes fields
+    (line_events d settings line ≡ record { fields = fields } ∷ []) ↔ IsLineEvent d (type_name settings) (file_read settings) line.bytes fields
 
 -- and none exactly where no event is the line's
 abbrev pub LineGivesNone : Type 0
 LineGivesNone =
     (d : Decoding) (settings : Settings) (line : Frame) →
-    (line_events d settings line ≡ []) ↔ ((fields : List NamedDatum) → IsLineEvent d (type_name settings) None line.bytes fields → ⊥)
+    (line_events d settings line ≡ []) ↔ ((fields : List NamedDatum) → IsLineEvent d (type_name settings) (file_read settings) line.bytes fields → ⊥)
 
--- the fields of a line's event under codec bytes: the line as a text, and the type of its source
+-- the path of the file of a source, if it reads one
+abbrev pub file_fields : Option Word → List NamedDatum
+file_fields None = []
+file_fields (Some path) = record { name = codes "file"; value = Words path } ∷ []
+
+-- the fields of a line's event under codec bytes: the path of its file, if there is one, the line as a text, and the type of its source
 abbrev pub text_fields : Settings → Word → List NamedDatum
 text_fields settings text =
-    record { name = codes "message"; value = Words (utf8_lossy text) } ∷ record { name = codes "source_type"; value = Words (type_name settings) } ∷ []
+    file_fields (file_read settings)
+    ++ record { name = codes "message"; value = Words (utf8_lossy text) } ∷ record { name = codes "source_type"; value = Words (type_name settings) } ∷ []
 
 -- under codec bytes a line always gives one event
 abbrev pub TextGives : Type 0

@@ -8,7 +8,7 @@ use Rattle.vx_json.specs.LineEvents.{line_fields, is_undecodable}
 use Rattle.vx_json.specs.declared.decoding.Decoding.{Decoding}
 use Rattle.vx_plan.specs.declared.component.Component.{Component}
 use Rattle.vx_plan.specs.declared.settings.Settings.{Settings}
-use Rattle.vx_plan.specs.Options.{decoding, type_name}
+use Rattle.vx_plan.specs.Options.{decoding, type_name, file_read}
 use Rattle.vx_plan.specs.Components.{longest_line}
 use Rattle.vx_record.specs.declared.taken.Taken.{Taken}
 use Rattle.vx_record.specs.declared.taken.Taken.TheVariants.{Bytes, StreamEnded, AllEnded}
@@ -126,9 +126,9 @@ abbrev pub event_with : Option (List NamedDatum) → List Event
 event_with None = []
 event_with (Some fields) = record { fields = fields } ∷ []
 
--- the event that a line gives by a codec, with the type of its source and no file's path, or none
+-- the event that a line gives by a codec, with the type of its source and the path of the file that this reads, or none
 abbrev pub line_events : Decoding → Settings → Frame → List Event
-line_events d settings line = event_with (line_fields d (type_name settings) None line.bytes)
+line_events d settings line = event_with (line_fields d (type_name settings) (file_read settings) line.bytes)
 
 -- the events of some lines by a codec, in order
 abbrev pub decoded : Decoding → Settings → List Frame → List Event

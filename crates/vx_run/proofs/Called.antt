@@ -1,5 +1,5 @@
 -- How calls of a world add up.
-use Rattle.std.proofs.Common.{◌≡◌, ◌∙◌, ◌⊎◌, inl, inr, ℕ, zero, suc, ◌+◌, List, [], ◌∷◌, ◌++◌, take, Option, Some, None, append_assoc, refl, sym, ap, subst, arith}
+use Rattle.std.proofs.Common.{◌≡◌, ◌∙◌, ◌⊎◌, inl, inr, ℕ, zero, suc, ◌+◌, Bool, List, [], ◌∷◌, ◌++◌, take, Option, Some, None, append_assoc, refl, sym, ap, subst, arith}
 use Rattle.std.specs.Prelude.{slice_get, Result, Ok, Err, OnErr}
 use Rattle.std.proofs.lemmas.List.{append-nil}
 use Rattle.vx_value.specs.Texts.{Word}
@@ -10,11 +10,11 @@ use Rattle.vx_ends.specs.declared.call.Call.TheVariants.{Config}
 use Rattle.vx_ends.specs.declared.world.Config.{Config as ConfigAt}
 use Rattle.vx_plan.specs.declared.component.Component.{Component}
 use Rattle.vx_plan.specs.declared.plan.Plan.{Plan}
-use Rattle.vx_plan.specs.Ports.{port_of}
+use Rattle.vx_ends.specs.declared.port_spec.PortSpec.{PortSpec}
 use Rattle.vx_record.specs.Records.{Record}
 use Rattle.vx_cli.specs.declared.fault.Fault.{Fault}
 use Rattle.vx_cli.specs.declared.fault.Fault.TheVariants.{Usage, ConfigRead, ConfigRefused, Numbers, SourceFailed, ConfirmFailed, PrintFailed, WantOfMemory}
-use Rattle.vx_cli.specs.Commands.{IsCommand, IsRun}
+use Rattle.vx_cli.specs.Commands.{IsCommand, IsRun, has_once}
 use Rattle.vx_cli.specs.declared.command.Command.TheVariants.{Validate}
 use Rattle.vx_run.specs.Answers.{IsJudged, IsPlanAt, IsUnready}
 use Rattle.vx_run.specs.Calling.{HasAskedFirst, HasBegun, HasCalled, HasCalledFor, HasReadNamed, call_of, port_calls, run_calls}
@@ -61,25 +61,25 @@ pub begun_none : (old new : Option (List Call)) (all : List Call) → new ≡ ol
 begun_none old new all same = record { done = []; rest = all; whole = refl; calls = subst (λ (o : Option (List Call)). Grows old o []) (sym same) (grows_none old) }
 
 -- the calls for the first components, and for one more
-record PartedAt (cs : List Component) (i : ℕ) (c : Component) : Type 0 where
+record PartedAt (needs : Component → Option PortSpec) (cs : List Component) (i : ℕ) (c : Component) : Type 0 where
   rest : List Call
-  more : port_calls (take (suc i) cs) ≡ port_calls (take i cs) ++ call_of (port_of c)
-  all : port_calls cs ≡ (port_calls (take i cs) ++ call_of (port_of c)) ++ rest
+  more : port_calls needs (take (suc i) cs) ≡ port_calls needs (take i cs) ++ call_of (needs c)
+  all : port_calls needs cs ≡ (port_calls needs (take i cs) ++ call_of (needs c)) ++ rest
 
-calls_parted : (cs : List Component) (i : ℕ) (c : Component) → slice_get cs i ≡ Some c → PartedAt cs i c
-calls_parted [] i c at = cc
-calls_parted (d ∷ cs) zero c at =
+calls_parted : (needs : Component → Option PortSpec) (cs : List Component) (i : ℕ) (c : Component) → slice_get cs i ≡ Some c → PartedAt needs cs i c
+calls_parted needs [] i c at = cc
+calls_parted needs (d ∷ cs) zero c at =
     let same : d ≡ c = cc in
     record {
-      rest = port_calls cs;
-      more = append-nil (call_of (port_of d)) ∙ ap (λ (x : Component). call_of (port_of x)) same;
-      all = ap (λ (x : Component). call_of (port_of x) ++ port_calls cs) same;
+      rest = port_calls needs cs;
+      more = append-nil (call_of (needs d)) ∙ ap (λ (x : Component). call_of (needs x)) same;
+      all = ap (λ (x : Component). call_of (needs x) ++ port_calls needs cs) same;
     }
-calls_parted (d ∷ cs) (suc i) c at =
-    let further = calls_parted cs i c at in
-    let own = call_of (port_of d) in
-    let front = port_calls (take i cs) in
-    let one = call_of (port_of c) in
+calls_parted needs (d ∷ cs) (suc i) c at =
+    let further = calls_parted needs cs i c at in
+    let own = call_of (needs d) in
+    let front = port_calls needs (take i cs) in
+    let one = call_of (needs c) in
     record {
       rest = further.rest;
       more = ap (λ (x : List Call). own ++ x) further.more ∙ sym (append_assoc own front one);
@@ -87,36 +87,36 @@ calls_parted (d ∷ cs) (suc i) c at =
     }
 
 -- one more port was made
-pub ports_more : (old mid new : Option (List Call)) (cs : List Component) (i : ℕ) (c : Component) → slice_get cs i ≡ Some c → Grows old mid (port_calls (take i cs)) → Grows mid new (call_of (port_of c)) → Grows old new (port_calls (take (i + 1) cs))
-ports_more old mid new cs i c at before one =
+pub ports_more : (old mid new : Option (List Call)) (needs : Component → Option PortSpec) (cs : List Component) (i : ℕ) (c : Component) → slice_get cs i ≡ Some c → Grows old mid (port_calls needs (take i cs)) → Grows mid new (call_of (needs c)) → Grows old new (port_calls needs (take (i + 1) cs))
+ports_more old mid new needs cs i c at before one =
     let next : suc i ≡ i + 1 = omega arith in
-    subst (λ (n : ℕ). Grows old new (port_calls (take n cs))) next
-    (subst (λ (calls : List Call). Grows old new calls) (sym (calls_parted cs i c at).more) (grows_both old mid new (port_calls (take i cs)) (call_of (port_of c)) before one))
+    subst (λ (n : ℕ). Grows old new (port_calls needs (take n cs))) next
+    (subst (λ (calls : List Call). Grows old new calls) (sym (calls_parted needs cs i c at).more) (grows_both old mid new (port_calls needs (take i cs)) (call_of (needs c)) before one))
 
 -- or none, or it was of no use
-pub ports_cut : (old mid new : Option (List Call)) (cs : List Component) (i : ℕ) (c : Component) → slice_get cs i ≡ Some c → Grows old mid (port_calls (take i cs)) → HasBegun mid new (call_of (port_of c)) → HasBegun old new (port_calls cs)
-ports_cut old mid new cs i c at before begun =
-    let parts = calls_parted cs i c at in
+pub ports_cut : (old mid new : Option (List Call)) (needs : Component → Option PortSpec) (cs : List Component) (i : ℕ) (c : Component) → slice_get cs i ≡ Some c → Grows old mid (port_calls needs (take i cs)) → HasBegun mid new (call_of (needs c)) → HasBegun old new (port_calls needs cs)
+ports_cut old mid new needs cs i c at before begun =
+    let parts = calls_parted needs cs i c at in
     subst (λ (calls : List Call). HasBegun old new calls) (sym parts.all)
-    (begun_more old new (port_calls (take i cs) ++ call_of (port_of c)) parts.rest (begun_behind old mid new (port_calls (take i cs)) (call_of (port_of c)) before begun))
+    (begun_more old new (port_calls needs (take i cs) ++ call_of (needs c)) parts.rest (begun_behind old mid new (port_calls needs (take i cs)) (call_of (needs c)) before begun))
 
 -- what was asked for where nothing begins with a file, whatever it says
-pub read_for : (environment : List Variable) (texts : Option (List ConfigAt)) (file : Word) (old new : Option (List Call)) (fault : Fault) → Grows old new (Config file ∷ []) → HasCalledFor environment texts file old new fault
-read_for environment texts file old new Usage grew = grew
-read_for environment texts file old new (ConfigRead path) grew = grew
-read_for environment texts file old new (ConfigRefused fault) grew = grew
-read_for environment texts file old new (Numbers next wanted) grew = grew
-read_for environment texts file old new (SourceFailed name at) grew = grew
-read_for environment texts file old new (ConfirmFailed name) grew = grew
-read_for environment texts file old new PrintFailed grew = grew
-read_for environment texts file old new WantOfMemory grew = inl grew
+pub read_for : (environment : List Variable) (texts : Option (List ConfigAt)) (once : Bool) (file : Word) (old new : Option (List Call)) (fault : Fault) → Grows old new (Config file ∷ []) → HasCalledFor environment texts once file old new fault
+read_for environment texts once file old new Usage grew = grew
+read_for environment texts once file old new (ConfigRead path) grew = grew
+read_for environment texts once file old new (ConfigRefused fault) grew = grew
+read_for environment texts once file old new (Numbers next wanted) grew = grew
+read_for environment texts once file old new (SourceFailed name at) grew = grew
+read_for environment texts once file old new (ConfirmFailed name) grew = grew
+read_for environment texts once file old new PrintFailed grew = grew
+read_for environment texts once file old new WantOfMemory grew = inl grew
 
 -- a run that began asked for all
 pub called_all : (words : List Word) (environment : List Variable) (texts : Option (List ConfigAt)) (file : Word) (plan : Plan) (old new : Option (List Call)) (h : Record) (fault : Option Fault) →
-    IsRun words file → IsPlanAt environment texts file plan → IsJudged h fault → IsInForce plan h fault → Grows old new (run_calls file plan) → HasCalled words environment texts old new h fault
+    IsRun words file → IsPlanAt environment texts file plan → IsJudged h fault → IsInForce (has_once words) plan h fault → Grows old new (run_calls (has_once words) file plan) → HasCalled words environment texts old new h fault
 called_all words environment texts file plan old new h None asked stands judged is grew = inl (record { file = file; asked = asked; plan = plan; installed = is.installed; calls = grew })
 called_all words environment texts file plan old new h (Some WantOfMemory) asked stands judged (inl unbegun) grew =
-    inr (inr (inl (record { unbegun = unbegun; file = file; asked = asked; begun = inr (plan, (stands, begun_all old new (run_calls file plan) grew)) })))
+    inr (inr (inl (record { unbegun = unbegun; file = file; asked = asked; begun = inr (plan, (stands, begun_all old new (run_calls (has_once words) file plan) grew)) })))
 called_all words environment texts file plan old new h (Some WantOfMemory) asked stands judged (inr began) grew =
     inr (inr (inr (record { file = file; asked = asked; plan = plan; installed = began.installed; calls = grew })))
 called_all words environment texts file plan old new h (Some Usage) asked stands judged is grew = absurd judged
@@ -129,7 +129,7 @@ called_all words environment texts file plan old new h (Some (ConfirmFailed name
 
 -- one that didn't begin asked for what there was to ask
 pub called_unready : (words : List Word) (environment : List Variable) (texts : Option (List ConfigAt)) (file : Word) (before now : ℕ) (old new : Option (List Call)) (h : Record) (fault : Fault) → h ≡ [] →
-    IsRun words file → IsUnready environment texts file before now fault → HasCalledFor environment texts file old new fault → HasCalled words environment texts old new h (Some fault)
+    IsRun words file → IsUnready environment texts file before now fault → HasCalledFor environment texts (has_once words) file old new fault → HasCalled words environment texts old new h (Some fault)
 called_unready words environment texts file before now old new h Usage unbegun asked unready called = absurd unready
 called_unready words environment texts file before now old new h (ConfigRead path) unbegun asked unready called = record { file = file; asked = inl asked; calls = called }
 called_unready words environment texts file before now old new h (ConfigRefused fault) unbegun asked unready called = record { file = file; asked = inl asked; calls = called }

@@ -53,7 +53,7 @@ use Rattle.vx_hub.specs.Remains.{AreNumbered, AreToldButGiven}
 use Rattle.vx_hub.proofs.Running.{same_run}
 use Rattle.vx_hub.specs.declared.parts.Numbered.{Numbered}
 use Rattle.vx_hub.specs.Telling.{IsNameOf}
-use Rattle.vx_cli.specs.Commands.{IsCommand, IsNoCommand, IsRun, has_stats}
+use Rattle.vx_cli.specs.Commands.{IsCommand, IsNoCommand, IsRun, has_once, has_stats}
 use Rattle.vx_cli.specs.declared.command.Command.{Command}
 use Rattle.vx_cli.specs.declared.command.Command.TheVariants.{Run, Validate}
 use Rattle.vx_cli.specs.declared.fault.Fault.{Fault}
@@ -248,9 +248,9 @@ module _ (h : Record) (i : ℕ) (none : component_of h i ≡ None) where
       go false other = refl
   row_counts e follows = (refl, refl)
 
-module _ (plan : Plan) (moment : ℕ) where
+module _ (plan : Plan) (once : Bool) (moment : ℕ) where
   abbrev first : Record
-  first = begun plan false moment
+  first = begun plan once moment
 
   beyond_none : (es : List Entry) → IsLegal (es ++ first) → (i : ℕ) → length plan.components ≤ i → NoneCounted (es ++ first) i
   beyond_none [] legal i l = (refl, refl)
@@ -259,9 +259,9 @@ module _ (plan : Plan) (moment : ℕ) where
       let counts = row_counts (es ++ first) i (past plan (es ++ first) i legal.1 (same_run es first legal.1 refl).plan l) e legal.0 in
       (omega (arith, before.0, counts.0), omega (arith, before.1, counts.1))
 
-began_none : (plan : Plan) (h : Record) → Began plan h → IsLegal h → (i : ℕ) → length plan.components ≤ i → NoneCounted h i
-began_none plan h began legal i l =
-    subst (λ (r : Record). NoneCounted r i) (sym began.first.is) (beyond_none plan began.moment began.first.added (subst IsLegal began.first.is legal) i l)
+began_none : (once : Bool) (plan : Plan) (h : Record) → Began once plan h → IsLegal h → (i : ℕ) → length plan.components ≤ i → NoneCounted h i
+began_none once plan h began legal i l =
+    subst (λ (r : Record). NoneCounted r i) (sym began.first.is) (beyond_none plan once began.moment began.first.added (subst IsLegal began.first.is legal) i l)
 
 below_or : (a b : ℕ) → (a < b) ⊎ (b ≤ a)
 below_or a b = grind arith
@@ -302,14 +302,14 @@ refusing (entry.Attempt j copies bytes answer ∷ h) on = go (is_refused answer)
 refusing (e ∷ h) on = let found = refusing h on in (found.0, let some = found.1 in omega (arith, some))
 
 -- where none failed and none was refused, each notice says Delivered
-all_delivered : {P : Type 0} (told_by : P → Told) (h : Record) (ports : List (Numbered P)) (plan : Plan) → NoneFailed told_by ports → IsLegal h → WentOn h → Began plan h → HasAll ports plan →
+all_delivered : {P : Type 0} (told_by : P → Told) (h : Record) (ports : List (Numbered P)) (once : Bool) (plan : Plan) → NoneFailed told_by ports → IsLegal h → WentOn h → Began once plan h → HasAll ports plan →
     AreToldButGiven told_by h ports → AreNumbered 0 ports → (later earlier : Record) (b : ℕ) (status : BatchStatus) → later ++ entry.Notice b status ∷ earlier ≡ h → status ≡ batch.Delivered
-all_delivered told_by h ports plan none legal going began all told numbers later earlier b status is = go status (noticed later earlier b status (subst IsLegal (sym is) legal) (subst WentOn (sym is) going))
+all_delivered told_by h ports once plan none legal going began all told numbers later earlier b status is = go status (noticed later earlier b status (subst IsLegal (sym is) legal) (subst WentOn (sym is) going))
   where
     zero_at : (i : ℕ) → NoneCounted h i
     zero_at i = elim (below_or i (length ports)) [
       | inl below ↦ none_counted told_by h 0 ports none told numbers i (omega arith) (omega (arith, below))
-      | inr beyond ↦ began_none plan h began legal i (omega (arith, beyond, all))
+      | inr beyond ↦ began_none once plan h began legal i (omega (arith, beyond, all))
     ]
 
     later_is : (s : BatchStatus) → later ++ entry.Notice b s ∷ earlier ≡ h → (i : ℕ) → (fault_count earlier i ≡ 0) × (refusal_count earlier i ≡ 0)
@@ -362,14 +362,14 @@ module _ {P : Type 0} (told_by : P → Told) (words : List Word) (environment : 
           (none_counted told_by h 0 ports faultless.none_failed told numbers i (omega arith) (omega (arith, within, each))).0
 
   -- what the words ask for
-  asked : IsCommand words (Run faultless.file (has_stats words))
-  asked = (faultless.asked, refl)
+  asked : IsCommand words (Run faultless.file (has_once words) (has_stats words))
+  asked = (faultless.asked, (refl, refl))
 
   same_file : (file : Word) → IsRun words file → file ≡ faultless.file
-  same_file file runs = let same : Run file (has_stats words) ≡ Run faultless.file (has_stats words) = one words (Run file (has_stats words)) (Run faultless.file (has_stats words)) (runs, refl) asked in cc
+  same_file file runs = let same : Run file (has_once words) (has_stats words) ≡ Run faultless.file (has_once words) (has_stats words) = one words (Run file (has_once words) (has_stats words)) (Run faultless.file (has_once words) (has_stats words)) (runs, (refl, refl)) asked in cc
 
   unjudging : (file : Word) → IsCommand words (Validate file) → ⊥
-  unjudging file judge = let no : Validate file ≡ Run faultless.file (has_stats words) = one words (Validate file) (Run faultless.file (has_stats words)) judge asked in cc
+  unjudging file judge = let no : Validate file ≡ Run faultless.file (has_once words) (has_stats words) = one words (Validate file) (Run faultless.file (has_once words) (has_stats words)) judge asked in cc
 
   unrefused : NoneRefusable faultless.plan.components → (fault : PlanFault) → IsRefused words environment (Some configs) fault → ⊥
   unrefused sure fault refused = go refused.asked
@@ -388,7 +388,7 @@ module _ {P : Type 0} (told_by : P → Told) (words : List Word) (environment : 
       (fault ≡ None) ⊎ ((fault ≡ Some WantOfMemory) ⊎ IsRefusedAnew faultless.plan.components fault)
   answers_well None answer blames missing = inl refl
   answers_well (Some WantOfMemory) answer blames missing = inr (inl refl)
-  answers_well (Some Usage) answer blames missing = absurd (apart words (Run faultless.file (has_stats words)) answer asked)
+  answers_well (Some Usage) answer blames missing = absurd (apart words (Run faultless.file (has_once words) (has_stats words)) answer asked)
   answers_well (Some (ConfigRead path)) answer blames missing = absurd (faultless.reads answer.1)
   answers_well (Some (ConfigRefused fault)) answer blames missing = inr (inr (λ sure. unrefused sure fault answer))
   answers_well (Some (Numbers next wanted)) answer blames missing = absurd (numbers_suffice h next wanted legal answer faultless.numbers)
@@ -406,13 +406,13 @@ module _ {P : Type 0} (told_by : P → Told) (words : List Word) (environment : 
     (one : (all : List Word) (a b : Command) → IsCommand all a → IsCommand all b → a ≡ b) (well : HasEndedWell told_by words environment configs before now was is h ports) where
   unjudged : IsOnlyJudged words environment (Some configs) h → ⊥
   unjudged judged =
-      let run : Command = Run well.faultless.file (has_stats words) in
-      let no : Validate judged.valid.file ≡ run = one words (Validate judged.valid.file) run judged.valid.asked (well.faultless.asked, refl) in cc
+      let run : Command = Run well.faultless.file (has_once words) (has_stats words) in
+      let no : Validate judged.valid.file ≡ run = one words (Validate judged.valid.file) run judged.valid.asked (well.faultless.asked, (refl, refl)) in cc
 
-  ran : (plan : Plan) × Began plan h
+  ran : (plan : Plan) × Began (has_once words) plan h
   ran = go well.installed
     where
-      go : IsInstalled words environment (Some configs) h ⊎ IsOnlyJudged words environment (Some configs) h → (plan : Plan) × Began plan h
+      go : IsInstalled words environment (Some configs) h ⊎ IsOnlyJudged words environment (Some configs) h → (plan : Plan) × Began (has_once words) plan h
       go (inl installed) = (installed.plan, installed.began)
       go (inr judged) = absurd (unjudged judged)
 
@@ -424,7 +424,7 @@ module _ {P : Type 0} (told_by : P → Told) (words : List Word) (environment : 
       go (inr judged) = absurd (unjudged judged.0)
 
   pub notices_well : (later earlier : Record) (b : ℕ) (status : BatchStatus) → later ++ entry.Notice b status ∷ earlier ≡ h → status ≡ batch.Delivered
-  notices_well = all_delivered told_by h ports ran.0 well.faultless.none_failed well.legal well.answer.0 ran.1 have_all well.told well.numbers
+  notices_well = all_delivered told_by h ports (has_once words) ran.0 well.faultless.none_failed well.legal well.answer.0 ran.1 have_all well.told well.numbers
 
   pub confirms_well : (later earlier : Record) (i : ℕ) (positions : List Position) (made : Bool) → later ++ entry.Confirm i positions made ∷ earlier ≡ h → made ≡ true
   confirms_well later earlier i positions made is = go made refl
@@ -432,7 +432,7 @@ module _ {P : Type 0} (told_by : P → Told) (words : List Word) (environment : 
       none_at : NoneCounted h i
       none_at = elim (below_or i (length ports)) [
         | inl below ↦ none_counted told_by h 0 ports well.faultless.none_failed well.told well.numbers i (omega arith) (omega (arith, below))
-        | inr beyond ↦ began_none ran.0 h ran.1 well.legal i (let all = have_all in omega (arith, beyond, all))
+        | inr beyond ↦ began_none (has_once words) ran.0 h ran.1 well.legal i (let all = have_all in omega (arith, beyond, all))
       ]
 
       go : (m : Bool) → made ≡ m → made ≡ true

@@ -1,5 +1,5 @@
 -- What is told of a run, whatever fault is told in the end.
-use Rattle.std.proofs.Common.{◌≡◌, ◌⊎◌, inl, inr, ℕ, List, Option, Some, None, sym, subst, ◌∙◌}
+use Rattle.std.proofs.Common.{◌≡◌, ◌⊎◌, inl, inr, ℕ, Bool, List, Option, Some, None, sym, subst, ◌∙◌}
 use Rattle.std.specs.Prelude.{IsSomeAnd}
 use Rattle.vx_value.specs.Texts.{Word}
 use Rattle.vx_value.specs.declared.variable.Variable.{Variable}
@@ -10,6 +10,7 @@ use Rattle.vx_record.specs.Installs.{in_force}
 use Rattle.vx_hub.specs.declared.parts.Numbered.{Numbered}
 use Rattle.vx_run.specs.Answers.{ButForMemory, IsReady, IsAnswer, IsJudged}
 use Rattle.vx_run.specs.Running.{Began, HasInstalled, IsInForce, HasAll, HasEach, NoneMissing}
+use Rattle.vx_cli.specs.Commands.{has_once}
 use Rattle.vx_cli.specs.declared.fault.Fault.{Fault}
 use Rattle.vx_cli.specs.declared.fault.Fault.TheVariants.{Usage, ConfigRead, ConfigRefused, Numbers, SourceFailed, ConfirmFailed, PrintFailed, WantOfMemory}
 
@@ -24,7 +25,7 @@ but_short Before After fault counted (inr short) then before = λ other. absurd 
 
 -- a run that began has the plan in force that the words ask for
 pub installed_for : (words : List Word) (environment : List Variable) (texts : Option (List Config)) (plan : Plan) (h : Record) (fault : Option Fault) →
-    IsReady words environment texts plan → IsJudged h fault → IsInForce plan h fault → HasInstalled words environment texts h fault
+    IsReady words environment texts plan → IsJudged h fault → IsInForce (has_once words) plan h fault → HasInstalled words environment texts h fault
 installed_for words environment texts plan h None ready judged is = inl (record { plan = plan; ready = ready; began = is })
 installed_for words environment texts plan h (Some WantOfMemory) ready judged (inl unbegun) = inl unbegun
 installed_for words environment texts plan h (Some WantOfMemory) ready judged (inr is) = inr (record { plan = plan; ready = ready; began = is })
@@ -65,31 +66,31 @@ each_of plan h ports (Some (ConfirmFailed name)) all = all
 there : {P : Type 0} (plan : Plan) (h : Record) (ports : List (Numbered P)) → in_force h ≡ Some plan → HasAll ports plan → IsSomeAnd (in_force h) (HasAll ports)
 there plan h ports is all = subst (λ (found : Option Plan). IsSomeAnd found (HasAll ports)) (sym is) all
 
-pub none_missing_for : {P : Type 0} (words : List Word) (environment : List Variable) (texts : Option (List Config)) (plan : Plan) (h : Record) (ports : List (Numbered P)) (fault : Option Fault) →
-    IsReady words environment texts plan → IsJudged h fault → IsInForce plan h fault → HasEach plan h ports fault → NoneMissing words environment texts h ports fault
-none_missing_for words environment texts plan h ports None ready judged is each = inl (there plan h ports is.installed each)
-none_missing_for words environment texts plan h ports (Some WantOfMemory) ready judged is (inl unbegun) = inl unbegun
-none_missing_for words environment texts plan h ports (Some WantOfMemory) ready judged is (inr all) = inr (record { plan = plan; ready = ready; each = all })
-none_missing_for words environment texts plan h ports (Some Usage) ready judged is each = absurd judged
-none_missing_for words environment texts plan h ports (Some (ConfigRead path)) ready judged is each = absurd judged
-none_missing_for words environment texts plan h ports (Some (ConfigRefused f)) ready judged is each = absurd judged
-none_missing_for words environment texts plan h ports (Some (Numbers next wanted)) ready judged is each = there plan h ports is.installed each
-none_missing_for words environment texts plan h ports (Some PrintFailed) ready judged is each = absurd judged
-none_missing_for words environment texts plan h ports (Some (SourceFailed name at)) ready judged is each = there plan h ports is.installed each
-none_missing_for words environment texts plan h ports (Some (ConfirmFailed name)) ready judged is each = there plan h ports is.installed each
+pub none_missing_for : {P : Type 0} (words : List Word) (environment : List Variable) (texts : Option (List Config)) (once : Bool) (plan : Plan) (h : Record) (ports : List (Numbered P)) (fault : Option Fault) →
+    IsReady words environment texts plan → IsJudged h fault → IsInForce once plan h fault → HasEach plan h ports fault → NoneMissing words environment texts h ports fault
+none_missing_for words environment texts once plan h ports None ready judged is each = inl (there plan h ports is.installed each)
+none_missing_for words environment texts once plan h ports (Some WantOfMemory) ready judged is (inl unbegun) = inl unbegun
+none_missing_for words environment texts once plan h ports (Some WantOfMemory) ready judged is (inr all) = inr (record { plan = plan; ready = ready; each = all })
+none_missing_for words environment texts once plan h ports (Some Usage) ready judged is each = absurd judged
+none_missing_for words environment texts once plan h ports (Some (ConfigRead path)) ready judged is each = absurd judged
+none_missing_for words environment texts once plan h ports (Some (ConfigRefused f)) ready judged is each = absurd judged
+none_missing_for words environment texts once plan h ports (Some (Numbers next wanted)) ready judged is each = there plan h ports is.installed each
+none_missing_for words environment texts once plan h ports (Some PrintFailed) ready judged is each = absurd judged
+none_missing_for words environment texts once plan h ports (Some (SourceFailed name at)) ready judged is each = there plan h ports is.installed each
+none_missing_for words environment texts once plan h ports (Some (ConfirmFailed name)) ready judged is each = there plan h ports is.installed each
 
 -- what is judged of a run is no failed print
 pub judged_unprinted : (h : Record) (fault : Option Fault) → IsJudged h fault → (fault ≡ Some PrintFailed → ⊥)
 judged_unprinted h fault judged is = subst (λ (f : Option Fault). IsJudged h f) is judged
 
 -- a run that began with a plan did so whatever fault is told
-pub force_of : (plan : Plan) (h : Record) (fault : Option Fault) → Began plan h → IsInForce plan h fault
-force_of plan h None is = is
-force_of plan h (Some WantOfMemory) is = inr is
-force_of plan h (Some Usage) is = is
-force_of plan h (Some (ConfigRead path)) is = is
-force_of plan h (Some (ConfigRefused f)) is = is
-force_of plan h (Some (Numbers next wanted)) is = is
-force_of plan h (Some PrintFailed) is = is
-force_of plan h (Some (SourceFailed name at)) is = is
-force_of plan h (Some (ConfirmFailed name)) is = is
+pub force_of : (once : Bool) (plan : Plan) (h : Record) (fault : Option Fault) → Began once plan h → IsInForce once plan h fault
+force_of once plan h None is = is
+force_of once plan h (Some WantOfMemory) is = inr is
+force_of once plan h (Some Usage) is = is
+force_of once plan h (Some (ConfigRead path)) is = is
+force_of once plan h (Some (ConfigRefused f)) is = is
+force_of once plan h (Some (Numbers next wanted)) is = is
+force_of once plan h (Some PrintFailed) is = is
+force_of once plan h (Some (SourceFailed name at)) is = is
+force_of once plan h (Some (ConfirmFailed name)) is = is

@@ -1,5 +1,5 @@
 -- A run goes on.
-use Rattle.std.proofs.Common.{◌≡◌, ◌∙◌, ℕ, Bool, false, [], ◌∷◌, length, Some, refl, ap, subst}
+use Rattle.std.proofs.Common.{◌≡◌, ◌∙◌, ℕ, Bool, [], ◌∷◌, length, Some, refl, ap, subst}
 use Rattle.vx_plan.specs.declared.plan.Plan.{Plan}
 use Rattle.vx_record.specs.declared.entry.Entry.{Entry}
 use Rattle.vx_record.specs.Additions.{OnlyAdds}
@@ -37,10 +37,10 @@ module _ (plan : Plan) (once : Bool) (now : ℕ) (first h : Record) (is : first 
   plan_stays = same.plan ∙ ap in_force is
 
   -- and the record began with it
-  pub began_with : once ≡ false → GoesOn first h → Began plan h
-  began_with off on = record {
+  pub began_with : GoesOn first h → Began once plan h
+  began_with on = record {
     moment = now;
-    first = subst (λ (was : Record). GoesOn was h) (is ∙ ap (λ (ends : Bool). begun plan ends now) off) on;
+    first = subst (λ (was : Record). GoesOn was h) is on;
     installed = plan_stays;
   }
 

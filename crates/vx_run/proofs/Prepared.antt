@@ -1,24 +1,24 @@
 -- A port is put behind those that there are.
-use Rattle.std.proofs.Common.{◌≡◌, ◌∙◌, ℕ, zero, suc, ◌+◌, ◌<◌, List, [], ◌∷◌, ◌++◌, length, get_or, Some, refl, sym, ap, subst, arith}
+use Rattle.std.proofs.Common.{◌≡◌, ◌∙◌, ℕ, zero, suc, ◌+◌, ◌<◌, List, [], ◌∷◌, ◌++◌, length, get_or, Option, Some, refl, sym, ap, subst, arith}
 use Rattle.std.specs.Prelude.{slice_get}
 use Rattle.vx_plan.specs.declared.component.Component.{Component}
-use Rattle.vx_plan.specs.Ports.{port_of}
+use Rattle.vx_ends.specs.declared.port_spec.PortSpec.{PortSpec}
 use Rattle.vx_ends.specs.Told.{Told}
 use Rattle.vx_hub.specs.declared.parts.Named.{Named}
 use Rattle.vx_hub.specs.Making.{IsUntouched, AreUntouched}
 
-untouched_more : {P : Type 0} (told_by : P → Told) (components : List Component) (ports : List (Named P)) (component : Component) (named : Named P) → slice_get components (length ports) ≡ Some component →
-    AreUntouched told_by components ports → IsUntouched (port_of component) (told_by named.port) → AreUntouched told_by components (ports ++ named ∷ [])
-untouched_more told_by [] [] component named is all one = cc
-untouched_more told_by (c ∷ cs) [] component named is all one = let same : c ≡ component = cc in (subst (λ (d : Component). IsUntouched (port_of d) (told_by named.port)) (sym same) one, tt)
-untouched_more told_by [] (p ∷ ports) component named is all one = absurd all
-untouched_more told_by (c ∷ cs) (p ∷ ports) component named is all one = (all.0, untouched_more told_by cs ports component named is all.1 one)
+untouched_more : {P : Type 0} (told_by : P → Told) (needs : Component → Option PortSpec) (components : List Component) (ports : List (Named P)) (component : Component) (named : Named P) → slice_get components (length ports) ≡ Some component →
+    AreUntouched told_by needs components ports → IsUntouched (needs component) (told_by named.port) → AreUntouched told_by needs components (ports ++ named ∷ [])
+untouched_more told_by needs [] [] component named is all one = cc
+untouched_more told_by needs (c ∷ cs) [] component named is all one = let same : c ≡ component = cc in (subst (λ (d : Component). IsUntouched (needs d) (told_by named.port)) (sym same) one, tt)
+untouched_more told_by needs [] (p ∷ ports) component named is all one = absurd all
+untouched_more told_by needs (c ∷ cs) (p ∷ ports) component named is all one = (all.0, untouched_more told_by needs cs ports component named is all.1 one)
 
 -- a list of which that is so may be told otherwise
-pub untouched_added : {P : Type 0} (told_by : P → Told) (components : List Component) (ports more : List (Named P)) (component : Component) (named : Named P) → more ≡ ports ++ named ∷ [] →
-    slice_get components (length ports) ≡ Some component → AreUntouched told_by components ports → IsUntouched (port_of component) (told_by named.port) → AreUntouched told_by components more
-untouched_added {P} told_by components ports more component named is at all one =
-    subst (λ (ps : List (Named P)). AreUntouched told_by components ps) (sym is) (untouched_more told_by components ports component named at all one)
+pub untouched_added : {P : Type 0} (told_by : P → Told) (needs : Component → Option PortSpec) (components : List Component) (ports more : List (Named P)) (component : Component) (named : Named P) → more ≡ ports ++ named ∷ [] →
+    slice_get components (length ports) ≡ Some component → AreUntouched told_by needs components ports → IsUntouched (needs component) (told_by named.port) → AreUntouched told_by needs components more
+untouched_added {P} told_by needs components ports more component named is at all one =
+    subst (λ (ps : List (Named P)). AreUntouched told_by needs components ps) (sym is) (untouched_more told_by needs components ports component named at all one)
 
 -- what stands at a place
 slice_got : {X : Type 0} (xs : List X) (i : ℕ) (x : X) → i < length xs → x ≡ get_or xs i x → slice_get xs i ≡ Some x

@@ -70,17 +70,17 @@ summed_ready (Some (ConfirmFailed name)) is = refl
 summed_ready (Some PrintFailed) is = refl
 summed_ready (Some WantOfMemory) is = cc
 
-summary_by : (words : List Word) (file : Word) (h : Record) (fault : Option Fault) (summary : Option Word) (stats wanted : Bool) → IsCommand words (Run file stats) → is_summed fault ≡ wanted →
+summary_by : (words : List Word) (file : Word) (h : Record) (fault : Option Fault) (summary : Option Word) (once stats wanted : Bool) → IsCommand words (Run file once stats) → is_summed fault ≡ wanted →
     summary ≡ (if stats && wanted then Some (summary_of h) else None) → IsSummary words h fault summary
-summary_by words file h fault summary true true asked is same = subst (IsSummary words h fault) (sym same) ((file, asked), (refl, summed_ready fault is))
-summary_by words file h fault summary true false asked is same = subst (IsSummary words h fault) (sym same) (λ _. is)
-summary_by words file h fault summary false wanted asked is same =
-    subst (IsSummary words h fault) (sym same) (λ other. let no : true ≡ false = sym other.1.1 ∙ asked.1 in cc)
+summary_by words file h fault summary once true true asked is same = subst (IsSummary words h fault) (sym same) ((file, (asked.0, asked.1.1)), (refl, summed_ready fault is))
+summary_by words file h fault summary once true false asked is same = subst (IsSummary words h fault) (sym same) (λ _. is)
+summary_by words file h fault summary once false wanted asked is same =
+    subst (IsSummary words h fault) (sym same) (λ other. let no : true ≡ false = sym other.1.1 ∙ asked.1.1 in cc)
 
 -- what a run is to print, by its words
-pub summary_run : (words : List Word) (file : Word) (stats : Bool) (h : Record) (fault : Option Fault) (summary : Option Word) → IsCommand words (Run file stats) → summary ≡ summary_for stats h fault →
+pub summary_run : (words : List Word) (file : Word) (once stats : Bool) (h : Record) (fault : Option Fault) (summary : Option Word) → IsCommand words (Run file once stats) → summary ≡ summary_for stats h fault →
     IsSummary words h fault summary
-summary_run words file stats h fault summary asked same = summary_by words file h fault summary stats (is_summed fault) asked refl same
+summary_run words file once stats h fault summary asked same = summary_by words file h fault summary once stats (is_summed fault) asked refl same
 
 -- a judgement has nothing to print of counts
 pub summary_judged : (words : List Word) (file : Word) (h : Record) (fault : Option Fault) (summary : Option Word) → IsCommand words (Validate file) → summary ≡ None → IsSummary words h fault summary

@@ -1,5 +1,5 @@
 -- A port that tells what the record has of an instance with a device is there.
-use Rattle.std.proofs.Common.{◌≡◌, ℕ, true, false, List, [], ◌∷◌, Option, Some, None, IsSome, refl}
+use Rattle.std.proofs.Common.{◌≡◌, ℕ, Bool, true, false, List, [], ◌∷◌, Option, Some, None, IsSome, refl}
 use Rattle.vx_ends.specs.Silent.{told_if}
 use Rattle.vx_ends.specs.Told.{Told, Fits, absent}
 use Rattle.vx_ends.specs.declared.port_spec.Form.{Form}
@@ -7,32 +7,44 @@ use Rattle.vx_value.specs.Texts.{Word}
 use Rattle.vx_plan.specs.declared.component.Component.{Component}
 use Rattle.vx_plan.specs.declared.settings.Settings.{Settings}
 use Rattle.vx_plan.specs.declared.settings.Settings.TheVariants as settings
+use Rattle.vx_plan.specs.Components.{component_named}
 use Rattle.vx_plan.specs.Options.{has_device}
-use Rattle.vx_plan.specs.Ports.{form_of}
+use Rattle.vx_plan.specs.Ports.{checkpoint_path, form_of, port_of}
 use Rattle.vx_record.specs.Records.{Record}
-use Rattle.vx_record.specs.Installs.{component_of, device_at}
-use Rattle.vx_tasks.specs.Telling.{IsToldButGiven, spec_of}
+use Rattle.vx_record.specs.Installs.{Wiring, wiring, device_at}
+use Rattle.vx_tasks.specs.Telling.{IsToldButGiven, spec_by}
 use Rattle.vx_hub.specs.declared.parts.Numbered.{Numbered}
 use Rattle.vx_hub.specs.Remains.{AreToldButGiven}
 use Rattle.vx_run.specs.Running.{AreThere}
 
 -- what has a device needs a port of some form
-device_form : (s : Settings) → has_device s ≡ true → IsSome (form_of s)
-device_form (settings.Stdin max_length codec) is = refl
-device_form (settings.Console target codec sink) is = refl
-device_form other is = cc
+device_form : (once : Bool) (checkpoint : Word) (s : Settings) → has_device s ≡ true → IsSome (form_of once checkpoint s)
+device_form once checkpoint (settings.Stdin max_length codec) is = refl
+device_form once checkpoint (settings.FileIn most path from codec) is = refl
+device_form once checkpoint (settings.Console target codec sink) is = refl
+device_form once checkpoint (settings.FileOut path compression codec sink) is = refl
+device_form once checkpoint other is = cc
 
 not_absent : (name : Word) (form : Option Form) → IsSome form → Fits (elim form [ None ↦ None | Some f ↦ Some (record { name = name; form = f }) ]) absent → ⊥
 not_absent name None is fits = cc
 not_absent name (Some f) is fits = fits
 
-device_there : (o : Option Component) → (elim o [ None ↦ false | Some c ↦ has_device c.settings ]) ≡ true → Fits (spec_of o) absent → ⊥
+-- so no port can be absent that a component needs
+needed : (once : Bool) (folder : Word) (o : Option Component) → (elim o [ None ↦ false | Some c ↦ has_device c.settings ]) ≡ true →
+    Fits (elim o [ None ↦ None | Some c ↦ port_of once folder c ]) absent → ⊥
+needed once folder None is fits = cc
+needed once folder (Some c) is fits =
+    let checkpoint = checkpoint_path folder c.name in not_absent c.name (form_of once checkpoint c.settings) (device_form once checkpoint c.settings is) fits
+
+device_there : (o : Option Wiring) →
+    (elim (elim o as (λ _. Option Component) [ None ↦ None | Some w ↦ component_named w.plan w.name ]) [ None ↦ false | Some c ↦ has_device c.settings ]) ≡ true →
+    Fits (spec_by o) absent → ⊥
 device_there None is fits = cc
-device_there (Some c) is fits = not_absent c.name (form_of c.settings) (device_form c.settings is) fits
+device_there (Some w) is fits = needed w.once w.plan.global.data_dir (component_named w.plan w.name) is fits
 
 module _ {P : Type 0} (told_by : P → Told) (h : Record) where
   one_there : (i : ℕ) (port : Option P) → IsToldButGiven (told_if told_by port) h i → device_at h i ≡ true → IsSome port
-  one_there i None told device = absurd (device_there (component_of h i) device told.spec)
+  one_there i None told device = absurd (device_there (wiring h i) device told.spec)
   one_there i (Some port) told device = refl
 
   -- so it is for each of some

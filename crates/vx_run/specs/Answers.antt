@@ -16,8 +16,8 @@ use Rattle.vx_record.specs.Ceasing.{lost_at, cause_of}
 use Rattle.vx_hub.specs.Telling.{IsNameOf}
 use Rattle.vx_cli.specs.declared.fault.Fault.{Fault}
 use Rattle.vx_cli.specs.declared.fault.Fault.TheVariants.{Usage, ConfigRead, ConfigRefused, Numbers, SourceFailed, ConfirmFailed, PrintFailed, WantOfMemory}
-use Rattle.vx_cli.specs.Commands.{IsCommand, IsNoCommand, IsRun}
-use Rattle.vx_cli.specs.declared.command.Command.TheVariants.{Run, Validate}
+use Rattle.vx_cli.specs.Commands.{IsCommand, IsNoCommand, IsRun, has_stats}
+use Rattle.vx_cli.specs.declared.command.Command.TheVariants.{Validate}
 
 -- a fact that is told but for want of memory
 abbrev pub ButForMemory : Type 0 → Option Fault → Type 0
@@ -29,11 +29,11 @@ NamesFile words file = IsRun words file ⊎ IsCommand words (Validate file)
 
 -- the words ask for a run, and not for what the instances count
 abbrev pub AsksRun : List Word → Type 0
-AsksRun words = (file : Word) × IsCommand words (Run file false)
+AsksRun words = (file : Word) × (IsRun words file × (has_stats words ≡ false))
 
 -- or for both
 abbrev pub AsksStats : List Word → Type 0
-AsksStats words = (file : Word) × IsCommand words (Run file true)
+AsksStats words = (file : Word) × (IsRun words file × (has_stats words ≡ true))
 
 -- a file, whose bytes these are where the world tells its texts, stands for this plan
 pub record IsPlanAt (environment : List Variable) (texts : Option (List Config)) (file : Word) (plan : Plan) : Type 0 where

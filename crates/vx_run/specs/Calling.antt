@@ -1,5 +1,5 @@
 -- What a run asks its world for.
-use Rattle.std.specs.Prelude.{◌≡◌, ◌⊎◌, List, [], ◌∷◌, ◌++◌, Option, Some, None}
+use Rattle.std.specs.Prelude.{◌≡◌, ◌⊎◌, Bool, List, [], ◌∷◌, ◌++◌, Option, Some, None}
 use Rattle.vx_value.specs.Texts.{Word}
 use Rattle.vx_value.specs.declared.variable.Variable.{Variable}
 use Rattle.vx_ends.specs.Told.{Grows}
@@ -14,7 +14,7 @@ use Rattle.vx_record.specs.Records.{Record}
 use Rattle.vx_record.specs.Installs.{in_force}
 use Rattle.vx_cli.specs.declared.fault.Fault.{Fault}
 use Rattle.vx_cli.specs.declared.fault.Fault.TheVariants.{Usage, ConfigRead, ConfigRefused, PrintFailed, WantOfMemory}
-use Rattle.vx_cli.specs.Commands.{IsCommand, IsRun}
+use Rattle.vx_cli.specs.Commands.{IsCommand, IsRun, has_once}
 use Rattle.vx_cli.specs.declared.command.Command.TheVariants.{Validate}
 use Rattle.vx_run.specs.Answers.{NamesFile, IsPlanAt}
 
@@ -23,14 +23,14 @@ abbrev pub call_of : Option PortSpec → List Call
 call_of None = []
 call_of (Some spec) = Port spec ∷ []
 
--- a port is asked for each component, in order
-abbrev pub port_calls : List Component → List Call
-port_calls [] = []
-port_calls (c ∷ cs) = call_of (port_of c) ++ port_calls cs
+-- a port is asked for each component that needs one, in order
+abbrev pub port_calls : (Component → Option PortSpec) → List Component → List Call
+port_calls needs [] = []
+port_calls needs (c ∷ cs) = call_of (needs c) ++ port_calls needs cs
 
--- the configuration in a file is asked for, and then the ports of its plan
-abbrev pub run_calls : Word → Plan → List Call
-run_calls file plan = Config file ∷ port_calls plan.components
+-- the configuration in a file is asked for, and then the ports of its plan, by whether files end with what they have
+abbrev pub run_calls : Bool → Word → Plan → List Call
+run_calls once file plan = Config file ∷ port_calls (port_of once plan.global.data_dir) plan.components
 
 -- the first of these calls were made, or all of them, and no other, where the world tells its calls
 pub record HasBegun (old new : Option (List Call)) (all : List Call) : Type 0 where
@@ -39,24 +39,24 @@ pub record HasBegun (old new : Option (List Call)) (all : List Call) : Type 0 wh
   pub whole : done ++ rest ≡ all
   pub calls : Grows old new done
 
--- a file was read; and of a plan that it stands for the first ports were made, or all
-abbrev pub HasBegunFor : List Variable → Option (List ConfigAt) → Word → Option (List Call) → Option (List Call) → Type 0
-HasBegunFor environment texts file old new =
-    Grows old new (Config file ∷ []) ⊎ ((plan : Plan) × (IsPlanAt environment texts file plan × HasBegun old new (run_calls file plan)))
+-- a file was read; and of a plan that it stands for the first ports were made, or all, by whether files end with what they have
+abbrev pub HasBegunFor : List Variable → Option (List ConfigAt) → Bool → Word → Option (List Call) → Option (List Call) → Type 0
+HasBegunFor environment texts once file old new =
+    Grows old new (Config file ∷ []) ⊎ ((plan : Plan) × (IsPlanAt environment texts file plan × HasBegun old new (run_calls once file plan)))
 
 -- what was asked for where nothing begins with a file
-abbrev pub HasCalledFor : List Variable → Option (List ConfigAt) → Word → Option (List Call) → Option (List Call) → Fault → Type 0
-HasCalledFor environment texts file old new WantOfMemory = HasBegunFor environment texts file old new
-HasCalledFor environment texts file old new fault = Grows old new (Config file ∷ [])
+abbrev pub HasCalledFor : List Variable → Option (List ConfigAt) → Bool → Word → Option (List Call) → Option (List Call) → Fault → Type 0
+HasCalledFor environment texts once file old new WantOfMemory = HasBegunFor environment texts once file old new
+HasCalledFor environment texts once file old new fault = Grows old new (Config file ∷ [])
 
--- a run of the words' file read it, and made a port for each component that needs one of the plan that it installed, in order, and asked for
--- nothing else
+-- a run of the words' file read it, and made a port for each component that needs one of the plan that it installed, in order, for files
+-- that end with what they have where the words ask for that, and asked for nothing else
 pub record HasCalledAll (words : List Word) (old new : Option (List Call)) (h : Record) : Type 0 where
   pub file : Word
   pub asked : IsRun words file
   pub plan : Plan
   pub installed : in_force h ≡ Some plan
-  pub calls : Grows old new (run_calls file plan)
+  pub calls : Grows old new (run_calls (has_once words) file plan)
 
 -- a judgement of the words' file read it, and asked for nothing else, and nothing began
 pub record HasRead (words : List Word) (old new : Option (List Call)) (h : Record) : Type 0 where
@@ -76,7 +76,7 @@ pub record HasBegunRun (words : List Word) (environment : List Variable) (texts 
   pub unbegun : h ≡ []
   pub file : Word
   pub asked : IsRun words file
-  pub begun : HasBegunFor environment texts file old new
+  pub begun : HasBegunFor environment texts (has_once words) file old new
 
 -- a beginning of what the words ask for: nothing; the file of a judgement; what a run that didn't begin asked; and all where one began
 abbrev pub HasAskedFirst : List Word → List Variable → Option (List ConfigAt) → Option (List Call) → Option (List Call) → Record → Type 0

@@ -1,5 +1,5 @@
 -- What a run leaves behind.
-use Rattle.std.specs.Prelude.{◌≡◌, ◌⊎◌, ℕ, true, false, List, [], ◌∷◌, length, Option, Some, None, IsSome, IsSomeAnd}
+use Rattle.std.specs.Prelude.{◌≡◌, ◌⊎◌, ℕ, Bool, true, List, [], ◌∷◌, length, Option, Some, None, IsSome, IsSomeAnd}
 use Rattle.vx_value.specs.Texts.{Word}
 use Rattle.vx_value.specs.declared.variable.Variable.{Variable}
 use Rattle.vx_ends.specs.Told.{Told}
@@ -17,6 +17,7 @@ use Rattle.vx_hub.specs.declared.parts.Numbered.{Numbered}
 use Rattle.vx_hub.specs.Remains.{AreTold, AreToldButGiven}
 use Rattle.vx_hub.specs.Standing.{GoesOn}
 use Rattle.vx_run.specs.Answers.{ButForMemory, IsReady, IsValid, WentOn}
+use Rattle.vx_cli.specs.Commands.{has_once}
 use Rattle.vx_cli.specs.declared.fault.Fault.{Fault}
 use Rattle.vx_cli.specs.declared.fault.Fault.TheVariants.{Usage, ConfigRead, ConfigRefused, SourceFailed, ConfirmFailed, PrintFailed, WantOfMemory}
 
@@ -34,17 +35,17 @@ AreThere h (n ∷ ns) = (device_at h n.instance ≡ true → IsSome n.port) × A
 abbrev pub AllReturned : Record → Option Fault → Type 0
 AllReturned h fault = ButForMemory (HaveReturned h) fault
 
--- a record began with a plan, as one whose files go on behind their ends, and the plan is in force
-pub record Began (plan : Plan) (h : Record) : Type 0 where
+-- a record began with a plan, as one whose files end with what they have or as one whose files go on, and the plan is in force
+pub record Began (once : Bool) (plan : Plan) (h : Record) : Type 0 where
   pub moment : ℕ
-  pub first : GoesOn (begun plan false moment) h
+  pub first : GoesOn (begun plan once moment) h
   pub installed : in_force h ≡ Some plan
 
--- that plan is that of the file for which the words ask
+-- that plan is that of the file for which the words ask, and files end with what they have exactly where the words ask for that
 pub record IsInstalled (words : List Word) (environment : List Variable) (texts : Option (List Config)) (h : Record) : Type 0 where
   pub plan : Plan
   pub ready : IsReady words environment texts plan
-  pub began : Began plan h
+  pub began : Began (has_once words) plan h
 
 -- a configuration was judged and stands for a plan, and nothing began
 pub record IsOnlyJudged (words : List Word) (environment : List Variable) (texts : Option (List Config)) (h : Record) : Type 0 where
@@ -93,9 +94,9 @@ pub record HasAllAsked {P : Type 0} (words : List Word) (environment : List Vari
   pub each : HasAll ports plan
 
 -- a run began with a plan, or for want of memory it didn't begin
-abbrev pub IsInForce : Plan → Record → Option Fault → Type 0
-IsInForce plan h (Some WantOfMemory) = (h ≡ []) ⊎ Began plan h
-IsInForce plan h fault = Began plan h
+abbrev pub IsInForce : Bool → Plan → Record → Option Fault → Type 0
+IsInForce once plan h (Some WantOfMemory) = (h ≡ []) ⊎ Began once plan h
+IsInForce once plan h fault = Began once plan h
 
 -- no port of a plan is missing, but where for want of memory nothing began
 abbrev pub HasEach : {P : Type 0} → Plan → Record → List (Numbered P) → Option Fault → Type 0

@@ -27,34 +27,35 @@ use vx_reading::{ConditionLists, PlanFault, ReadPlan, read_plan};
 use vx_value::{Bytes, Text, VariableList, WantOfMemory};
 
 /// What a run of the configuration at a path is made of: its plan, a port for each component that has a device, and what each transform
-/// picks by. Where there is none, a fault tells why.
+/// picks by. With `once` the ports of files end with what these have. Where there is none, a fault tells why.
 pub fn prepare<W: World>(
     alloc: Global,
     file: &Text,
+    once: bool,
     environment: &VariableList,
     world: &mut W,
 ) -> Result<Parts<Option<W::Port>>, Fault>
     ensures stands { IfOk result (λ parts. IsPlanAt environment.now (W.texts world.old) file.now parts.plan) }
-    ensures once { IfOk result (λ parts. parts.once ≡ false) }
+    ensures once { IfOk result (λ parts. parts.once ≡ once) }
     ensures few { IfOk result (λ parts. length parts.plan.components < 2 ^ 32) }
     ensures accepted { IfOk result (λ parts. IsPlan parts.plan) }
     ensures served { IfOk result (λ parts. all_served parts.plan.components ≡ true) }
     ensures pickers { IfOk result (λ parts. ArePickers parts.plan.components parts.pickers) }
     ensures ports { IfOk result (λ parts. length parts.ports ≡ length parts.plan.components) }
-    ensures untouched { IfOk result (λ parts. AreUntouched (told_if W.Port.told) parts.plan.components parts.ports) }
+    ensures untouched { IfOk result (λ parts. AreUntouched (told_if W.Port.told) (port_of parts.once parts.plan.global.data_dir) parts.plan.components parts.ports) }
     ensures unready { IfErr result (IsUnready environment.now (W.texts world.old) file.now (W.faults world.old) (W.faults world.new)) }
-    ensures called { IfOk result (λ parts. Grows (W.calls world.old) (W.calls world.new) (run_calls file.now parts.plan)) }
-    ensures begun { IfErr result (HasCalledFor environment.now (W.texts world.old) file.now (W.calls world.old) (W.calls world.new)) }
+    ensures called { IfOk result (λ parts. Grows (W.calls world.old) (W.calls world.new) (run_calls once file.now parts.plan)) }
+    ensures begun { IfErr result (HasCalledFor environment.now (W.texts world.old) once file.now (W.calls world.old) (W.calls world.new)) }
     ensures texts { W.texts world.new ≡ W.texts world.old }
 {
     let ReadPlan { plan, conditions } = plan_at(alloc, file, environment, world)?;
     let Ok(pickers) = pickers(alloc, &plan, conditions) else {
         return Err(Fault::WantOfMemory);
     };
-    match ports(alloc, &plan, world) {
+    match ports(alloc, &plan, once, world) {
         Ok(ports) => Ok(Parts {
             plan,
-            once: false,
+            once,
             ports,
             pickers,
         }),
@@ -172,18 +173,19 @@ fn first_of(conditions: ConditionList) -> Option<Picker>
 fn ports<W: World>(
     alloc: Global,
     plan: &Plan,
+    once: bool,
     world: &mut W,
 ) -> Result<NamedList<Option<W::Port>>, WantOfMemory>
     ensures count { IfOk result (λ ports. length ports ≡ length plan.now.components) }
-    ensures untouched { IfOk result (λ ports. AreUntouched (told_if W.Port.told) plan.now.components ports) }
-    ensures called { OnOk result (Grows (W.calls world.old) (W.calls world.new) (port_calls plan.now.components)) }
-    ensures begun { OnErr result (HasBegun (W.calls world.old) (W.calls world.new) (port_calls plan.now.components)) }
+    ensures untouched { IfOk result (λ ports. AreUntouched (told_if W.Port.told) (port_of once plan.now.global.data_dir) plan.now.components ports) }
+    ensures called { OnOk result (Grows (W.calls world.old) (W.calls world.new) (port_calls (port_of once plan.now.global.data_dir) plan.now.components)) }
+    ensures begun { OnErr result (HasBegun (W.calls world.old) (W.calls world.new) (port_calls (port_of once plan.now.global.data_dir) plan.now.components)) }
     ensures texts { W.texts world.new ≡ W.texts world.old }
     ensures faults { W.faults world.new ≡ W.faults world.old }
 {
     let mut ports = NamedList::new(alloc);
     for component in plan.components.as_slice() {
-        let port = port(alloc, component, world)?;
+        let port = port(alloc, plan, component, once, world)?;
         match ports.push(port) {
             Ok(()) => {}
             Err(_) => return Err(WantOfMemory),
@@ -192,24 +194,38 @@ fn ports<W: World>(
     Ok(ports)
 }
 
-/// The port of a component, if it has a device, and the component's name.
+/// The port of a component of a plan, if it has a device, and the component's name.
 fn port<W: World>(
     alloc: Global,
+    plan: &Plan,
     component: &Component,
+    once: bool,
     world: &mut W,
 ) -> Result<Named<Option<W::Port>>, WantOfMemory>
-    ensures untouched { IfOk result (λ named. IsUntouched (port_of component.now) (told_if W.Port.told named.port)) }
-    ensures called { OnOk result (Grows (W.calls world.old) (W.calls world.new) (call_of (port_of component.now))) }
-    ensures begun { OnErr result (HasBegun (W.calls world.old) (W.calls world.new) (call_of (port_of component.now))) }
+    ensures untouched { IfOk result (λ named. IsUntouched (port_of once plan.now.global.data_dir component.now) (told_if W.Port.told named.port)) }
+    ensures called { OnOk result (Grows (W.calls world.old) (W.calls world.new) (call_of (port_of once plan.now.global.data_dir component.now))) }
+    ensures begun { OnErr result (HasBegun (W.calls world.old) (W.calls world.new) (call_of (port_of once plan.now.global.data_dir component.now))) }
     ensures texts { W.texts world.new ≡ W.texts world.old }
     ensures faults { W.faults world.new ≡ W.faults world.old }
 {
     let name = component.name.copy(alloc)?;
-    match component.port(alloc)? {
+    match spec_of(alloc, plan, component, once)? {
         Some(spec) => Ok(Named {
             name,
             port: Some(world.port(&spec)?),
         }),
         None => Ok(Named { name, port: None }),
     }
+}
+
+/// What the port of a component of a plan has to be; `None` exactly where it has no device.
+fn spec_of(
+    alloc: Global,
+    plan: &Plan,
+    component: &Component,
+    once: bool,
+) -> Result<Option<PortSpec>, WantOfMemory>
+    ensures { IfOk result (λ spec. spec ≡ port_of once plan.now.global.data_dir component.now) }
+{
+    component.port(alloc, once, plan.global.data_dir.as_str())
 }

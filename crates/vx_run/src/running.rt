@@ -1,13 +1,14 @@
 ghost use Rattle.std.specs.Prelude.{◌≡◌, ◌≢◌, ◌⊎◌, ◌&&◌, List, ◌<◌, ◌^◌, [], length, true, false, Some, None, IfOk, if◌then◌else◌};
 ghost use Rattle.vx_ends.specs.Silent.{told_if};
 ghost use Rattle.vx_plan.specs.Accepted.{IsPlan};
+ghost use Rattle.vx_plan.specs.Ports.{port_of};
 ghost use Rattle.vx_record.specs.Installs.{started};
 ghost use Rattle.vx_record.specs.TallyLists.{tallies_of};
 ghost use Rattle.vx_hub.specs.Making.{AreUntouched, ArePickers, all_served};
 ghost use Rattle.vx_hub.specs.Remains.{HasEnded, AreNumbered, AreClosed};
 ghost use Rattle.vx_hub.specs.Standing.{IsHub, IsSameRun, GoesOn};
 ghost use Rattle.vx_value.specs.Texts.{Word};
-ghost use Rattle.vx_cli.specs.Commands.{IsRun};
+ghost use Rattle.vx_cli.specs.Commands.{IsRun, has_once};
 ghost use Rattle.vx_run.specs.Answers.{IsAnswer, IsJudged};
 ghost use Rattle.vx_run.specs.Calling.{HasCalled};
 ghost use Rattle.vx_run.specs.Moments.{AreTimely};
@@ -65,9 +66,13 @@ pub(crate) fn perform<R: Wait, W: World, C: Clock, P: Printer>(
     ensures texts { W.texts world.new ≡ W.texts world.old }
 {
     match read_words(alloc, words) {
-        Ok(Command::Run { config, stats }) => {
-            run(rt, alloc, &config, stats, environment, world, clock)
-        }
+        Ok(
+            Command::Run {
+                config,
+                once,
+                stats,
+            },
+        ) => run(rt, alloc, &config, once, stats, environment, world, clock),
         Ok(Command::Validate { path }) => {
             unbegun(alloc, validate(alloc, &path, environment, world, out))
         }
@@ -76,11 +81,13 @@ pub(crate) fn perform<R: Wait, W: World, C: Clock, P: Printer>(
     }
 }
 
-/// Runs the configuration at a path, and sums up what its instances counted where `stats` holds.
+/// Runs the configuration at a path, to the end of the files that are there where `once` holds, and sums up what its instances counted
+/// where `stats` holds.
 fn run<R: Wait, W: World, C: Clock>(
     rt: &R,
     alloc: Global,
     file: &Text,
+    once: bool,
     stats: bool,
     environment: &VariableList,
     world: &mut W,
@@ -89,7 +96,7 @@ fn run<R: Wait, W: World, C: Clock>(
     ensures answer { (words : List Word) → IsRun words file.now → IsAnswer words environment.now (W.texts world.old) (W.faults world.old) (W.faults world.new) result.history result.fault }
     ensures told { IsTrueTo (told_if W.Port.told) result.history result.ports result.fault }
     ensures returned { AllReturned result.history result.fault }
-    ensures installed { (words : List Word) → IsRun words file.now → HasInstalled words environment.now (W.texts world.old) result.history result.fault }
+    ensures installed { (words : List Word) → IsRun words file.now → has_once words ≡ once → HasInstalled words environment.now (W.texts world.old) result.history result.fault }
     ensures ended { HasEnded (length result.ports) result.history }
     ensures read { IsReadOut result.history result.fault }
     ensures counted { IsCounted result.history (length result.ports) result.tallies result.fault }
@@ -99,10 +106,10 @@ fn run<R: Wait, W: World, C: Clock>(
     ensures summary { result.summary ≡ summary_for stats result.history result.fault }
     ensures unprinted { result.fault ≢ Some Fault.PrintFailed }
     ensures moments { AreTimely (C.gave clock.now) result.history }
-    ensures called { (words : List Word) → IsRun words file.now → HasCalled words environment.now (W.texts world.old) (W.calls world.old) (W.calls world.new) result.history result.fault }
+    ensures called { (words : List Word) → IsRun words file.now → has_once words ≡ once → HasCalled words environment.now (W.texts world.old) (W.calls world.old) (W.calls world.new) result.history result.fault }
     ensures texts { W.texts world.new ≡ W.texts world.old }
 {
-    match prepare(alloc, file, environment, world) {
+    match prepare(alloc, file, once, environment, world) {
         Ok(parts) => begin(rt, alloc, parts, stats, clock),
         Err(fault) => unbegun(alloc, Some(fault)),
     }
@@ -137,17 +144,16 @@ fn begin<R: Wait, P: Port, C: Clock>(
     stats: bool,
     clock: &C,
 ) -> Outcome<P>
-    requires once { parts.once ≡ false }
     requires few { length parts.plan.components < 2 ^ 32 }
     requires ports { length parts.ports ≡ length parts.plan.components }
-    requires untouched { AreUntouched P.told parts.plan.components parts.ports }
+    requires untouched { AreUntouched P.told (port_of parts.once parts.plan.global.data_dir) parts.plan.components parts.ports }
     requires accepted { IsPlan parts.plan }
     requires served { all_served parts.plan.components ≡ true }
     requires pickers { ArePickers parts.plan.components parts.pickers }
     ensures judged { IsJudged result.history result.fault }
     ensures told { IsTrueTo P.told result.history result.ports result.fault }
     ensures returned { AllReturned result.history result.fault }
-    ensures installed { IsInForce parts.plan result.history result.fault }
+    ensures installed { IsInForce parts.once parts.plan result.history result.fault }
     ensures ended { HasEnded (length result.ports) result.history }
     ensures read { IsReadOut result.history result.fault }
     ensures counted { IsCounted result.history (length result.ports) result.tallies result.fault }

@@ -308,7 +308,7 @@ fn hub_of<W: World>(alloc: Global, world: &mut W) -> Result<Hub<Option<W::Port>>
     ensures { IfOk result (IsHub (told_if W.Port.told)) }
 {
     let file = Text::copy_of(alloc, "first.toml")?;
-    let Ok(parts) = prepare(alloc, &file, &VariableList::new(alloc), world) else {
+    let Ok(parts) = prepare(alloc, &file, false, &VariableList::new(alloc), world) else {
         return Err(WantOfMemory);
     };
     match Hub::new(alloc, parts, 0) {

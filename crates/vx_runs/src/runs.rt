@@ -45,9 +45,11 @@ pub(crate) struct Run {
     pub(crate) variables: &'static [(&'static str, &'static str)],
     /// The text at `first.toml`.
     pub(crate) text: &'static str,
-    /// What `in` answers to takes.
+    /// The name of the source.
+    pub(crate) origin: &'static str,
+    /// What the source answers to takes.
     pub(crate) steps: &'static [Play],
-    /// How `in` meets its other calls.
+    /// How the source meets its other calls.
     pub(crate) source: &'static [Act],
     /// The name of a sink.
     pub(crate) sink: &'static str,
@@ -63,7 +65,7 @@ pub(crate) struct Run {
     pub(crate) printed: &'static str,
     /// What is printed to standard output.
     pub(crate) shown: &'static str,
-    /// What each port was given, that of `in` being the first. Where nothing is run, there is none.
+    /// What each port was given, that of the source being the first. Where nothing is run, there is none.
     pub(crate) given: &'static [&'static str],
 }
 
@@ -72,6 +74,7 @@ pub(crate) const EMPTY: Run = Run {
     words: &["--config", "first.toml"],
     variables: &[],
     text: FIRST,
+    origin: "in",
     steps: &[],
     source: &[],
     sink: "out",
@@ -84,10 +87,10 @@ pub(crate) const EMPTY: Run = Run {
     given: &["", ""],
 };
 
-/// The scripts of `in`, which plays these steps, and of the sink.
+/// The scripts of the source, which plays these steps, and of the sink.
 fn scripts(alloc: Global, run: &Run, steps: StepList) -> Result<ScriptedList, WantOfMemory> {
     let mut list = ScriptedList::new(alloc);
-    add(&mut list, script(alloc, "in", steps, run.source)?)?;
+    add(&mut list, script(alloc, run.origin, steps, run.source)?)?;
     let sink = script(alloc, run.sink, StepList::new(alloc), run.acts)?;
     add(&mut list, sink)?;
     Ok(list)
@@ -100,14 +103,14 @@ fn configs(alloc: Global, text: &str) -> Result<ConfigList, WantOfMemory> {
     Ok(list)
 }
 
-/// The world of a run, whose `in` plays these steps.
+/// The world of a run, whose source plays these steps.
 fn world(alloc: Global, run: &Run, steps: StepList) -> Result<MemoryWorld, WantOfMemory> {
     let configs = configs(alloc, run.text)?;
     let scripts = scripts(alloc, run, steps)?;
     Ok(MemoryWorld::new(alloc, configs, scripts))
 }
 
-/// Calls the program in the world of a run, whose `in` plays these steps, and checks the status, what is shown, and how long it lasted.
+/// Calls the program in the world of a run, whose source plays these steps, and checks the status, what is shown, and how long it lasted.
 pub(crate) fn called<R: Wait + Abort, P: Printer>(
     rt: &R,
     alloc: Global,
@@ -161,7 +164,7 @@ pub(crate) fn given(ended: &Ended<MemoryWorld>, instance: usize) -> &[u8] {
     }
 }
 
-/// How many batches of `in` were delivered, had an error, and were rejected.
+/// How many batches of the source were delivered, had an error, and were rejected.
 pub(crate) fn notices(ended: &Ended<MemoryWorld>) -> (u64, u64, u64) {
     match ended.tallies.get(0) {
         Some(source) => (source.delivered, source.errored, source.rejected),
@@ -178,7 +181,7 @@ fn were_given(rt: &impl Abort, ended: &Ended<MemoryWorld>, wanted: &[&str]) {
     assert_eq!(rt; ended.tallies.len(), wanted.len());
 }
 
-/// Does a run whose `in` plays these steps, and checks all that must come of it.
+/// Does a run whose source plays these steps, and checks all that must come of it.
 pub(crate) fn ran_on<R: Wait + Abort>(
     rt: &R,
     alloc: Global,

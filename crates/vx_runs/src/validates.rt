@@ -1,5 +1,6 @@
 //! Judgements of configurations, and what is printed of them.
 
+use crate::files::REALISTIC_TEXT;
 use crate::fixtures::add;
 use crate::plans::TWO_SINKS;
 use crate::runs::{EMPTY, Run, ran, runs};
@@ -26,8 +27,18 @@ const ONE: Run = Run {
     ..EMPTY
 };
 
+/// A configuration with a transform.
+const FILTERED: Run = Run {
+    words: &["validate", "first.toml"],
+    text: REALISTIC_TEXT,
+    shown: "valid: 1 sources, 1 transforms, 2 sinks\n",
+    given: &[],
+    ..EMPTY
+};
+
 #[test]
 fn validate_counts(rt: HostRuntime) -> Result<(), Fail> {
+    runs(&rt, rt.alloc(), &FILTERED)?;
     runs(&rt, rt.alloc(), &TWO)?;
     runs(&rt, rt.alloc(), &ONE)
 }

@@ -38,14 +38,14 @@ map_same f g same (x ∷ xs) = rw (same x, map_same f g same xs) refl
 
 module _ {P : Type 0} (told_by : P → Told) (plan : Plan) (once : Bool) (now : ℕ) (accepted : IsPlan plan) where
   -- each task is at home: nothing is owed, and nothing was to be confirmed
-  home_fresh : (f : Facts) (i : ℕ) (o : Option (Task P)) → AreNew f → IsSomeAnd o (λ task. (once : Bool) (now : ℕ) → IsAtHome told_by (begun plan once now) i task) →
+  home_fresh : (f : Facts) (i : ℕ) (o : Option (Task P)) → AreNew f → IsSomeAnd o (λ task. (now : ℕ) → IsAtHome told_by (begun plan once now) i task) →
       IfSome o (λ task. task.role ≢ Unfit) → IfSome o (HasHome told_by f (begun plan once now) i)
   home_fresh f i None new home fit = tt
   home_fresh f i (Some task) new home fit = record {
     home = refl;
     settled = λ owing going. and_right (transform_at (begun plan once now) i) false refl;
     answered = λ device owing going. refl;
-    task_is = rw new.starved (home once now);
+    task_is = rw new.starved (home now);
     shut = λ is. let contrary : false ≡ true = sym new.closed ∙ is in cc;
     fit = λ known. fit;
   }
@@ -68,7 +68,7 @@ module _ {P : Type 0} (told_by : P → Told) (plan : Plan) (once : Bool) (now : 
           ∙ map_same (λ port. wired_targets port w) (reader_numbers plan c.name) read (counting 0 (length (port_names c)))
 
   -- whether batches must wait is known by the record of the install alone
-  fresh_known : (i : ℕ) (seat : Seat P) (c : Component) → slice_get plan.components i ≡ Some c → IsFresh told_by plan i seat c →
+  fresh_known : (i : ℕ) (seat : Seat P) (c : Component) → slice_get plan.components i ≡ Some c → IsFresh told_by plan once i seat c →
       IsKnown told_by seat (begun plan once now) i
   fresh_known i seat c at fresh =
       let waits : must_wait (begun plan once now) i ≡ acknowledged plan c.name = ap (λ (o : Option Wiring).
@@ -86,13 +86,13 @@ module _ {P : Type 0} (told_by : P → Told) (plan : Plan) (once : Bool) (now : 
         away = away_fresh seat.task _ _ fresh.home;
       }
 
-  pub fresh_knows : (seats : List (Seat P)) → AreFresh told_by plan seats → Knows told_by seats (begun plan once now)
+  pub fresh_knows : (seats : List (Seat P)) → AreFresh told_by plan once seats → Knows told_by seats (begun plan once now)
   fresh_knows seats fresh = record {
     size = fresh.size ∙ sym (ap length (started_stays [] plan once now (begun_legal plan once now accepted)) ∙ length_counting 0 (length plan.components));
     each = λ i. go i (slice_get seats i) (slice_get plan.components i) refl (fresh.each i);
   }
     where
-      go : (i : ℕ) (s : Option (Seat P)) (o : Option Component) → slice_get plan.components i ≡ o → IfSome s (λ seat. IsSomeAnd o (IsFresh told_by plan i seat)) →
+      go : (i : ℕ) (s : Option (Seat P)) (o : Option Component) → slice_get plan.components i ≡ o → IfSome s (λ seat. IsSomeAnd o (IsFresh told_by plan once i seat)) →
           IfSome s (λ seat. IsKnown told_by seat (begun plan once now) i)
       go i None o at is = tt
       go i (Some seat) None at is = absurd is

@@ -57,7 +57,7 @@ told_on other f h e i none = same_told other f (e ∷ h) h i (wiring_on h e i no
 -- OTHERS
 -- what a port tells
 pub told_far : (t : Told) (h : Record) (e : Entry) (i : ℕ) → InstallsNothing e → is_of i e ≡ false → IsTold t h i → IsTold t (e ∷ h) i
-told_far t h e i none is = told_same t h (e ∷ h) i (others h e i is) (component_on h e i none)
+told_far t h e i none is = told_same t h (e ∷ h) i (others h e i is) (wiring_on h e i none)
 
 -- the moment from which on a source may be read
 pub rests_far : (h : Record) (e : Entry) (i : ℕ) → is_of i e ≡ false → reading_moment (e ∷ h) i ≡ reading_moment h i

@@ -37,18 +37,18 @@ pub record HasBorneNone (p : Progress) (waits : Bool) : Type 0 where
   pub waits_are : p.prefix.waits ≡ waits
   pub prefix : (judged : Judgement) → IsPrefixOf p.prefix judged [] []
 
--- a seat as it begins, for a component of a plan: its task is at home as a record has it that begins with the plan, and is fit for
--- work
-pub record IsFresh {P : Type 0} (told_by : P → Told) (plan : Plan) (i : ℕ) (seat : Seat P) (c : Component) : Type 0 where
+-- a seat as it begins, for a component of a plan: its task is at home as a record has it that begins with the plan, for files
+-- that end with what they have or go on, and is fit for work
+pub record IsFresh {P : Type 0} (told_by : P → Told) (plan : Plan) (once : Bool) (i : ℕ) (seat : Seat P) (c : Component) : Type 0 where
   pub fitted : IsFittedTo seat c
   pub outlet : seat.outlet ≡ map (reader_numbers plan c.name) (counting 0 (length (port_names c)))
   pub facts : AreNew seat.facts
   pub progress : HasBorneNone seat.progress (acknowledged plan c.name)
   pub counts : Meets i [] seat.counts.tally
-  pub home : IsSomeAnd seat.task (λ task. (once : Bool) (now : ℕ) → IsAtHome told_by (begun plan once now) i task)
+  pub home : IsSomeAnd seat.task (λ task. (now : ℕ) → IsAtHome told_by (begun plan once now) i task)
   pub fit : IfSome seat.task (λ task. task.role ≢ Unfit)
 
 -- a seat for each component, in the plan's order
-pub record AreFresh {P : Type 0} (told_by : P → Told) (plan : Plan) (seats : List (Seat P)) : Type 0 where
+pub record AreFresh {P : Type 0} (told_by : P → Told) (plan : Plan) (once : Bool) (seats : List (Seat P)) : Type 0 where
   pub size : length seats ≡ length plan.components
-  pub each : (i : ℕ) → IfSome (slice_get seats i) (λ seat. IsSomeAnd (slice_get plan.components i) (IsFresh told_by plan i seat))
+  pub each : (i : ℕ) → IfSome (slice_get seats i) (λ seat. IsSomeAnd (slice_get plan.components i) (IsFresh told_by plan once i seat))

@@ -66,7 +66,7 @@ impl<P: Port> Seats<P> {
     pub fn new(seats: Vec<Seat<P>>) -> Self
         ensures size { length result ≡ length seats.items }
         ensures same { result ≡ seats.items }
-        ensures knows { (plan : Plan) → (once : Bool) → (now : ℕ) → IsPlan plan → AreFresh P.told plan seats.items → Knows P.told result (begun plan once now) }
+        ensures knows { (plan : Plan) → (once : Bool) → (now : ℕ) → IsPlan plan → AreFresh P.told plan once seats.items → Knows P.told result (begun plan once now) }
     {
         Seats { seats }
     }

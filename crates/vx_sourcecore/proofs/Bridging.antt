@@ -9,7 +9,7 @@ use Rattle.vx_json.specs.declared.decoding.Decoding.{Decoding}
 use Rattle.vx_plan.specs.declared.component.Component.{Component}
 use Rattle.vx_plan.specs.declared.settings.Settings.{Settings}
 use Rattle.vx_plan.specs.Components.{longest_line}
-use Rattle.vx_plan.specs.Options.{decoding, type_name}
+use Rattle.vx_plan.specs.Options.{file_read, decoding, type_name}
 use Rattle.vx_record.specs.declared.taken.Taken.{Taken}
 use Rattle.vx_record.specs.declared.taken.Taken.TheVariants.{Bytes, StreamEnded, AllEnded}
 use Rattle.vx_record.specs.Records.{Record}
@@ -56,7 +56,7 @@ past_fits limit before StreamEnded = lines_fit limit true (open_from before) (cu
 past_fits limit before AllEnded = lines_fit limit true (open_from before) (cut (open_line before)).first (cut (open_line before)).more
 
 -- their events and their end
-events_by : (d : Decoding) (settings : Settings) (stream : ℕ) (lines : List Frame) → decoded d settings lines ≡ flat_map (events_of_cut d (type_name settings)) (map (line_of stream) lines)
+events_by : (d : Decoding) (settings : Settings) (stream : ℕ) (lines : List Frame) → decoded d settings lines ≡ flat_map (events_of_cut d (type_name settings) (file_read settings)) (map (line_of stream) lines)
 events_by d settings stream [] = refl
 events_by d settings stream (line ∷ lines) = ap (λ (es : List Event). line_events d settings line ++ es) (events_by d settings stream lines)
 
@@ -89,13 +89,14 @@ pub record IsGiven (h : Record) (i stream : ℕ) (took : Taken) (brought : Cut) 
 
 -- the lines that a framer adds are those
 pub given_by : (h : Record) (i stream : ℕ) (took : Taken) (core : SourceCore) (behind : List Frame) (over : ℕ) (brought : Cut) → IsSomeAnd (component_of h i) (λ (c : Component). IsMadeFor c.settings core) →
-    Adds core.framer.limit (open_bytes h i (stream_of h i stream took)) took behind over → IsOf core.decoding core.source_type (map (line_of (stream_of h i stream took)) behind) over brought →
+    Adds core.framer.limit (open_bytes h i (stream_of h i stream took)) took behind over → IsOf core.decoding core.source_type core.file (map (line_of (stream_of h i stream took)) behind) over brought →
     IsGiven h i stream took brought
 given_by h i stream took core behind over brought made adds are = record {
   events =
       told_some (component_of h i) (λ c. IsMadeFor c.settings core) [] brought.events (λ c. events_of_lines c.settings lines) made
-      (λ c m. are.each ∙ ap (λ (w : Word). flat_map (events_of_cut core.decoding w) (map (line_of s) behind)) m.source_type
-      ∙ ap (λ (fs : List Frame). flat_map (events_of_cut core.decoding (type_name c.settings)) (map (line_of s) fs)) (sym same)
+      (λ c m. are.each ∙ ap (λ (w : Word). flat_map (events_of_cut core.decoding w core.file) (map (line_of s) behind)) m.source_type
+      ∙ ap (λ (o : Option Word). flat_map (events_of_cut core.decoding (type_name c.settings) o) (map (line_of s) behind)) m.file
+      ∙ ap (λ (fs : List Frame). flat_map (events_of_cut core.decoding (type_name c.settings) (file_read c.settings)) (map (line_of s) fs)) (sym same)
       ∙ sym (events_by core.decoding c.settings s lines) ∙ sym (decoded_by core.decoding c.settings lines m.decoding_is));
   end =
       are.last ∙ ap (λ (fs : List Frame). last_end (map (line_of s) fs)) (sym same) ∙ sym (end_by s lines)

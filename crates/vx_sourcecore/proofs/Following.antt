@@ -104,7 +104,7 @@ open_whole (e ∷ h) i stream over unended =
 -- SOURCES
 made_on : (o : Option Component) (old : SourceCore) (stream : ℕ) (new : SourceCore) → KeepsOthers old stream new → IsSomeAnd o (λ (c : Component). IsMadeFor c.settings old) → IsSomeAnd o (λ (c : Component). IsMadeFor c.settings new)
 made_on None old stream new rest m = m
-made_on (Some c) old stream new rest m = record { limit = rest.limit ∙ m.limit; source_type = rest.source_type ∙ m.source_type; decoding_is = m.decoding_is ∙ ap Some (sym rest.decoding) }
+made_on (Some c) old stream new rest m = record { limit = rest.limit ∙ m.limit; source_type = rest.source_type ∙ m.source_type; file = rest.file ∙ m.file; decoding_is = m.decoding_is ∙ ap Some (sym rest.decoding) }
 
 -- what was left of another stream is left of it
 others_taken : (old : SourceCore) (stream : ℕ) (new : SourceCore) (s : ℕ) (bytes : Word) → KeepsOthers old stream new → s ≢ stream → HasTaken old.framer s bytes → HasTaken new.framer s bytes
@@ -223,7 +223,7 @@ finished_given h i stream took at brought old new ends is a finished =
     given_by h i stream took old lines over brought a.made_for
     (subst (λ z. Adds old.framer.limit (open_bytes h i z) took lines over) (sym is)
     (end_adds old.framer.limit (open_bytes h i at) took lines over ends (finished.behind (open_bytes h i at) (a.taken at)) (finished.discards (open_bytes h i at) (a.taken at))))
-    (subst (λ z. IsOf old.decoding old.source_type (map (line_of z) lines) over brought) (sym is) finished.gave)
+    (subst (λ z. IsOf old.decoding old.source_type old.file (map (line_of z) lines) over brought) (sym is) finished.gave)
   where
     lines : List Frame
     lines = cut_lines old.framer at true []
@@ -234,7 +234,7 @@ finished_given h i stream took at brought old new ends is a finished =
 -- a stream of which nothing is unended gives nothing at its end
 nothing_gave : (old : SourceCore) (at : ℕ) (brought : Cut) (new : SourceCore) → HasTaken old.framer at [] → HasFinished old at brought new → 0 < length brought.events → ⊥
 nothing_gave old at brought new none finished some =
-    let empty : brought.events ≡ [] = finished.gave.each ∙ ap (λ (fs : List Frame). flat_map (events_of_cut old.decoding old.source_type) (map (line_of at) fs)) (sym (finished.behind [] none)) in
+    let empty : brought.events ≡ [] = finished.gave.each ∙ ap (λ (fs : List Frame). flat_map (events_of_cut old.decoding old.source_type old.file) (map (line_of at) fs)) (sym (finished.behind [] none)) in
     let zero_long : length brought.events ≡ 0 = ap length empty in
     omega (arith, some, zero_long)
 
@@ -266,7 +266,7 @@ same_abreast h i old new same a = record {
   where
     made_same : (o : Option Component) → IsSomeAnd o (λ (c : Component). IsMadeFor c.settings old) → IsSomeAnd o (λ (c : Component). IsMadeFor c.settings new)
     made_same None m = m
-    made_same (Some c) m = record { limit = ap (λ (f : Framing). f.limit) same.framer ∙ m.limit; source_type = same.source_type ∙ m.source_type; decoding_is = m.decoding_is ∙ ap Some (sym same.decoding) }
+    made_same (Some c) m = record { limit = ap (λ (f : Framing). f.limit) same.framer ∙ m.limit; source_type = same.source_type ∙ m.source_type; file = same.file ∙ m.file; decoding_is = m.decoding_is ∙ ap Some (sym same.decoding) }
 
 pub fed_turned : (h : Record) (i stream : ℕ) (bytes : Word) (cut : Option Cut) (old new : SourceCore) → all_ended h i ≡ false → 0 < length bytes → (Contains (ended_streams h i) stream → ⊥) → IsAbreast h i old →
     IfSome cut (λ brought. HasFed old stream bytes brought new) → HasCut h i new (record { stream = stream; took = taken.Bytes bytes }) cut

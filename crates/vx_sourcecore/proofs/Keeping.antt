@@ -1,5 +1,5 @@
 -- A source stays abreast of a record while entries are added that don't change what it read.
-use Rattle.std.proofs.Common.{◌≡◌, ℕ, ◌+◌, ◌-◌, true, false, List, [], ◌∷◌, ◌++◌, length, Option, Some, None, refl, sym, ap, subst, ◌∙◌}
+use Rattle.std.proofs.Common.{◌≡◌, ℕ, ◌+◌, ◌-◌, Bool, true, false, List, [], ◌∷◌, ◌++◌, length, Option, Some, None, refl, sym, ap, subst, ◌∙◌}
 use Rattle.std.specs.Prelude.{is_some, if◌then◌else◌, ◌==◌, ◌&&◌, unwrap_or, IsSomeAnd, Contains}
 use Rattle.std.proofs.lemmas.List.{append-nil}
 use Rattle.vx_value.specs.Texts.{Word}
@@ -17,7 +17,8 @@ use Rattle.vx_record.specs.Legal.{Follows}
 use Rattle.vx_record.specs.Makers.{Spares}
 use Rattle.vx_record.specs.Additions.{OnlyAdds}
 use Rattle.vx_record.specs.Tasks.{mine, IsOwn}
-use Rattle.vx_record.specs.Installs.{component_of}
+use Rattle.vx_plan.specs.Components.{component_named}
+use Rattle.vx_record.specs.Installs.{Wiring, wiring, component_of}
 use Rattle.vx_record.specs.Reads.{taken, bytes_of, has_bytes, last_stream, open_bytes, still_open, stream_of, ended_streams, ended_by, limit_of, lines_past, overlong_past, new_lines, new_overlong, new_undecodable, undecodable_lines, events_of, events_of_lines, end_of, last_end}
 use Rattle.vx_record.proofs.Adding.{carry}
 use Rattle.vx_record.proofs.TasksOut.{spared_stays}
@@ -26,7 +27,7 @@ use Rattle.vx_sourcecore.specs.declared.source.Cut.{Cut}
 use Rattle.vx_sourcecore.specs.declared.source.SourceCore.{SourceCore}
 use Rattle.vx_sourcecore.specs.Turns.{Reading, reading_of, cut_of}
 use Rattle.vx_sourcecore.specs.Abreast.{IsMadeFor, IsAbreast, IsCutOf, HasTurnedBy}
-use Rattle.vx_sourcecore.specs.Laws.{FreshAbreast, ComponentStays, ComponentKept, AbreastKept, TurnedKept, IsUnread, AbreastUnder, TurnedUnder}
+use Rattle.vx_sourcecore.specs.Laws.{FreshAbreast, ComponentStays, ComponentKept, WiringKept, AbreastKept, TurnedKept, IsUnread, AbreastUnder, TurnedUnder}
 
 -- two records that say the same of what an instance runs and read
 pub record IsAlike (old new : Record) (i : ℕ) : Type 0 where
@@ -130,12 +131,26 @@ component_next h (Install version plan once instances now) i follows some =
     let no : true ≡ false = sym some ∙ none in absurd (cc)
 component_next h e i follows some = refl
 
+-- nor is what stands there wired otherwise
+wiring_next : (h : Record) (e : Entry) (i : ℕ) → Follows h e → is_some (component_of h i) ≡ true → wiring (e ∷ h) i ≡ wiring h i
+wiring_next h (Install version plan once instances now) i follows some =
+    let none : is_some (component_of h i) ≡ false = ap (λ (r : Record). is_some (component_of r i)) follows.row.first in
+    let no : true ≡ false = sym some ∙ none in absurd (cc)
+wiring_next h e i follows some = refl
+
 pub component_stays : ComponentStays
 component_stays h e i legal some = component_next h e i legal.0 some
 
 pub component_kept : ComponentKept
 component_kept old new i some adds =
     carry (Spares i) (λ h. component_of h i ≡ component_of old i) (λ h e follows spares same. component_next h e i follows (ap is_some same ∙ some) ∙ same) old new adds refl
+
+pub wiring_kept : WiringKept
+wiring_kept old new i some adds =
+    carry (Spares i) (λ h. wiring h i ≡ wiring old i) (λ h e follows spares same. wiring_next h e i follows (ap is_run same ∙ some) ∙ same) old new adds refl
+  where
+    is_run : Option Wiring → Bool
+    is_run o = is_some (elim o as (λ _. Option Component) [ None ↦ None | Some w ↦ component_named w.plan w.name ])
 
 -- what is a task's own stays with its entries
 stays : {X : Type 0} (f : Record → ℕ → X) → IsOwn f → (old new : Record) (i : ℕ) → mine new i ≡ mine old i → f new i ≡ f old i
@@ -184,7 +199,7 @@ turned_under h e i core turned unread was = turned_alike h (e ∷ h) i core (rea
 pub fresh_abreast : FreshAbreast
 fresh_abreast h i c d core is decodes fresh last none = record {
   made_for = subst (λ (o : Option Component). IsSomeAnd o (λ (c : Component). IsMadeFor c.settings core)) (sym is)
-      (record { limit = fresh.limit_is; source_type = fresh.type_is; decoding_is = decodes ∙ ap Some (sym fresh.decoding_is) });
+      (record { limit = fresh.limit_is; source_type = fresh.type_is; file = fresh.file_is; decoding_is = decodes ∙ ap Some (sym fresh.decoding_is) });
   last = fresh.none ∙ sym last;
   taken = λ s. subst (λ (w : Word). HasTaken core.framer s w) (sym (none s)) (fresh.fresh s);
   ended = λ s there. none s;

@@ -53,17 +53,17 @@ TellsLine old empty gives new =
     (d : Decoding) (given : List Frame) (frame : Frame) (over : ℕ) → IsToldOf d frame empty gives → AreTold d given over old → AreTold d (given ++ frame ∷ []) over new
 
 -- one line more gives its event more, if it gives one, and its end, and counts once
-pub line_step : (d : Decoding) (source_type : Word) (lines : List Line) (i : ℕ) (line : Line) (event : Option Event) (empty gives : Bool) (old new : Cut) → i < length lines → line ≡ get_or lines i line →
-    event_fields event ≡ line_fields d source_type None line.bytes → empty ≡ is_empty line.bytes → gives ≡ is_some event → TellsLine old.new empty gives new.new →
-    new.events ≡ old.events ++ event_with (event_fields event) → new.end ≡ line.end → IsOf d source_type (take i lines) 0 old → IsOf d source_type (take (i + 1) lines) 0 new
-line_step d source_type lines i line event empty gives old new l is made bare some tells pushed ends so =
-    let f : Line → List Event = events_of_cut d source_type in
+pub line_step : (d : Decoding) (source_type : Word) (file : Option Word) (lines : List Line) (i : ℕ) (line : Line) (event : Option Event) (empty gives : Bool) (old new : Cut) → i < length lines → line ≡ get_or lines i line →
+    event_fields event ≡ line_fields d source_type file line.bytes → empty ≡ is_empty line.bytes → gives ≡ is_some event → TellsLine old.new empty gives new.new →
+    new.events ≡ old.events ++ event_with (event_fields event) → new.end ≡ line.end → IsOf d source_type file (take i lines) 0 old → IsOf d source_type file (take (i + 1) lines) 0 new
+line_step d source_type file lines i line event empty gives old new l is made bare some tells pushed ends so =
+    let f : Line → List Event = events_of_cut d source_type file in
     let more : take (i + 1) lines ≡ take i lines ++ line ∷ [] = ap (λ k. take k lines) (sym (one_more i)) ∙ take_next lines i line l is in
     record {
       each = pushed ∙ ap (λ (o : Option (List NamedDatum)). old.events ++ event_with o) made ∙ ap (λ (es : List Event). es ++ f line) so.each ∙ flat_map_more f [] (take i lines) line ∙ ap (flat_map f) (sym more);
       last = ends ∙ sym (ap last_end more ∙ end_last (take i lines) line);
       new = subst (λ (fs : List Frame). AreTold d fs 0 new.new) (sym (ap (map frame_of) more ∙ map_more frame_of (take i lines) line))
-          (tells d (map frame_of (take i lines)) (frame_of line) 0 (record { empty_is = bare; gives_is = (source_type, some ∙ some_fields event ∙ ap (λ (o : Option (List NamedDatum)). is_some o) made) }) so.new);
+          (tells d (map frame_of (take i lines)) (frame_of line) 0 (record { empty_is = bare; gives_is = (source_type, (file, some ∙ some_fields event ∙ ap (λ (o : Option (List NamedDatum)). is_some o) made)) }) so.new);
     }
 
 kept_few : (limit : ℕ) (f : Frame) (fs : List Frame) (n : ℕ) → length fs ≤ n → length (kept limit f fs) ≤ n + 1
@@ -95,19 +95,19 @@ with_few None = omega arith
 with_few (Some fields) = omega arith
 
 -- a line gives one event at most
-events_few : (d : Decoding) (source_type : Word) (lines : List Line) → length (flat_map (events_of_cut d source_type) lines) ≤ length lines
-events_few d source_type [] = omega arith
-events_few d source_type (line ∷ lines) =
-    let first = with_few (line_fields d source_type None line.bytes) in
-    let rest = events_few d source_type lines in
-    let both = length-append (events_of_cut d source_type line) (flat_map (events_of_cut d source_type) lines) in
+events_few : (d : Decoding) (source_type : Word) (file : Option Word) (lines : List Line) → length (flat_map (events_of_cut d source_type file) lines) ≤ length lines
+events_few d source_type file [] = omega arith
+events_few d source_type file (line ∷ lines) =
+    let first = with_few (line_fields d source_type file line.bytes) in
+    let rest = events_few d source_type file lines in
+    let both = length-append (events_of_cut d source_type file line) (flat_map (events_of_cut d source_type file) lines) in
     omega (arith, first, rest, both)
 
 -- so no more events are cut than there are lines
-pub cut_few : (d : Decoding) (source_type : Word) (stream over : ℕ) (frames : List Frame) (brought : Cut) → IsOf d source_type (map (line_of stream) frames) over brought → length brought.events ≤ length frames
-cut_few d source_type stream over frames brought are =
+pub cut_few : (d : Decoding) (source_type : Word) (file : Option Word) (stream over : ℕ) (frames : List Frame) (brought : Cut) → IsOf d source_type file (map (line_of stream) frames) over brought → length brought.events ≤ length frames
+cut_few d source_type file stream over frames brought are =
     let mapped : length (map (line_of stream) frames) ≡ length frames = map_length (line_of stream) frames in
-    let few : length brought.events ≤ length (map (line_of stream) frames) = subst (λ (es : List Event). length es ≤ length (map (line_of stream) frames)) (sym are.each) (events_few d source_type (map (line_of stream) frames)) in
+    let few : length brought.events ≤ length (map (line_of stream) frames) = subst (λ (es : List Event). length es ≤ length (map (line_of stream) frames)) (sym are.each) (events_few d source_type file (map (line_of stream) frames)) in
     omega (arith, mapped, few)
 
 -- no more lines end than there are bytes
@@ -129,14 +129,14 @@ few_fed : (old : SourceCore) (stream : ℕ) (bytes : List ℕ) (cut : Option Cut
     IfSome cut (λ brought. length brought.events ≤ 65536)
 few_fed old stream bytes None new within fed = tt
 few_fed old stream bytes (Some brought) new within fed =
-    let few = cut_few old.decoding old.source_type stream (cut_overlong old.framer stream false bytes) (cut_lines old.framer stream false bytes) brought fed.gave in
+    let few = cut_few old.decoding old.source_type old.file stream (cut_overlong old.framer stream false bytes) (cut_lines old.framer stream false bytes) brought fed.gave in
     let lines = fed_few old.framer.limit (unfinished old.framer stream) bytes in
     omega (arith, few, lines, within)
 
 pub few_finished : (old : SourceCore) (stream : ℕ) (cut : Option Cut) (new : SourceCore) → IfSome cut (λ brought. HasFinished old stream brought new) → IfSome cut (λ brought. length brought.events ≤ 65536)
 few_finished old stream None new finished = tt
 few_finished old stream (Some brought) new finished =
-    let few = cut_few old.decoding old.source_type stream (cut_overlong old.framer stream true []) (cut_lines old.framer stream true []) brought finished.gave in
+    let few = cut_few old.decoding old.source_type old.file stream (cut_overlong old.framer stream true []) (cut_lines old.framer stream true []) brought finished.gave in
     let lines = end_few old.framer.limit (unfinished old.framer stream) in
     omega (arith, few, lines)
 

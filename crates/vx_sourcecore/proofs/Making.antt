@@ -97,7 +97,7 @@ pub few_made : (old : Generator) (new : SourceCore) (bytes : Word) (cut : Option
     IfSome cut (λ brought. HasFed old.core 0 bytes brought new) → IfSome cut (λ brought. length brought.events ≤ 65536)
 few_made old new bytes None made fed = tt
 few_made old new bytes (Some brought) made fed =
-    let few = cut_few old.core.decoding old.core.source_type 0 (cut_overlong old.core.framer 0 false bytes) (cut_lines old.core.framer 0 false bytes) brought fed.gave in
+    let few = cut_few old.core.decoding old.core.source_type old.core.file 0 (cut_overlong old.core.framer 0 false bytes) (cut_lines old.core.framer 0 false bytes) brought fed.gave in
     let lines = lines_few old.core.framer.limit (unfinished old.core.framer 0).seen (unfinished old.core.framer 0).held (parts bytes).first (parts bytes).more in
     let number : count 10 bytes ≡ min old.most (left_of old.lines) = ap (count 10) made ∙ next_count old.lines old.most old.unbroken in
     let most = old.few in

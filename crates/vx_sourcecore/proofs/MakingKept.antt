@@ -7,7 +7,7 @@ use Rattle.vx_value.specs.Texts.{Word, is_empty}
 use Rattle.vx_json.specs.declared.demo_settings.DemoSettings.{DemoSettings}
 use Rattle.vx_plan.specs.declared.component.Component.{Component}
 use Rattle.vx_plan.specs.declared.settings.Settings.{Settings}
-use Rattle.vx_plan.specs.declared.settings.Settings.TheVariants.{Stdin, DemoLogs, Filter, Route, Sample, Dedupe, Reduce, Host, Console, Blackhole}
+use Rattle.vx_plan.specs.declared.settings.Settings.TheVariants.{Stdin, FileIn, DemoLogs, Filter, Route, Sample, Dedupe, Reduce, Host, Console, FileOut, Blackhole}
 use Rattle.vx_plan.specs.Options.{demo_of, reading_interval}
 use Rattle.vx_record.specs.declared.entry.Entry.TheVariants.{Read}
 use Rattle.vx_record.specs.declared.taken.Taken.{Taken}
@@ -113,6 +113,7 @@ some_there (x ∷ xs) some = omega arith
 
 pub generator_texts : GeneratorTexts
 generator_texts (Stdin max_length codec) demo makes is = cc
+generator_texts (FileIn most path from codec) demo makes is = cc
 generator_texts (DemoLogs own interval) demo makes is =
     let both = and_parts (not (is_empty own.lines)) (list_all is_unbroken own.lines) makes in
     let same : own ≡ demo = cc in
@@ -124,6 +125,7 @@ generator_texts (Dedupe fields most) demo makes is = cc
 generator_texts (Reduce group_by starts_when ends_when expire flush strategies) demo makes is = cc
 generator_texts Host demo makes is = cc
 generator_texts (Console target codec sink) demo makes is = cc
+generator_texts (FileOut path compression codec sink) demo makes is = cc
 generator_texts (Blackhole seconds sink) demo makes is = cc
 
 pub generator_fresh : GeneratorFresh

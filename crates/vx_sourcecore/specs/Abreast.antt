@@ -4,7 +4,7 @@ use Rattle.vx_frame.specs.Framings.{HasTaken}
 use Rattle.vx_plan.specs.declared.component.Component.{Component}
 use Rattle.vx_plan.specs.declared.settings.Settings.{Settings}
 use Rattle.vx_plan.specs.Components.{longest_line}
-use Rattle.vx_plan.specs.Options.{decoding, type_name}
+use Rattle.vx_plan.specs.Options.{decoding, file_read, type_name}
 use Rattle.vx_record.specs.Records.{Record, capped}
 use Rattle.vx_record.specs.Installs.{component_of}
 use Rattle.vx_record.specs.Reads.{last_stream, open_bytes, ended_streams, events_of, stream_of, end_of, all_ended}
@@ -16,10 +16,11 @@ use Rattle.vx_sourcecore.specs.declared.source.Cut.{Cut}
 use Rattle.vx_sourcecore.specs.declared.source.Turned.{Turned}
 use Rattle.vx_sourcecore.specs.Turns.{Reading, reading_of, cut_of}
 
--- a source takes the lines of its component, and decodes them by the component's codec, with its type
+-- a source takes the lines of its component, and decodes them by the component's codec, with its type and the file that it reads
 pub record IsMadeFor (settings : Settings) (core : SourceCore) : Type 0 where
   pub limit : core.framer.limit ≡ longest_line settings
   pub source_type : core.source_type ≡ type_name settings
+  pub file : core.file ≡ file_read settings
   pub decoding_is : decoding settings ≡ Some core.decoding
 
 -- a source is made for the component of its instance; it knows the stream of which bytes came last, and has of each stream the

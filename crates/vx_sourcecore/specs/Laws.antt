@@ -6,12 +6,12 @@ use Rattle.vx_json.specs.declared.demo_settings.DemoSettings.{DemoSettings}
 use Rattle.vx_plan.specs.declared.component.Component.{Component}
 use Rattle.vx_plan.specs.declared.settings.Settings.{Settings}
 use Rattle.vx_plan.specs.Components.{longest_line}
-use Rattle.vx_plan.specs.Options.{decoding, type_name, demo_of}
+use Rattle.vx_plan.specs.Options.{file_read, decoding, type_name, demo_of}
 use Rattle.vx_record.specs.Records.{Record}
 use Rattle.vx_record.specs.Legal.{IsLegal}
 use Rattle.vx_record.specs.Makers.{Spares}
 use Rattle.vx_record.specs.Additions.{OnlyAdds}
-use Rattle.vx_record.specs.Installs.{component_of}
+use Rattle.vx_record.specs.Installs.{wiring, component_of}
 use Rattle.vx_record.specs.Reads.{last_stream, open_bytes, taken, ended_streams}
 use Rattle.vx_record.specs.Generating.{lines_at_once}
 use Rattle.vx_record.specs.declared.entry.Entry.{Entry}
@@ -28,7 +28,7 @@ use Rattle.vx_sourcecore.specs.Generators.{IsBegun, IsGenerating, HasMade, IsNex
 abbrev pub FreshAbreast : Type 0
 FreshAbreast =
     (h : Record) (i : ℕ) (c : Component) (d : Decoding) (core : SourceCore) → component_of h i ≡ Some c → decoding c.settings ≡ Some d →
-    IsFresh (longest_line c.settings) d (type_name c.settings) core → last_stream h i ≡ None → ((stream : ℕ) → open_bytes h i stream ≡ []) →
+    IsFresh (longest_line c.settings) d (type_name c.settings) (file_read c.settings) core → last_stream h i ≡ None → ((stream : ℕ) → open_bytes h i stream ≡ []) →
     IsAbreast h i core
 
 -- one more entry of a legal record leaves the component that an instance runs
@@ -38,6 +38,10 @@ ComponentStays = (h : Record) (e : Entry) (i : ℕ) → IsLegal (e ∷ h) → is
 -- so do others that go on
 abbrev pub ComponentKept : Type 0
 ComponentKept = (old new : Record) (i : ℕ) → is_some (component_of old i) ≡ true → OnlyAdds (Spares i) old new → component_of new i ≡ component_of old i
+
+-- nor how it is wired
+abbrev pub WiringKept : Type 0
+WiringKept = (old new : Record) (i : ℕ) → is_some (component_of old i) ≡ true → OnlyAdds (Spares i) old new → wiring new i ≡ wiring old i
 
 -- while others go on, a source stays abreast
 abbrev pub AbreastKept : Type 0
@@ -72,7 +76,7 @@ GeneratorTexts =
 abbrev pub GeneratorFresh : Type 0
 GeneratorFresh =
     (h : Record) (i : ℕ) (c : Component) (d : Decoding) (demo : DemoSettings) (most : ℕ) (core : SourceCore) (g : Generator) → component_of h i ≡ Some c →
-    demo_of c.settings ≡ Some demo → lines_at_once h i ≡ most → decoding c.settings ≡ Some d → IsFresh (longest_line c.settings) d (type_name c.settings) core →
+    demo_of c.settings ≡ Some demo → lines_at_once h i ≡ most → decoding c.settings ≡ Some d → IsFresh (longest_line c.settings) d (type_name c.settings) (file_read c.settings) core →
     IsBegun core demo most g → last_stream h i ≡ None → ((stream : ℕ) → open_bytes h i stream ≡ []) → taken h i 0 ≡ [] →
     ended_streams h i ≡ [] → IsGenerating h i g
 

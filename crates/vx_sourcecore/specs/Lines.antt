@@ -8,7 +8,7 @@ use Rattle.vx_json.specs.DemoLines.{generator}
 use Rattle.vx_json.specs.declared.demo_settings.DemoSettings.{DemoSettings}
 use Rattle.vx_record.specs.Generating.{lines_from}
 use Rattle.vx_plan.specs.declared.settings.Settings.{Settings}
-use Rattle.vx_plan.specs.declared.settings.Settings.TheVariants.{Stdin, DemoLogs, Filter, Route, Sample, Dedupe, Reduce, Host, Console, Blackhole}
+use Rattle.vx_plan.specs.declared.settings.Settings.TheVariants.{Stdin, FileIn, DemoLogs, Filter, Route, Sample, Dedupe, Reduce, Host, Console, FileOut, Blackhole}
 
 -- what its lines are made of, and how many it gave
 pub record Generated : Type 0 where
@@ -44,6 +44,7 @@ is_unbroken text = list_all (λ byte. not (byte == 10)) text
 -- whether settings are those of a source that makes its lines itself, of some texts, none of which has a line feed
 abbrev pub is_generating : Settings → Bool
 is_generating (Stdin max_length codec) = false
+is_generating (FileIn most path from codec) = false
 is_generating (DemoLogs demo interval) = not (is_empty demo.lines) && list_all is_unbroken demo.lines
 is_generating (Filter condition) = false
 is_generating (Route routes reroute) = false
@@ -52,11 +53,13 @@ is_generating (Dedupe fields most) = false
 is_generating (Reduce group_by starts_when ends_when expire flush strategies) = false
 is_generating Host = false
 is_generating (Console target codec sink) = false
+is_generating (FileOut path compression codec sink) = false
 is_generating (Blackhole seconds sink) = false
 
 -- whether settings are those of a sink that writes nothing
 abbrev pub is_swallowing : Settings → Bool
 is_swallowing (Stdin max_length codec) = false
+is_swallowing (FileIn most path from codec) = false
 is_swallowing (DemoLogs demo interval) = false
 is_swallowing (Filter condition) = false
 is_swallowing (Route routes reroute) = false
@@ -65,4 +68,5 @@ is_swallowing (Dedupe fields most) = false
 is_swallowing (Reduce group_by starts_when ends_when expire flush strategies) = false
 is_swallowing Host = false
 is_swallowing (Console target codec sink) = false
+is_swallowing (FileOut path compression codec sink) = false
 is_swallowing (Blackhole seconds sink) = true

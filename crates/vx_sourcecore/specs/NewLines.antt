@@ -46,7 +46,7 @@ pub record AreTold (d : Decoding) (given : List Frame) (over : ℕ) (new : NewLi
 -- whether a line has bytes, and whether it gives an event, as its source's codec finds
 pub record IsToldOf (d : Decoding) (frame : Frame) (empty gives : Bool) : Type 0 where
   pub empty_is : empty ≡ is_empty frame.bytes
-  pub gives_is : (type : Word) × (gives ≡ is_some (line_fields d type None frame.bytes))
+  pub gives_is : (type : Word) × ((file : Option Word) × (gives ≡ is_some (line_fields d type file frame.bytes)))
 
 -- the lines that a Read completes
 pub record AreNew (h : Record) (i stream : ℕ) (took : Taken) (new : NewLines) : Type 0 where

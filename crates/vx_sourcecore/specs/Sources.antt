@@ -1,5 +1,5 @@
 -- What a source makes of the bytes that it takes.
-use Rattle.std.specs.Prelude.{◌≡◌, ◌≢◌, ◌<◌, ◌≤◌, ℕ, true, false, Bool, Some, None, IfSome, unwrap_or, List, [], ◌∷◌, ◌++◌, ◌+◌, take, length, map, flat_map, Contains}
+use Rattle.std.specs.Prelude.{◌≡◌, ◌≢◌, ◌<◌, ◌≤◌, ℕ, true, false, Bool, Option, Some, None, IfSome, unwrap_or, List, [], ◌∷◌, ◌++◌, ◌+◌, take, length, map, flat_map, Contains}
 use Rattle.vx_value.specs.Texts.{Word}
 use Rattle.vx_value.specs.declared.event.Event.{Event}
 use Rattle.vx_frame.specs.Frames.{Frame, frames, discarded}
@@ -15,9 +15,9 @@ use Rattle.vx_sourcecore.specs.declared.source.SourceCore.{SourceCore}
 use Rattle.vx_sourcecore.specs.declared.source.Turned.{Turned}
 use Rattle.vx_sourcecore.specs.declared.source.Turned.TheVariants.{Lines, StreamEnded, AllEnded, Idle, Failed}
 
--- the event that a line gives by a codec, with the type of its source and no file's path, or none
-abbrev pub events_of_cut : Decoding → Word → Line → List Event
-events_of_cut decoding source_type line = event_with (line_fields decoding source_type None line.bytes)
+-- the event that a line gives by a codec, with the type of its source and the path of the file that this reads, or none
+abbrev pub events_of_cut : Decoding → Word → Option Word → Line → List Event
+events_of_cut decoding source_type file line = event_with (line_fields decoding source_type file line.bytes)
 
 -- the end of the last of some lines
 abbrev pub last_end : List Line → ℕ
@@ -31,8 +31,8 @@ frame_of line = record { bytes = line.bytes; end = line.end }
 
 -- what was cut are these lines, beside so many that were too long: their events in order, the end of the last of them, whether or
 -- not it gave one, and their number
-pub record IsOf (decoding : Decoding) (source_type : Word) (lines : List Line) (over : ℕ) (cut : Cut) : Type 0 where
-  pub each : cut.events ≡ flat_map (events_of_cut decoding source_type) lines
+pub record IsOf (decoding : Decoding) (source_type : Word) (file : Option Word) (lines : List Line) (over : ℕ) (cut : Cut) : Type 0 where
+  pub each : cut.events ≡ flat_map (events_of_cut decoding source_type file) lines
   pub last : cut.end ≡ last_end lines
   pub new : AreTold decoding (map frame_of lines) over cut.new
 
@@ -60,6 +60,7 @@ pub record HasFramed (old : Framing) (stream : ℕ) (bytes : List ℕ) (lines : 
 pub record KeepsOthers (old : SourceCore) (stream : ℕ) (new : SourceCore) : Type 0 where
   pub decoding : new.decoding ≡ old.decoding
   pub source_type : new.source_type ≡ old.source_type
+  pub file : new.file ≡ old.file
   pub limit : new.framer.limit ≡ old.framer.limit
   pub others : (other : ℕ) → other ≢ stream → unfinished new.framer other ≡ unfinished old.framer other
 
@@ -67,11 +68,12 @@ pub record KeepsOthers (old : SourceCore) (stream : ℕ) (new : SourceCore) : Ty
 pub record HasGathered (old : SourceCore) (stream : ℕ) (bytes : List ℕ) (lines : List Line) (overlong : ℕ) (new : SourceCore) : Type 0 where
   pub decoding : new.decoding ≡ old.decoding
   pub source_type : new.source_type ≡ old.source_type
+  pub file : new.file ≡ old.file
   pub framed : HasFramed old.framer stream bytes lines overlong new.framer
 
 -- a source took bytes of a stream, whose lines were cut
 pub record HasFed (old : SourceCore) (stream : ℕ) (bytes : List ℕ) (cut : Cut) (new : SourceCore) : Type 0 where
-  pub gave : IsOf old.decoding old.source_type (map (line_of stream) (new_lines old.framer stream false bytes)) (new_overlong old.framer stream false bytes) cut
+  pub gave : IsOf old.decoding old.source_type old.file (map (line_of stream) (new_lines old.framer stream false bytes)) (new_overlong old.framer stream false bytes) cut
   pub rest : KeepsOthers old stream new
   pub last : new.last ≡ Some stream
   pub taken : (taken : List ℕ) → HasTaken old.framer stream taken → HasTaken new.framer stream (taken ++ bytes)
@@ -82,7 +84,7 @@ pub record HasFed (old : SourceCore) (stream : ℕ) (bytes : List ℕ) (cut : Cu
 
 -- a source was told the end of a stream, whose unfinished line was cut, if there was one
 pub record HasFinished (old : SourceCore) (stream : ℕ) (cut : Cut) (new : SourceCore) : Type 0 where
-  pub gave : IsOf old.decoding old.source_type (map (line_of stream) (new_lines old.framer stream true [])) (new_overlong old.framer stream true []) cut
+  pub gave : IsOf old.decoding old.source_type old.file (map (line_of stream) (new_lines old.framer stream true [])) (new_overlong old.framer stream true []) cut
   pub rest : KeepsOthers old stream new
   pub last : new.last ≡ old.last
   pub anew : HasTaken new.framer stream []
@@ -95,6 +97,7 @@ pub record HasFinished (old : SourceCore) (stream : ℕ) (cut : Cut) (new : Sour
 pub record IsSame (old new : SourceCore) : Type 0 where
   pub decoding : new.decoding ≡ old.decoding
   pub source_type : new.source_type ≡ old.source_type
+  pub file : new.file ≡ old.file
   pub framer : new.framer ≡ old.framer
   pub last : new.last ≡ old.last
 
@@ -117,10 +120,11 @@ IsOfOpen ended (Lines stream n room cut) = Contains ended stream → ⊥
 IsOfOpen ended (StreamEnded stream cut) = Contains ended stream → ⊥
 IsOfOpen ended other = Unit {0}
 
--- a source at its beginning, for lines of some length, which it decodes in some way
-pub record IsFresh (limit : ℕ) (decoding : Decoding) (source_type : Word) (core : SourceCore) : Type 0 where
+-- a source at its beginning, for lines of some length, perhaps of a file, which it decodes in some way
+pub record IsFresh (limit : ℕ) (decoding : Decoding) (source_type : Word) (file : Option Word) (core : SourceCore) : Type 0 where
   pub limit_is : core.framer.limit ≡ limit
   pub decoding_is : core.decoding ≡ decoding
   pub type_is : core.source_type ≡ source_type
+  pub file_is : core.file ≡ file
   pub none : core.last ≡ None
   pub fresh : (stream : ℕ) → HasTaken core.framer stream []

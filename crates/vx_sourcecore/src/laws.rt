@@ -1,7 +1,7 @@
 //! The laws of what a source cuts. A law's function does nothing: what it ensures is proved.
 
 ghost use Rattle.vx_sourcecore.specs.NewLines.{FramedCounted, ToldNew};
-ghost use Rattle.vx_sourcecore.specs.Laws.{FreshAbreast, ComponentStays, ComponentKept, AbreastKept, TurnedKept, AbreastUnder, TurnedUnder, GeneratorTexts, GeneratorFresh, GeneratingKept, MadeKept, NextKept, GeneratingUnder, MadeUnder, NextUnder};
+ghost use Rattle.vx_sourcecore.specs.Laws.{FreshAbreast, ComponentStays, ComponentKept, WiringKept, AbreastKept, TurnedKept, AbreastUnder, TurnedUnder, GeneratorTexts, GeneratorFresh, GeneratingKept, MadeKept, NextKept, GeneratingUnder, MadeUnder, NextUnder};
 
 /// What a framer gives at a read is what the record counts.
 pub fn lines()
@@ -16,6 +16,7 @@ pub fn source_laws()
     ensures fresh { FreshAbreast }
     ensures component { ComponentStays }
     ensures component_kept { ComponentKept }
+    ensures wiring_kept { WiringKept }
     ensures kept { AbreastKept }
     ensures turned_kept { TurnedKept }
     ensures under { AbreastUnder }

@@ -59,6 +59,7 @@ pub struct SourceCore {
     alloc: Global,
     decoding: Decoding,
     source_type: Text,
+    file: Option<Text>,
     room: Vec<u8>,
     framer: Framer,
     last: Option<u64>,
@@ -75,7 +76,8 @@ impl SourceCore {
     ghost use Rattle.vx_sourcecore.specs.Sources.{IsOf, HasFed, HasFinished, HasBrought, BringsSome, IsOfOpen, IsSame, IsFresh, HasGathered};
     ghost use Rattle.vx_sourcecore.specs.Abreast.{IsAbreast, HasTurned, MayTurnOn};
 
-    /// A source that takes lines of at most `limit` bytes, and decodes each.
+    /// A source that takes lines of at most `limit` bytes, and decodes each. Their events have its type, and the path of its file if it
+    /// reads one.
     ///
     /// Answers `Err` where no memory is found.
     pub fn new(
@@ -83,14 +85,16 @@ impl SourceCore {
         limit: u32,
         decoding: Decoding,
         source_type: Text,
+        file: Option<Text>,
     ) -> Result<Self, WantOfMemory>
-        ensures { IfOk result (IsFresh limit decoding source_type) }
+        ensures { IfOk result (IsFresh limit decoding source_type file) }
     {
         let room = vec![in alloc; 0u8; ROOM]?;
         Ok(SourceCore {
             alloc,
             decoding,
             source_type,
+            file,
             room,
             framer: Framer::new(alloc, limit),
             last: None,
@@ -217,7 +221,7 @@ impl SourceCore {
 
     /// What some lines give, beside so many that were too long.
     fn lines(&self, lines: &LineList, overlong: u64) -> Result<Cut, WantOfMemory>
-        ensures { IfOk result (λ cut. (over : ℕ) → overlong ≡ capped over → IsOf self.now.decoding self.now.source_type lines.now over cut) }
+        ensures { IfOk result (λ cut. (over : ℕ) → overlong ≡ capped over → IsOf self.now.decoding self.now.source_type self.now.file lines.now over cut) }
     {
         let mut cut = Cut {
             events: SharedEventList::new(self.alloc),
@@ -226,7 +230,8 @@ impl SourceCore {
         };
         for line in lines.as_slice() {
             let bytes = line.bytes.as_slice();
-            let event = line_event(self.alloc, self.decoding, bytes, &self.source_type, None)?;
+            let file = self.file.as_ref();
+            let event = line_event(self.alloc, self.decoding, bytes, &self.source_type, file)?;
             cut.new.line(bytes.is_empty(), event.is_some());
             push(self.alloc, &mut cut.events, event)?;
             cut.end = line.end;

@@ -31,6 +31,7 @@ use Rattle.vx_tasks.specs.Jobs.{IsPortedAs}
 -- what writes by a codec has one
 writes_device : (s : Settings) (codec : Codec) → encoding s ≡ Some codec → has_device s ≡ true
 writes_device (settings.Console target how sink) codec is = refl
+writes_device (settings.FileOut path compression how sink) codec is = refl
 writes_device other codec is = cc
 
 -- and what swallows has none, and no codec

@@ -59,7 +59,7 @@ fits [] i c legal runs = cc
 fits (Install version plan once instances now ∷ h) i c legal runs = go (name_at instances i) runs (fits h i c legal.1)
   where
     go : (o : Option Word) →
-        run_by (elim o [ None ↦ wiring h i | Some name ↦ Some (record { plan = plan; instances = instances; name = name }) ]) ≡ Some c →
+        run_by (elim o [ None ↦ wiring h i | Some name ↦ Some (record { plan = plan; once = once; instances = instances; name = name }) ]) ≡ Some c →
         (component_of h i ≡ Some c → fits_class c ≡ true) → fits_class c ≡ true
     go None is before = before is
     go (Some name) is before =
@@ -82,11 +82,13 @@ by_class c fit is =
 -- a transform neither decodes nor encodes
 decodes_none : (s : Settings) (how : Decoding) → settings_class s ≡ Transform → decoding s ≡ Some how → ⊥
 decodes_none (settings.Stdin max_length codec) how of is = cc
+decodes_none (settings.FileIn most path from codec) how of is = cc
 decodes_none (settings.DemoLogs demo interval) how of is = cc
 decodes_none other how of is = cc
 
 encodes_none : (s : Settings) (codec : Codec) → settings_class s ≡ Transform → encoding s ≡ Some codec → ⊥
 encodes_none (settings.Console target how sink) codec of is = cc
+encodes_none (settings.FileOut path compression how sink) codec of is = cc
 encodes_none other codec of is = cc
 
 -- nor swallows it

@@ -18,7 +18,7 @@ use Rattle.vx_record.specs.Shifts.{at}
 use Rattle.vx_record.specs.Turns.{at_lease, lease_now, since_lease, is_turn_of, is_attempt_of, is_confirm_of}
 use Rattle.vx_record.specs.Copies.{count}
 use Rattle.vx_record.specs.Generating.{lines_given, IsGenerated}
-use Rattle.vx_record.specs.Installs.{component_of, source_at, transform_at, device_at, is_closed}
+use Rattle.vx_record.specs.Installs.{wiring, component_of, source_at, transform_at, device_at, is_closed}
 use Rattle.vx_record.specs.Parcels.{parcel_event}
 use Rattle.vx_record.specs.Encoding.{given, bytes_for, encoded}
 use Rattle.vx_record.specs.Reads.{bytes_taken, taken}
@@ -40,7 +40,7 @@ use Rattle.vx_record.proofs.TasksOut.{spared_stays}
 use Rattle.vx_sourcecore.specs.declared.source.Turned.{Turned}
 use Rattle.vx_sourcecore.specs.declared.source.Turned.TheVariants as turned
 use Rattle.vx_pick.specs.Picks.{Picks, AreMeant}
-use Rattle.vx_sourcecore.proofs.Keeping.{component_kept, abreast_kept, turned_kept}
+use Rattle.vx_sourcecore.proofs.Keeping.{wiring_kept, abreast_kept, turned_kept}
 use Rattle.vx_sourcecore.proofs.MakingKept.{generating_kept, made_kept}
 use Rattle.vx_sourcecore.specs.Lines.{is_swallowing}
 use Rattle.vx_sourcecore.specs.Turns.{Reading, reading_of}
@@ -56,7 +56,7 @@ use Rattle.vx_tasks.specs.Telling.{IsTold, GoesBeyond}
 use Rattle.vx_tasks.specs.Home.{HasCome}
 use Rattle.vx_tasks.specs.Out.{IsReadable, IsIdle, IsHeld, MayAttemptNow, MayReadNow, MayCloseNow, MayJudgeNow, IsGiven, AreJudged, AreDue, turn_entry, deeds, confirm_entries, IsConfirmedSo, TellsDone, HasRoleTurned, HasActed}
 use Rattle.vx_tasks.specs.Laws.{LeftKept, DoneKept}
-use Rattle.vx_tasks.proofs.Staying.{stays, runs, device_is, told_same, held_stays}
+use Rattle.vx_tasks.proofs.Staying.{stays, runs, wired_runs, device_is, told_same, held_stays}
 use Rattle.vx_tasks.proofs.Alone.{generated_same}
 use Rattle.vx_tasks.proofs.Closing.{told_by, attempt_stays}
 use Rattle.vx_tasks.proofs.Writing.{events_said}
@@ -88,37 +88,37 @@ deeds_same old new i parcels done.Short same = refl
 deeds_same old new i parcels done.Starved same = refl
 
 -- and no deed installs anything
-turn_runs : (h : Record) (i : ℕ) (turned : Turned) → component_of (turn_entry h i turned ∷ h) i ≡ component_of h i
-turn_runs h i (turned.Lines stream n room cut) = refl
-turn_runs h i (turned.StreamEnded stream cut) = refl
-turn_runs h i (turned.AllEnded stream cut) = refl
-turn_runs h i turned.Idle = refl
-turn_runs h i (turned.Failed at_start) = go (at_start && nat_lt (failed_starts h i) 4)
+turn_wired : (h : Record) (i : ℕ) (turned : Turned) → wiring (turn_entry h i turned ∷ h) i ≡ wiring h i
+turn_wired h i (turned.Lines stream n room cut) = refl
+turn_wired h i (turned.StreamEnded stream cut) = refl
+turn_wired h i (turned.AllEnded stream cut) = refl
+turn_wired h i turned.Idle = refl
+turn_wired h i (turned.Failed at_start) = go (at_start && nat_lt (failed_starts h i) 4)
   where
-    go : (b : Bool) → component_of ((if b then entry.Idle i true else entry.SourceLost i (capped (bytes_taken h i)) at_start) ∷ h) i ≡ component_of h i
+    go : (b : Bool) → wiring ((if b then entry.Idle i true else entry.SourceLost i (capped (bytes_taken h i)) at_start) ∷ h) i ≡ wiring h i
     go true = refl
     go false = refl
 
-deeds_run : (h : Record) (i : ℕ) (parcels : List Parcel) (d : Done) → component_of (deeds h i parcels d ++ h) i ≡ component_of h i
-deeds_run h i parcels done.Nothing = refl
-deeds_run h i parcels (done.Read turned) = turn_runs h i turned
-deeds_run h i parcels (done.Attempted all sent answer) = refl
-deeds_run h i parcels (done.Judged ports) = refl
-deeds_run h i parcels done.Closed = refl
-deeds_run h i parcels done.Short = refl
-deeds_run h i parcels done.Starved = refl
+deeds_wired : (h : Record) (i : ℕ) (parcels : List Parcel) (d : Done) → wiring (deeds h i parcels d ++ h) i ≡ wiring h i
+deeds_wired h i parcels done.Nothing = refl
+deeds_wired h i parcels (done.Read turned) = turn_wired h i turned
+deeds_wired h i parcels (done.Attempted all sent answer) = refl
+deeds_wired h i parcels (done.Judged ports) = refl
+deeds_wired h i parcels done.Closed = refl
+deeds_wired h i parcels done.Short = refl
+deeds_wired h i parcels done.Starved = refl
 
-confirm_runs : (h : Record) (i : ℕ) (confirmed : Option Confirmed) → component_of (confirm_entries i confirmed ++ h) i ≡ component_of h i
-confirm_runs h i None = refl
-confirm_runs h i (Some c) = refl
+confirm_wired : (h : Record) (i : ℕ) (confirmed : Option Confirmed) → wiring (confirm_entries i confirmed ++ h) i ≡ wiring h i
+confirm_wired h i None = refl
+confirm_wired h i (Some c) = refl
 
 -- so a port that tells what one of them will have tells what the other will
-module _ (told : Told) (old new : Record) (i : ℕ) (same : mine new i ≡ mine old i) (run : component_of new i ≡ component_of old i) where
+module _ (told : Told) (old new : Record) (i : ℕ) (same : mine new i ≡ mine old i) (wired : wiring new i ≡ wiring old i) where
   deeds_told : (parcels : List Parcel) (d : Done) → IsTold told (deeds old i parcels d ++ old) i → IsTold told (deeds new i parcels d ++ new) i
   deeds_told parcels d is =
       told_same told (deeds old i parcels d ++ old) (deeds new i parcels d ++ new) i
       (ap (λ (es : List Entry). mine (es ++ new) i) (deeds_same old new i parcels d same) ∙ mine_behind (deeds old i parcels d) old new i same)
-      (deeds_run new i parcels d ∙ run ∙ sym (deeds_run old i parcels d))
+      (deeds_wired new i parcels d ∙ wired ∙ sym (deeds_wired old i parcels d))
       is
 
   tells_same : (parcels : List Parcel) (d : Done) → TellsDone told old i parcels d → TellsDone told new i parcels d
@@ -128,14 +128,14 @@ module _ (told : Told) (old new : Record) (i : ℕ) (same : mine new i ≡ mine 
   tells_same parcels (done.Judged ports) is = deeds_told parcels (done.Judged ports) is
   tells_same parcels done.Closed is = deeds_told parcels done.Closed is
   tells_same parcels done.Short is = deeds_told parcels done.Short is
-  tells_same parcels done.Starved is = told_same (record told { given = None }) old new i same run is
+  tells_same parcels done.Starved is = told_same (record told { given = None }) old new i same wired is
 
-tells_behind : (told : Told) (old new : Record) (i : ℕ) → mine new i ≡ mine old i → component_of new i ≡ component_of old i → (confirmed : Option Confirmed) (parcels : List Parcel) (d : Done) →
+tells_behind : (told : Told) (old new : Record) (i : ℕ) → mine new i ≡ mine old i → wiring new i ≡ wiring old i → (confirmed : Option Confirmed) (parcels : List Parcel) (d : Done) →
     TellsDone told (confirm_entries i confirmed ++ old) i parcels d → TellsDone told (confirm_entries i confirmed ++ new) i parcels d
-tells_behind told old new i same run confirmed parcels d is =
+tells_behind told old new i same wired confirmed parcels d is =
     tells_same told (confirm_entries i confirmed ++ old) (confirm_entries i confirmed ++ new) i
     (mine_behind (confirm_entries i confirmed) old new i same)
-    (confirm_runs new i confirmed ∙ run ∙ sym (confirm_runs old i confirmed))
+    (confirm_wired new i confirmed ∙ wired ∙ sym (confirm_wired old i confirmed))
     parcels d is
 
 -- WHAT IS KEPT
@@ -143,8 +143,11 @@ module _ (old new : Record) (i worker : ℕ) (legal : IsLegal old) (adds : OnlyA
   same : mine new i ≡ mine old i
   same = spared_stays old new i adds
 
+  wired : wiring new i ≡ wiring old i
+  wired = wiring_kept old new i (runs old i worker legal out) adds
+
   run : component_of new i ≡ component_of old i
-  run = component_kept old new i (runs old i worker legal out) adds
+  run = wired_runs new old i wired
 
   lease : at_lease new i ≡ at_lease old i
   lease = lease_stays old new i adds
@@ -322,7 +325,7 @@ left_kept told old new work legal adds left =
       out = out_kept old new i w legal adds left.out;
       idle = idle_kept old new i w legal adds left.out left.idle;
       home = record {
-        told = told_same (told work.task.port) old new i (same old new i w legal adds left.out) (run old new i w legal adds left.out) left.home.told;
+        told = told_same (told work.task.port) old new i (same old new i w legal adds left.out) (wired old new i w legal adds left.out) left.home.told;
         come = come_kept old new i w legal adds left.out work.task.role left.home.come;
       };
       held = held_stays work.held.items old new i adds legal left.held;
@@ -343,7 +346,7 @@ done_kept told old new landing legal adds back =
       idle = idle_kept old new i w legal adds back.out back.idle;
       held = now;
       confirmed = so_kept old new i w legal adds back.out landing.done landing.confirmed back.confirmed;
-      told = tells_behind (told landing.task.port) old new i (same old new i w legal adds back.out) (run old new i w legal adds back.out) landing.confirmed landing.held.items landing.done back.told;
+      told = tells_behind (told landing.task.port) old new i (same old new i w legal adds back.out) (wired old new i w legal adds back.out) landing.confirmed landing.held.items landing.done back.told;
       acted = acted_kept old new i w legal adds back.out (told landing.task.port) landing.task.role landing.held.items landing.done back.held now back.acted;
       settled = settled_kept old new i w legal adds back.out back.settled;
       untaken = λ no. untaken_kept old new i w legal adds back.out (back.untaken no);

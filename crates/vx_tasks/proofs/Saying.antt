@@ -7,14 +7,13 @@ use Rattle.vx_ends.specs.Told.{Told, Rose, Grows, SameBytes, Happened, Counts, C
 use Rattle.vx_ends.specs.declared.position.Position.{Position}
 use Rattle.vx_ends.specs.declared.trouble.Reply.{Reply}
 use Rattle.vx_ends.specs.declared.trouble.Reply.TheVariants as reply
-use Rattle.vx_plan.specs.declared.component.Component.{Component}
 use Rattle.vx_record.specs.declared.entry.Entry.{Entry}
 use Rattle.vx_record.specs.declared.entry.Entry.TheVariants as entry
 use Rattle.vx_record.specs.declared.output.Output.{Output}
 use Rattle.vx_record.specs.declared.taken.Taken.{Taken}
 use Rattle.vx_record.specs.declared.taken.Taken.TheVariants as taken
 use Rattle.vx_record.specs.Records.{Record, capped}
-use Rattle.vx_record.specs.Installs.{component_of, device_at}
+use Rattle.vx_record.specs.Installs.{Wiring, wiring, component_of, device_at}
 use Rattle.vx_record.specs.Sourcing.{failed_starts}
 use Rattle.vx_record.specs.Reads.{bytes_of, bytes_taken, taken as taken_of, all_ended, ended_by, ended_streams, is_end}
 use Rattle.vx_record.specs.Encoding.{given, given_in}
@@ -26,10 +25,10 @@ use Rattle.vx_sourcecore.specs.declared.source.Turned.{Turned}
 use Rattle.vx_sourcecore.specs.declared.source.Turned.TheVariants as turned
 use Rattle.vx_sourcecore.specs.Turns.{reading_of, read_bytes, NothingLeft, DidTake, IsUnmoved, StartsAtMost, turn_counts}
 use Rattle.vx_sourcecore.specs.Generators.{IsMade}
-use Rattle.vx_tasks.specs.Telling.{IsTold, IsToldButGiven, HasCounted, of_port, spec_of}
+use Rattle.vx_tasks.specs.Telling.{IsTold, IsToldButGiven, HasCounted, of_port, spec_by, spec_of}
 use Rattle.vx_tasks.specs.Attempts.{OnlyGives, reply_counts}
 use Rattle.vx_tasks.specs.Out.{turn_entry}
-use Rattle.vx_tasks.proofs.Staying.{device_is}
+use Rattle.vx_tasks.proofs.Staying.{wired_runs, device_is}
 
 pub same_test : (i : ℕ) → (i == i) ≡ true
 same_test i = grind (arith, nat_tests)
@@ -102,7 +101,7 @@ pub record Says (e : Entry) (h : Record) (i : ℕ) (old new : Told) : Type 0 whe
   pub given : Grows old.given new.given (given_in i e)
   pub confirmed : Grows old.confirmed new.confirmed (confirmed_in i e)
   pub spec : new.spec ≡ old.spec
-  pub runs : component_of (e ∷ h) i ≡ component_of h i
+  pub wired : wiring (e ∷ h) i ≡ wiring h i
   pub heard : IsHeard (device_at h i) i e
   pub ended : new.ended ≡ old.ended ++ ended_by i e
   pub over : (all_ended h i ≡ true → NothingLeft old) → all_ended (e ∷ h) i ≡ true → NothingLeft new
@@ -117,21 +116,24 @@ grown (Some xs) n more had g is = subst (λ (x : Option (List _)). IfSome x (λ 
 -- then it tells what the record has with that entry
 pub told_said : (e : Entry) (h : Record) (i : ℕ) (old new : Told) → Says e h i old new → IsTold old h i → IsTold new (e ∷ h) i
 told_said e h i old new says told = record {
-  taken = λ stream. subst (λ (w : List ℕ). IfSome (new.taken stream) (λ bytes. bytes ≡ w)) (sym (heard_taken e h i stream says.runs says.heard))
+  taken = λ stream. subst (λ (w : List ℕ). IfSome (new.taken stream) (λ bytes. bytes ≡ w)) (sym (heard_taken e h i stream runs says.heard))
       (grown (old.taken stream) (new.taken stream) (taken_in i stream e) (of_port [] (λ k j. taken_of k j stream) h i) (says.taken stream) (told.taken stream));
   given = grown old.given new.given (given_in i e) (given h i) says.given told.given;
-  spec = subst (λ (for : Made). Fits (spec_of (component_of (e ∷ h) i)) for) (sym says.spec)
-      (subst (λ (c : Option Component). Fits (spec_of c) old.spec) (sym says.runs) told.spec);
+  spec = subst (λ (for : Made). Fits (spec_of (e ∷ h) i) for) (sym says.spec)
+      (subst (λ (o : Option Wiring). Fits (spec_by o) old.spec) (sym says.wired) told.spec);
   confirmed = grown old.confirmed new.confirmed (confirmed_in i e) (confirmed h i) says.confirmed told.confirmed;
   ended = says.ended ∙ ap (λ (xs : List ℕ). xs ++ ended_by i e) told.ended;
-  over = λ device. says.over (told.over (sym (device_is (e ∷ h) h i says.runs) ∙ device));
+  over = λ device. says.over (told.over (sym (device_is (e ∷ h) h i runs) ∙ device));
   faults = counted_on old.exact new.exact old.faults new.faults (fault_count h i) (faults_in i e) says.what.failed says.counts.exact says.tells.faults says.counts.faults told.faults;
   refusals = counted_on old.exact new.exact old.refusals new.refusals (refusal_count h i) (refusals_in i e) says.what.refused says.counts.exact says.tells.refusals says.counts.refusals told.refusals;
   idles = counted_on old.exact new.exact old.idles new.idles (idle_count h i) (idles_in i e) says.what.idle says.counts.exact says.tells.idles says.counts.idles told.idles;
-  finishes = subst (λ (n : ℕ). HasCounted new.exact n new.finishes) (sym (heard_finished e h i says.runs says.heard))
+  finishes = subst (λ (n : ℕ). HasCounted new.exact n new.finishes) (sym (heard_finished e h i runs says.heard))
       (counted_on old.exact new.exact old.finishes new.finishes (of_port 0 finish_count h i) (finishes_in i e) says.what.finished says.counts.exact says.tells.finishes says.counts.finishes told.finishes);
   confirms = counted_on old.exact new.exact old.confirms new.confirms (confirm_count h i) (confirms_in i e) says.what.confirmed says.counts.exact says.tells.confirms says.counts.confirms told.confirms;
 }
+  where
+    runs : component_of (e ∷ h) i ≡ component_of h i
+    runs = wired_runs (e ∷ h) h i says.wired
 
 -- COUNTS
 abbrev ones : Bool → ℕ
@@ -178,7 +180,7 @@ reads h i stream took turned old new started device did counts are ended over = 
   given = same_grows old.given new.given did.rest.given;
   confirmed = same_grows old.confirmed new.confirmed did.rest.confirmed;
   spec = did.rest.spec;
-  runs = refl;
+  wired = refl;
   heard = inl device;
   ended = ended;
   over = λ before now. elim over [
@@ -195,16 +197,16 @@ record TookNothing (h : Record) (i : ℕ) (e : Entry) : Type 0 where
   taken : (stream : ℕ) → taken_in i stream e ≡ []
   given : given_in i e ≡ []
   confirmed : confirmed_in i e ≡ []
-  runs : component_of (e ∷ h) i ≡ component_of h i
+  wired : wiring (e ∷ h) i ≡ wiring h i
   finishes : finishes_in i e ≡ 0
   ended : ended_by i e ≡ []
   over : all_ended (e ∷ h) i ≡ all_ended h i
 
 idle_nothing : (h : Record) (i : ℕ) (failed : Bool) → TookNothing h i (entry.Idle i failed)
-idle_nothing h i failed = record { taken = λ s. refl; given = refl; confirmed = refl; runs = refl; finishes = refl; ended = refl; over = refl }
+idle_nothing h i failed = record { taken = λ s. refl; given = refl; confirmed = refl; wired = refl; finishes = refl; ended = refl; over = refl }
 
 lost_nothing : (h : Record) (i after : ℕ) (at_start : Bool) → TookNothing h i (entry.SourceLost i after at_start)
-lost_nothing h i after at_start = record { taken = λ s. refl; given = refl; confirmed = refl; runs = refl; finishes = refl; ended = refl; over = refl }
+lost_nothing h i after at_start = record { taken = λ s. refl; given = refl; confirmed = refl; wired = refl; finishes = refl; ended = refl; over = refl }
 
 -- what took nothing
 rests : (h : Record) (i : ℕ) (e : Entry) (what : Happened) (turned : Turned) (old new : Told) → TookNothing h i e → TellsOf i e what → CountsBy what old new → DidTake old turned new →
@@ -214,7 +216,7 @@ rests h i e what turned old new took tells counts did none ended = told_said e h
   given = subst (λ (w : List ℕ). Grows old.given new.given w) (sym took.given) (same_grows old.given new.given did.rest.given);
   confirmed = subst (λ (ps : List Position). Grows old.confirmed new.confirmed ps) (sym took.confirmed) (same_grows old.confirmed new.confirmed did.rest.confirmed);
   spec = did.rest.spec;
-  runs = took.runs;
+  wired = took.wired;
   heard = inr (record { taken = took.taken; finishes = took.finishes });
   ended = ended ∙ ap (λ (xs : List ℕ). old.ended ++ xs) (sym took.ended);
   over = λ before now. did.rest.left (before (sym took.over ∙ now));
@@ -266,7 +268,7 @@ pub told_unmoved : (old new : Told) (h : Record) (i : ℕ) (what : Happened) →
 told_unmoved old new h i what same quiet counts told = record {
   taken = λ stream. subst (λ (f : ℕ → Option (List ℕ)). IfSome (f stream) (λ bytes. bytes ≡ of_port [] (λ k j. taken_of k j stream) h i)) (sym same.taken) (told.taken stream);
   given = subst (λ (o : Option (List ℕ)). IfSome o (λ bytes. bytes ≡ given h i)) (sym same.given) told.given;
-  spec = subst (λ (for : Made). Fits (spec_of (component_of h i)) for) (sym same.spec) told.spec;
+  spec = subst (λ (for : Made). Fits (spec_of h i) for) (sym same.spec) told.spec;
   confirmed = subst (λ (o : Option (List Position)). IfSome o (λ positions. positions ≡ confirmed h i)) (sym same.confirmed) told.confirmed;
   ended = same.ended ∙ told.ended;
   over = λ device over. same.left (told.over device over);
@@ -294,7 +296,7 @@ confirm_told old new h i positions made same grew counts = told_said (entry.Conf
   given = same_grows old.given new.given same.given;
   confirmed = subst (λ (ps : List Position). Grows old.confirmed new.confirmed ps) (sym (ap (λ (t : Bool). if t && made then positions else []) (same_test i))) grew;
   spec = same.spec;
-  runs = refl;
+  wired = refl;
   heard = inr (record { taken = λ s. refl; finishes = refl });
   ended = same.ended ∙ sym (append-nil old.ended);
   over = λ before now. left_on old new same.left (before now);
@@ -310,7 +312,7 @@ attempt_told old new h i copies bytes started answer device only grew counts = t
   given = subst (λ (w : List ℕ). Grows old.given new.given w) (sym (ap (λ (t : Bool). if t then bytes else []) (same_test i))) grew;
   confirmed = same_grows old.confirmed new.confirmed only.confirmed;
   spec = only.spec;
-  runs = refl;
+  wired = refl;
   heard = inl device;
   ended = only.ended ∙ sym (append-nil old.ended);
   over = λ before now. left_on old new only.left (before now);
@@ -334,7 +336,7 @@ answer_told told h i outputs discarded kept is = told_said (entry.Answer i outpu
   given = same_grows told.given told.given refl;
   confirmed = same_grows told.confirmed told.confirmed refl;
   spec = refl;
-  runs = refl;
+  wired = refl;
   heard = inr (record { taken = λ s. refl; finishes = refl });
   ended = sym (append-nil told.ended);
   over = λ before now. before now;
@@ -440,12 +442,12 @@ record IsApart (i : ℕ) (e : Entry) : Type 0 where
 same_count : (exact : Bool) (n m told : ℕ) → m ≡ 0 → HasCounted exact n told → HasCounted exact (n + m) told
 same_count exact n m told none was = let same : n + m ≡ n = omega (arith, none) in subst (λ (k : ℕ). HasCounted exact k told) (sym same) was
 
-told_apart : (told : Told) (e : Entry) (h : Record) (i : ℕ) → component_of (e ∷ h) i ≡ component_of h i → device_at h i ≡ false → IsApart i e → IsTold told h i → IsTold told (e ∷ h) i
-told_apart told e h i runs alone apart is = record {
+told_apart : (told : Told) (e : Entry) (h : Record) (i : ℕ) → wiring (e ∷ h) i ≡ wiring h i → device_at h i ≡ false → IsApart i e → IsTold told h i → IsTold told (e ∷ h) i
+told_apart told e h i wired alone apart is = record {
   taken = λ stream. subst (λ (w : List ℕ). IfSome (told.taken stream) (λ bytes. bytes ≡ w))
       (unported [] (taken_of h i stream) (device_at h i) alone ∙ sym (unported [] (taken_of (e ∷ h) i stream) (device_at (e ∷ h) i) still)) (is.taken stream);
   given = grown told.given told.given (given_in i e) (given h i) (same_grows_by told.given (given_in i e) apart.given) is.given;
-  spec = subst (λ (c : Option Component). Fits (spec_of c) told.spec) (sym runs) is.spec;
+  spec = subst (λ (o : Option Wiring). Fits (spec_by o) told.spec) (sym wired) is.spec;
   confirmed = grown told.confirmed told.confirmed (confirmed_in i e) (confirmed h i) (same_grows_by told.confirmed (confirmed_in i e) apart.confirmed) is.confirmed;
   ended = is.ended ∙ sym (append-nil (ended_streams h i)) ∙ ap (λ (xs : List ℕ). ended_streams h i ++ xs) (sym apart.ended);
   over = λ device over. cc;
@@ -458,7 +460,7 @@ told_apart told e h i runs alone apart is = record {
 }
   where
     still : device_at (e ∷ h) i ≡ false
-    still = device_is (e ∷ h) h i runs ∙ alone
+    still = device_is (e ∷ h) h i (wired_runs (e ∷ h) h i wired) ∙ alone
 
     same_grows_by : {X : Type 0} (o : Option (List X)) (more : List X) → more ≡ [] → Grows o o more
     same_grows_by o more none = subst (λ (m : List _). Grows o o m) (sym none) (same_grows o o refl)

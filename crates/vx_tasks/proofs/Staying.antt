@@ -9,6 +9,7 @@ use Rattle.vx_ends.specs.declared.position.Position.{Position}
 use Rattle.vx_ledger.specs.Copies.{Copy}
 use Rattle.vx_ledger.specs.declared.parcel.Parcel.{Parcel}
 use Rattle.vx_plan.specs.declared.component.Component.{Component}
+use Rattle.vx_plan.specs.Components.{component_named}
 use Rattle.vx_record.specs.declared.output.Output.{Output}
 use Rattle.vx_record.specs.declared.entry.Entry.{Entry}
 use Rattle.vx_record.specs.declared.entry.Entry.TheVariants.{Install, Lease, Home, Answer}
@@ -18,7 +19,7 @@ use Rattle.vx_record.specs.Parcels.{event_of}
 use Rattle.vx_record.specs.Places.Place.{Held}
 use Rattle.vx_record.specs.Lists.{stands, parcels_at}
 use Rattle.vx_record.specs.Shifts.{at}
-use Rattle.vx_record.specs.Installs.{component_of, device_at}
+use Rattle.vx_record.specs.Installs.{Wiring, wiring, component_of, device_at}
 use Rattle.vx_plan.specs.Options.{has_device}
 use Rattle.vx_record.specs.Reads.{taken, all_ended, ended_streams}
 use Rattle.vx_record.specs.Encoding.{given}
@@ -40,7 +41,7 @@ use Rattle.vx_record.proofs.OwnConfirms.{confirmed_own, given_own}
 use Rattle.vx_record.proofs.OwnCounts.{faults_own, refusals_own, idles_own, finishes_own, confirms_own}
 use Rattle.vx_places.specs.Holding.{IsKnown}
 use Rattle.vx_places.proofs.Steps.{among_counts, event_stays as unanswered, known_later}
-use Rattle.vx_tasks.specs.Telling.{IsTold, HasCounted, of_port, spec_of}
+use Rattle.vx_tasks.specs.Telling.{IsTold, HasCounted, of_port, spec_by}
 use Rattle.vx_tasks.specs.Out.{IsHeld}
 
 -- what is a task's own stays with its entries
@@ -66,6 +67,10 @@ runs (Home j ∷ h) i worker legal out = go (j == i) out (runs h i worker legal.
 runs (e ∷ h) i worker legal out = runs h i worker legal.1 out
 
 -- WHAT ITS PORT TELLS
+-- what is wired alike runs the same component
+pub wired_runs : (new old : Record) (i : ℕ) → wiring new i ≡ wiring old i → component_of new i ≡ component_of old i
+wired_runs new old i wired = ap (λ (o : Option Wiring). elim o as (λ _. Option Component) [ None ↦ None | Some w ↦ component_named w.plan w.name ]) wired
+
 -- what runs the same component has a port or not
 pub device_is : (new old : Record) (i : ℕ) → component_of new i ≡ component_of old i → device_at new i ≡ device_at old i
 device_is new old i run = ap (λ (o : Option Component). elim o [ None ↦ false | Some c ↦ has_device c.settings ]) run
@@ -76,11 +81,11 @@ of_port_stays none f own old new i same run =
     ap (λ (b : Bool). if b then f new i else none) (device_is new old i run)
     ∙ ap (λ (x : _). if device_at old i then x else none) (stays f own old new i same)
 
-pub told_same : (told : Told) (old new : Record) (i : ℕ) → mine new i ≡ mine old i → component_of new i ≡ component_of old i → IsTold told old i → IsTold told new i
-told_same told old new i same run is = record {
+pub told_same : (told : Told) (old new : Record) (i : ℕ) → mine new i ≡ mine old i → wiring new i ≡ wiring old i → IsTold told old i → IsTold told new i
+told_same told old new i same wired is = record {
   taken = λ stream. subst (λ (w : List ℕ). IfSome (told.taken stream) (λ bytes. bytes ≡ w)) (sym (of_port_stays [] (λ h k. taken h k stream) (taken_own stream) old new i same run)) (is.taken stream);
   given = subst (λ (w : List ℕ). IfSome told.given (λ bytes. bytes ≡ w)) (sym (stays given given_own old new i same)) is.given;
-  spec = subst (λ (c : Option Component). Fits (spec_of c) told.spec) (sym run) is.spec;
+  spec = subst (λ (o : Option Wiring). Fits (spec_by o) told.spec) (sym wired) is.spec;
   confirmed = subst (λ (ps : List Position). IfSome told.confirmed (λ positions. positions ≡ ps)) (sym (stays confirmed confirmed_own old new i same)) is.confirmed;
   ended = is.ended ∙ sym (stays ended_streams ended_own old new i same);
   over = λ device over. is.over (sym (device_is new old i run) ∙ device) (sym (stays all_ended end_own old new i same) ∙ over);
@@ -90,6 +95,9 @@ told_same told old new i same run is = record {
   finishes = subst (λ (n : ℕ). HasCounted told.exact n told.finishes) (sym (of_port_stays 0 finish_count finishes_own old new i same run)) is.finishes;
   confirms = subst (λ (n : ℕ). HasCounted told.exact n told.confirms) (sym (stays confirm_count confirms_own old new i same)) is.confirms;
 }
+  where
+    run : component_of new i ≡ component_of old i
+    run = wired_runs new old i wired
 
 -- WHAT IT HOLDS
 -- an entry of others gives a copy that is held no other event

@@ -3,20 +3,23 @@ use Rattle.std.specs.Prelude.{◌≡◌, ℕ, ◌<◌, ◌≤◌, ◌++◌, [], 
 use Rattle.vx_value.specs.Texts.{Word}
 use Rattle.vx_ends.specs.Told.{Told, Fits}
 use Rattle.vx_ends.specs.declared.port_spec.PortSpec.{PortSpec}
-use Rattle.vx_plan.specs.declared.component.Component.{Component}
-use Rattle.vx_plan.specs.Ports.{port_of}
+use Rattle.vx_plan.specs.Ports.{port_spec}
 use Rattle.vx_record.specs.Records.{Record, capped}
-use Rattle.vx_record.specs.Installs.{component_of, device_at}
+use Rattle.vx_record.specs.Installs.{Wiring, wiring, device_at}
 use Rattle.vx_record.specs.Reads.{taken, ended_streams, all_ended}
 use Rattle.vx_record.specs.Encoding.{given}
 use Rattle.vx_record.specs.Confirms.{confirmed}
 use Rattle.vx_record.specs.PortCounts.{fault_count, refusal_count, idle_count, finish_count, confirm_count}
 use Rattle.vx_sourcecore.specs.Turns.{NothingLeft}
 
--- what the port of an instance is made for
-abbrev pub spec_of : Option Component → Option PortSpec
-spec_of None = None
-spec_of (Some component) = port_of component
+-- what a port is made for, by how its instance is wired
+abbrev pub spec_by : Option Wiring → Option PortSpec
+spec_by None = None
+spec_by (Some w) = port_spec w.plan w.name w.once
+
+-- what the port of an instance is made for: that of its component, as the Install says that gave the instance work
+abbrev pub spec_of : Record → ℕ → Option PortSpec
+spec_of h i = spec_by (wiring h i)
 
 -- a port counted at least so many, and just so many where its counts are exact
 pub record HasCounted (exact : Bool) (count : ℕ) (told : ℕ) : Type 0 where
@@ -32,7 +35,7 @@ of_port none f h i = if device_at h i then f h i else none
 pub record IsTold (told : Told) (h : Record) (i : ℕ) : Type 0 where
   pub taken : (stream : ℕ) → IfSome (told.taken stream) (λ bytes. bytes ≡ of_port [] (λ k j. taken k j stream) h i)
   pub given : IfSome told.given (λ bytes. bytes ≡ given h i)
-  pub spec : Fits (spec_of (component_of h i)) told.spec
+  pub spec : Fits (spec_of h i) told.spec
   pub confirmed : IfSome told.confirmed (λ positions. positions ≡ confirmed h i)
   pub ended : told.ended ≡ ended_streams h i
   pub over : device_at h i ≡ true → all_ended h i ≡ true → NothingLeft told

@@ -1,4 +1,4 @@
-use Rattle.vx_cli.proofs.Spelled.{none, long_alone, short_alone, option_as_file, twice, twice_short, stats_alone, stats_twice, stats_value, more, validate_alone, validate_two, validate_option, help, version}
+use Rattle.vx_cli.proofs.Spelled.{none, long_alone, short_alone, option_as_file, twice, twice_short, stats_alone, stats_twice, stats_value, once_alone, once_twice, once_value, more, validate_alone, validate_two, validate_option, help, version}
 use Rattle.vx_cli.proofs.Hyphened.{long_hyphened, short_hyphened, validate_dashes, validate_hyphened}
 use Rattle.vx_cli.proofs.laws.refusals.Goals as goal
 
@@ -13,6 +13,9 @@ returns c = record {
   stats_alone = stats_alone;
   stats_twice = stats_twice;
   stats_value = stats_value;
+  once_alone = once_alone;
+  once_twice = once_twice;
+  once_value = once_value;
   more = more;
   validate_alone = validate_alone;
   validate_two = validate_two;

@@ -14,5 +14,8 @@ returns-clause-command c =
         taken = subst (λ (a : App). IsTaken a words) grammar c.in_ok-matches.ensures.taken;
         config = sym (ap (first_of (codes "config")) rows) ∙ c.in_ok-config.ensures.value;
       },
-      sym (ap (λ all. is_set (first_of (codes "stats") all)) rows) ∙ sym c.is_set-stats.ensures,
+      (
+        sym (ap (λ all. is_set (first_of (codes "once") all)) rows) ∙ sym c.is_set-once.ensures,
+        sym (ap (λ all. is_set (first_of (codes "stats") all)) rows) ∙ sym c.is_set-stats.ensures,
+      ),
     )

@@ -17,11 +17,11 @@ pub returns-clause-hub : goal.returns-clause-hub
 returns-clause-hub g c =
     let plan = c.args.parts.plan in
     let room = c.requires.room in
-    let fresh : AreFresh g.P.Port.told plan c.seat_all.result.items =
-    all_fresh c.requires.accepted c.args.room.seats.items c.role_all.result.items c.into_vec-2.result.items c.seat_all.result.items
+    let fresh : AreFresh g.P.Port.told plan c.args.parts.once c.seat_all.result.items =
+    all_fresh c.requires.accepted c.args.parts.once c.args.room.seats.items c.role_all.result.items c.into_vec-2.result.items c.seat_all.result.items
     room.seats (whole_roles plan.components c.args.room.roles.items c.into_vec.result.items c.role_all.result.items room.roles
     (rw c.into_vec.ensures c.requires.pickers) c.role_all.ensures.roles) (rw c.into_vec-2.ensures c.requires.untouched) (c.seat_all.ensures.size ∙ room.seats_size) c.seat_all.ensures.seated in
-    let all : AreFresh g.P.Port.told plan c.new-seats.result = rw c.new-seats.ensures.same fresh in
+    let all : AreFresh g.P.Port.told plan c.args.parts.once c.new-seats.result = rw c.new-seats.ensures.same fresh in
     let noted = c.note.ensures ∙ ap (λ (h : Record). Install 0 plan c.args.parts.once (first_instances 0 plan.components) c.args.now ∷ h) c.new-log.ensures in
     let size = all.size in
     hub_first c.requires.accepted c.requires.few c.requires.served room all

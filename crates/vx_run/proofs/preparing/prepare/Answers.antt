@@ -1,5 +1,6 @@
 use Rattle.std.proofs.Common.{inr, [], ◌∷◌}
 use Rattle.vx_ends.specs.declared.call.Call.TheVariants.{Config}
+use Rattle.vx_plan.specs.Ports.{port_of}
 use Rattle.vx_run.specs.Calling.{port_calls}
 use Rattle.vx_run.proofs.Called.{grows_both, begun_behind}
 use Rattle.vx_run.proofs.Served.{made_served}
@@ -11,7 +12,7 @@ returns-in-Ok-ports-clause-served g c = made_served c.in_ok-plan.field-0.plan.co
 pub returns-in-Ok-ports-clause-called : goal.returns-in-Ok-ports-clause-called
 returns-in-Ok-ports-clause-called g c =
     grows_both (g.W.World.calls c.args.world.now) (g.W.World.calls c.plan_at.new.world) (g.W.World.calls c.ports.new.world)
-    (Config c.args.file.now ∷ []) (port_calls c.in_ok-plan.field-0.plan.components) c.plan_at.ensures.called c.in-Ok-ports.ensures.called
+    (Config c.args.file.now ∷ []) (port_calls (port_of c.args.once c.in_ok-plan.field-0.plan.global.data_dir) c.in_ok-plan.field-0.plan.components) c.plan_at.ensures.called c.in-Ok-ports.ensures.called
 
 pub returns-in-Err-clause-begun : goal.returns-in-Err-clause-begun
 returns-in-Err-clause-begun g c =
@@ -20,6 +21,6 @@ returns-in-Err-clause-begun g c =
       (
         c.in_ok-plan.ensures.stands,
         begun_behind (g.W.World.calls c.args.world.now) (g.W.World.calls c.plan_at.new.world) (g.W.World.calls c.ports.new.world)
-            (Config c.args.file.now ∷ []) (port_calls c.in_ok-plan.field-0.plan.components) c.plan_at.ensures.called c.in-Err.ensures.begun,
+            (Config c.args.file.now ∷ []) (port_calls (port_of c.args.once c.in_ok-plan.field-0.plan.global.data_dir) c.in_ok-plan.field-0.plan.components) c.plan_at.ensures.called c.in-Err.ensures.begun,
       ),
     )

@@ -1,4 +1,4 @@
-use Rattle.vx_sourcecore.proofs.Keeping.{fresh_abreast, component_stays, component_kept, abreast_kept, turned_kept, abreast_under, turned_under}
+use Rattle.vx_sourcecore.proofs.Keeping.{fresh_abreast, component_stays, component_kept, wiring_kept, abreast_kept, turned_kept, abreast_under, turned_under}
 use Rattle.vx_sourcecore.proofs.MakingKept.{generator_texts, generator_fresh, generating_kept, made_kept, next_kept, generating_under, made_under, next_under}
 use Rattle.vx_sourcecore.proofs.laws.source_laws.Goals as goal
 
@@ -10,6 +10,9 @@ returns-clause-component c = component_stays
 
 pub returns-clause-component_kept : goal.returns-clause-component_kept
 returns-clause-component_kept c = component_kept
+
+pub returns-clause-wiring_kept : goal.returns-clause-wiring_kept
+returns-clause-wiring_kept c = wiring_kept
 
 pub returns-clause-kept : goal.returns-clause-kept
 returns-clause-kept c = abreast_kept

@@ -1,5 +1,5 @@
 use Rattle.vx_ends.specs.declared.call.Call.TheVariants.{Config}
-use Rattle.vector.proofs.os_world.OsWorldWorld.config.Given as goal
+use Rattle.vx_ends_os.proofs.os_world.OsWorldWorld.config.Given as goal
 
 abbrev pub ghost-note : goal.ghost-note
 ghost-note a = Config a._shown.now.now

@@ -1,0 +1,6 @@
+/// How a sink compresses what it writes.
+#[derive(Clone, Copy, PartialEq, Eq, Debug)]
+pub enum Compression {
+    /// Not at all.
+    None,
+}
