@@ -15,14 +15,13 @@ import tempfile
 import time
 from pathlib import Path
 
-from running import FIRST, PATIENCE, PROGRAM, TOP, check, go_through, run
+from running import BUILT, FIRST, PATIENCE, PROGRAM, TOP, check, ended, go_through, run
 
 TWO = str(TOP / "examples" / "two_consoles.toml")
 JSON = str(TOP / "examples" / "json_lines.toml")
 ACKNOWLEDGED = str(TOP / "examples" / "acknowledged.toml")
 LEVELS = str(TOP / "examples" / "levels.toml")
 LONGEST = 102_400
-BUILT = str(TOP / "crates" / "vector" / "out" / "vector")
 
 # A library whose program gets a signal every millisecond, and handles it so that the call which this cuts short fails.
 ALARMS = b"""
@@ -269,12 +268,7 @@ def begun(given, words, blocking, program=None, variables=None):
 def read_late(ran, seconds):
     """The status, the output and the errors of a run of which nothing is read for some seconds."""
     time.sleep(seconds)
-    try:
-        out, err = ran.communicate(timeout=PATIENCE)
-    except subprocess.TimeoutExpired:
-        ran.kill()
-        return ("it did not end", *ran.communicate())
-    return ran.returncode, out, err
+    return ended(ran)
 
 
 def comes_late(name, given, words, seconds, wanted):

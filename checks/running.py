@@ -7,6 +7,7 @@ from pathlib import Path
 
 TOP = Path(__file__).resolve().parent.parent
 PROGRAM = str(TOP / "vector")
+BUILT = str(TOP / "crates" / "vector" / "out" / "vector")
 FIRST = str(TOP / "examples" / "first.toml")
 USAGE = b"vector: usage: vector --config FILE [options]\nvector: usage: vector validate FILE\n"
 PATIENCE = 120
@@ -18,6 +19,16 @@ def check(name, held, seen):
     """Notes and prints whether a check held."""
     results.append(held)
     print(f"ok      {name}" if held else f"FAILED  {name}: {seen}", flush=True)
+
+
+def ended(ran):
+    """The status, the output and the errors of a run that ends by itself."""
+    try:
+        out, err = ran.communicate(timeout=PATIENCE)
+    except subprocess.TimeoutExpired:
+        ran.kill()
+        return ("it did not end", *ran.communicate())
+    return ran.returncode, out, err
 
 
 def run(given, words=("--config", FIRST), cwd=None, variables=None):

@@ -84,6 +84,26 @@ COMPONENTS = [
     ("min_length = 3\n", "unknown option sources.in.min_length"),
 ]
 
+# options of a file that is read, and of one to which the source goes
+FILE_SOURCE = SINK.replace('"in"', '"f"') + '[sources.f]\ntype = "file"\n'
+FILE_SINK = SOURCE + '[sinks.f]\ntype = "file"\ninputs = ["in"]\nencoding.codec = "text"\n'
+FILES = [
+    (FILE_SOURCE, "missing option sources.f.include"),
+    (FILE_SOURCE + "include = []", "bad value at sources.f.include"),
+    (FILE_SOURCE + 'include = "a"', "bad value at sources.f.include"),
+    (FILE_SOURCE + 'include = ["a", "b"]', "bad value at sources.f.include"),
+    (FILE_SOURCE + 'include = ["*.log"]', "bad value at sources.f.include"),
+    (FILE_SOURCE + 'include = ["a?"]', "bad value at sources.f.include"),
+    (FILE_SOURCE + 'include = ["a[0]"]', "bad value at sources.f.include"),
+    (FILE_SOURCE + 'include = ["a"]\nread_from = "end"', "bad value at sources.f.read_from"),
+    (FILE_SOURCE + 'include = ["a"]\nmax_line_bytes = 16777217', "bad value at sources.f.max_line_bytes"),
+    (FILE_SOURCE + 'include = ["a"]\nmax_length = 1', "unknown option sources.f.max_length"),
+    (FILE_SINK, "missing option sinks.f.path"),
+    (FILE_SINK + 'path = "a"\ncompression = "gzip"', "bad value at sinks.f.compression"),
+    (FILE_SINK + 'path = "{{ host }}"', "bad value at sinks.f.path"),
+    (FILE_SINK + 'path = "a"\ntarget = "stdout"', "unknown option sinks.f.target"),
+]
+
 # options of the sink
 SINK_OPTIONS = [
     ("", "missing option sinks.out.encoding.codec"),
@@ -367,6 +387,8 @@ RUNNING = [
     (["--config", "-"], "-"),
     (["--config", "validate"], "validate"),
     (["-c", "f", "--"], "f"),
+    (["-c", "f", "--once"], "f"),
+    (["--once", "--config=f"], "f"),
 ]
 
 # words that run the file `f` and ask for the counts
@@ -392,7 +414,7 @@ NO_COMMAND = [
     ["-c", "f", "-c", "f"], ["--config", "f", "--config", "g"], ["-cf", "--config=g"], ["-c", "f", "more"],
     ["--config", "f", "more"], ["--config", "f", "validate"], ["-c", "f", "validate", "g"], ["-c", "f", "--", "g"], ["-c", "f", "--help"], ["--", "-c", "f"], ["-c", "-f"],
     ["--confg", "f"], ["--konfig", "f"], ["--conf", "f"], ["--config", "--config"], ["--config", "--", "f"], [b"--config", b"\xff"],
-    ["--stats"], ["--stats", "--stats", "-c", "f"], ["--stats=true", "-c", "f"], ["--config", "--stats", "f"], ["-c", "f", "--stat"], ["validate", "f", "--stats"],
+    ["--stats"], ["--stats", "--stats", "-c", "f"], ["--stats=true", "-c", "f"], ["--once"], ["--once", "--once", "-c", "f"], ["--once=true", "-c", "f"], ["validate", "f", "--once"], ["--config", "--stats", "f"], ["-c", "f", "--stat"], ["validate", "f", "--stats"],
     ["validate"], ["validate", "--"], ["validate", "f", "g"], ["validate", "--config", "f"], ["validate", "--config=f"],
     ["validate", "--help"], ["validate", "-f"], ["Validate", "f"],
 ]
@@ -449,7 +471,7 @@ def configurations():
         ("", WHOLE, ""), (SOURCE, COMPONENTS, "\n" + SINK), (BEFORE_OPTIONS, SINK_OPTIONS, "\n"), (BEFORE_OPTIONS, BUFFERS, "\n"), (BEFORE_OPTIONS, BATCHES, "\n"), (BEFORE_OPTIONS, RETRIES, "\n"), (SOURCE, SOURCE_OPTIONS, "\n" + SINK),
         (SOURCE.replace("stdin", "demo_logs"), DEMO_OPTIONS, "\n" + SINK), (BEFORE_OPTIONS.replace("console", "blackhole"), HOLE_OPTIONS, "\n"),
         (BEFORE_FILTER, FILTER_OPTIONS, "\n"), (BEFORE_ROUTE, ROUTE_OPTIONS, "\n"), (BEFORE_ROUTED, ROUTE_INPUTS, "\n"),
-        (BEFORE_INPUTS, INPUTS, "\n"), ("", TWO_FAULTS, ""), ("", FORMS, ""), ("", NAMES, ""),
+        (BEFORE_INPUTS, INPUTS, "\n"), ("", FILES, "\n"), ("", TWO_FAULTS, ""), ("", FORMS, ""), ("", NAMES, ""),
     ]
     with tempfile.TemporaryDirectory() as folder:
         for front, table, back in tables:
