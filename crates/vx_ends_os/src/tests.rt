@@ -478,7 +478,7 @@ fn a_folder_is_no_file(rt: HostRuntime) -> Result<(), Fail> {
 
 #[test]
 fn a_file_is_appended_to(rt: HostRuntime) -> Result<(), Fail> {
-    let port = writer(rt, "out")?;
+    let port = writer(rt, "appended")?;
     play(&rt, port, APPENDED)
 }
 
@@ -487,9 +487,9 @@ const APPENDED: &[Step] = &[
     Step::Give("one\n"),
     Step::Give("two\n"),
     Step::Close,
-    Step::Has("out", "one\ntwo\n"),
+    Step::Has("appended", "one\ntwo\n"),
     Step::Give("three\n"),
-    Step::Has("out", "one\ntwo\nthree\n"),
+    Step::Has("appended", "one\ntwo\nthree\n"),
 ];
 
 #[test]
