@@ -8,3 +8,11 @@ pub mod Moving
 pub mod Expiring
 pub mod Surrender
 pub mod Answered
+pub mod KeyLaws
+pub mod HeldLaws
+pub mod Leading
+pub mod GroupLists
+pub mod Coming
+pub mod GoingOn
+pub mod Calls
+pub mod Told

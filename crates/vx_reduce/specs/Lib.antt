@@ -5,3 +5,5 @@ pub mod Merges
 pub mod Answers
 pub mod Expiries
 pub mod Reducers
+pub mod Inputs
+pub mod Standing

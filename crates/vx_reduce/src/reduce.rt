@@ -5,6 +5,9 @@ ghost use Rattle.vx_transform.specs.Moves.{Moves};
 ghost use Rattle.vx_reduce.specs.Groups.{copies_held, outputs_of, put_all, group_of};
 ghost use Rattle.vx_reduce.specs.Expiries.{is_old, HasPutOut};
 ghost use Rattle.vx_reduce.specs.Reducers.{SaysOf, due_of, since_after, is_due_at, IsPlanned, HasAnswered, HasChecked};
+ghost use Rattle.vx_condition.specs.Reducing.{Settings};
+ghost use Rattle.vx_reduce.specs.Inputs.{arrived, ticked, at_end};
+ghost use Rattle.vx_reduce.specs.Standing.{AreMeant, IsAt, GoesOn, PutsOut, IsMeant, IsDueAt};
 
 use crate::answer::answer;
 use crate::group::Group;
@@ -20,6 +23,10 @@ use vx_transform::{Back, Shelf, Transform};
 use vx_value::{Event, ItemList, WantOfMemory};
 
 /// Merges events into groups, and puts each group out as one event with the copies of all.
+///
+/// It stands for the events, ticks and flushes that it was given (`IsAt`): a new one for none, and after each call that ended
+/// well for one more (`GoesOn`). Such a call puts out what has to be put out then (`PutsOut`). An event for which no memory was
+/// found leaves it as it was.
 ///
 /// It can't be dropped, since it holds copies: `end` ends it once it holds no group.
 pub struct Reduce {
@@ -46,6 +53,7 @@ impl Reduce {
         ensures period { IfOk result (λ reduce. reduce.flush_period_ms ≡ settings.flush_period_ms) }
         ensures groups { IfOk result (λ reduce. reduce.groups ≡ []) }
         ensures since { IfOk result (λ reduce. reduce.since ≡ 0) }
+        ensures stands { IfOk result (λ reduce. (s : Settings) → AreMeant s settings → IsAt s [] reduce) }
     {
         let ReduceSettings {
             group_by,
@@ -174,9 +182,20 @@ impl Reduce {
     fn is_due(&self, now: u64) -> bool
         ensures { result ≡ is_due_at (due_of self.now) now }
     {
-        match self.due() {
+        match self.next_check() {
             Some(moment) => moment <= now,
             None => false,
+        }
+    }
+
+    // The moment of the next check, while there is a group.
+    fn next_check(&self) -> Option<u64>
+        ensures { result ≡ due_of self.now }
+    {
+        if self.groups.is_empty() {
+            None
+        } else {
+            Some(self.since.saturating_add(self.flush_period_ms))
         }
     }
 }
@@ -215,6 +234,9 @@ impl Transform for Reduce {
         now: u64,
         shelf: &mut Shelf,
     ) -> Result<(), Back>
+        ensures goes_on { OnOk result (GoesOn self.old self.new (arrived parcel now)) }
+        ensures puts_out { OnOk result (PutsOut self.old (arrived parcel now) shelf.old shelf.new) }
+        ensures meant { OnOk result (IsMeant self.old) }
         ensures answered { OnOk result (HasAnswered self.old self.new parcel now shelf.old shelf.new) }
         ensures moves { OnOk result (Moves 1 (copies_held self.old.groups ++ parcel.finalizers) (copies_held self.new.groups) shelf.old shelf.new) }
         ensures back { IfErr result (λ refused. refused.parcel ≡ parcel) }
@@ -229,6 +251,8 @@ impl Transform for Reduce {
 
     /// Where a check is due, puts each group out, in order, whose last event came so long ago.
     fn tick(&mut self, alloc: Global, now: u64, shelf: &mut Shelf) -> Result<(), WantOfMemory>
+        ensures goes_on { OnOk result (GoesOn self.old self.new (ticked now)) }
+        ensures puts_out { OnOk result (PutsOut self.old (ticked now) shelf.old shelf.new) }
         ensures checked { OnOk result (HasChecked self.old self.new now shelf.old shelf.new) }
         ensures moves { Moves 1 (copies_held self.old.groups) (copies_held self.new.groups) shelf.old shelf.new }
     {
@@ -241,6 +265,8 @@ impl Transform for Reduce {
 
     /// Puts all groups out, in order.
     fn flush(&mut self, alloc: Global, shelf: &mut Shelf) -> Result<(), WantOfMemory>
+        ensures goes_on { OnOk result (GoesOn self.old self.new at_end) }
+        ensures puts_out { OnOk result (PutsOut self.old at_end shelf.old shelf.new) }
         ensures flushed { OnOk result (shelf.new ≡ put_all shelf.old (outputs_of self.old.groups)) }
         ensures groups { OnOk result (self.new ≡ record self.old { groups = [] }) }
         ensures moves { Moves 1 (copies_held self.old.groups) (copies_held self.new.groups) shelf.old shelf.new }
@@ -249,12 +275,12 @@ impl Transform for Reduce {
         self.groups.put_out_old(alloc, 0, 0, shelf)
     }
 
-    fn due(&self) -> Option<u64> {
-        if self.groups.is_empty() {
-            None
-        } else {
-            Some(self.since.saturating_add(self.flush_period_ms))
-        }
+    /// The moment of the next check while it holds a group, and else none.
+    fn due(&self) -> Option<u64>
+        ensures moment { result ≡ due_of self.now }
+        ensures stands { IsDueAt self.now result }
+    {
+        self.next_check()
     }
 
     fn surrender(&mut self) -> Option<Finalizer>
