@@ -1,3 +1,4 @@
 pub mod Drops
 pub mod Steps
 pub mod Texts
+pub mod Unclosed

@@ -1,6 +1,7 @@
-ghost use Rattle.std.specs.Prelude.{◌≡◌, ℕ, ◌↔◌, ◌∷◌, ◌++◌, ◌<◌, IsTrue, true, false, drop, length, take, nat_lt, MatchOption};
+ghost use Rattle.std.specs.Prelude.{◌≡◌, ℕ, ◌↔◌, ◌∷◌, ◌++◌, ◌-◌, ◌<◌, ◌≤◌, IsTrue, true, false, drop, length, take, nat_lt, slice_index, MatchOption};
 ghost use Rattle.std.specs.List.{prefix_len, position_or_len, before_first};
-ghost use Rattle.vx_subst.specs.Pieces.{Plain, form_of, bare, braced, with_default, behind, begins_with, is_name_byte, is_end_brace};
+ghost use Rattle.vx_subst.specs.Pieces.{Plain, form_of, bare, braced, with_default, behind, begins_with, end_brace, is_name_byte, is_end_brace};
+ghost use Rattle.vx_subst.specs.Unclosed.{IsUnclosed};
 ghost use Rattle.vx_subst.specs.Views.{piece_view};
 
 /// A form that begins with `$`.
@@ -71,9 +72,24 @@ fn split_brace(text: &str) -> Option<(&str, &str)>
     text.split_once('}')
 }
 
-/// The form whose `$` stands before a text.
+/// How many bytes follow the last `}` of a text: all of them, where it has none.
+pub fn unclosed_len(text: &str) -> usize
+    ensures within { result ≤ length text.now }
+    ensures unclosed { IsUnclosed result text.now }
+    ensures closed { result < length text.now → slice_index text.now (length text.now - result - 1) ≡ end_brace }
+{
+    match text.rfind('}') {
+        Some(at) => text.len() - at - 1,
+        None => text.len(),
+    }
+}
+
+/// The form whose `$` stands before a text, among whose last bytes, as many as said, is no `}`.
+///
+/// A default without an end is told by its length, and no search for the end is in vain.
 #[tactic(auto, using(crate::proofs::Drops::drops), unfolding(crate::specs::Pieces::form_of, crate::specs::Pieces::behind))]
-pub fn form_of(text: &str) -> Found<'_>
+pub fn form_of(text: &str, unclosed: usize) -> Found<'_>
+    requires { IsUnclosed unclosed text.now }
     ensures form { piece_view result.form ≡ form_of text.now }
     ensures rest { result.rest.now ≡ drop (behind (form_of text.now)) text.now }
 {
@@ -84,7 +100,7 @@ pub fn form_of(text: &str) -> Found<'_>
         };
     }
     match behind_first(text, '{') {
-        Some(inner) => braced(text, inner),
+        Some(inner) => braced(text, inner, unclosed),
         None => bare(text),
     }
 }
@@ -108,8 +124,9 @@ fn bare(text: &str) -> Found<'_>
 
 /// The form that begins with `${`, by what follows the `$` and by what follows the brace.
 #[tactic(auto, using(crate::proofs::Drops::drops), unfolding(crate::specs::Pieces::braced, crate::specs::Pieces::behind))]
-fn braced<'a>(text: &'a str, inner: &'a str) -> Found<'a>
-    requires { text.now ≡ 123 ∷ inner.now }
+fn braced<'a>(text: &'a str, inner: &'a str, unclosed: usize) -> Found<'a>
+    requires whole { text.now ≡ 123 ∷ inner.now }
+    requires unclosed { IsUnclosed unclosed inner.now }
     ensures form { piece_view result.form
         ≡ braced (take (prefix_len is_name_byte inner.now) inner.now) (drop (prefix_len is_name_byte inner.now) inner.now) }
     ensures rest { result.rest.now ≡ drop (behind (piece_view result.form)) text.now }
@@ -126,7 +143,7 @@ fn braced<'a>(text: &'a str, inner: &'a str) -> Found<'a>
     }
     match behind_first(after, ':') {
         Some(dash) => match behind_first(dash, '-') {
-            Some(default) => with_default(text, name, default),
+            Some(default) => with_default(text, name, default, unclosed),
             None => lone(text),
         },
         None => lone(text),
@@ -147,11 +164,15 @@ fn lone(text: &str) -> Found<'_>
 
 /// The form that begins with `${`, a name and `:-`, by what follows the `$` and by what follows the `:-`.
 #[tactic(auto, using(crate::proofs::Drops::drops), unfolding(crate::specs::Pieces::with_default, crate::specs::Pieces::behind))]
-fn with_default<'a>(text: &'a str, name: &'a str, default: &'a str) -> Found<'a>
-    requires { text.now ≡ 123 ∷ (name.now ++ 58 ∷ 45 ∷ default.now) }
+fn with_default<'a>(text: &'a str, name: &'a str, default: &'a str, unclosed: usize) -> Found<'a>
+    requires whole { text.now ≡ 123 ∷ (name.now ++ 58 ∷ 45 ∷ default.now) }
+    requires unclosed { IsUnclosed unclosed default.now }
     ensures form { piece_view result.form ≡ with_default name.now default.now }
     ensures rest { result.rest.now ≡ drop (behind (piece_view result.form)) text.now }
 {
+    if default.len() <= unclosed {
+        return lone(text);
+    }
     match split_brace(default) {
         Some((default, rest)) => Found {
             form: Form::InBracesOr(name, default),

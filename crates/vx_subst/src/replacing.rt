@@ -7,7 +7,7 @@ ghost use Rattle.vx_subst.specs.Replaced.{becomes, lacks, name_in, replaced, fir
 ghost use Rattle.vx_subst.specs.Faults.{TellsFirst, TellsLack, TellsOf};
 ghost use Rattle.vx_subst.specs.Views.{piece_view};
 
-use crate::form::{Form, Found, form_of};
+use crate::form::{Form, Found, form_of, unclosed_len};
 use crate::subst_fault::SubstFault;
 use std::alloc::Global;
 use vx_value::{Text, Variable, VariableList};
@@ -27,10 +27,11 @@ pub fn replace(alloc: Global, text: &str, environment: &VariableList) -> Result<
     ensures missing { IfErr result (TellsFirst environment.now text.now) }
 {
     let mut out = String::new(alloc);
+    let unclosed = unclosed_len(text);
     let mut rest = text;
     while let Some((before, after)) = rest.split_once('$') {
         push(&mut out, before)?;
-        let Found { form, rest: behind } = form_of(after);
+        let Found { form, rest: behind } = form_of(after, unclosed);
         let at = text.len() - after.len() - 1;
         push_form(alloc, &mut out, form, environment.as_slice(), at as u64)?;
         rest = behind;

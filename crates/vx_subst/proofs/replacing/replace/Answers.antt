@@ -1,10 +1,12 @@
-use Rattle.std.proofs.Common.{◌≡◌, ◌∙◌, sym, ap, arith, false, rules, ◌∷◌, refl, length, lit<, string_bytes}
+use Rattle.std.proofs.Common.{◌≡◌, ◌∙◌, ℕ, List, [], ◌++◌, sym, ap, arith, false, rules, ◌∷◌, refl, length, lit<, string_bytes}
 use Rattle.std.proofs.lemmas.List.{length-append, length-drop}
 use Rattle.std.proofs.lemmas.Result.{err_from_is_err_and}
 use Rattle.std.proofs.lemmas.Str.Pattern.{split_parts}
 use Rattle.vx_subst.specs.Pieces.{behind, form_of}
 use Rattle.vx_subst.specs.Replaced.{lacks}
 use Rattle.vx_subst.proofs.Steps.{text_step, lack_step, text_end, lack_end, place, tells_first}
+use Rattle.vx_subst.specs.Unclosed.{IsUnclosed}
+use Rattle.vx_subst.proofs.Unclosed.{unclosed_behind, unclosed_dropped}
 use Rattle.vx_subst.proofs.replacing.replace.Goals as goal
 
 pub returns-in_err-push_form-clause-missing : goal.returns-in_err-push_form-clause-missing
@@ -18,6 +20,17 @@ returns-in_err-push_form-clause-missing c =
     let p = err_from_is_err_and c.from_residual-in_err-push_form.result c.from_residual-in_err-push_form.ensures.1 in
     rw (p.1, p.2) (tells_first environment text _ _ _ _ (sym c.loop-before.invariant.lack ∙ step) told)
 
+-- what stands behind the next `$`
+unclosed_after : (n : ℕ) (rest before after : List ℕ) → rest ≡ before ++ (36 ∷ after) → IsUnclosed n rest → IsUnclosed n after
+unclosed_after n rest before after e none =
+    unclosed_behind n (36 ∷ []) after (36 ∷ after) refl (unclosed_behind n before (36 ∷ after) rest e none)
+
+pub form_of-requires : goal.form_of-requires
+form_of-requires c =
+    let rest = c.loop-before.rest.now in
+    let parts = rw c.in-Some.is at (split_parts 36 rest c.split_once.result c.split_once.ensures.cases (lit< tt)) in
+    unclosed_after c.unclosed_len-unclosed.result rest c.in-Some.before.now c.in-Some.after.now parts.0 c.loop-before.invariant.unclosed
+
 pub loop-before-preserved : goal.loop-before-preserved
 loop-before-preserved c =
     let text = c.args.text.now in
@@ -28,6 +41,7 @@ loop-before-preserved c =
     let parts = rw c.in-Some.is at (split_parts 36 rest c.split_once.result c.split_once.ensures.cases (lit< tt)) in
     let steps = text_step environment text rest before after (string_bytes c.loop-before.out) parts.0 parts.1 c.loop-before.invariant.within in
     let lack = lack_step environment text rest before after _ parts.0 parts.1 c.loop-before.invariant.within refl in
+    let n = c.unclosed_len-unclosed.result in
     let form = c.form_of.ensures.form in
     let next = c.form_of.ensures.rest in
     let no : lacks environment (form_of after) ≡ false = cc (c.in_ok-push_form.ensures.whole, form, c.as_slice.ensures) in
@@ -36,6 +50,7 @@ loop-before-preserved c =
       within = omega (arith, ap length next, length-drop (behind (form_of after)) after, ap length parts.0, length-append before (36 ∷ after));
       text = cc (steps, c.loop-before.invariant.text, c.in_ok-push_form.ensures.ok, c.in_ok-push.ensures.ok, form, next, c.as_slice.ensures);
       lack = rw next (sym on ∙ c.loop-before.invariant.lack);
+      unclosed = rw next (unclosed_dropped n (behind (form_of after)) after (unclosed_after n rest before after parts.0 c.loop-before.invariant.unclosed));
       utf8 = search rules;
     }
 
