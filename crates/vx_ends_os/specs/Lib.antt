@@ -1,6 +1,10 @@
 pub mod Places
 pub mod Ends
 pub mod Reading
+pub mod Looks
+pub mod Documents
 pub mod Faults
 pub mod Devices
+pub mod Ports
+pub mod Streams
 pub mod Worlds

@@ -1,4 +1,4 @@
-ghost use Rattle.std.specs.Prelude.{◌<◌, ◌≤◌, ◌^◌, length, IfOk};
+ghost use Rattle.std.specs.Prelude.{◌<◌, ◌≤◌, ◌^◌, length, IfOk, IfSome, IsSomeAnd, OnOk};
 ghost use Rattle.vx_ends_os.specs.Reading.{IsInRoom};
 
 use crate::drawn::Drawn;
@@ -41,8 +41,13 @@ fn read(stdin: &mut Stdin, into: &mut [u8]) -> Result<Drawn, Fault>
 }
 
 impl Device {
+    ghost use Rattle.vx_ends_os.specs.Devices.{file_of, LetsSayNoMore};
+    ghost use Rattle.vx_ends_os.specs.Documents.{SaysEnd, SaysNoMore};
+
     /// Makes the device ready.
-    pub(crate) fn start(&mut self) -> Result<(), Fault> {
+    pub(crate) fn start(&mut self) -> Result<(), Fault>
+        ensures { IfSome (file_of self.old) (λ was. IfSome was.place (λ _. IsSomeAnd (file_of self.new) (SaysNoMore was))) }
+    {
         match self {
             Device::Input(_) | Device::Output(_) => Ok(()),
             Device::FileIn(file) => file.start(),
@@ -53,7 +58,8 @@ impl Device {
     /// Takes what comes next into the front of the buffer, by one call of the system.
     pub(crate) fn take(&mut self, into: &mut [u8]) -> Result<Drawn, Fault>
         requires { 0 < length into.old }
-        ensures { IfOk result (IsInRoom (length into.old)) }
+        ensures within { IfOk result (IsInRoom (length into.old)) }
+        ensures document { LetsSayNoMore self.old self.new }
     {
         match self {
             Device::Input(stdin) => read(stdin, into),
@@ -65,7 +71,8 @@ impl Device {
     /// Writes the first bytes of a piece by one call of the system, and answers how many; 0 where that failed.
     pub(crate) fn give(&mut self, bytes: &[u8]) -> u32
         requires { length bytes.now < 2 ^ 32 }
-        ensures { result ≤ length bytes.now }
+        ensures within { result ≤ length bytes.now }
+        ensures document { LetsSayNoMore self.old self.new }
     {
         let written = match self {
             Device::Input(_) | Device::FileIn(_) => return 0,
@@ -79,7 +86,9 @@ impl Device {
     }
 
     /// Hands on what is written and held back.
-    pub(crate) fn finish(&mut self) -> Result<(), Fault> {
+    pub(crate) fn finish(&mut self) -> Result<(), Fault>
+        ensures { LetsSayNoMore self.old self.new }
+    {
         match self {
             Device::Input(_) | Device::FileIn(_) => Err(Fault::Failed),
             Device::Output(output) => Ok(output.flush()?),
@@ -88,7 +97,9 @@ impl Device {
     }
 
     /// Notes how far its stream is done with, where it keeps that.
-    pub(crate) fn confirm(&mut self, positions: &PositionList) -> Result<(), Fault> {
+    pub(crate) fn confirm(&mut self, positions: &PositionList) -> Result<(), Fault>
+        ensures { OnOk result (IfSome (file_of self.old) (λ was. IsSomeAnd (file_of self.new) (SaysEnd positions.now was))) }
+    {
         match self {
             Device::Input(_) | Device::Output(_) | Device::FileOut(_) => Ok(()),
             Device::FileIn(file) => file.confirm(positions),
@@ -96,7 +107,9 @@ impl Device {
     }
 
     /// Closes the device. A standard stream stays open.
-    pub(crate) fn close(&mut self) {
+    pub(crate) fn close(&mut self)
+        ensures { LetsSayNoMore self.old self.new }
+    {
         match self {
             Device::Input(_) | Device::Output(_) => {}
             Device::FileIn(file) => file.close(),

@@ -1,21 +1,21 @@
-ghost use Rattle.std.specs.Prelude.{◌≡◌, ◌≢◌, ◌<◌, ◌≤◌, ◌⊎◌, ◌↔◌, length, IfOk, IfSome, OnOk, OnErr, IsTrue, Ok, Some, None};
+ghost use Rattle.std.specs.Prelude.{◌≡◌, ◌≢◌, ◌<◌, ◌^◌, ◌-◌, ◌⊎◌, ◌↔◌, ◌&&◌, if◌then◌else◌, not, max, length, slice_get, false, IfOk, IfSome, OnOk, OnErr, IsTrue, Ok, Some, None};
 ghost use Rattle.vx_ends_os.specs.Ends.{with_end, greatest_end};
-ghost use Rattle.vx_ends_os.specs.Places.{offset_at};
+ghost use Rattle.vx_ends_os.specs.Places.{GoesOn, first_place, next_of, offset_at, opened};
+ghost use Rattle.vx_ends_os.specs.Looks.{after_look, behind_line, is_other};
 ghost use Rattle.vx_ends_os.specs.Reading.{IsInRoom, taken_of, more, after_read, after_call};
 
 use crate::checkpoint_file::CheckpointFile;
 use crate::drawn::Drawn;
 use crate::fault::{Fault, is_for_now};
 use crate::place::Place;
-use crate::seen::{Seen, is_successor};
+use crate::seen::{Look, Seen, is_successor};
 use std::alloc::Global;
 use std::fs::File;
 use std::io::{Error, ErrorKind};
 use std::os::unix::fs::FileExt;
 use std::{fs, io};
-use vx_checkpoint::Checkpoint;
 use vx_ends::{Position, PositionList};
-use vx_value::{Text, WantOfMemory};
+use vx_value::WantOfMemory;
 
 /// The most bytes that one take reads.
 const MOST_READ: usize = 65_536;
@@ -33,8 +33,7 @@ const LINE_FEED: u8 = b'\n';
 pub(crate) struct FileIn {
     rt: HostRuntime,
     once: bool,
-    // The path, and the offset that was last put on the disk with it, or was to be.
-    mark: Checkpoint,
+    // The path of the file, and the document in which is kept how much of it is done with.
     checkpoint: CheckpointFile,
     // How far the stream was taken; nothing is known before a start.
     place: Option<Place>,
@@ -70,6 +69,7 @@ fn greatest_end(positions: &[Position]) -> Option<u64>
 
 impl FileIn {
     ghost use Rattle.vx_ends_os.specs.Devices.{Reads, SameFile};
+    ghost use Rattle.vx_ends_os.specs.Documents.{SaysEnd, SaysNoMore, said_of};
 
     /// A file at a path with its checkpoint, not opened yet. Where `once` is set it ends where it was read to its end.
     pub(crate) fn new(
@@ -82,15 +82,10 @@ impl FileIn {
         ensures reads { IfOk result (Reads path.now once checkpoint.now) }
         ensures place { IfOk result (λ file. file.place ≡ None) }
     {
-        let mark = Checkpoint {
-            path: Text::copy_of(alloc, path)?,
-            offset: 0,
-        };
-        let checkpoint = CheckpointFile::new(rt, alloc, checkpoint)?;
+        let checkpoint = CheckpointFile::new(rt, alloc, checkpoint, path)?;
         Ok(FileIn {
             rt,
             once,
-            mark,
             checkpoint,
             place: None,
             file: None,
@@ -105,50 +100,65 @@ impl FileIn {
     /// After a close it goes on at its place, and begins anew where the file is shorter.
     pub(crate) fn start(&mut self) -> Result<(), Fault>
         ensures taken { taken_of self.new.place ≡ taken_of self.old.place }
-        ensures unconfirmed { IfSome self.old.place (λ _. self.new.mark.offset ≤ self.old.mark.offset) }
+        ensures first { self.old.place ≡ None → IfSome self.new.place (λ place. (next_of place ≡ said_of self.new) ⊎ (next_of place ≡ 0)) }
+        ensures later { IfSome self.old.place (λ place. GoesOn place self.new.place) }
+        ensures document { IfSome self.old.place (λ _. SaysNoMore self.old self.new) }
         ensures same { SameFile self.old self.new }
     {
-        if self.place.is_none() {
-            let place = Place::new(self.kept_offset()?);
-            self.mark.offset = place.next();
-            self.place = Some(place);
-        }
-        match self.place {
-            Some(place) => self.open(place),
-            None => Err(Fault::Failed),
-        }
-    }
-
-    // The offset that the checkpoint names; 0 where it names none of this path.
-    fn kept_offset(&self) -> Result<u64, Fault> {
-        match self.checkpoint.read()? {
-            Some(kept) if kept.path.as_str() == self.mark.path.as_str() => Ok(kept.offset),
-            _ => Ok(0),
-        }
-    }
-
-    // Opens what is at the path, and goes on in it at a place; at its front where it is shorter. Nothing is the shortest.
-    fn open(&mut self, mut place: Place) -> Result<(), Fault>
-        ensures ok { OnOk result (taken_of self.new.place ≡ place.taken) }
-        ensures err { OnErr result (self.new.place ≡ self.old.place) }
-        ensures unconfirmed { self.new.mark.offset ≤ self.old.mark.offset }
-        ensures same { SameFile self.old self.new }
-    {
-        let file = self.at_path()?;
-        let length = match &file {
-            Some(file) => file.metadata()?.len(),
-            None => 0,
+        let place = match self.place {
+            Some(place) => place,
+            None => self.begin()?,
         };
-        if length < place.next() {
-            place.begin_anew();
-        }
-        if place.next() == 0 {
-            self.forget();
-        }
+        self.open(place)
+    }
+
+    // Begins the stream at the offset that the checkpoint names.
+    fn begin(&mut self) -> Result<Place, Fault>
+        ensures ok { IfOk result (λ place. self.new.place ≡ Some place) }
+        ensures place { IfOk result (λ place. place ≡ first_place (said_of self.new)) }
+        ensures kept { OnOk result (said_of self.new < 2 ^ 63) }
+        ensures err { OnErr result (self.new ≡ self.old) }
+        ensures same { SameFile self.old self.new }
+    {
+        let place = Place::new(self.checkpoint.read()?);
         self.place = Some(place);
-        self.file = file;
-        self.succeeded = false;
+        Ok(place)
+    }
+
+    // Opens what is at the path, and goes on in it at a place; at its front where it is shorter. Where nothing is there yet
+    // the place is kept for what comes.
+    fn open(&mut self, place: Place) -> Result<(), Fault>
+        requires { self.old.place ≡ Some place }
+        ensures taken { taken_of self.new.place ≡ place.taken }
+        ensures place { GoesOn place self.new.place }
+        ensures err { OnErr result (self.new ≡ self.old) }
+        ensures document { SaysNoMore self.old self.new }
+        ensures same { SameFile self.old self.new }
+    {
+        if let Some(file) = self.at_path()? {
+            let length = file.metadata()?.len();
+            self.go_on(place, file, length);
+        }
         Ok(())
+    }
+
+    // Goes on at a place in a file of so many bytes that was opened; at its front where it is shorter.
+    fn go_on(&mut self, place: Place, file: File, length: u64)
+        requires { self.old.place ≡ Some place }
+        ensures place { self.new.place ≡ Some (opened length place) }
+        ensures file { self.new.file ≡ Some file }
+        ensures succeeded { self.new.succeeded ≡ false }
+        ensures line { self.new.in_line ≡ self.old.in_line }
+        ensures document { SaysNoMore self.old self.new }
+        ensures same { SameFile self.old self.new }
+    {
+        let place = place.opened(length);
+        self.place = Some(place);
+        self.file = Some(file);
+        self.succeeded = false;
+        if place.next() == 0 {
+            self.checkpoint.forget();
+        }
     }
 
     // The file at the path, opened.
@@ -162,29 +172,11 @@ impl FileIn {
 
     // The plain file at the path, opened. What is none isn't opened: that may wait without end.
     fn plain_file(&self) -> io::Result<File> {
-        let path = self.mark.path.as_str();
+        let path = self.checkpoint.path();
         if fs::metadata(&self.rt, path)?.is_file() {
             File::open(&self.rt, path)
         } else {
             Err(Error::from(ErrorKind::InvalidInput))
-        }
-    }
-
-    // Lets the checkpoint say 0 where it may say more: of the file that is at the path now nothing is done with. So a run
-    // that is killed before the next confirm leaves no offset of another file. Where that can't be written, it is written
-    // where reading begins anew the next time, or the next confirm writes what is due then.
-    fn forget(&mut self)
-        ensures offset { (self.new.mark.offset ≡ 0) ⊎ (self.new.mark.offset ≡ self.old.mark.offset) }
-        ensures mark { self.new.mark ≡ record self.old.mark { offset = self.new.mark.offset } }
-        ensures rest { self.new ≡ record self.old { mark = self.new.mark } }
-    {
-        let kept = self.mark.offset;
-        if kept == 0 {
-            return;
-        }
-        self.mark.offset = 0;
-        if self.checkpoint.write(&self.mark).is_err() {
-            self.mark.offset = kept;
         }
     }
 
@@ -193,8 +185,9 @@ impl FileIn {
         requires { 0 < length into.old }
         ensures within { IfOk result (IsInRoom (length into.old)) }
         ensures taken { taken_of self.new.place ≡ after_call (taken_of self.old.place) result }
+        ensures place { IfSome self.old.place (λ place. GoesOn place self.new.place) }
         ensures end { result ≡ Ok Drawn.End → IsTrue self.old.once }
-        ensures unconfirmed { self.new.mark.offset ≤ self.old.mark.offset }
+        ensures document { SaysNoMore self.old self.new }
         ensures same { SameFile self.old self.new }
     {
         let Some(place) = self.place else {
@@ -220,7 +213,8 @@ impl FileIn {
 
     // Goes on behind bytes that were read.
     fn took(&mut self, mut place: Place, bytes: &[u8])
-        ensures taken { taken_of self.new.place ≡ more place.taken (length bytes.now) }
+        ensures place { self.new.place ≡ Some (record place { taken = more place.taken (length bytes.now) }) }
+        ensures line { IsTrue self.new.in_line ↔ (slice_get bytes.now (length bytes.now - 1) ≢ Some 10) }
         ensures rest { self.new ≡ record self.old { place = self.new.place; in_line = self.new.in_line } }
     {
         place.took(bytes.len() as u64);
@@ -233,7 +227,8 @@ impl FileIn {
         requires { self.old.place ≡ Some place }
         ensures nothing { IfOk result (λ drawn. drawn ≡ Drawn.Nothing) }
         ensures taken { taken_of self.new.place ≡ taken_of self.old.place }
-        ensures unconfirmed { self.new.mark.offset ≤ self.old.mark.offset }
+        ensures place { GoesOn place self.new.place }
+        ensures document { SaysNoMore self.old self.new }
         ensures same { SameFile self.old self.new }
     {
         if self.is_there()? {
@@ -244,7 +239,7 @@ impl FileIn {
 
     // Whether there is something at the path to be opened.
     fn is_there(&self) -> Result<bool, Fault> {
-        match fs::metadata(&self.rt, self.mark.path.as_str()) {
+        match fs::metadata(&self.rt, self.checkpoint.path()) {
             Ok(found) => Ok(found.len() > 0 || !found.is_file()),
             Err(error) if error.kind() == ErrorKind::NotFound => Ok(false),
             Err(error) => Err(Fault::from(error)),
@@ -257,39 +252,57 @@ impl FileIn {
         requires place { self.old.place ≡ Some place }
         ensures within { IfOk result (IsInRoom (length into.old)) }
         ensures taken { taken_of self.new.place ≡ after_call (taken_of self.old.place) result }
+        ensures place { GoesOn place self.new.place }
         ensures end { (result ≡ Ok Drawn.End) ↔ IsTrue self.old.once }
-        ensures unconfirmed { self.new.mark.offset ≤ self.old.mark.offset }
+        ensures document { SaysNoMore self.old self.new }
         ensures same { SameFile self.old self.new }
     {
         if self.once {
-            return Ok(Drawn::End);
-        }
-        match self.seen(place) {
-            Seen::Other if self.succeeded => {
-                self.file = None;
-                Ok(self.begin_anew(place, into))
-            }
-            Seen::Shorter => Ok(self.begin_anew(place, into)),
-            seen => {
-                self.succeeded = seen == Seen::Other;
-                Ok(Drawn::Nothing)
-            }
+            Ok(Drawn::End)
+        } else {
+            let look = self.look();
+            Ok(self.after_look(look, place, into))
         }
     }
 
-    // What has become of the open file. What can't be looked at is as it was.
-    fn seen(&self, place: Place) -> Seen {
-        let Some(file) = &self.file else {
-            return Seen::Same;
-        };
-        let Ok(open) = file.metadata() else {
-            return Seen::Same;
-        };
-        let has_other = match fs::metadata(&self.rt, self.mark.path.as_str()) {
+    // What the open file and its path show now, where they can be looked at.
+    fn look(&self) -> Option<Look> {
+        let open = self.file.as_ref()?.metadata().ok()?;
+        let has_other = match fs::metadata(&self.rt, self.checkpoint.path()) {
             Ok(named) => is_successor(&named, &open),
             Err(_) => false,
         };
-        Seen::of(place.next(), open.len(), has_other)
+        Some(Look {
+            length: open.len(),
+            has_other,
+        })
+    }
+
+    // Begins anew where the open file is shorter than what was read of it, and where another one was seen at the path for
+    // the second time in a row; else waits for more.
+    fn after_look(&mut self, look: Option<Look>, place: Place, into: &mut [u8]) -> Drawn
+        requires room { 0 < length into.old }
+        requires place { self.old.place ≡ Some place }
+        ensures within { IsInRoom (length into.old) result }
+        ensures place { self.new.place ≡ Some (after_look self.old.in_line self.old.succeeded look place) }
+        ensures taken { taken_of self.new.place ≡ after_read place.taken result }
+        ensures succeeded { self.new.succeeded ≡ (is_other (next_of place) look && not self.old.succeeded) }
+        ensures file { self.new.file ≡ (if is_other (next_of place) look && self.old.succeeded then None else self.old.file) }
+        ensures goes_on { result ≢ Drawn.End }
+        ensures document { SaysNoMore self.old self.new }
+        ensures same { SameFile self.old self.new }
+    {
+        match Seen::of(place.next(), look) {
+            Seen::Shorter => self.begin_anew(place, into),
+            Seen::Other if self.succeeded => {
+                self.file = None;
+                self.begin_anew(place, into)
+            }
+            seen => {
+                self.succeeded = seen == Seen::Other;
+                Drawn::Nothing
+            }
+        }
     }
 
     // Begins anew at the front of a file. A line that is open ends before.
@@ -297,9 +310,13 @@ impl FileIn {
         requires room { 0 < length into.old }
         requires place { self.old.place ≡ Some place }
         ensures within { IsInRoom (length into.old) result }
-        ensures taken { taken_of self.new.place ≡ after_read (taken_of self.old.place) result }
+        ensures place { self.new.place ≡ Some (behind_line self.old.in_line place) }
+        ensures taken { taken_of self.new.place ≡ after_read place.taken result }
+        ensures line { self.new.in_line ≡ false }
+        ensures succeeded { self.new.succeeded ≡ false }
+        ensures file { self.new.file ≡ self.old.file }
         ensures goes_on { result ≢ Drawn.End }
-        ensures unconfirmed { self.new.mark.offset ≤ self.old.mark.offset }
+        ensures document { SaysNoMore self.old self.new }
         ensures same { SameFile self.old self.new }
     {
         let was_in_line = self.in_line;
@@ -307,11 +324,10 @@ impl FileIn {
             into[0] = LINE_FEED;
             place.took(1);
         }
-        place.begin_anew();
-        self.place = Some(place);
+        self.place = Some(place.anew());
         self.in_line = false;
         self.succeeded = false;
-        self.forget();
+        self.checkpoint.forget();
         if was_in_line {
             Drawn::Bytes(1)
         } else {
@@ -321,22 +337,21 @@ impl FileIn {
 
     /// Keeps on the disk what of the file is done with, by the positions of its stream that are.
     ///
-    /// The offset that is put on the disk is that of the greatest end. Where no end is of its stream, nothing is.
+    /// The offset that is put on the disk is that of the greatest end. Where no end is of its stream, nothing is. Where that
+    /// can't be put there, the document may say what it did.
     pub(crate) fn confirm(&mut self, positions: &PositionList) -> Result<(), Fault>
-        ensures mark { IfSome (greatest_end positions.now) (λ end. IfSome self.old.place (λ place. self.new.mark.offset ≡ offset_at place.from place.base end)) }
+        ensures ok { OnOk result (SaysEnd positions.now self.old self.new) }
+        ensures err { OnErr result (IfSome (greatest_end positions.now) (λ end. IfSome self.old.place (λ place. said_of self.new ≡ max (said_of self.old) (offset_at place.from place.base end)))) }
         ensures kept { greatest_end positions.now ≡ None → self.new ≡ self.old }
         ensures unstarted { self.old.place ≡ None → self.new ≡ self.old }
         ensures same { SameFile self.old self.new }
-        ensures rest { self.new ≡ record self.old { mark = self.new.mark } }
+        ensures rest { self.new ≡ record self.old { checkpoint = self.new.checkpoint } }
     {
         let Some(end) = greatest_end(positions.as_slice()) else {
             return Ok(());
         };
         match self.place {
-            Some(place) => {
-                self.mark.offset = place.offset_of(end);
-                self.checkpoint.write(&self.mark)
-            }
+            Some(place) => self.checkpoint.write(place.offset_of(end)),
             None => Err(Fault::Failed),
         }
     }

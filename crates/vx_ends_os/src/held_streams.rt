@@ -45,9 +45,13 @@ fn hold_output(rt: HostRuntime) -> Option<File>
 }
 
 impl HeldStreams {
+    ghost use Rattle.vx_ends_os.specs.Streams.{HoldsStandardStreams};
+
     /// Holds the number of each standard stream that isn't open. It is to be made before anything is opened, and kept
     /// until the end of the process.
-    pub fn new(rt: HostRuntime) -> Self {
+    pub fn new(rt: HostRuntime) -> Self
+        ensures { HoldsStandardStreams result }
+    {
         HeldStreams {
             input: hold_input(rt),
             output: hold_output(rt),

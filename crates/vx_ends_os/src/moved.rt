@@ -1,3 +1,4 @@
+use crate::held_streams::HeldStreams;
 use crate::os_clock::OsClock;
 use crate::os_port::OsPort;
 use crate::os_printer::OsPrinter;
@@ -10,6 +11,8 @@ pub(crate) trait Moved: Send {}
 /// An end that several threads may look at at a time, as workers do at their clock.
 pub(crate) trait Shared: Sync {}
 
+impl Moved for HeldStreams {}
+
 impl Moved for OsClock {}
 
 impl Moved for OsPort {}
@@ -17,6 +20,8 @@ impl Moved for OsPort {}
 impl Moved for OsPrinter {}
 
 impl Moved for OsWorld {}
+
+impl Shared for HeldStreams {}
 
 impl Shared for OsClock {}
 

@@ -1,5 +1,5 @@
-ghost use Rattle.std.specs.Prelude.{◌≡◌, ◌≢◌, ◌≤◌, None, [], true, false};
-ghost use Rattle.vx_ends.specs.Told.{Rose, raised, untold};
+ghost use Rattle.std.specs.Prelude.{◌≡◌, ◌≢◌, ◌≤◌, ◌&&◌, not, Err, IsOk, IsTrue, OnOk, OnErr, is_ok, false};
+ghost use Rattle.vx_ends.specs.Told.{CountsBy, HasCause, Rose, SameBytes, is_failed, nothing, raised};
 ghost use Rattle.vx_ends_os.specs.Faults.{is_counted, trouble_of};
 
 use crate::device::Device;
@@ -75,25 +75,24 @@ impl OsPort {
 }
 
 impl Port for OsPort {
-    ghost told = { λ p. record {
-      taken = λ _. None;
-      left = λ _. None;
-      given = None;
-      confirmed = None;
-      spec = untold;
-      ended = [];
-      over = p.over;
-      started = p.started;
-      faults = p.faults;
-      idles = p.idles;
-      refusals = 0;
-      starts = p.starts;
-      finishes = p.finishes;
-      confirms = p.confirms;
-      exact = true;
-    } };
+    ghost use Rattle.vx_ends_os.specs.Ports.{told_of};
 
-    fn start(&mut self) -> Result<(), Trouble> {
+    ghost told = { told_of };
+
+    fn start(&mut self) -> Result<(), Trouble>
+        // A port that is started stays the same, and so does its device.
+        ensures unchanged { IsTrue (told_of self.old).started → self.new ≡ self.old }
+
+        ensures started { OnOk result (IsTrue (told_of self.new).started) }
+        ensures closed { OnErr result ((told_of self.new).started ≡ (told_of self.old).started) }
+        ensures again { IsTrue (told_of self.old).started → IsOk result × (told_of self.new ≡ told_of self.old) }
+        ensures bytes { SameBytes (told_of self.old) (told_of self.new) }
+        ensures cause { HasCause (told_of self.old).faults (told_of self.new).faults result }
+        ensures unrefused { result ≢ Err Trouble.Refused }
+        ensures idles { (told_of self.old).idles ≤ (told_of self.new).idles }
+        ensures refusals { (told_of self.old).refusals ≤ (told_of self.new).refusals }
+        ensures counts { CountsBy (record nothing { failed = is_failed result; started = is_ok result && not (told_of self.old).started }) (told_of self.old) (told_of self.new) }
+    {
         if self.started {
             return Ok(());
         }

@@ -1,8 +1,8 @@
 ghost use Rattle.std.specs.Prelude.{◌≡◌, ◌+◌, ◌-◌, ◌<◌, ◌^◌, min};
-ghost use Rattle.vx_ends_os.specs.Places.{greatest, offset_at};
+ghost use Rattle.vx_ends_os.specs.Places.{offset_at, first_place, next_of, anew, opened};
 
 /// The greatest offset that a checkpoint keeps.
-const GREATEST: u64 = (1 << 63) - 1;
+pub(crate) const GREATEST: u64 = (1 << 63) - 1;
 
 /// How far a stream was taken, and at which of its positions, and at which offset, the file under way was begun.
 ///
@@ -17,13 +17,11 @@ pub(crate) struct Place {
 impl Place {
     /// A stream of which nothing was taken yet, and whose file is begun at that offset.
     pub(crate) fn new(offset: u64) -> Self
-        ensures from { result.from ≡ 0 }
-        ensures base { result.base ≡ min offset greatest }
-        ensures taken { result.taken ≡ 0 }
+        ensures { result ≡ first_place offset }
     {
         Place {
             from: 0,
-            base: offset.min(GREATEST),
+            base: offset,
             taken: 0,
         }
     }
@@ -42,7 +40,8 @@ impl Place {
 
     /// The offset of the next byte to take.
     pub(crate) fn next(&self) -> u64
-        ensures { result ≡ offset_at self.now.from self.now.base self.now.taken }
+        ensures offset { result ≡ next_of self.now }
+        ensures kept { result < 2 ^ 63 }
     {
         self.offset_of(self.taken)
     }
@@ -55,13 +54,25 @@ impl Place {
         self.taken = self.taken.saturating_add(n);
     }
 
-    /// Begins another file at its front: the next byte to take is its first.
-    pub(crate) fn begin_anew(&mut self)
-        ensures from { self.new.from ≡ self.old.taken }
-        ensures base { self.new.base ≡ 0 }
-        ensures taken { self.new.taken ≡ self.old.taken }
+    /// The place at the front of another file: the next byte to take is its first.
+    pub(crate) fn anew(self) -> Self
+        ensures { result ≡ anew self }
     {
-        self.from = self.taken;
-        self.base = 0;
+        Place {
+            from: self.taken,
+            base: 0,
+            taken: self.taken,
+        }
+    }
+
+    /// The place in a file of so many bytes that was opened: at its front, where it is shorter.
+    pub(crate) fn opened(self, length: u64) -> Self
+        ensures { result ≡ opened length self }
+    {
+        if length < self.next() {
+            self.anew()
+        } else {
+            self
+        }
     }
 }

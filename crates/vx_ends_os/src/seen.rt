@@ -1,7 +1,17 @@
-ghost use Rattle.std.specs.Prelude.{◌≡◌, ◌<◌, ◌≤◌, ◌↔◌, IsTrue};
+ghost use Rattle.std.specs.Prelude.{◌≡◌, ◌↔◌, IsTrue};
+ghost use Rattle.vx_ends_os.specs.Looks.{is_shorter, is_other};
 
 use std::fs::Metadata;
 use std::os::unix::fs::MetadataExt;
+
+/// What a look at a file showed at whose end a reader stands.
+#[derive(Clone, Copy)]
+pub(crate) struct Look {
+    /// How many bytes it has.
+    pub(crate) length: u64,
+    /// Whether its path names another file that has bytes.
+    pub(crate) has_other: bool,
+}
 
 /// What becomes of a file at whose end a reader stands.
 #[derive(Clone, Copy, PartialEq, Eq)]
@@ -15,17 +25,15 @@ pub(crate) enum Seen {
 }
 
 impl Seen {
-    /// What becomes of a file of so many bytes whose reader comes to `next`, where its path names another one or doesn't.
-    pub(crate) fn of(next: u64, length: u64, has_other: bool) -> Self
-        ensures shorter { (result ≡ Seen.Shorter) ↔ (length < next) }
-        ensures other { (result ≡ Seen.Other) ↔ ((next ≤ length) × IsTrue has_other) }
+    /// What becomes of a file whose reader comes to `next`. What can't be looked at is as it was.
+    pub(crate) fn of(next: u64, look: Option<Look>) -> Self
+        ensures shorter { (result ≡ Seen.Shorter) ↔ IsTrue (is_shorter next look) }
+        ensures other { (result ≡ Seen.Other) ↔ IsTrue (is_other next look) }
     {
-        if length < next {
-            Seen::Shorter
-        } else if has_other {
-            Seen::Other
-        } else {
-            Seen::Same
+        match look {
+            Some(look) if look.length < next => Seen::Shorter,
+            Some(look) if look.has_other => Seen::Other,
+            _ => Seen::Same,
         }
     }
 }

@@ -31,6 +31,8 @@ enum Step {
     Takes(&'static str),
     /// This end of the one stream is confirmed.
     Confirm(u64),
+    /// The port fails to confirm this end of the one stream.
+    FailsConfirm(u64),
     /// This text is given whole, and finished.
     Give(&'static str),
     /// The port is closed.
@@ -91,11 +93,11 @@ fn takes<P: Port>(rt: &(impl Abort + AllocGlobal), port: &mut P, want: &str) -> 
     Ok(())
 }
 
-/// Confirms an end of the one stream.
-fn confirm<P: Port>(alloc: Global, port: &mut P, end: u64) -> Result<(), Fail> {
+/// What a port answers to a confirm of an end of the one stream.
+fn confirm<P: Port>(alloc: Global, port: &mut P, end: u64) -> Result<Result<(), Trouble>, Fail> {
     let mut positions = PositionList::new(alloc);
     match positions.push(Position { stream: 0, end }) {
-        Ok(()) => Ok(port.confirm(&positions)?),
+        Ok(()) => Ok(port.confirm(&positions)),
         Err(_) => Err(Fail::new("no memory")),
     }
 }
@@ -150,7 +152,12 @@ fn make<P: Port, R: Abort + Files + AllocGlobal>(
             Ok(())
         }
         Step::Takes(want) => takes(rt, port, *want),
-        Step::Confirm(end) => confirm(rt.alloc(), port, *end),
+        Step::Confirm(end) => Ok(confirm(rt.alloc(), port, *end)??),
+        Step::FailsConfirm(end) => {
+            let answer = confirm(rt.alloc(), port, *end)?;
+            assert!(rt; answer == Err(Trouble::Failed));
+            Ok(())
+        }
         Step::Give(text) => {
             give(rt, port, *text)?;
             Ok(finish(port)?)
@@ -414,26 +421,66 @@ const CLOSED_IN_A_LINE: &[Step] = &[
 ];
 
 #[test]
-fn a_file_that_is_gone_begins_at_its_front(rt: HostRuntime) -> Result<(), Fail> {
+fn a_file_that_comes_later_goes_on_at_its_checkpoint(rt: HostRuntime) -> Result<(), Fail> {
+    let port = reader(rt, "later", false, "later.mark")?;
+    play(&rt, port, LATER)
+}
+
+/// A file that comes after its port was started, and is gone while that is closed.
+const LATER: &[Step] = &[
+    Step::Set(
+        "later.mark",
+        "{\"offset\":4,\"path\":\"later\",\"version\":1}\n",
+    ),
+    Step::Takes("idle"),
+    Step::Put("later", ""),
+    Step::Takes("idle"),
+    Step::Has(
+        "later.mark",
+        "{\"offset\":4,\"path\":\"later\",\"version\":1}\n",
+    ),
+    Step::Put("later", "one\ntwo\n"),
+    Step::Takes("idle"),
+    Step::Takes("two\n"),
+    Step::Confirm(4),
+    Step::Close,
+    Step::Move("later", "later.gone"),
+    Step::Takes("idle"),
+    Step::Move("later.gone", "later"),
+    Step::Put("later", "three\n"),
+    Step::Takes("idle"),
+    Step::Takes("three\n"),
+    Step::Has(
+        "later.mark",
+        "{\"offset\":8,\"path\":\"later\",\"version\":1}\n",
+    ),
+];
+
+#[test]
+fn a_shorter_file_that_comes_later_begins_at_its_front(rt: HostRuntime) -> Result<(), Fail> {
     let port = reader(rt, "gone", false, "gone.mark")?;
     play(&rt, port, GONE)
 }
 
-/// A checkpoint of a file that isn't there, which is kept as 0 before a file comes, over what a killed run left.
+/// A checkpoint of a file that comes later and is shorter, which is kept as 0 then, over what a killed run left.
 const GONE: &[Step] = &[
     Step::Set(
         "gone.mark",
-        "{\"offset\":2,\"path\":\"gone\",\"version\":1}\n",
+        "{\"offset\":5,\"path\":\"gone\",\"version\":1}\n",
     ),
     Step::Set("gone.mark.new", "what a killed run left"),
+    Step::Takes("idle"),
+    Step::Has(
+        "gone.mark",
+        "{\"offset\":5,\"path\":\"gone\",\"version\":1}\n",
+    ),
+    Step::Put("gone", "one\n"),
     Step::Takes("idle"),
     Step::Has(
         "gone.mark",
         "{\"offset\":0,\"path\":\"gone\",\"version\":1}\n",
     ),
     Step::Lacks("gone.mark.new"),
-    Step::Put("gone", "one\n"),
-    Step::Takes("idle"),
     Step::Takes("one\n"),
 ];
 
@@ -464,6 +511,37 @@ const STAYED: &[Step] = &[
         "{\"offset\":0,\"path\":\"stayed\",\"version\":1}\n",
     ),
     Step::Put("stayed", "2\n"),
+    Step::Takes("2\n"),
+];
+
+#[test]
+fn a_confirm_that_failed_leaves_0_to_be_kept_later(rt: HostRuntime) -> Result<(), Fail> {
+    fs::create_dir(&rt, "unkept.mark.new")?;
+    let port = reader(rt, "unkept", false, "unkept.mark")?;
+    play(&rt, port, UNKEPT)
+}
+
+/// A checkpoint behind the end of its file, as above, where a confirm of less fails before the file begins anew.
+const UNKEPT: &[Step] = &[
+    Step::Put("unkept", "1\n"),
+    Step::Set(
+        "unkept.mark",
+        "{\"offset\":4,\"path\":\"unkept\",\"version\":1}\n",
+    ),
+    Step::Takes("1\n"),
+    Step::FailsConfirm(0),
+    Step::Has(
+        "unkept.mark",
+        "{\"offset\":4,\"path\":\"unkept\",\"version\":1}\n",
+    ),
+    Step::Move("unkept.mark.new", "unkept.folder"),
+    Step::Set("unkept", ""),
+    Step::Takes("idle"),
+    Step::Has(
+        "unkept.mark",
+        "{\"offset\":0,\"path\":\"unkept\",\"version\":1}\n",
+    ),
+    Step::Put("unkept", "2\n"),
     Step::Takes("2\n"),
 ];
 
