@@ -17,7 +17,7 @@ import time
 from pathlib import Path
 from typing import NamedTuple
 
-from running import BUILT, PATIENCE, TOP, check, ended, go_through, run
+from running import BUILT, PATIENCE, TOP, check, ended, go_through, run, tally, written
 
 TAIL = str(TOP / "examples" / "tail.toml")
 KILLS = 200
@@ -35,10 +35,40 @@ include = [{given}]
 [sinks.out]
 type = "file"
 path = {out}
-inputs = ["app"]
+inputs = ["*"]
 encoding.codec = "text"
 {more}
 """
+
+# A source that reads standard input, and consoles beside the file that is written, all of which take its lines.
+CONSOLES = """
+[sources.{name}]
+type = "stdin"
+
+[sinks.shown]
+type = "console"
+inputs = ["{name}"]
+encoding.codec = "text"
+request.retry_attempts = 0
+
+[sinks.told]
+type = "console"
+target = "stderr"
+inputs = ["{name}"]
+encoding.codec = "text"
+request.retry_attempts = 0
+"""
+
+# Standard streams that aren't there, beside how a run on one line ends, and which lines of standard input come out. A source that is named
+# `ahead` is read before the file is opened that the source `app` reads, so the first that is opened then is the file that is written. One
+# that is named `behind` is read once that file is open.
+CLOSED = [
+    ("<&-", "behind", (69, b"", b"vector: source behind failed after 0 bytes\n"), b""),
+    (">&-", "ahead", (0, b"", b"in\n"), b"in\n"),
+    ("2>&-", "ahead", (0, b"in\n", b""), b"in\n"),
+    (">&- 2>&-", "ahead", (0, b"", b""), b"in\n"),
+    ("<&- >&- 2>&-", "behind", (69, b"", b""), b""),
+]
 
 FAILED = b"vector: source app failed after 0 bytes\n"
 UNCONFIRMED = b"vector: source app could not be confirmed\n"
@@ -324,14 +354,43 @@ def folders():
             seen = copy.end("--once"), at.is_dir(), copy.written()
             check(f"a folder in the place of {name}", seen == ((69, b"", FAILED), True, b""), seen)
     with tempfile.TemporaryDirectory() as folder:
-        copy = Copy(folder)
+        copy, begun_at = Copy(folder), time.monotonic()
         seen = copy.end("--once"), copy.mark.exists()
-        check("a file to be read once that isn't there", seen == ((69, b"", FAILED), False), seen)
+        took = time.monotonic() - begun_at
+        check("a file to be read once that isn't there, by five tries a second apart", seen == ((69, b"", FAILED), False) and 4 <= took < 20, (seen, took))
+        ran = copy.begin("--once")
+        time.sleep(2.5)
+        copy.given.write_bytes(numbered(10))
+        held = ended(ran), copy.written() == numbered(10), copy.offset() == len(numbered(10))
+        check("a file to be read once that comes in time", held == ((0, b"", b""), True, True), held)
+    with tempfile.TemporaryDirectory() as folder:
+        copy = Copy(folder)
         ran = copy.begin()
         time.sleep(0.5)
         copy.given.write_bytes(numbered(10))
         held = comes(lambda: copy.offset() == len(numbered(10))), copy.written() == numbered(10), killed(ran)
         check("a file that comes later", held == (True, True, True), (held, copy.offset()))
+
+
+def late_files():
+    """Files that come after the run began, where a checkpoint is there already."""
+    lines = numbered(10)
+    for name, mark, wanted in [
+        ("a file that comes later than its checkpoint", 11, lines[11:]),
+        ("a shorter file that comes later than its checkpoint", len(lines) + 1, lines),
+    ]:
+        with tempfile.TemporaryDirectory() as folder:
+            copy = Copy(folder)
+            copy.mark.write_bytes(copy.document(mark))
+            ran = copy.begin()
+            time.sleep(0.5)
+            kept = copy.offset()
+            beside = copy.folder / "app.log.part"
+            beside.write_bytes(lines)
+            beside.rename(copy.given)
+            comes(lambda: copy.offset() == len(lines) and copy.written() == wanted)
+            seen = kept, copy.written(), copy.offset(), killed(ran)
+            check(name, seen == (mark, wanted, len(lines), True), seen)
 
 
 def followed():
@@ -347,6 +406,55 @@ def followed():
             file.write(b'{"message":"bad gateway","status":502}\n')
         seen = run(b"", words, cwd=folder), bytes_of(kept)
         check("the errors that came since", seen == ((0, b"", b""), first + second), seen)
+
+
+def closed_streams():
+    """Standard streams that are closed at the beginning: no file that is opened comes in their place, to be written or to be read."""
+    lines = numbered(10)
+    for streams, name, wanted, came in CLOSED:
+        with tempfile.TemporaryDirectory() as folder:
+            copy = Copy(folder, more=CONSOLES.format(name=name))
+            copy.given.write_bytes(lines)
+            seen = run(b"in\n", ["--config", str(copy.config), "--once"], closed=streams), copy.written(), bytes_of(copy.given), bytes_of(copy.mark)
+            check(f"without the streams {streams}", seen == (wanted, came + lines, lines, copy.document(len(lines))), seen)
+
+
+# Two files, of which one is read, in lines of at most two bytes, and written as events.
+SHORT_LINES = """\
+data_dir = "."
+
+[sources.in]
+type = "file"
+include = ["a.log"]
+max_line_bytes = 2
+read_from = "beginning"
+
+[sources.beside]
+type = "file"
+include = ["b.log"]
+
+[sinks.out]
+type = "file"
+path = "all.txt"
+compression = "none"
+inputs = ["in"]
+encoding.codec = "json"
+"""
+
+
+def lines_of_files():
+    """The lines of a file, as events with its path, beside a file that nobody reads."""
+    with tempfile.TemporaryDirectory() as folder:
+        at = Path(folder)
+        (at / "copy.toml").write_text(SHORT_LINES)
+        (at / "a.log").write_bytes(b"ab\nabc\n\n")
+        (at / "b.log").write_bytes(b"never read\n")
+        seen = run(b"", ["--config", "copy.toml", "--once", "--stats"], cwd=folder)
+        wanted = b"".join(written({"file": "a.log", "message": it, "source_type": "file"}) for it in ["ab", ""])
+        read = tally("source", "in", read=8, lines=2, overlong=1, events=2, batches=1, delivered=1, confirmed=8)
+        beside = tally("source", "beside", read=11, lines=1, events=1, unread=1, batches=1, delivered=1, confirmed=11)
+        held = (seen[0], seen[2], bytes_of(at / "all.txt")) == (0, b"", wanted), seen[1].startswith(beside + read)
+        check("the lines of a file beside one that nobody reads", held == (True, True), (held, seen, bytes_of(at / "all.txt")))
 
 
 def rights():
@@ -488,4 +596,4 @@ def whole_files():
 
 
 if __name__ == "__main__":
-    sys.exit(go_through([whole_files, followed, documents, folders, rights, turns, full_disks, restarts]))
+    sys.exit(go_through([whole_files, followed, lines_of_files, documents, folders, closed_streams, late_files, rights, turns, full_disks, restarts]))

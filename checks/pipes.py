@@ -15,7 +15,7 @@ import tempfile
 import time
 from pathlib import Path
 
-from running import BUILT, FIRST, PATIENCE, PROGRAM, TOP, check, ended, go_through, run
+from running import BUILT, FIRST, PATIENCE, PROGRAM, TOP, check, counted, ended, go_through, library_of, outcome_of, run, tally, written
 
 TWO = str(TOP / "examples" / "two_consoles.toml")
 JSON = str(TOP / "examples" / "json_lines.toml")
@@ -194,7 +194,7 @@ def lines_as_they_come():
         at = Path(folder) / "layers.toml"
         at.write_text(layers(4))
         comes_at_once("a line comes through four transforms before the next goes in", ["--config", str(at)])
-        at.write_text(BUFFERED.format("", 1, "block", 1, "block").replace(OVERFLOW.format(1, "block"), ""))
+        at.write_text(ONE_STAGE.format("", 1, "block"))
         comes_at_once("a line comes through a buffer of one before the next goes in", ["--config", str(at)])
 
 
@@ -249,6 +249,17 @@ def ends_that_fail():
         check("a run after one that was killed", seen == (b"a\n", [], (0, b"b\n", b"")), seen)
 
 
+def untold():
+    """A fault keeps its status where it can't be printed: the input can't be read, the file isn't there, the words are no command, the configuration is refused."""
+    with tempfile.TemporaryDirectory() as folder, open("/dev/full", "wb") as full:
+        (Path(folder) / "empty.toml").write_bytes(b"")
+        for name, words, status in [("a lost input", ["--config", FIRST], 69), ("a missing file", ["--config", "none.toml"], 74), ("other words", [], 64), ("a refusal", ["validate", "empty.toml"], 78)]:
+            given = os.open(folder, os.O_RDONLY)
+            ran = subprocess.run([PROGRAM, *words], stdin=given, stdout=subprocess.PIPE, stderr=full, cwd=folder, timeout=PATIENCE)
+            os.close(given)
+            check(f"{name} that can't be told", (ran.returncode, ran.stdout) == (status, b""), (ran.returncode, ran.stdout))
+
+
 def begun(given, words, blocking, program=None, variables=None):
     """A run that has just begun on that input; its output and errors are pipes that block, or don't."""
     environment = {**os.environb, **(variables or {})}
@@ -291,13 +302,6 @@ def late_readers():
     check("a reader that leaves an output that would block", seen == (0, b"", b""), (seen[0], seen[2][:200]))
 
 
-def built(source, folder):
-    """The path of a library in C, built in a folder."""
-    (Path(folder) / "library.c").write_bytes(source)
-    subprocess.run(["cc", "-shared", "-fPIC", "-o", "library.so", "library.c"], cwd=folder, check=True)
-    return os.fsencode(folder) + b"/library.so"
-
-
 def catches(ran, number):
     """Whether a run has a handler for that signal."""
     told = Path(f"/proc/{ran.pid}/status").read_text().splitlines()
@@ -318,7 +322,7 @@ def signals():
     """Nothing is lost, and nothing comes twice, where signals interrupt writes and waits."""
     lines = b"".join(b"%d\n" % i for i in range(200_000))
     with tempfile.TemporaryDirectory() as folder:
-        library = built(ALARMS, folder)
+        library = library_of(ALARMS, folder)
         comes_through_signals("writes that signals interrupt", lines, ["--config", FIRST], (0, lines, b""), True, library)
         comes_through_signals("waits that signals interrupt", lines, ["--config", TWO], (0, lines, lines), False, library)
 
@@ -336,7 +340,7 @@ def short_writes():
     """Nothing is lost, and nothing comes twice, where a write takes a part of what it is handed."""
     lines = b"".join(b"%d and more\n" % i for i in range(2_000))
     with tempfile.TemporaryDirectory() as folder:
-        library = built(PARTS, folder)
+        library = library_of(PARTS, folder)
         mark = Path(folder) / "cut"
         comes_by_parts("writes that take seven bytes", ["--config", FIRST], (lines, b""), library, mark)
         comes_by_parts("writes that take seven bytes, to two outputs", ["--config", TWO], (lines, lines), library, mark)
@@ -369,7 +373,7 @@ def wanting_memory():
     lines = b"".join(b"%d\n" % i for i in range(100))
     events = b"".join(b'{"message":"%d","source_type":"stdin"}\n' % i for i in range(100))
     with tempfile.TemporaryDirectory() as folder:
-        library = built(WANTS, folder)
+        library = library_of(WANTS, folder)
         wants_memory("lines", lines, ["--config", FIRST], (lines, b""), library, folder)
         wants_memory("events as JSON", events, ["--config", JSON], (events, lines), library, folder)
         wants_memory("acknowledged lines to two outputs", lines, ["--config", ACKNOWLEDGED], (lines, lines), library, folder)
@@ -443,9 +447,41 @@ def acknowledged():
     check("acknowledged, the first console full", (ran.returncode, ran.stderr) == (0, b"a\nb\n"), (ran.returncode, ran.stderr))
 
 
-def written(fields):
-    """The line of an event: its fields by the bytes of their names, without blanks."""
-    return json.dumps(fields, sort_keys=True, ensure_ascii=False, separators=(",", ":")).encode() + b"\n"
+# What is said of acknowledgements, for the whole and by the sink, and whether the batches of its source wait.
+WAITING = [
+    ("", "", False),
+    ("acknowledgements = true\n", "", True),
+    ("acknowledgements = true\n", "acknowledgements = false\n", False),
+    ("", "acknowledgements = true\n", True),
+    ("acknowledgements.enabled = true\n", "acknowledgements.enabled = false\n", False),
+    ("[acknowledgements]\nenabled = false\n", "[sinks.out.acknowledgements]\nenabled = true\n", True),
+    ("[acknowledgements]\nenabled = true\n", "[sinks.out.acknowledgements]\n", True),
+    ("[acknowledgements]\n", "acknowledgements = { enabled = true }\n", True),
+]
+
+
+def to_full(text):
+    """The status and the counts of a run on a line, whose standard error is a device without room."""
+    with tempfile.TemporaryDirectory() as folder, open("/dev/full", "wb") as full:
+        at = Path(folder) / "other.toml"
+        at.write_text(text)
+        ran = subprocess.run([PROGRAM, "--config", str(at), "--stats"], input=b"a\n", stdout=subprocess.PIPE, stderr=full, timeout=PATIENCE)
+    return ran.returncode, ran.stdout
+
+
+def waiting():
+    """A batch that couldn't be written is confirmed where it needn't wait: what a sink says counts, and what is said of the whole where it says nothing."""
+    front, sink = '[sources.in]\ntype = "stdin"\n', '[sinks.{}]\ntype = "console"\ntarget = "{}"\ninputs = ["in"]\nencoding.codec = "text"\nrequest.retry_attempts = 0\n'
+    source = {"read": 2, "lines": 1, "events": 1, "batches": 1, "errored": 1}
+    lost = tally("sink", "out", taken=1, attempts=1, errored=1)
+    for whole, own, waits in WAITING:
+        wanted = 0, tally("source", "in", **source, confirmed=0 if waits else 2) + lost
+        seen = to_full(whole + front + sink.format("out", "stderr") + own)
+        check(f"whether batches wait by {whole!r} and {own!r}", seen == wanted, seen)
+    one = front + sink.format("kept", "stdout") + "acknowledgements = true\n" + sink.format("out", "stderr")
+    kept = tally("sink", "kept", taken=1, attempts=1, delivered=1, bytes=2)
+    seen = to_full(one)
+    check("a batch that waits for a sink that doesn't acknowledge", seen == (0, b"a\n" + tally("source", "in", **source) + kept + lost), seen)
 
 
 def random_value(chance, depth):
@@ -530,7 +566,7 @@ OVERFLOW = """
 max_events = {}
 when_full = "{}"
 """
-BUFFERED = """\
+ONE_STAGE = """\
 [sources.in]
 type = "stdin"
 
@@ -542,12 +578,8 @@ encoding.codec = "text"
 [[sinks.out.buffer]]
 max_events = {}
 when_full = "{}"
-""" + OVERFLOW
-
-
-def counted(line, name):
-    """A count of a line of counts."""
-    return int(dict(pair.split(b"=") for pair in line.split() if b"=" in pair)[name])
+"""
+BUFFERED = ONE_STAGE + OVERFLOW
 
 
 def buffers():
@@ -555,7 +587,7 @@ def buffers():
     lines = [b"%d\n" % k for k in range(1_000)]
     with tempfile.TemporaryDirectory() as folder:
         at = Path(folder) / "other.toml"
-        at.write_text(BUFFERED.format("target = \"stderr\"", 1, "drop_newest", 1, "block").replace(OVERFLOW.format(1, "block"), ""))
+        at.write_text(ONE_STAGE.format("target = \"stderr\"", 1, "drop_newest"))
         status, out, err = run(b"".join(lines), ["--config", "other.toml", "--stats"], cwd=folder)
         source, sink = out.splitlines()
         dropped = counted(sink, b"taken") + counted(sink, b"newest")
@@ -569,6 +601,19 @@ def buffers():
         at.write_text(BUFFERED.format("", 10, "overflow", 20, "block"))
         status, out, err = run(b"".join(lines), ["--config", "other.toml"], cwd=folder)
         check("a buffer that overflows, and then blocks", (status, sorted(out.splitlines(), key=int), err) == (0, [line.strip() for line in lines], b""), (status, out[:200], err))
+
+
+def blocks_and_drops():
+    """Two outputs with room for one line each, the first of which blocks, and the second drops what comes."""
+    sinks = [ONE_STAGE.format(f'target = "{target}"', 1, when) for target, when in [("stdout", "block"), ("stderr", "drop_newest")]]
+    text = sinks[0] + "\n" + sinks[1].split("\n\n", 1)[1].replace("sinks.out", "sinks.drops")
+    lines = b"".join(b"%d\n" % k for k in range(1_000))
+    status, out, err = outcome_of(text, lines, "--stats")
+    source, drops, blocks = out.splitlines()[-3:]
+    taken, newest = counted(drops, b"taken"), counted(drops, b"newest")
+    held = status == 0 and out.startswith(lines) and (taken + newest, newest > 0, len(err.splitlines())) == (1_000, True, taken)
+    held = held and (counted(blocks, b"delivered"), counted(source, b"errored")) == (1_000, 0)
+    check("one output that blocks, and one that drops", held, (status, source, drops, blocks, err[:100]))
 
 
 BATCHED = """\
@@ -658,14 +703,14 @@ def counts():
     lines = b"a\n" * 1_000
     with tempfile.TemporaryDirectory() as folder:
         at = Path(folder) / "other.toml"
-        at.write_text(BUFFERED.format("target = \"stderr\"\nrequest.retry_attempts = 0", 500, "block", 1, "block").replace(OVERFLOW.format(1, "block"), ""))
+        at.write_text(ONE_STAGE.format("target = \"stderr\"\nrequest.retry_attempts = 0", 500, "block"))
         words = [PROGRAM, "--config", str(at), "--stats"]
         lost = b"sink out taken=1000 newest=0 attempts=1000 delivered=0 errored=1000 rejected=0 bytes=0"
         with open("/dev/full", "wb") as full:
             ran = subprocess.run(words, input=lines, stdout=subprocess.PIPE, stderr=full, timeout=PATIENCE)
         check("counts of what a full device lost", (ran.returncode, ran.stdout.splitlines()[1:]) == (0, [lost]), (ran.returncode, ran.stdout))
-        ran = subprocess.run(["sh", "-c", 'exec "$@" 2>&-', "sh", *words], input=lines, stdout=subprocess.PIPE, timeout=PATIENCE)
-        check("counts of what a closed output lost", (ran.returncode, ran.stdout.splitlines()[1:]) == (0, [lost]), (ran.returncode, ran.stdout))
+        status, out, _ = run(lines, words[1:], closed="2>&-")
+        check("counts of what a closed output lost", (status, out.splitlines()[1:]) == (0, [lost]), (status, out))
         ends = os.pipe()
         os.close(ends[0])
         ran = subprocess.run(words, input=lines, stdout=subprocess.PIPE, stderr=ends[1], timeout=PATIENCE)
@@ -676,8 +721,8 @@ def counts():
         with open("/dev/full", "wb") as full:
             ran = subprocess.run(words, input=lines, stdout=full, stderr=subprocess.PIPE, timeout=PATIENCE)
         check("counts to a full device", (ran.returncode, ran.stderr) == (74, lines), (ran.returncode, ran.stderr[:200]))
-        ran = subprocess.run(["sh", "-c", 'exec "$@" >&-', "sh", *words], input=lines, stderr=subprocess.PIPE, timeout=PATIENCE)
-        check("counts to a closed output", (ran.returncode, ran.stderr) == (74, lines), (ran.returncode, ran.stderr[:200]))
+        status, _, err = run(lines, words[1:], closed=">&-")
+        check("counts to a closed output", (status, err) == (74, lines), (status, err[:200]))
 
 
 # The multiplier of the generator, and the increment by which its seed is made of a number.
@@ -752,20 +797,48 @@ def generated():
         check("the first of very many generated lines", first == f"0 {texts[next(words) % 3]}\n".encode(), first[:100])
 
 
+def made_as_json():
+    """Lines that a source makes, as events, to an output that acknowledges."""
+    words, texts = words_of(7), ["a", "b\tc", "d"]
+    events = [{"message": f"{k} {texts[next(words) % 3]}", "source_type": "demo_logs"} for k in range(4)]
+    text = GENERATED.format(text="d", count=4, seed=7).replace('codec = "text"', 'codec = "json"\nacknowledgements = true')
+    seen = outcome_of(text, b"")
+    check("generated lines as events", seen == (0, b"", b"".join(map(written, events))), seen)
+
+
+def made_in_time():
+    """Lines that a source makes a second after one another, where nothing is said of that."""
+    with tempfile.TemporaryDirectory() as folder:
+        at = Path(folder) / "other.toml"
+        at.write_text(GENERATED.format(text="a", count=3, seed=1).replace("interval = 0\n", ""))
+        ran = subprocess.Popen([PROGRAM, "--config", str(at)], stdin=subprocess.DEVNULL, stderr=subprocess.PIPE)
+        came = [(ran.stderr.readline()[:2], time.monotonic()) for _ in range(3)]
+        ran.stderr.close()
+        status = ran.wait(PATIENCE)
+    gaps = [later - earlier for (_, earlier), (_, later) in zip(came, came[1:])]
+    check("generated lines a second apart", (status, [line for line, _ in came], all(0.9 < gap < 5 for gap in gaps)) == (0, [b"0 ", b"1 ", b"2 "], True), (status, came))
+
+
 def judgements():
     """The command that judges a configuration, and runs nothing."""
     seen = run(b"a\n", ["validate", TWO])
     check("a judged configuration", seen == (0, b"valid: 1 sources, 0 transforms, 2 sinks\n", b""), seen)
     seen = run(b"a\n", ["validate", TWO], variables={b"SECOND": b"nowhere"})
     check("a judged configuration that is refused", seen == (78, b"", b"vector: configuration refused: bad value at sinks.second.target\n"), seen)
+    several = Path(TWO).read_text() + "".join(GENERATED.replace("sources.in", f"sources.{name}").split("[sinks.hole]")[0].format(text="a", count=1, seed=1) for name in ["made", "more"])
+    several += '[sinks.third]\ntype = "blackhole"\ninputs = ["t"]\n[transforms.t]\ntype = "filter"\ninputs = ["lines"]\ncondition = "exists(.a)"\n'
+    with tempfile.TemporaryDirectory() as folder:
+        (Path(folder) / "several.toml").write_text(several)
+        seen = run(b"a\n", ["validate", "several.toml"], cwd=folder)
+    check("a judged configuration of several kinds", seen == (0, b"valid: 3 sources, 1 transforms, 3 sinks\n", b""), seen)
     seen = run(b"a\n", ["validate", "/none.toml"])
     check("a judged configuration that isn't there", seen == (74, b"", b"vector: cannot read /none.toml\n"), seen)
     with open("/dev/full", "wb") as full:
         ran = subprocess.run([PROGRAM, "validate", TWO], stdin=subprocess.DEVNULL, stdout=full, stderr=subprocess.PIPE, timeout=PATIENCE)
     check("a judgement that can't be printed", (ran.returncode, ran.stderr) == (74, b""), (ran.returncode, ran.stderr[:200]))
-    ran = subprocess.run(["sh", "-c", f'exec "{PROGRAM}" validate "{TWO}" >&-'], stdin=subprocess.DEVNULL, stderr=subprocess.PIPE, timeout=PATIENCE)
-    check("a judgement onto a closed output", (ran.returncode, ran.stderr) == (74, b""), (ran.returncode, ran.stderr[:200]))
+    status, _, err = run(b"", ["validate", TWO], closed=">&-")
+    check("a judgement onto a closed output", (status, err) == (74, b""), (status, err[:200]))
 
 
 if __name__ == "__main__":
-    sys.exit(go_through([consoles, acknowledged, judgements, json_lines, transforms, buffers, batches, retries, counts, generated, inputs, bytes_of_all_kinds, lines_as_they_come, a_reader_that_leaves, late_readers, signals, short_writes, wanting_memory, late_texts, ends_that_fail, many_lines]))
+    sys.exit(go_through([consoles, acknowledged, waiting, judgements, json_lines, transforms, buffers, blocks_and_drops, batches, retries, counts, generated, made_as_json, made_in_time, inputs, bytes_of_all_kinds, lines_as_they_come, a_reader_that_leaves, late_readers, signals, short_writes, wanting_memory, late_texts, ends_that_fail, untold, many_lines]))

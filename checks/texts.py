@@ -92,13 +92,17 @@ FILES = [
     (FILE_SOURCE + "include = []", "bad value at sources.f.include"),
     (FILE_SOURCE + 'include = "a"', "bad value at sources.f.include"),
     (FILE_SOURCE + 'include = ["a", "b"]', "bad value at sources.f.include"),
+    (FILE_SOURCE + "include = [1]", "bad value at sources.f.include"),
     (FILE_SOURCE + 'include = ["*.log"]', "bad value at sources.f.include"),
     (FILE_SOURCE + 'include = ["a?"]', "bad value at sources.f.include"),
     (FILE_SOURCE + 'include = ["a[0]"]', "bad value at sources.f.include"),
     (FILE_SOURCE + 'include = ["a"]\nread_from = "end"', "bad value at sources.f.read_from"),
+    (FILE_SOURCE + 'include = ["a"]\nmax_line_bytes = 0', "bad value at sources.f.max_line_bytes"),
     (FILE_SOURCE + 'include = ["a"]\nmax_line_bytes = 16777217', "bad value at sources.f.max_line_bytes"),
+    (FILE_SOURCE + 'include = ["a"]\ndecoding.codec = "text"', "bad value at sources.f.decoding.codec"),
     (FILE_SOURCE + 'include = ["a"]\nmax_length = 1', "unknown option sources.f.max_length"),
     (FILE_SINK, "missing option sinks.f.path"),
+    (FILE_SINK + "path = 1", "bad value at sinks.f.path"),
     (FILE_SINK + 'path = "a"\ncompression = "gzip"', "bad value at sinks.f.compression"),
     (FILE_SINK + 'path = "{{ host }}"', "bad value at sinks.f.path"),
     (FILE_SINK + 'path = "a"\ntarget = "stdout"', "unknown option sinks.f.target"),
@@ -312,6 +316,19 @@ INPUTS = [
     ('inputs = ["i*"]', None),
 ]
 
+# graphs with one fault, or with others that come behind it; the kind of each component, its name and what it reads
+GRAPHS = [
+    ([("transform", "t", [])], "no sources"),
+    ([("source", "s", None), ("transform", "t", [])], "no sinks"),
+    ([("source", "s", None), ("sink", "z", ["no"]), ("sink", "k", []), ("transform", "j", [])], "no inputs of component j"),
+    ([("source", "s", None), ("transform", "x", ["x"]), ("sink", "z", ["none"]), ("sink", "k", ["s", "q*", "r*"])], "unknown input q* of component k"),
+    ([("source", "s", None), ("transform", "t", ["t*"]), ("sink", "z", ["s"])], "unknown input t* of component t"),
+    ([("source", "s", None), ("transform", "t", ["t", "s"]), ("sink", "z", ["*"])], "cycle t"),
+    ([("source", "s", None), ("transform", "x", ["y"]), ("transform", "y", ["x"]), ("sink", "z", ["x"])], "cycle x, y"),
+    ([("source", "s", None), ("transform", "q", ["n"]), ("transform", "p", ["q"]), ("transform", "n", ["p", "s"]), ("sink", "z", ["q"])], "cycle n, q, p"),
+    ([("source", "s", None), ("transform", "t", ["s"]), ("sink", "z", ["t", "*"])], None),
+]
+
 # texts with two faults, and that which is told: by kind, by table and name, by path
 TWO_FAULTS = [
     ('x = [\ny = "$NOPE"\n', "missing variable NOPE at 11"),
@@ -442,6 +459,12 @@ def words():
             check(f"words {some}", seen == (64, b"", USAGE), seen)
 
 
+def graph(rows):
+    """The configuration of a graph, whose sources are standard input, whose transforms are filters, and whose sinks are black holes."""
+    parts = {"source": 'type = "stdin"\n', "transform": "type = \"filter\"\ncondition = 'exists(.a)'\n", "sink": 'type = "blackhole"\n'}
+    return "".join(f"[{kind}s.{name}]\n{parts[kind]}" + (f"inputs = {inputs}\n" if inputs is not None else "") for kind, name, inputs in rows)
+
+
 def files():
     """Files that aren't there, and one beside the caller."""
     with tempfile.TemporaryDirectory() as folder:
@@ -472,6 +495,7 @@ def configurations():
         (SOURCE.replace("stdin", "demo_logs"), DEMO_OPTIONS, "\n" + SINK), (BEFORE_OPTIONS.replace("console", "blackhole"), HOLE_OPTIONS, "\n"),
         (BEFORE_FILTER, FILTER_OPTIONS, "\n"), (BEFORE_ROUTE, ROUTE_OPTIONS, "\n"), (BEFORE_ROUTED, ROUTE_INPUTS, "\n"),
         (BEFORE_INPUTS, INPUTS, "\n"), ("", FILES, "\n"), ("", TWO_FAULTS, ""), ("", FORMS, ""), ("", NAMES, ""),
+        ("", [(graph(rows), why) for rows, why in GRAPHS], ""),
     ]
     with tempfile.TemporaryDirectory() as folder:
         for front, table, back in tables:

@@ -122,17 +122,3 @@ fn other_documents(rt: HostRuntime) -> Result<(), Fail> {
     let no_text = b"{\"path\":\"\xff\",\"offset\":7,\"version\":1}";
     has_answer(&rt, rt.alloc(), no_text, "not json")
 }
-
-/// Checks what the first `n` bytes of the worked document are read as.
-fn has_cut(rt: &impl Abort, alloc: Global, n: usize, want: &str) -> Result<(), Fail> {
-    let whole: &[u8] = b"{\"offset\":72,\"path\":\"app.log\",\"version\":1}\n";
-    has_answer(rt, alloc, whole.get(..n).ok_or("a beginning")?, want)
-}
-
-#[test]
-fn cut_documents(rt: HostRuntime) -> Result<(), Fail> {
-    for n in 0..42usize {
-        has_cut(&rt, rt.alloc(), n, "not json")?;
-    }
-    has_cut(&rt, rt.alloc(), 42, "app.log 72")
-}

@@ -25,10 +25,3 @@ pub(crate) fn put(alloc: Global, event: &mut Event, path: &str, value: Value) ->
     event.put(&path, value)?;
     Ok(())
 }
-
-/// An event with a value at a path.
-pub(crate) fn event_with(alloc: Global, path: &str, value: Value) -> Result<Event, Fail> {
-    let mut event = Event::new(alloc);
-    put(alloc, &mut event, path, value)?;
-    Ok(event)
-}

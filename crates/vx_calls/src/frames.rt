@@ -77,52 +77,14 @@ fn lines_however_cut(rt: HostRuntime) -> Result<(), Fail> {
     Ok(())
 }
 
-// Feeds 102,400 bytes, and some behind them.
-fn feed_many(framer: &mut Framer, back: &[u8], out: &mut LineList) -> Result<(), WantOfMemory> {
-    let piece = [b'x'; 1024];
-    for _ in 0..100 {
-        feed(framer, &piece, out)?;
-    }
-    feed(framer, back, out)
-}
-
-// Checks that the first line has 102,400 bytes, and where it ends.
-fn is_long(rt: &impl Abort, out: &LineList) -> Result<(), Fail> {
-    let line = out.get(0).ok_or("a line")?;
-    assert_eq!(rt; line.bytes.len(), 102400);
-    assert_eq!(rt; line.end, 102401);
-    Ok(())
-}
-
-// A line of 102,400 bytes is a line where that is the limit, and one of a byte more is counted.
-fn has_long_line(rt: &impl Abort, alloc: Global) -> Result<(), Fail> {
-    let mut framer = Framer::new(alloc, 102400);
-    let mut out = ItemList::new(alloc);
-    feed_many(&mut framer, b"\n", &mut out)?;
-    feed_many(&mut framer, b"y\n", &mut out)?;
-    has_counts(rt, &framer, &out, 1, 1);
-    is_long(rt, &out)
-}
-
-// Lines of three bytes and less are lines where that is the limit, and longer ones are counted.
-fn has_short_lines(rt: &impl Abort, alloc: Global) -> Result<(), Fail> {
-    let mut framer = Framer::new(alloc, 3);
-    let mut out = ItemList::new(alloc);
-    feed(&mut framer, b"abc\nabcd\nd\n", &mut out)?;
-    has_counts(rt, &framer, &out, 2, 1);
-    check(rt, &out, 0, b"abc", 4)?;
-    check(rt, &out, 1, b"d", 11)?;
-    feed(&mut framer, b"abcd", &mut out)?;
-    finish(&mut framer, &mut out)?;
-    has_counts(rt, &framer, &out, 2, 2);
-    assert_eq!(rt; framer.take_overlong(), 2);
-    has_counts(rt, &framer, &out, 2, 0);
-    Ok(())
-}
-
-// A line of the limit's length is a line, and a longer one is counted.
+// A line that is too long is counted, until its count is taken.
 #[test]
-fn line_limit(rt: HostRuntime) -> Result<(), Fail> {
-    has_long_line(&rt, rt.alloc())?;
-    has_short_lines(&rt, rt.alloc())
+fn counts_of_long_lines(rt: HostRuntime) -> Result<(), Fail> {
+    let mut framer = Framer::new(rt.alloc(), 1);
+    let mut out = ItemList::new(rt.alloc());
+    feed(&mut framer, b"ab\n", &mut out)?;
+    has_counts(&rt, &framer, &out, 0, 1);
+    assert_eq!(rt; framer.take_overlong(), 1);
+    has_counts(&rt, &framer, &out, 0, 0);
+    Ok(())
 }

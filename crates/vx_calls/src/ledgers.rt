@@ -1,13 +1,14 @@
 //! A ledger of two events, and the routes of a parcel.
 ghost use Rattle.std.specs.Prelude.{◌≡◌, ◌∷◌, ◌++◌, [], IfOk};
 ghost use Rattle.vx_ledger.specs.Ledger.{AreLive, Exchanges};
+ghost use Rattle.vx_ledger.specs.Routing.{copies_in};
 
 use crate::lists::{one, two};
 use std::alloc::Global;
 use std::process::Abort;
 use std::test::Fail;
 use vx_ledger::{
-    Batches, Child, Finalizer, Finalizers, Notice, Outlet, Parcel, Routed, SharedEvent,
+    Batches, Child, ChildList, Finalizer, Finalizers, Notice, Outlet, Parcel, Routed, SharedEvent,
 };
 use vx_status::{BatchStatus, Outcome};
 use vx_value::Event;
@@ -147,35 +148,50 @@ fn spend_all<R: Abort>(rt: &R, told: &mut Vec<u64>, batches: &mut Batches, copie
     rest.end();
 }
 
-// Routes a parcel with the copies 0 and 1. Tells for each child its target and the numbers of its copies, all
-// of it from the last to the first; or the numbers alone, where there is no consumer.
+// Spends the copies of a parcel.
+fn spend_parcel<R: Abort>(rt: &R, told: &mut Vec<u64>, batches: &mut Batches, parcel: Parcel)
+    requires { AreLive batches.old parcel.finalizers }
+    ensures { Exchanges batches.old parcel.finalizers batches.new [] }
+{
+    let Parcel {
+        event: _,
+        finalizers,
+    } = parcel;
+    spend_all(rt, told, batches, finalizers);
+}
+
+// Spends the copies of children. Tells for each its target and the numbers of its copies, all of it from the last to
+// the first.
+fn spend_children<R: Abort>(rt: &R, told: &mut Vec<u64>, batches: &mut Batches, children: ChildList)
+    requires { AreLive batches.old (copies_in children) }
+{
+    let mut rest = children;
+    while let Some(child) = rest.pop() {
+        let Child { target, parcel } = child;
+        assert!(rt; told.push(u64::from(target)).is_ok());
+        spend_parcel(rt, told, batches, parcel);
+    }
+    rest.end();
+}
+
+// A parcel with the copies 0 and 1.
+fn parcel_of_two(alloc: Global, batches: &mut Batches) -> Result<Parcel, Fail>
+    ensures { IfOk result (λ parcel. Exchanges batches.old [] batches.new parcel.finalizers) }
+{
+    let event = SharedEvent::new(alloc, Event::new(alloc))?;
+    let (_, finalizers) = batches.born(0, 2)?;
+    Ok(Parcel { event, finalizers })
+}
+
+// Routes a parcel with the copies 0 and 1, and tells of its children as above; or the numbers alone, where there is no
+// consumer.
 fn routed<R: Abort>(rt: &R, alloc: Global, outlet: &Outlet, ports: u128) -> Result<Vec<u64>, Fail> {
     let mut told = Vec::new(alloc);
     let mut batches = Batches::new(alloc)?;
-    let event = SharedEvent::new(alloc, Event::new(alloc))?;
-    let (_, finalizers) = batches.born(0, 2)?;
-    let parcel = Parcel { event, finalizers };
+    let parcel = parcel_of_two(alloc, &mut batches)?;
     match outlet.route(ports, parcel, &mut batches) {
-        Ok(Routed::Children(children)) => {
-            let mut rest = children;
-            while let Some(child) = rest.pop() {
-                let Child { target, parcel } = child;
-                let Parcel {
-                    event: _,
-                    finalizers,
-                } = parcel;
-                assert!(rt; told.push(u64::from(target)).is_ok());
-                spend_all(rt, &mut told, &mut batches, finalizers);
-            }
-            rest.end();
-        }
-        Ok(Routed::NoConsumer(parcel)) => {
-            let Parcel {
-                event: _,
-                finalizers,
-            } = parcel;
-            spend_all(rt, &mut told, &mut batches, finalizers);
-        }
+        Ok(Routed::Children(children)) => spend_children(rt, &mut told, &mut batches, children),
+        Ok(Routed::NoConsumer(back)) => spend_parcel(rt, &mut told, &mut batches, back),
         Err(_refused) => panic!(rt; "refused"),
     }
     assert!(rt; batches.is_settled());

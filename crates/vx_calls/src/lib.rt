@@ -30,8 +30,6 @@ mod sources;
 #[cfg(test)]
 mod statuses;
 #[cfg(test)]
-mod tallies;
-#[cfg(test)]
 mod values;
 #[cfg(test)]
 mod variables;

@@ -33,57 +33,127 @@ fn port(alloc: Global) -> Result<MemoryPort, Fail> {
     Ok(MemoryPort::new(alloc, steps, ActList::new(alloc)))
 }
 
-/// What was cut: so many events, an end, and so many lines.
-fn has_cut(
+/// What a turn brought: its kind, its stream and its bytes, and of its lines the number of their events, their end and
+/// their counts.
+#[derive(Clone, Copy, PartialEq)]
+struct Came {
+    kind: &'static str,
+    stream: u64,
+    bytes: u32,
+    lines: Option<(usize, u64, NewLines)>,
+}
+
+/// A turn that brought nothing.
+const IDLE: Came = Came {
+    kind: "nothing",
+    stream: 0,
+    bytes: 0,
+    lines: None,
+};
+
+/// A turn at which the port failed.
+const FAULT: Came = Came {
+    kind: "a fault",
+    ..IDLE
+};
+
+/// What is told of lines.
+fn lines_of(cut: &Option<Cut>) -> Option<(usize, u64, NewLines)> {
+    let cut = cut.as_ref()?;
+    Some((cut.events.len(), cut.end, cut.new))
+}
+
+/// What is told of a turn.
+fn told_of(turned: &Turned) -> Came {
+    match turned {
+        Turned::Lines { stream, n, cut, .. } => Came {
+            kind: "lines",
+            stream: *stream,
+            bytes: *n,
+            lines: lines_of(cut),
+        },
+        Turned::StreamEnded { stream, cut } => Came {
+            stream: *stream,
+            lines: lines_of(cut),
+            kind: "the end of a stream",
+            ..IDLE
+        },
+        Turned::AllEnded { cut, .. } => Came {
+            lines: lines_of(cut),
+            kind: "the end of all",
+            ..IDLE
+        },
+        Turned::Idle => IDLE,
+        Turned::Failed { at_start: false } => FAULT,
+        Turned::Failed { at_start: true } => Came {
+            kind: "no start",
+            ..IDLE
+        },
+    }
+}
+
+/// Makes a turn, and checks what it brings.
+fn turns<P: Port>(
     rt: &impl Abort,
-    cut: &Option<Cut>,
-    events: usize,
-    end: u64,
-    new: NewLines,
+    core: &mut SourceCore,
+    port: &mut P,
+    want: &Came,
 ) -> Result<(), Fail> {
-    let cut = cut.as_ref().ok_or("the lines weren't cut")?;
-    assert_eq!(rt; cut.events.len(), events);
-    assert_eq!(rt; cut.end, end);
-    assert_eq!(rt; cut.new, new);
+    let turned = core.turn(port)?;
+    assert!(rt; told_of(&turned) == *want);
     Ok(())
 }
 
 /// The lines of the first turn: one gives an event, one doesn't, and one is too long.
-fn has_read(rt: &impl Abort, turned: Turned) -> Result<(), Fail> {
-    let Turned::Lines { stream, n, cut, .. } = turned else {
-        return Err("no bytes came".into());
-    };
-    assert_eq!(rt; stream, 7);
-    assert_eq!(rt; n, 19);
-    let new = NewLines {
-        lines: 2,
-        overlong: 1,
-        undecodable: 1,
-    };
-    has_cut(rt, &cut, 1, 6, new)
-}
+const READ: Came = Came {
+    kind: "lines",
+    stream: 7,
+    bytes: 19,
+    lines: Some((
+        1,
+        6,
+        NewLines {
+            lines: 2,
+            overlong: 1,
+            undecodable: 1,
+        },
+    )),
+};
 
 /// The line that the stream's end completes.
-fn has_ended(rt: &impl Abort, turned: Turned) -> Result<(), Fail> {
-    let Turned::StreamEnded { stream, cut } = turned else {
-        return Err("the stream hasn't ended".into());
-    };
-    assert_eq!(rt; stream, 7);
-    let new = NewLines {
-        lines: 1,
-        overlong: 0,
-        undecodable: 0,
-    };
-    has_cut(rt, &cut, 1, 19, new)
-}
+const ENDED: Came = Came {
+    kind: "the end of a stream",
+    stream: 7,
+    bytes: 0,
+    lines: Some((
+        1,
+        19,
+        NewLines {
+            lines: 1,
+            overlong: 0,
+            undecodable: 0,
+        },
+    )),
+};
 
 /// Nothing is left at the end of all.
-fn has_ended_all(rt: &impl Abort, turned: Turned) -> Result<(), Fail> {
-    let Turned::AllEnded { cut, .. } = turned else {
-        return Err("not all has ended".into());
-    };
-    has_cut(rt, &cut, 0, 0, NewLines::none())
-}
+const ENDED_ALL: Came = Came {
+    kind: "the end of all",
+    stream: 0,
+    bytes: 0,
+    lines: Some((
+        0,
+        0,
+        NewLines {
+            lines: 0,
+            overlong: 0,
+            undecodable: 0,
+        },
+    )),
+};
+
+/// What the turns bring, one after the other.
+const TURNS: &[Came] = &[READ, IDLE, FAULT, ENDED, ENDED_ALL];
 
 /// A source that reads events of a file, in lines of at most five bytes.
 fn core(alloc: Global) -> Result<SourceCore, WantOfMemory> {
@@ -94,25 +164,22 @@ fn core(alloc: Global) -> Result<SourceCore, WantOfMemory> {
 
 #[test]
 fn a_source_turns(rt: HostRuntime) -> Result<(), Fail> {
-    let alloc = rt.alloc();
-    let mut port = port(alloc)?;
-    let mut core = core(alloc)?;
-    has_read(&rt, core.turn(&mut port)?)?;
-    assert!(rt; matches!(core.turn(&mut port)?, Turned::Idle));
-    assert!(rt; matches!(core.turn(&mut port)?, Turned::Failed { at_start: false }));
-    has_ended(&rt, core.turn(&mut port)?)?;
-    has_ended_all(&rt, core.turn(&mut port)?)
+    let mut port = port(rt.alloc())?;
+    let mut core = core(rt.alloc())?;
+    for want in TURNS {
+        turns(&rt, &mut core, &mut port, want)?;
+    }
+    Ok(())
 }
 
 #[test]
 fn a_port_that_may_not_be_there(rt: HostRuntime) -> Result<(), Fail> {
-    let alloc = rt.alloc();
     let mut none: Option<MemoryPort> = None;
     assert!(rt; none.start().is_err());
     none.close();
-    let mut some = Some(port(alloc)?);
-    let mut core = core(alloc)?;
-    has_read(&rt, core.turn(&mut some)?)?;
+    let mut some = Some(port(rt.alloc())?);
+    let mut core = core(rt.alloc())?;
+    turns(&rt, &mut core, &mut some, &READ)?;
     some.close();
     Ok(())
 }

@@ -39,79 +39,42 @@ fn has_whole(
     Ok(())
 }
 
-// Checks that an event has whole numbers at some paths.
-fn has_wholes(
-    rt: &impl Abort,
-    alloc: Global,
-    event: &Event,
-    wholes: &[(&str, i64)],
-) -> Result<(), Fail> {
-    for (path, whole) in wholes {
-        has_whole(rt, alloc, event, *path, *whole)?;
-    }
-    Ok(())
-}
-
-// A list of one value.
-fn list_of(alloc: Global, value: Value) -> Result<ValueList, WantOfMemory> {
-    let mut list = ValueList::new(alloc);
-    add(&mut list, value)?;
-    Ok(list)
-}
-
-// A list in a list, and so on, of so many levels.
-fn nested(alloc: Global, levels: u32) -> Result<Value, WantOfMemory> {
-    let mut list = ValueList::new(alloc);
-    for _ in 1..levels {
-        list = list_of(alloc, Value::Items(list))?;
-    }
-    Ok(Value::Items(list))
-}
-
-// An event whose `.a` is 1.
-const ALONE: &[(&str, i64)] = &[(".a", 1)];
-
-#[test]
-fn put_and_lossy(rt: HostRuntime) -> Result<(), Fail> {
-    let mut event = event_of_wholes(rt.alloc(), ALONE)?;
-    let blocked = Err(PutFault::Blocked { names: 1 });
-    has_put_answer(&rt, rt.alloc(), &mut event, ".a.b", Value::Null, blocked)?;
-    has_wholes(&rt, rt.alloc(), &event, ALONE)
-}
-
 // An event whose `.a.b` is 2, and whose `.B` is 3.
 const NEIGHBOURS: &[(&str, i64)] = &[(".a.b", 2), ("\"B\"", 3)];
 
 #[test]
 fn put_keeps_a_neighbour(rt: HostRuntime) -> Result<(), Fail> {
     let event = event_of_wholes(rt.alloc(), NEIGHBOURS)?;
-    has_wholes(&rt, rt.alloc(), &event, NEIGHBOURS)
+    has_whole(&rt, rt.alloc(), &event, ".a.b", 2)?;
+    has_whole(&rt, rt.alloc(), &event, ".B", 3)
 }
 
-// Checks what a put of a list of 31 levels answers.
+// A path of as many names as may be.
+const LONGEST: &str = ".a.a.a.a.a.a.a.a.a.a.a.a.a.a.a.a.a.a.a.a.a.a.a.a.a.a.a.a.a.a.a";
+
+// Checks what a put of a list at that path answers.
 fn has_answer(
     rt: &impl Abort,
     alloc: Global,
-    path: &str,
+    list: ValueList,
     want: Result<(), PutFault>,
 ) -> Result<(), Fail> {
-    let value = nested(alloc, 31)?;
     let mut event = Event::new(alloc);
-    has_put_answer(rt, alloc, &mut event, path, value, want)
+    has_put_answer(rt, alloc, &mut event, LONGEST, Value::Items(list), want)
 }
 
-// Paths, and what a put of 31 levels at each answers: at the last level that there may be, and below it.
-const LAST_LEVELS: &[(&str, Result<(), PutFault>)] = &[
-    (".a", Ok(())),
-    (".a.b", Err(PutFault::TooDeep)),
-];
+// A list in a list.
+fn two_levels(alloc: Global) -> Result<ValueList, WantOfMemory> {
+    let mut list = ValueList::new(alloc);
+    add(&mut list, Value::Items(ValueList::new(alloc)))?;
+    Ok(list)
+}
 
 #[test]
 fn put_at_the_last_level(rt: HostRuntime) -> Result<(), Fail> {
-    for (path, want) in LAST_LEVELS {
-        has_answer(&rt, rt.alloc(), *path, *want)?;
-    }
-    Ok(())
+    has_answer(&rt, rt.alloc(), ValueList::new(rt.alloc()), Ok(()))?;
+    let deeper = two_levels(rt.alloc())?;
+    has_answer(&rt, rt.alloc(), deeper, Err(PutFault::TooDeep))
 }
 
 // The fault of a text that is no path.
@@ -158,42 +121,6 @@ fn reads_quoted_names(rt: HostRuntime) -> Result<(), Fail> {
     assert_eq!(rt; path.names().len(), 2);
     let names = spaced(rt.alloc(), path.names())?;
     assert_eq!(rt; names.as_str(), "a_1 b.\"c ");
-    Ok(())
-}
-
-// Whether a text stands for some bytes.
-pub(crate) fn is_lossy(
-    rt: &impl Abort,
-    alloc: Global,
-    bytes: &[u8],
-    want: &str,
-) -> Result<(), Fail> {
-    let text = Text::lossy(alloc, bytes)?;
-    assert_eq!(rt; text.as_str(), want);
-    Ok(())
-}
-
-// Bytes and their texts, which are those of python3's bytes.decode('utf-8', 'replace').
-const LOSSY: &[(&[u8], &str)] = &[
-    (b"a\xE2\x82b", "a\u{FFFD}b"),
-    (b"\xC0\xAF", "\u{FFFD}\u{FFFD}"),
-    (b"\xE0\x80\x80", "\u{FFFD}\u{FFFD}\u{FFFD}"),
-    (b"\xED\xA0\x80", "\u{FFFD}\u{FFFD}\u{FFFD}"),
-    (b"\xF0\x90\x80", "\u{FFFD}"),
-    (b"\xF0\x9F\x98\x80", "\u{1F600}"),
-    (b"\xF4\x90\x80\x80", "\u{FFFD}\u{FFFD}\u{FFFD}\u{FFFD}"),
-    (b"\xE2\x82", "\u{FFFD}"),
-    (b"\xC3(", "\u{FFFD}("),
-    (b"\xF1\x80\x80\xE1\x80\xC2b", "\u{FFFD}\u{FFFD}\u{FFFD}b"),
-    (b"x\xE1\x80\xF1", "x\u{FFFD}\u{FFFD}"),
-    (b"\xEE\x80\x80\x80", "\u{E000}\u{FFFD}"),
-];
-
-#[test]
-fn lossy_as_another_decoder(rt: HostRuntime) -> Result<(), Fail> {
-    for (bytes, want) in LOSSY {
-        is_lossy(&rt, rt.alloc(), *bytes, *want)?;
-    }
     Ok(())
 }
 
@@ -260,7 +187,7 @@ fn are_in_order(rt: &impl Abort, alloc: Global, first: &Event, second: &Event) -
 
 #[test]
 fn events_in_order(rt: HostRuntime) -> Result<(), Fail> {
-    let one = event_of_wholes(rt.alloc(), ALONE)?;
+    let one = event_of_wholes(rt.alloc(), &[(".a", 1)])?;
     let two = event_of_wholes(rt.alloc(), &[(".a", 2)])?;
     are_in_order(&rt, rt.alloc(), &one, &two)
 }

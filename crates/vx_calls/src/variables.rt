@@ -1,4 +1,4 @@
-//! The worked examples, and each form at its edges.
+//! The worked examples, and a variable that stands twice. Each form at its edges tells `checks/events.py`.
 
 use crate::comparing::{joined, numbered, same};
 use std::alloc::Global;
@@ -77,41 +77,9 @@ fn variables(rt: HostRuntime) -> Result<(), Fail> {
     have_answers(&rt, rt.alloc(), &one, WORKED)
 }
 
-/// Variables with long, dotted and empty names and values, one of them twice.
-const VARIABLES: &[(&str, &str)] = &[
-    ("A", "1"),
-    ("A", "2"),
-    ("AB", "long"),
-    ("my.host_1", "h"),
-    ("E", ""),
-    ("D", "$A $$ ${A}"),
-];
-
-/// Texts with each form at its edges.
-const EDGES: &[(&str, &str)] = &[
-    ("", ""),
-    ("end $", "end $"),
-    ("${", "${"),
-    ("${A", "${A"),
-    ("${A:-x", "${A:-x"),
-    ("${}", "${}"),
-    ("${:-x}", "${:-x}"),
-    ("${A-x}", "${A-x}"),
-    ("${A:x}", "${A:x}"),
-    ("${-$A", "${-1"),
-    ("$my.host_1!${my.host_1}", "h!h"),
-    ("$AB$A-$A.", "missing A. at 6"),
-    ("${A}B$AB", "1Blong"),
-    ("[$E][${E}][${E:-d}][${E:-}][${Z:-}]", "[][][d][][]"),
-    ("${Z:-a$A{b}c}", "a$A{bc}"),
-    ("$D", "$A $$ ${A}"),
-    ("$$A $$$A", "$A $1"),
-    ("# $A é$A→", "# 1 é1→"),
-    ("é$N $M", "missing N at 2"),
-];
-
+/// Of two variables with one name the first counts.
 #[test]
-fn forms_at_their_edges(rt: HostRuntime) -> Result<(), Fail> {
-    let several = environment(rt.alloc(), VARIABLES)?;
-    have_answers(&rt, rt.alloc(), &several, EDGES)
+fn a_variable_that_stands_twice(rt: HostRuntime) -> Result<(), Fail> {
+    let twice = environment(rt.alloc(), &[("A", "1"), ("A", "2")])?;
+    has_answer(&rt, rt.alloc(), &twice, "$A", "1")
 }

@@ -11,7 +11,6 @@ ghost use Rattle.vx_runs.specs.ByHand.{IsAway, IsBack, AreBack, SparesEach, Spar
 
 use crate::fixtures::{Play, add, config, script, steps};
 use crate::plans::TWO_SINKS;
-use crate::tallies::NOTHING;
 use std::alloc::Global;
 use std::process::Abort;
 use std::test::Fail;
@@ -232,6 +231,27 @@ fn drive<R: Abort, P: Port, C: Clock>(rt: &R, alloc: Global, hub: &mut Hub<P>, c
     }
     assert!(rt; hub.over());
 }
+
+/// The counts of an instance that did nothing.
+const NOTHING: Tally = Tally {
+    read: 0,
+    lines: 0,
+    overlong: 0,
+    undecodable: 0,
+    events: 0,
+    unread: 0,
+    batches: 0,
+    delivered: 0,
+    errored: 0,
+    rejected: 0,
+    confirmed: 0,
+    taken: 0,
+    sent: 0,
+    dropped: 0,
+    newest: 0,
+    attempts: 0,
+    bytes: 0,
+};
 
 /// A source that read four lines of two bytes each in two pieces.
 const FOUR_READ: Tally = Tally {

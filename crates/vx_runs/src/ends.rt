@@ -1,83 +1,21 @@
-//! Runs whose ends fail, refuse or take less than they are given.
+//! Runs in which a confirm or the end of an attempt fails.
 
 use crate::fixtures::Play;
-use crate::runs::{EMPTY, Run, WITHOUT_RETRIES, notices, ran, runs};
-use std::alloc::Global;
-use std::process::Abort;
-use std::sync::Wait;
+use crate::runs::{EMPTY, Run, WITHOUT_RETRIES, runs};
 use std::test::Fail;
 use vx_ends::Act;
 
-/// The line `ab`, between ends that pass.
-const LINE: Run = Run {
-    steps: &[Play::Piece(0, "ab\n")],
-    given: &["", "ab\n"],
-    ..EMPTY
-};
-
-/// Does a run, and checks what must come of it, the notices of its only batch too.
-fn notes<R: Wait + Abort>(
-    rt: &R,
-    alloc: Global,
-    run: &Run,
-    wanted: (u64, u64, u64),
-) -> Result<(), Fail> {
-    let ended = ran(rt, alloc, run)?;
-    assert!(rt; notices(&ended) == wanted);
-    Ok(())
-}
-
-/// The notices of a batch that was delivered.
-const DELIVERED: (u64, u64, u64) = (1, 0, 0);
-
-/// The notices of a batch that had an error.
-const ERRORED: (u64, u64, u64) = (0, 1, 0);
-
-/// A source that doesn't start, a second after each try.
-const NEVER_STARTED: Run = Run {
-    lasted: 4_000,
-    source: &[Act::Fail, Act::Fail, Act::Fail, Act::Fail, Act::Fail],
-    status: 69,
-    printed: "vector: source in failed after 0 bytes\n",
-    given: &["", ""],
-    ..LINE
-};
-
-#[test]
-fn five_failed_starts_lose_the_source(rt: HostRuntime) -> Result<(), Fail> {
-    runs(&rt, rt.alloc(), &NEVER_STARTED)
-}
-
-/// A source that starts at the fifth time.
-const STARTED_AT_LAST: Run = Run {
-    lasted: 4_000,
-    source: &[Act::Fail, Act::Fail, Act::Fail, Act::Fail],
-    ..LINE
-};
-
-#[test]
-fn four_failed_starts_are_tried_again(rt: HostRuntime) -> Result<(), Fail> {
-    runs(&rt, rt.alloc(), &STARTED_AT_LAST)
-}
-
-/// A source that starts at the second time.
-const STARTED_SOON: Run = Run {
-    lasted: 1_000,
-    source: &[Act::Fail],
-    ..LINE
-};
-
-#[test]
-fn one_failed_start_is_tried_again(rt: HostRuntime) -> Result<(), Fail> {
-    runs(&rt, rt.alloc(), &STARTED_SOON)
-}
-
-/// A source whose confirm fails.
+/// A source whose only confirm fails.
 const UNCONFIRMED: Run = Run {
+    steps: &[Play::Piece(0, "a\n")],
     source: &[Act::Pass, Act::Fail],
     status: 74,
     printed: "vector: source in could not be confirmed\n",
-    ..LINE
+    shown: "source in read=2 lines=1 overlong=0 undecodable=0 events=1 unread=0 batches=1 delivered=1 errored=0 rejected=0 confirmed=0
+sink out taken=1 newest=0 attempts=1 delivered=1 errored=0 rejected=0 bytes=2
+",
+    given: &["", "a\n"],
+    ..EMPTY
 };
 
 #[test]
@@ -85,38 +23,58 @@ fn a_failed_confirm_is_told(rt: HostRuntime) -> Result<(), Fail> {
     runs(&rt, rt.alloc(), &UNCONFIRMED)
 }
 
-/// A sink that fails when it is given the line.
-const NOT_GIVEN: Run = Run {
-    text: WITHOUT_RETRIES,
-    acts: &[Act::Pass, Act::Fail],
-    given: &["", ""],
-    ..LINE
+/// The same, of a source that fails behind that: this is told, and not the confirm.
+const LOST: Run = Run {
+    steps: &[Play::Piece(0, "a\n"), Play::Fail],
+    status: 69,
+    printed: "vector: source in failed after 2 bytes\n",
+    ..UNCONFIRMED
 };
 
 #[test]
-fn a_failed_give_is_an_error_of_its_batch(rt: HostRuntime) -> Result<(), Fail> {
-    notes(&rt, rt.alloc(), &NOT_GIVEN, ERRORED)
+fn a_lost_source_is_told_before_its_confirm(rt: HostRuntime) -> Result<(), Fail> {
+    runs(&rt, rt.alloc(), &LOST)
 }
 
-/// A sink that fails when it is to finish.
+/// A confirm that fails, and a later one that makes up for it.
+const CONFIRMED_LATER: Run = Run {
+    text: "acknowledgements = true
+
+[sources.in]
+type = \"stdin\"
+
+[sinks.out]
+type = \"console\"
+inputs = [\"in\"]
+encoding.codec = \"text\"
+",
+    steps: &[Play::Piece(0, "a\n"), Play::Piece(0, "b\n")],
+    source: &[Act::Pass, Act::Fail],
+    shown: "source in read=4 lines=2 overlong=0 undecodable=0 events=2 unread=0 batches=2 delivered=2 errored=0 rejected=0 confirmed=4
+sink out taken=2 newest=0 attempts=2 delivered=2 errored=0 rejected=0 bytes=4
+",
+    given: &["", "a\nb\n"],
+    ..EMPTY
+};
+
+#[test]
+fn a_later_confirm_makes_up_for_one(rt: HostRuntime) -> Result<(), Fail> {
+    runs(&rt, rt.alloc(), &CONFIRMED_LATER)
+}
+
+/// A sink that fails when it is to finish: its line may be written, and counts as an error.
 const NOT_FINISHED: Run = Run {
     text: WITHOUT_RETRIES,
+    steps: &[Play::Piece(0, "a\n")],
     acts: &[Act::Pass, Act::Pass, Act::Fail],
-    ..LINE
+    shown: "source in read=2 lines=1 overlong=0 undecodable=0 events=1 unread=0 batches=1 delivered=0 errored=1 rejected=0 confirmed=2
+sink out taken=1 newest=0 attempts=1 delivered=0 errored=1 rejected=0 bytes=2
+",
+    given: &["", "a\n"],
+    ..EMPTY
 };
 
 #[test]
 fn a_failed_finish_is_an_error_of_its_batch(rt: HostRuntime) -> Result<(), Fail> {
-    notes(&rt, rt.alloc(), &NOT_FINISHED, ERRORED)
-}
-
-/// A sink that takes a byte, and another, and then the rest.
-const IN_PARTS: Run = Run {
-    acts: &[Act::Pass, Act::Part(1), Act::Part(1)],
-    ..LINE
-};
-
-#[test]
-fn a_partial_give_goes_on(rt: HostRuntime) -> Result<(), Fail> {
-    notes(&rt, rt.alloc(), &IN_PARTS, DELIVERED)
+    runs(&rt, rt.alloc(), &NOT_FINISHED)
 }

@@ -1,16 +1,15 @@
 //! Runs that read files and append to them, between ends in memory, and what their ports are made for.
 
 use crate::fixtures::Play;
-use crate::runs::{EMPTY, Run, ran, runs};
+use crate::runs::{EMPTY, Run, ran};
 use std::alloc::Global;
 use std::process::Abort;
 use std::test::Fail;
-use vx_cli::fault_text;
 use vx_ends::{Act, Form, MemoryWorld, PortSpec, PositionList};
 use vx_plan::Plan;
 use vx_reading::read_plan;
-use vx_run::{Ended, Fault};
-use vx_value::{Bytes, VariableList};
+use vx_run::Ended;
+use vx_value::VariableList;
 
 /// The positions that were confirmed to the source.
 fn confirmed(ended: &Ended<MemoryWorld>) -> Option<&PositionList> {
@@ -56,7 +55,6 @@ request.retry_attempts = 0
         Play::Piece(0, "c\n"),
     ],
     acts: &[Act::Pass, Act::Pass, Act::Pass, Act::Fail],
-    words: &["--config", "first.toml", "--stats"],
     shown: "source in read=6 lines=3 overlong=0 undecodable=0 events=3 unread=0 batches=3 delivered=2 errored=1 rejected=0 confirmed=2
 sink out taken=3 newest=0 attempts=3 delivered=2 errored=1 rejected=0 bytes=4
 ",
@@ -138,176 +136,6 @@ sink screen taken=1 newest=0 attempts=1 delivered=1 errored=0 rejected=0 bytes=7
 fn realistic_configuration(rt: HostRuntime) -> Result<(), Fail> {
     let ended = ran(&rt, rt.alloc(), &REALISTIC)?;
     confirmed_alone(&rt, &ended, 72);
-    Ok(())
-}
-
-/// A file with lines around the longest that it may have, beside one of which nobody reads.
-const TWO_FILES: Run = Run {
-    text: "[sources.in]
-type = \"file\"
-include = [\"a.log\"]
-max_line_bytes = 2
-read_from = \"beginning\"
-
-[sources.of_b]
-type = \"file\"
-include = [\"b.log\"]
-
-[sinks.out]
-type = \"file\"
-path = \"all.txt\"
-compression = \"none\"
-inputs = [\"in\"]
-encoding.codec = \"json\"
-",
-    steps: &[Play::Piece(0, "ab\nabc\n\n")],
-    given: &[
-        "",
-        "",
-        "{\"file\":\"a.log\",\"message\":\"ab\",\"source_type\":\"file\"}\n{\"file\":\"a.log\",\"message\":\"\",\"source_type\":\"file\"}\n",
-    ],
-    ..EMPTY
-};
-
-#[test]
-fn lines_of_a_file(rt: HostRuntime) -> Result<(), Fail> {
-    runs(&rt, rt.alloc(), &TWO_FILES)
-}
-
-/// A file that a console reads; the options of the file are lacking.
-const FILE_SOURCE: &str = "[sinks.out]
-type = \"console\"
-inputs = [\"f\"]
-encoding.codec = \"text\"
-[sources.f]
-type = \"file\"
-";
-
-/// A file to which standard input goes; the path of the file is lacking.
-const FILE_SINK: &str = "[sources.in]
-type = \"stdin\"
-[sinks.f]
-type = \"file\"
-inputs = [\"in\"]
-encoding.codec = \"text\"
-";
-
-/// Options of a file, and why they are refused.
-const REFUSED: &[(&str, &str, &str)] = &[
-    (FILE_SOURCE, "", "missing option sources.f.include"),
-    (
-        FILE_SOURCE,
-        "include = []",
-        "bad value at sources.f.include",
-    ),
-    (
-        FILE_SOURCE,
-        "include = \"a\"",
-        "bad value at sources.f.include",
-    ),
-    (
-        FILE_SOURCE,
-        "include = [\"a\", \"b\"]",
-        "bad value at sources.f.include",
-    ),
-    (
-        FILE_SOURCE,
-        "include = [1]",
-        "bad value at sources.f.include",
-    ),
-    (
-        FILE_SOURCE,
-        "include = [\"*.log\"]",
-        "bad value at sources.f.include",
-    ),
-    (
-        FILE_SOURCE,
-        "include = [\"a?\"]",
-        "bad value at sources.f.include",
-    ),
-    (
-        FILE_SOURCE,
-        "include = [\"a[0]\"]",
-        "bad value at sources.f.include",
-    ),
-    (
-        FILE_SOURCE,
-        "include = [\"a\"]\nread_from = \"end\"",
-        "bad value at sources.f.read_from",
-    ),
-    (
-        FILE_SOURCE,
-        "include = [\"a\"]\nmax_line_bytes = 0",
-        "bad value at sources.f.max_line_bytes",
-    ),
-    (
-        FILE_SOURCE,
-        "include = [\"a\"]\nmax_line_bytes = 16777217",
-        "bad value at sources.f.max_line_bytes",
-    ),
-    (
-        FILE_SOURCE,
-        "include = [\"a\"]\ndecoding.codec = \"text\"",
-        "bad value at sources.f.decoding.codec",
-    ),
-    (
-        FILE_SOURCE,
-        "include = [\"a\"]\nmax_length = 1",
-        "unknown option sources.f.max_length",
-    ),
-    (FILE_SINK, "", "missing option sinks.f.path"),
-    (FILE_SINK, "path = 1", "bad value at sinks.f.path"),
-    (
-        FILE_SINK,
-        "path = \"{{ host }}\"",
-        "bad value at sinks.f.path",
-    ),
-    (
-        FILE_SINK,
-        "path = \"a\"\ncompression = \"gzip\"",
-        "bad value at sinks.f.compression",
-    ),
-    (
-        FILE_SINK,
-        "path = \"a\"\ntarget = \"stdout\"",
-        "unknown option sinks.f.target",
-    ),
-];
-
-/// The fault of a text that is no configuration.
-fn fault_of(alloc: Global, text: &str) -> Result<Fault, Fail> {
-    match read_plan(alloc, text.as_bytes(), &VariableList::new(alloc)) {
-        Ok(_) => Err(Fail::new("accepted")),
-        Err(fault) => Ok(Fault::ConfigRefused(fault)),
-    }
-}
-
-/// Checks what is printed of a text that is no configuration.
-fn is_refused(rt: &impl Abort, alloc: Global, text: &str, why: &str) -> Result<(), Fail> {
-    let mut printed = Bytes::new(alloc);
-    fault_text(alloc, &fault_of(alloc, text)?, &mut printed)?;
-    let wanted = format!(in alloc; "vector: configuration refused: {why}\n")?;
-    assert!(rt; printed.as_slice() == wanted.as_bytes());
-    Ok(())
-}
-
-/// Checks what is printed of a source or a sink that has an option that it may not have.
-fn has_bad_option(
-    rt: &impl Abort,
-    alloc: Global,
-    component: &str,
-    option: &str,
-    why: &str,
-) -> Result<(), Fail> {
-    let text = format!(in alloc; "{component}{option}\n")?;
-    is_refused(rt, alloc, text.as_str(), why)
-}
-
-#[test]
-fn bad_options_of_files(rt: HostRuntime) -> Result<(), Fail> {
-    for (component, option, why) in REFUSED {
-        has_bad_option(&rt, rt.alloc(), *component, *option, *why)?;
-    }
     Ok(())
 }
 

@@ -47,7 +47,7 @@ pub(crate) fn environment(
 }
 
 /// A step that gives these bytes of that stream.
-pub(crate) fn piece(alloc: Global, stream: u64, bytes: &[u8]) -> Result<Step, WantOfMemory> {
+fn piece(alloc: Global, stream: u64, bytes: &[u8]) -> Result<Step, WantOfMemory> {
     let bytes = Bytes::copy_of(alloc, bytes)?;
     Ok(Step::Bytes { stream, bytes })
 }

@@ -1,18 +1,12 @@
-//! The ends in memory, what configurations ask for, and whole runs between ends in memory.
+//! The ends in memory, whole runs between them, and a hub that is driven by hand.
 #![tactic(auto)]
 
-#[cfg(test)]
-mod acknowledging;
-#[cfg(test)]
-mod batches;
 #[cfg(test)]
 mod buffers;
 #[cfg(test)]
 mod by_hand;
 #[cfg(test)]
 mod callers;
-#[cfg(test)]
-mod configurations;
 #[cfg(test)]
 mod ends;
 #[cfg(test)]
@@ -30,15 +24,9 @@ mod memory_ends;
 #[cfg(test)]
 mod plans;
 #[cfg(test)]
-mod printers;
-#[cfg(test)]
 mod retries;
 #[cfg(test)]
 mod runs;
-#[cfg(test)]
-mod summaries;
-#[cfg(test)]
-mod tallies;
 #[cfg(test)]
 mod transforms;
 #[cfg(test)]

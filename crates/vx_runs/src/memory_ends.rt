@@ -107,135 +107,74 @@ fn serves(rt: &impl Abort, alloc: Global, of: &Calls) -> Result<(), Fail> {
     Ok(())
 }
 
-/// A piece is taken in parts, and then nothing comes, and the end of all.
-const IN_PARTS: Calls = Calls {
-    steps: &[Play::Piece(7, "abcde"), Play::Idle],
+/// A piece is taken in parts. Then nothing comes, and a fault behind a piece of no bytes, and the end of a stream, and
+/// behind a piece of that the end of all, for good.
+const TAKES: Calls = Calls {
+    steps: &[
+        Play::Piece(7, "abcde"),
+        Play::Idle,
+        Play::Piece(7, ""),
+        Play::Fail,
+        Play::StreamEnded(7),
+        Play::Piece(7, "x"),
+        Play::AllEnded,
+        Play::Fail,
+    ],
     acts: &[],
     calls: &[
         Call::Take(Ok(Took::Bytes { stream: 7, n: 3 }), "abc"),
         Call::Take(Ok(Took::Bytes { stream: 7, n: 2 }), "de"),
         Call::Take(Ok(Took::Idle), ""),
-        Call::Take(Ok(Took::AllEnded), ""),
-    ],
-};
-
-#[test]
-fn gives_a_step_in_parts(rt: HostRuntime) -> Result<(), Fail> {
-    serves(&rt, rt.alloc(), &IN_PARTS)
-}
-
-const ENDED_STREAM: Calls = Calls {
-    steps: &[Play::StreamEnded(7), Play::Piece(7, "x")],
-    acts: &[],
-    calls: &[
+        Call::Take(Err(Trouble::Failed), ""),
         Call::Take(Ok(Took::StreamEnded { stream: 7 }), ""),
         Call::Take(Ok(Took::AllEnded), ""),
-    ],
-};
-
-#[test]
-fn passes_over_an_ended_stream(rt: HostRuntime) -> Result<(), Fail> {
-    serves(&rt, rt.alloc(), &ENDED_STREAM)
-}
-
-const BEHIND_THE_END: Calls = Calls {
-    steps: &[Play::AllEnded, Play::Fail],
-    acts: &[],
-    calls: &[
-        Call::Take(Ok(Took::AllEnded), ""),
         Call::Take(Ok(Took::AllEnded), ""),
     ],
 };
 
 #[test]
-fn passes_over_what_is_behind_the_end(rt: HostRuntime) -> Result<(), Fail> {
-    serves(&rt, rt.alloc(), &BEHIND_THE_END)
+fn takes_by_its_steps(rt: HostRuntime) -> Result<(), Fail> {
+    serves(&rt, rt.alloc(), &TAKES)
 }
 
-const NO_BYTES: Calls = Calls {
-    steps: &[Play::Piece(7, ""), Play::Fail],
-    acts: &[],
-    calls: &[
-        Call::Take(Err(Trouble::Failed), ""),
-        Call::Take(Ok(Took::AllEnded), ""),
-    ],
-};
-
-#[test]
-fn passes_over_no_bytes(rt: HostRuntime) -> Result<(), Fail> {
-    serves(&rt, rt.alloc(), &NO_BYTES)
-}
-
-const STARTS: Calls = Calls {
+/// Each call has its act; a start and a confirm aren't refused. Behind the last act each call is met.
+const ACTS: Calls = Calls {
     steps: &[],
-    acts: &[Act::Fail, Act::Refuse],
+    acts: &[
+        Act::Fail,
+        Act::Refuse,
+        Act::Part(0),
+        Act::Part(2),
+        Act::Fail,
+        Act::Refuse,
+        Act::Refuse,
+        Act::Fail,
+        Act::Refuse,
+        Act::Fail,
+    ],
     calls: &[
         Call::Start(Err(Trouble::Failed)),
         Call::Start(Ok(())),
+        Call::Give("abc", Ok(1)),
+        Call::Give("bcd", Ok(2)),
+        Call::Give("d", Err(Trouble::Failed)),
+        Call::Give("d", Err(Trouble::Refused)),
+        Call::Finish(Err(Trouble::Refused)),
+        Call::Finish(Err(Trouble::Failed)),
+        Call::Confirm(Ok(())),
+        Call::Confirm(Err(Trouble::Failed)),
+        Call::Give("xyz", Ok(3)),
+        Call::Finish(Ok(())),
+        Call::HasGiven("abcxyz"),
+        Call::HasConfirmed(1),
         Call::Close,
         Call::Start(Ok(())),
     ],
 };
 
 #[test]
-fn starts_by_its_acts(rt: HostRuntime) -> Result<(), Fail> {
-    serves(&rt, rt.alloc(), &STARTS)
-}
-
-const GIVES: Calls = Calls {
-    steps: &[],
-    acts: &[Act::Part(0), Act::Part(2)],
-    calls: &[
-        Call::Give("abc", Ok(1)),
-        Call::Give("bcd", Ok(2)),
-        Call::Give("xyz", Ok(3)),
-        Call::HasGiven("abcxyz"),
-    ],
-};
-
-const FAILING_GIVES: Calls = Calls {
-    steps: &[],
-    acts: &[Act::Fail, Act::Refuse],
-    calls: &[
-        Call::Give("d", Err(Trouble::Failed)),
-        Call::Give("d", Err(Trouble::Refused)),
-    ],
-};
-
-#[test]
-fn gives_by_its_acts(rt: HostRuntime) -> Result<(), Fail> {
-    serves(&rt, rt.alloc(), &GIVES)?;
-    serves(&rt, rt.alloc(), &FAILING_GIVES)
-}
-
-const FINISHES: Calls = Calls {
-    steps: &[],
-    acts: &[Act::Refuse, Act::Fail],
-    calls: &[
-        Call::Finish(Err(Trouble::Refused)),
-        Call::Finish(Err(Trouble::Failed)),
-        Call::Finish(Ok(())),
-    ],
-};
-
-#[test]
-fn finishes_by_its_acts(rt: HostRuntime) -> Result<(), Fail> {
-    serves(&rt, rt.alloc(), &FINISHES)
-}
-
-const CONFIRMS: Calls = Calls {
-    steps: &[],
-    acts: &[Act::Refuse, Act::Fail],
-    calls: &[
-        Call::Confirm(Ok(())),
-        Call::Confirm(Err(Trouble::Failed)),
-        Call::HasConfirmed(1),
-    ],
-};
-
-#[test]
-fn confirms_by_its_acts(rt: HostRuntime) -> Result<(), Fail> {
-    serves(&rt, rt.alloc(), &CONFIRMS)
+fn serves_by_its_acts(rt: HostRuntime) -> Result<(), Fail> {
+    serves(&rt, rt.alloc(), &ACTS)
 }
 
 const ATTEMPTS: Calls = Calls {

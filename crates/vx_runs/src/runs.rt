@@ -1,4 +1,4 @@
-//! Whole runs between ends in memory.
+//! Whole runs between ends in memory, with what is printed of their counts.
 
 use crate::fixtures::{Play, add, config, environment, script, steps, texts};
 use std::alloc::Global;
@@ -6,14 +6,13 @@ use std::process::Abort;
 use std::sync::Wait;
 use std::test::Fail;
 use vx_ends::{
-    Act, Clock, ConfigList, MemoryClock, MemoryPrinter, MemoryWorld, Printer, ScriptedList,
-    StepList,
+    Act, Clock, ConfigList, MemoryClock, MemoryPrinter, MemoryWorld, ScriptedList, StepList,
 };
 use vx_run::{Ended, vector};
 use vx_value::WantOfMemory;
 
 /// The first configuration.
-pub(crate) const FIRST: &str = "[sources.in]
+const FIRST: &str = "[sources.in]
 type = \"stdin\"
 
 [sinks.out]
@@ -55,8 +54,6 @@ pub(crate) struct Run {
     pub(crate) sink: &'static str,
     /// How that sink meets its calls.
     pub(crate) acts: &'static [Act],
-    /// The print to standard output from which on each one fails, if any.
-    pub(crate) mute_from: Option<u64>,
     /// The moment that the clock, which begins with 0, has to show at the end at least, in milliseconds, and by which it may be late.
     pub(crate) lasted: u64,
     /// The exit status.
@@ -69,9 +66,12 @@ pub(crate) struct Run {
     pub(crate) given: &'static [&'static str],
 }
 
+/// Words that run the text, and ask for the counts.
+const STATS: &[&str] = &["--config", "first.toml", "--stats"];
+
 /// A run of the first configuration whose input is empty.
 pub(crate) const EMPTY: Run = Run {
-    words: &["--config", "first.toml"],
+    words: STATS,
     variables: &[],
     text: FIRST,
     origin: "in",
@@ -79,11 +79,12 @@ pub(crate) const EMPTY: Run = Run {
     source: &[],
     sink: "out",
     acts: &[],
-    mute_from: None,
     lasted: 0,
     status: 0,
     printed: "",
-    shown: "",
+    shown: "source in read=0 lines=0 overlong=0 undecodable=0 events=0 unread=0 batches=0 delivered=0 errored=0 rejected=0 confirmed=0
+sink out taken=0 newest=0 attempts=0 delivered=0 errored=0 rejected=0 bytes=0
+",
     given: &["", ""],
 };
 
@@ -110,18 +111,19 @@ fn world(alloc: Global, run: &Run, steps: StepList) -> Result<MemoryWorld, WantO
     Ok(MemoryWorld::new(alloc, configs, scripts))
 }
 
-/// Calls the program in the world of a run, whose source plays these steps, and checks the status, what is shown, and how long it lasted.
-pub(crate) fn called<R: Wait + Abort, P: Printer>(
+/// Calls the program in the world of a run, whose source plays these steps, and checks the status, what is printed, and
+/// how long it lasted.
+pub(crate) fn played<R: Wait + Abort>(
     rt: &R,
     alloc: Global,
     run: &Run,
     steps: StepList,
-    err: &mut P,
 ) -> Result<Ended<MemoryWorld>, WantOfMemory> {
     let words = texts(alloc, run.words)?;
     let environment = environment(alloc, run.variables)?;
     let world = world(alloc, run, steps)?;
-    let mut out = MemoryPrinter::new(alloc, run.mute_from);
+    let mut out = MemoryPrinter::new(alloc, None);
+    let mut err = MemoryPrinter::new(alloc, None);
     let clock = MemoryClock::new();
     let ended = vector(
         rt,
@@ -131,24 +133,12 @@ pub(crate) fn called<R: Wait + Abort, P: Printer>(
         world,
         &clock,
         &mut out,
-        err,
+        &mut err,
     );
     assert_eq!(rt; ended.status, run.status);
     assert!(rt; clock.now() >= run.lasted);
     assert!(rt; clock.now() <= run.lasted.saturating_add(LATE));
     assert!(rt; out.printed() == run.shown.as_bytes());
-    Ok(ended)
-}
-
-/// The same, and checks what is printed on standard error.
-pub(crate) fn played<R: Wait + Abort>(
-    rt: &R,
-    alloc: Global,
-    run: &Run,
-    steps: StepList,
-) -> Result<Ended<MemoryWorld>, WantOfMemory> {
-    let mut err = MemoryPrinter::new(alloc, None);
-    let ended = called(rt, alloc, run, steps, &mut err)?;
     assert!(rt; err.printed() == run.printed.as_bytes());
     Ok(ended)
 }
@@ -164,14 +154,6 @@ pub(crate) fn given(ended: &Ended<MemoryWorld>, instance: usize) -> &[u8] {
     }
 }
 
-/// How many batches of the source were delivered, had an error, and were rejected.
-pub(crate) fn notices(ended: &Ended<MemoryWorld>) -> (u64, u64, u64) {
-    match ended.tallies.get(0) {
-        Some(source) => (source.delivered, source.errored, source.rejected),
-        None => (0, 0, 0),
-    }
-}
-
 /// Checks how many ports there are, and what each was given. As many instances are counted.
 fn were_given(rt: &impl Abort, ended: &Ended<MemoryWorld>, wanted: &[&str]) {
     assert_eq!(rt; ended.ports.len(), wanted.len());
@@ -181,25 +163,15 @@ fn were_given(rt: &impl Abort, ended: &Ended<MemoryWorld>, wanted: &[&str]) {
     assert_eq!(rt; ended.tallies.len(), wanted.len());
 }
 
-/// Does a run whose source plays these steps, and checks all that must come of it.
-pub(crate) fn ran_on<R: Wait + Abort>(
-    rt: &R,
-    alloc: Global,
-    run: &Run,
-    steps: StepList,
-) -> Result<Ended<MemoryWorld>, WantOfMemory> {
-    let ended = played(rt, alloc, run, steps)?;
-    were_given(rt, &ended, run.given);
-    Ok(ended)
-}
-
 /// Does a run, and checks all that must come of it.
 pub(crate) fn ran<R: Wait + Abort>(
     rt: &R,
     alloc: Global,
     run: &Run,
 ) -> Result<Ended<MemoryWorld>, WantOfMemory> {
-    ran_on(rt, alloc, run, steps(alloc, run.steps)?)
+    let ended = played(rt, alloc, run, steps(alloc, run.steps)?)?;
+    were_given(rt, &ended, run.given);
+    Ok(ended)
 }
 
 /// The same, of a run of which nothing else is to be checked.
@@ -209,14 +181,17 @@ pub(crate) fn runs<R: Wait + Abort>(rt: &R, alloc: Global, run: &Run) -> Result<
 }
 
 /// Two lines in one piece.
-pub(crate) const TWO_LINES: Run = Run {
+const TWO_LINES: Run = Run {
     steps: &[Play::Piece(0, "a\nb\n")],
+    shown: "source in read=4 lines=2 overlong=0 undecodable=0 events=2 unread=0 batches=1 delivered=1 errored=0 rejected=0 confirmed=4
+sink out taken=2 newest=0 attempts=2 delivered=2 errored=0 rejected=0 bytes=4
+",
     given: &["", "a\nb\n"],
     ..EMPTY
 };
 
 #[test]
-fn two_lines_are_copied_in_silence(rt: HostRuntime) -> Result<(), Fail> {
+fn copies_two_lines(rt: HostRuntime) -> Result<(), Fail> {
     runs(&rt, rt.alloc(), &TWO_LINES)
 }
 
@@ -226,8 +201,11 @@ fn empty_input(rt: HostRuntime) -> Result<(), Fail> {
 }
 
 /// A line without a line feed.
-pub(crate) const OPEN_LINE: Run = Run {
+const OPEN_LINE: Run = Run {
     steps: &[Play::Piece(0, "a")],
+    shown: "source in read=1 lines=1 overlong=0 undecodable=0 events=1 unread=0 batches=1 delivered=1 errored=0 rejected=0 confirmed=1
+sink out taken=1 newest=0 attempts=1 delivered=1 errored=0 rejected=0 bytes=2
+",
     given: &["", "a\n"],
     ..EMPTY
 };
@@ -235,73 +213,4 @@ pub(crate) const OPEN_LINE: Run = Run {
 #[test]
 fn unfinished_last_line(rt: HostRuntime) -> Result<(), Fail> {
     runs(&rt, rt.alloc(), &OPEN_LINE)
-}
-
-/// A source that fails before it gives anything.
-const LOST_AT_ONCE: Run = Run {
-    steps: &[Play::Fail],
-    status: 69,
-    printed: "vector: source in failed after 0 bytes\n",
-    ..EMPTY
-};
-
-#[test]
-fn fails_before_the_first_line(rt: HostRuntime) -> Result<(), Fail> {
-    runs(&rt, rt.alloc(), &LOST_AT_ONCE)
-}
-
-/// A source that fails behind a line, before another.
-const LOST_AFTER_ONE: Run = Run {
-    steps: &[Play::Piece(0, "a\n"), Play::Fail, Play::Piece(0, "b\n")],
-    status: 69,
-    printed: "vector: source in failed after 2 bytes\n",
-    given: &["", "a\n"],
-    ..EMPTY
-};
-
-#[test]
-fn fails_after_one_line(rt: HostRuntime) -> Result<(), Fail> {
-    runs(&rt, rt.alloc(), &LOST_AFTER_ONE)
-}
-
-/// A source that fails behind two lines.
-const LOST_AFTER_TWO: Run = Run {
-    steps: &[Play::Piece(0, "a\nb\n"), Play::Fail],
-    status: 69,
-    printed: "vector: source in failed after 4 bytes\n",
-    given: &["", "a\nb\n"],
-    ..EMPTY
-};
-
-#[test]
-fn fails_after_two_lines(rt: HostRuntime) -> Result<(), Fail> {
-    runs(&rt, rt.alloc(), &LOST_AFTER_TWO)
-}
-
-/// Words that name a file that isn't there.
-const NO_SUCH_FILE: Run = Run {
-    words: &["--config", "second.toml"],
-    status: 74,
-    printed: "vector: cannot read second.toml\n",
-    given: &[],
-    ..EMPTY
-};
-
-#[test]
-fn finds_no_such_file(rt: HostRuntime) -> Result<(), Fail> {
-    runs(&rt, rt.alloc(), &NO_SUCH_FILE)
-}
-
-/// No words.
-const NO_WORDS: Run = Run {
-    words: &[],
-    status: 64,
-    printed: "vector: usage: vector --config FILE [options]\nvector: usage: vector validate FILE\n",
-    given: &[],
-    ..EMPTY
-};
-
-#[test]
-fn says_how_it_is_called(rt: HostRuntime) -> Result<(), Fail> {
-    runs(&rt, rt.alloc(), &NO_WORDS)
 }

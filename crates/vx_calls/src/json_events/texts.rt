@@ -1,6 +1,6 @@
 //! Texts whose verdicts other readers told.
 
-use super::{has_answer, have_answers, text_has_answer};
+use super::{has_answer, text_has_answer};
 use std::test::Fail;
 
 /// Texts that are no event, each with its verdict. Which texts are JSON told Node: its strict decoder of UTF-8, its
@@ -152,72 +152,4 @@ fn bytes_that_are_refused(rt: HostRuntime) -> Result<(), Fail> {
         has_answer(&rt, rt.alloc(), *bytes, *want)?;
     }
     Ok(())
-}
-
-/// Events, spelled as Python's `json` does, with sorted names and no blanks; Node reads the same values.
-const EVENTS: &[(&str, &str)] = &[
-    (
-        "{\"a\":\"\\\"\\\\\\/\\b\\f\\n\\r\\t\"}",
-        "{\"a\":\"\\\"\\\\/\\b\\f\\n\\r\\t\"}",
-    ),
-    (
-        "{\"a\":\"\\u0000\\u001F\\u007f\\u00e9\\u20AC\\uD7ff\\uE000\\uffff\"}",
-        "{\"a\":\"\\u0000\\u001f\u{7F}é€\u{D7FF}\u{E000}\u{FFFF}\"}",
-    ),
-    (
-        "{\"a\":\"\\uD800\\uDC00\\uDBFF\\uDFFF\\ud83d\\uDe00\"}",
-        "{\"a\":\"\u{10000}\u{10FFFF}😀\"}",
-    ),
-    ("{\"a\":\"\\u0022\\u005c\\u002F\"}", "{\"a\":\"\\\"\\\\/\"}"),
-    ("{\"a\":1,\"\\u0061\":2}", "{\"a\":2}"),
-    (
-        "{\"a\":{\"b\":1,\"b\":2},\"a\":{\"c\":3}}",
-        "{\"a\":{\"c\":3}}",
-    ),
-    (
-        "{\"b\":0,\"a\":1,\"b\":2,\"a\":3,\"c\":4,\"b\":5}",
-        "{\"a\":3,\"b\":5,\"c\":4}",
-    ),
-    (
-        "{\"é\":1,\"z\":2,\"Z\":3,\"\":4,\"\\uffff\":5,\"\\ud800\\udc00\":6}",
-        "{\"\":4,\"Z\":3,\"z\":2,\"é\":1,\"\u{FFFF}\":5,\"\u{10000}\":6}",
-    ),
-    (
-        "{\"a\":[-1,0,9007199254740993,-9223372036854775808,18446744073709551616]}",
-        "{\"a\":[-1,0,9007199254740993,-9223372036854775808,18446744073709551616]}",
-    ),
-    (
-        "{\"f\":1,\"e\":2,\"d\":3,\"c\":4,\"b\":5,\"a\":6}",
-        "{\"a\":6,\"b\":5,\"c\":4,\"d\":3,\"e\":2,\"f\":1}",
-    ),
-    (
-        "{\"a\":\" / \",\"b\":[[],[{}],{\"c\":[]}],\"c\":null}",
-        "{\"a\":\" / \",\"b\":[[],[{}],{\"c\":[]}],\"c\":null}",
-    ),
-    (
-        "{\"a\":\"\u{80}\u{7FF}\u{800}\u{D7FF}\u{E000}\u{FFFF}\u{10000}\u{10FFFF}\"}",
-        "{\"a\":\"\u{80}\u{7FF}\u{800}\u{D7FF}\u{E000}\u{FFFF}\u{10000}\u{10FFFF}\"}",
-    ),
-];
-
-#[test]
-fn texts_that_are_events(rt: HostRuntime) -> Result<(), Fail> {
-    have_answers(&rt, rt.alloc(), EVENTS)
-}
-
-/// An object with arrays in it, of 32 levels and of 33. Where the last opens was counted.
-const LEVELS: &[(&str, &str)] = &[
-    (
-        "{\"a\":[[[[[[[[[[[[[[[[[[[[[[[[[[[[[[[]]]]]]]]]]]]]]]]]]]]]]]]]]]]]]]}",
-        "{\"a\":[[[[[[[[[[[[[[[[[[[[[[[[[[[[[[[]]]]]]]]]]]]]]]]]]]]]]]]]]]]]]]}",
-    ),
-    (
-        "{\"a\":[[[[[[[[[[[[[[[[[[[[[[[[[[[[[[[[]]]]]]]]]]]]]]]]]]]]]]]]]]]]]]]]}",
-        "deep at 36",
-    ),
-];
-
-#[test]
-fn as_deep_as_may_be(rt: HostRuntime) -> Result<(), Fail> {
-    have_answers(&rt, rt.alloc(), LEVELS)
 }

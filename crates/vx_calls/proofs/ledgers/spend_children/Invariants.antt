@@ -2,7 +2,7 @@ use Rattle.std.proofs.Common.{ℕ, ◌≤◌, length}
 use Rattle.vx_ledger.specs.Copies.{copies_of}
 use Rattle.vx_ledger.specs.Ledger.{live_count}
 use Rattle.vx_ledger.specs.Routing.{copies_in}
-use Rattle.vx_calls.proofs.ledgers.routed.Given as goal
+use Rattle.vx_calls.proofs.ledgers.spend_children.Given as goal
 
 abbrev pub invariant-loop-child : goal.invariant-loop-child
 invariant-loop-child g l =
