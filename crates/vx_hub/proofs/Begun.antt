@@ -38,7 +38,7 @@ use Rattle.vx_places.specs.Rooms.{rooms_at, rooms_if, held_room}
 use Rattle.vx_places.proofs.Steps.{holds_step, still_shifts, same_holds, none_holds}
 use Rattle.vx_tasks.specs.declared.task.Role.{Role}
 use Rattle.vx_tasks.specs.declared.task.Role.TheVariants.{Source, Generator, Sink, Blackhole, Transform, Unfit}
-use Rattle.vx_tasks.specs.Home.{HasCome, IsAtHome}
+use Rattle.vx_tasks.specs.Home.{StandsAt, HasCome, IsAtHome}
 use Rattle.vx_tasks.specs.Telling.{IsTold, HasCounted, spec_by, spec_of}
 use Rattle.vx_seats.specs.declared.seat.Seat.{Seat}
 use Rattle.vx_seats.specs.Beginning.{AreNew, IsFresh, AreFresh}
@@ -213,6 +213,15 @@ fit_role Blackhole c is = λ e. cc
 fit_role (Transform picker) c is = λ e. cc
 fit_role Unfit c is = absurd is
 
+-- what it keeps stands for nothing
+bare_role : (role : Role) (c : Component) → IsRoleFor role c → StandsAt role []
+bare_role (Source core) c is = tt
+bare_role (Generator maker) c is = tt
+bare_role (Sink codec) c is = tt
+bare_role Blackhole c is = tt
+bare_role (Transform picker) c is = is.1
+bare_role Unfit c is = absurd is
+
 -- of an instance nothing is had at first, be there a port or not
 either : {X : Type 0} (b : Bool) (x : X) → (if b then x else x) ≡ x
 either true x = refl
@@ -258,7 +267,7 @@ module _ {plan : Plan} (accepted : IsPlan plan) (i : ℕ) {c : Component}
   )
   come_first (Sink codec) is = rw runs is
   come_first Blackhole is = rw runs is
-  come_first (Transform picker) is = rw runs is
+  come_first (Transform picker) is = rw runs is.0
   come_first Unfit is = absurd is
 
 module _ {P : Type 0} {told_by : P → Told} {plan : Plan} (accepted : IsPlan plan) (once : Bool) where
@@ -269,7 +278,7 @@ module _ {P : Type 0} {told_by : P → Told} {plan : Plan} (accepted : IsPlan pl
   fresh_seat i c was role port there begins is untouched =
       let home : (now : ℕ) → IsAtHome told_by (begun plan once now) i (record { port = port; role = role }) = λ now.
       record { told = told_first accepted i there once now (told_by port) untouched; come = come_first accepted i there once now role is } in
-      assumption (home, fit_role role c is, begins.counts i, begins)
+      assumption (home, fit_role role c is, bare_role role c is, begins.counts i, begins)
 
   pub all_fresh : (seats : List (Seat P)) (roles : List Role) (ports : List (Named P)) (seated : List (Seat P)) →
       AreFor (IsBegun plan) plan.components seats → AreFor IsRoleFor plan.components roles →
@@ -334,7 +343,7 @@ judges_if : (o : Option Component) → IfSome o (λ c. is_served c ≡ true) →
 judges_if None served is = cc
 judges_if (Some c) served is = and_from (is_transform c) (is_judging c.settings) is (serves c served is)
 
--- each judges each event by itself
+-- each judges event by event
 judging_first : (plan : Plan) (once : Bool) (now : ℕ) → IsPlan plan → all_served plan.components ≡ true → OnlyJudges (begun plan once now)
 judging_first plan once now accepted served i = let h = begun plan once now in judges_if (component_of h i)
     (rw (component_in_place h plan i (begun_legal plan once now accepted) refl) (if_there (slice_get plan.components i) (λ c there. served_at plan.components i c served there)))

@@ -44,7 +44,7 @@ use Rattle.vx_tasks.specs.declared.task.Role.TheVariants as role_is
 use Rattle.vx_tasks.specs.declared.task.Task.{Task}
 use Rattle.vx_tasks.specs.declared.work.Job.{Job}
 use Rattle.vx_tasks.specs.declared.work.Job.TheVariants as job
-use Rattle.vx_tasks.specs.Home.{IsAtHome}
+use Rattle.vx_tasks.specs.Home.{HasKept, IsAtHome}
 use Rattle.vx_tasks.specs.Out.{IsIdle, IsHeld, MayAttemptNow, MayCloseNow, AreDue, is_unfit}
 use Rattle.vx_seats.specs.declared.seat.Seat.{Seat}
 use Rattle.vx_seats.specs.Knowing.{HasHome, IsKnown}
@@ -284,6 +284,7 @@ module _ {P : Type 0} {told_by : P → Told} {i worker now : ℕ} {task : Task P
     out : out_to h i ≡ Some worker
     idle : IsIdle h i
     home : IsAtHome told_by h i task
+    kept : HasKept h i task.role
     due : AreDue h i positions
     aside : (j : ℕ) → is_out h j ≡ is_out mid.log j
 
@@ -306,6 +307,7 @@ module _ {P : Type 0} {told_by : P → Told} {i worker now : ℕ} {task : Task P
       unclosed = leased_unclosed old.log i worker now 0 (rw lent.steps.noted at lent.steps.stands.legal);
     });
     home = lent.home;
+    kept = lent.kept;
     due = lent.due;
     aside = λ j. refl;
   }
@@ -466,6 +468,7 @@ module _ {P : Type 0} {told_by : P → Told} {i worker now : ℕ} {task : Task P
         out = gone.out;
         idle = gone.idle;
         home = gone.home;
+        kept = gone.kept;
         held = held;
         asked = gone.due;
         job = gathered.given;

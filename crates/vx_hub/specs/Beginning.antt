@@ -10,7 +10,7 @@ use Rattle.vx_plan.specs.Options.{file_read, decoding, demo_of, encoding, has_de
 use Rattle.vx_plan.specs.Targets.{acknowledged}
 use Rattle.vx_record.specs.Copies.{counting}
 use Rattle.vx_record.specs.Places.{Place}
-use Rattle.vx_pick.specs.Picks.{Picks}
+use Rattle.vx_pick.specs.Picks.{Picks, StandsFor}
 use Rattle.vx_pick.specs.declared.picker.Picker.{Picker}
 use Rattle.vx_sourcecore.specs.declared.source.SourceCore.{SourceCore}
 use Rattle.vx_sourcecore.specs.declared.generator.Generator.{Generator as Maker}
@@ -71,13 +71,13 @@ IsWorkerFor settings Blackhole = is_swallowing settings ≡ true
 IsWorkerFor settings (Transform picker) = ⊥
 IsWorkerFor settings Unfit = ⊥
 
--- a sink begins with the codec by which it writes, and a transform picks by its settings
+-- a sink begins with the codec by which it writes, and a transform picks by its settings, and saw no event
 abbrev pub IsRoleFor : Role → Component → Type 0
 IsRoleFor (Source core) c = IsSourceFor c.settings core × (has_device c.settings ≡ true)
 IsRoleFor (Generator maker) c = IsGeneratorFor c.settings maker
 IsRoleFor (Sink codec) c = encoding c.settings ≡ Some codec
 IsRoleFor Blackhole c = is_swallowing c.settings ≡ true
-IsRoleFor (Transform picker) c = Picks c.settings picker
+IsRoleFor (Transform picker) c = Picks c.settings picker × StandsFor picker []
 IsRoleFor Unfit c = ⊥
 
 -- but for what a transform picks by, which comes with the parts

@@ -6,7 +6,7 @@ use Rattle.vx_plan.specs.declared.component.Component.{Component}
 use Rattle.vx_plan.specs.declared.plan.Plan.{Plan}
 use Rattle.vx_plan.specs.Components.{is_transform}
 use Rattle.vx_pick.specs.declared.picker.Picker.{Picker}
-use Rattle.vx_pick.specs.Picks.{Picks}
+use Rattle.vx_pick.specs.Picks.{Picks, StandsFor}
 use Rattle.vx_record.specs.Records.{Record}
 use Rattle.vx_record.specs.Installs.{in_force}
 pub use Rattle.vx_ready.specs.Asking.{is_ported, is_judge, is_served, all_served}
@@ -35,10 +35,10 @@ AreUntouched told_by needs [] (named ∷ rest) = ⊥
 AreUntouched told_by needs (component ∷ components) (named ∷ rest) =
     IsUntouched (needs component) (told_by named.port) × AreUntouched told_by needs components rest
 
--- a transform has what picks by its settings, and what is none has nothing
+-- a transform has what picks by its settings and saw no event, and what is none has nothing
 abbrev pub IsPickerFor : Component → Option Picker → Type 0
 IsPickerFor c None = is_transform c ≡ false
-IsPickerFor c (Some picker) = (is_transform c ≡ true) × Picks c.settings picker
+IsPickerFor c (Some picker) = (is_transform c ≡ true) × (Picks c.settings picker × StandsFor picker [])
 
 -- so has each component in its place
 abbrev pub ArePickers : List Component → List (Option Picker) → Type 0
@@ -47,6 +47,6 @@ ArePickers [] (picker ∷ rest) = ⊥
 ArePickers (component ∷ components) [] = ⊥
 ArePickers (component ∷ components) (picker ∷ rest) = IsPickerFor component picker × ArePickers components rest
 
--- each component of the plan in force works with a port, judges each event by itself, makes its lines itself or writes nothing
+-- each component of the plan in force works with a port, judges event by event, makes its lines itself or writes nothing
 abbrev pub AreServed : Record → Type 0
 AreServed h = IfSome (in_force h) (λ (plan : Plan). all_served plan.components ≡ true)

@@ -38,7 +38,7 @@ pub struct Room<P> {
 
 impl<P: Port> Hub<P> {
     /// A hub with one instance for each component of a plan, whose record has their install. Each component works with a port, judges
-    /// each event by itself, makes its lines itself, or takes what comes and writes nothing.
+    /// event by event, makes its lines itself, or takes what comes and writes nothing.
     ///
     /// It is refused for want of memory alone, and then gives back what it was to be made of.
     pub fn new(alloc: Global, parts: Parts<P>, now: u64) -> Result<Self, NewRefused<P>>

@@ -1,5 +1,5 @@
 -- A transform that judged comes home: what it answers, and what is left once that was noted.
-use Rattle.std.proofs.Common.{◌≡◌, ◌∙◌, ℕ, ◌<◌, Bool, true, false, List, [], ◌∷◌, ◌++◌, length, map, None, IfSome, refl, sym, ap}
+use Rattle.std.proofs.Common.{◌≡◌, ◌∙◌, ℕ, ◌<◌, Bool, true, false, List, [], ◌∷◌, ◌++◌, length, map, None, IfSome, refl, sym, ap, subst}
 use Rattle.std.specs.Prelude.{◌||◌, Ok, Err, OnOk, OnErr, Result, is_err, slice_get}
 use Rattle.vx_ends.specs.Told.{Told}
 use Rattle.vx_ledger.specs.Copies.{numbers_of}
@@ -7,7 +7,8 @@ use Rattle.vx_ledger.specs.declared.parcel.Parcel.{Parcel}
 use Rattle.vx_ledger.specs.declared.short.Short.{Short}
 use Rattle.vx_ledger.specs.declared.short.Short.TheVariants.{WantOfMemory}
 use Rattle.vx_status.specs.declared.outcome.Outcome.TheVariants.{Filtered}
-use Rattle.vx_record.specs.declared.entry.Entry.TheVariants.{Spent, Notice}
+use Rattle.vx_record.specs.declared.entry.Entry.{Entry}
+use Rattle.vx_record.specs.declared.entry.Entry.TheVariants.{Answer, Spent, Notice}
 use Rattle.vx_record.specs.Records.{Record}
 use Rattle.vx_record.specs.Abandoning.{abandoned}
 use Rattle.vx_record.specs.Additions.{OnlyAdds}
@@ -28,8 +29,9 @@ use Rattle.vx_places.specs.Rooms.{SameRooms}
 use Rattle.vx_counts.proofs.Once.{itself}
 use Rattle.vx_tasks.specs.declared.landing.Done.TheVariants as done
 use Rattle.vx_tasks.specs.declared.task.Task.{Task}
+use Rattle.vx_tasks.specs.Home.{HasKept}
 use Rattle.vx_tasks.specs.Judging.{put_out_on, refused_on}
-use Rattle.vx_tasks.proofs.Answering.{answer_here, length_here}
+use Rattle.vx_tasks.proofs.Answering.{answer_here, length_here, kept_here}
 use Rattle.vx_tasks.proofs.Writing.{events_said}
 use Rattle.vx_seats.proofs.Telling.{told_mute, come_mute}
 use Rattle.vx_moves.specs.Answering.{put_out_of, refused_of, answer_by, MayAnswerNow}
@@ -92,16 +94,41 @@ module _ {P : Type 0} {told_by : P → Told} {old : Books P} {i : ℕ} (stands :
         }
 
     -- WHAT IS LEFT
-    arrived : IsArrived told_by old.log i task
-    arrived = record { out = b.out; told = b.told; come = b.acted.come; answered = b.answered; shut = λ closed. cc; fit = b.fit }
+    arrived : abandoned old.log ≡ true → IsArrived told_by old.log i task
+    arrived over = record {
+      out = b.out;
+      told = b.told;
+      come = b.acted.come;
+      answered = b.answered;
+      kept = λ going. let not = unabandoned old.log going in cc;
+      shut = λ closed. cc;
+      fit = b.fit;
+    }
 
     abbrev answered : Record
     answered = answer_by old.log i ports ∷ old.log
 
-    arrived_behind : IsArrived told_by answered i task
-    arrived_behind =
+    -- what it keeps stands for what it answered
+    stood_behind : abandoned old.log ≡ false → HasKept answered i task.role
+    stood_behind going =
+        let said = events_said old.log b.parcels b.held.known b.held.filled in
+        let same : Answer i (put_out_on ports b.parcels) (refused_on ports b.parcels) [] ≡ answer_by old.log i ports =
+        rw (← b.held.held, put_out_same old.log ports b.parcels said, refused_same ports b.parcels) refl in
+        subst (λ (e : Entry). HasKept (e ∷ old.log) i task.role) same
+        (kept_here old.log i task.role ports b.parcels stands.legal b.fit b.held b.acted going)
+
+    arrived_behind : abandoned old.log ≡ false → IsArrived told_by answered i task
+    arrived_behind going =
         let e = answer_by old.log i ports in
-        assumption (told_mute (told_by task.port) old.log e i tt b.told, come_mute task.role old.log e i tt b.acted.come, arrived)
+        record {
+          out = b.out;
+          told = told_mute (told_by task.port) old.log e i tt b.told;
+          come = come_mute task.role old.log e i tt b.acted.come;
+          answered = b.answered;
+          kept = λ none. stood_behind going;
+          shut = λ closed. cc;
+          fit = b.fit;
+        }
 
     -- once the answer was noted, unless the run is given up
     record IsJudged (over : Bool) (new : Books P) : Type 0 where
@@ -119,7 +146,7 @@ module _ {P : Type 0} {told_by : P → Told} {old : Books P} {i : ℕ} (stands :
       only = adds_none (IsFor i) old.log old.log refl;
       be = be_here;
       well = b.well;
-      arrived = arrived;
+      arrived = arrived over;
       settled = λ going. let not = unabandoned old.log going in cc;
       behind = adds_none (ComesBehind i) old.log old.log refl;
     })
@@ -135,7 +162,7 @@ module _ {P : Type 0} {told_by : P → Told} {old : Books P} {i : ℕ} (stands :
           arrived = spends_keep (λ h. IsArrived told_by h i task)
               (λ h c was. let e = Spent i c Filtered in assumption (told_mute (told_by task.port) h e i tt was.told, come_mute task.role h e i tt was.come, was))
               (λ h batch status was. let e = Notice batch status in assumption (told_mute (told_by task.port) h e i tt was.told, come_mute task.role h e i tt was.come, was))
-              spent.only (rw noted.steps.noted arrived_behind);
+              spent.only (rw noted.steps.noted (arrived_behind going));
           settled = λ none. owes_answered old.log new.log i (put_out_of old.log ports (at old.log (Held i))) (refused_of ports (at old.log (Held i))) [] Filtered b.settled
               (rw noted.steps.noted at spent.only) spent.stands.legal (is.none going);
           behind = rw noted.steps.noted at (spends_behind spent);

@@ -43,7 +43,7 @@ use Rattle.vx_tasks.specs.declared.landing.Done.TheVariants as done
 use Rattle.vx_tasks.specs.declared.task.Role.{Role}
 use Rattle.vx_tasks.specs.declared.task.Role.TheVariants as role
 use Rattle.vx_tasks.specs.declared.task.Task.{Task}
-use Rattle.vx_tasks.specs.Home.{HasCome}
+use Rattle.vx_tasks.specs.Home.{HasCome, HasKept}
 use Rattle.vx_tasks.specs.Out.{HasRoleTurned, is_unfit, lacks_cut, read_entry, turn_entry, leaves_taken}
 use Rattle.vx_tasks.specs.Telling.{IsTold}
 use Rattle.vx_seats.specs.Calls.{IsBack, HasTaskBack}
@@ -141,6 +141,7 @@ pub record IsArrived {P : Type 0} (told_by : P → Told) (h : Record) (i : ℕ) 
   pub told : IsTold (told_by task.port) h i
   pub come : HasCome h i task.role
   pub answered : device_at h i ≡ true → last_confirm h i ≡ due (at_lease h i) i
+  pub kept : cause_of h ≡ None → HasKept h i task.role
   pub shut : is_closed h i ≡ true → (told_by task.port).started ≡ false
   pub fit : is_unfit task.role ≡ false
 
@@ -173,6 +174,7 @@ module _ {P : Type 0} {told_by : P → Told} {i : ℕ} {task : Task P} {old : Bo
       (rw log at (now.seats.each i)) well (λ seat known well. record {
         settled = λ owing. settled;
         answered = λ device owing going. arrived.answered device;
+        kept = λ owing going. arrived.kept going;
         task_is = rw well.fed (record { told = arrived.told; come = arrived.come });
         shut = λ closed. arrived.shut (sym known.facts.closed ∙ closed);
         fit = λ counted unfit. let no = rw unfit at arrived.fit in cc;
@@ -192,6 +194,7 @@ module _ {P : Type 0} {told_by : P → Told} {i : ℕ} {task : Task P} {old : Bo
       (rw log at (now.seats.each i)) owing (λ seat known owes. record {
         settled = λ none going. let some = owes.owing in cc;
         answered = λ device none going. let some = owes.owing in cc;
+        kept = λ none going. let some = owes.owing in cc;
         task_is = rw owes.fed (record { told = told; come = come });
         shut = λ closed. let is : is_closed h i ≡ true = sym known.facts.closed ∙ closed in cc;
         fit = λ counted unfit. let no = rw unfit at (owes.fit counted) in cc;
@@ -222,7 +225,7 @@ module _ {P : Type 0} {told_by : P → Told} {i : ℕ} {task : Task P} {old : Bo
   pub landed_nothing : IsBackWith told_by old i task done.Nothing → HasLanded told_by i task old old
   landed_nothing b =
       landed_well stands within b refl stands (adds_none (IsFor i) old.log old.log refl) be_here b.well
-      (record { out = b.out; told = b.told; come = b.acted; answered = b.answered; shut = λ closed. cc; fit = b.fit }) (λ going. owes_before b refl)
+      (record { out = b.out; told = b.told; come = b.acted; answered = b.answered; kept = λ going. b.remembers; shut = λ closed. cc; fit = b.fit }) (λ going. owes_before b refl)
 
   pub landed_closed : {new : Books P} → IsBackWith told_by old i task done.Closed → HasNoted told_by i (entry.Closed i) old new →
       HasLanded told_by i task old new
@@ -230,7 +233,7 @@ module _ {P : Type 0} {told_by : P → Told} {i : ℕ} {task : Task P} {old : Bo
       let told = told_mute (told_by task.port) old.log (entry.Closed i) i tt b.told in
       let come = come_mute task.role old.log (entry.Closed i) i tt b.acted.come in
       landed_noted stands within b noted
-      (record { out = b.out; told = told; come = come; answered = b.answered; shut = λ closed. b.acted.shut; fit = b.fit })
+      (record { out = b.out; told = told; come = come; answered = b.answered; kept = λ going. b.remembers; shut = λ closed. b.acted.shut; fit = b.fit })
       (owes_still old.log (entry.Closed i) i tt (owes_before b refl))
 
   -- a turn that took nothing
@@ -239,7 +242,7 @@ module _ {P : Type 0} {told_by : P → Told} {i : ℕ} {task : Task P} {old : Bo
       HasNoted told_by i (entry.Idle i failed) old new → HasLanded told_by i task old new
   landed_idle_by {took} {failed} none fit told b noted =
       let come = come_under task.role old.log (entry.Idle i failed) i tt (role_idle task.role old.log i took none b.acted.come) in
-      landed_noted stands within b noted (record { out = b.out; told = told; come = come; answered = b.answered; shut = λ closed. cc; fit = fit })
+      landed_noted stands within b noted (record { out = b.out; told = told; come = come; answered = b.answered; kept = λ going. b.remembers; shut = λ closed. cc; fit = fit })
       (owes_still old.log (entry.Idle i failed) i tt (owes_before b refl))
 
   pub landed_idle : {new : Books P} → IsBackWith told_by old i task (done.Read turned.Idle) → HasNoted told_by i (entry.Idle i false) old new →
@@ -256,7 +259,7 @@ module _ {P : Type 0} {told_by : P → Told} {i : ℕ} {task : Task P} {old : Bo
       go false told noted =
           let e = entry.SourceLost i (capped (bytes_taken old.log i)) at_start in
           let come = come_under task.role old.log e i tt (role_idle task.role old.log i (turned.Failed at_start) refl b.acted.come) in
-          landed_noted stands within b noted (record { out = b.out; told = told; come = come; answered = b.answered; shut = λ closed. cc; fit = b.fit })
+          landed_noted stands within b noted (record { out = b.out; told = told; come = come; answered = b.answered; kept = λ going. b.remembers; shut = λ closed. cc; fit = b.fit })
           (owes_still old.log e i tt (owes_before b refl))
 
   -- memory was wanting for the confirm or the work, or in the midst of an attempt
@@ -272,6 +275,7 @@ module _ {P : Type 0} {told_by : P → Told} {i : ℕ} {task : Task P} {old : Bo
       (carried_one IsWellAt (λ seat. IsBack told_by seat.facts old.log i task) marked.seats b.well (λ was is now well. rw now (record {
         settled = λ owing going. owes_before b refl;
         answered = λ device owing going. b.answered device;
+        kept = λ owing going. b.remembers;
         task_is = (b.told, b.acted.come);
         shut = λ closed. b.acted.shut;
         fit = λ counted unfit. let no = rw unfit at b.fit in cc;
@@ -289,6 +293,7 @@ module _ {P : Type 0} {told_by : P → Told} {i : ℕ} {task : Task P} {old : Bo
       told = rw (stands_at old.log (Held i) stands.legal, ← b.held.held) b.told;
       come = come_under task.role old.log (entry.Attempt i (joined (held old.log i)) (take sent all.value) answer) i tt b.acted.come;
       answered = b.answered;
+      kept = λ going. b.remembers;
       shut = λ closed. cc;
       fit = b.fit;
     })
@@ -397,7 +402,7 @@ module _ {P : Type 0} {told_by : P → Told} {i : ℕ} {task : Task P} {old : Bo
           HasLanded told_by i task old new
       landed_cut {stream} (inl barren) leaves size =
           rw barren.1 (landed_well stands within b log found.1.1.steps.stands found.1.1.only be well_mid
-          (record { out = b.out; told = told; come = taken.0; answered = b.answered; shut = λ closed. cc; fit = taken.1.1 }) (unyielding barren.0))
+          (record { out = b.out; told = told; come = taken.0; answered = b.answered; kept = λ going. b.remembers; shut = λ closed. cc; fit = taken.1.1 }) (unyielding barren.0))
       landed_cut {stream} (inr borne) leaves size =
           let next = next_copy mid.log in
           let e = entry.Born i next next (counting next (length cut.events)) cut.events (must_wait mid.log i) stream cut.end in
@@ -408,6 +413,7 @@ module _ {P : Type 0} {told_by : P → Told} {i : ℕ} {task : Task P} {old : Bo
             told = told_mute (told_by task.port) read e i tt told;
             come = come_mute task.role read e i tt taken.0;
             answered = b.answered;
+            kept = λ going. b.remembers;
             shut = λ closed. cc;
             fit = taken.1.1;
           })

@@ -39,7 +39,7 @@ use Rattle.vx_tasks.specs.declared.landing.Landing.{Landing}
 use Rattle.vx_tasks.specs.declared.task.Role.{Role}
 use Rattle.vx_tasks.specs.declared.task.Role.TheVariants as role
 use Rattle.vx_tasks.proofs.Alone.{generated_same}
-use Rattle.vx_tasks.specs.Out.{AreDue, IsHeld, IsReadable, HasDone, HasActed, HasRoleTurned, IsConfirmedSo, confirm_entries, leaves_taken}
+use Rattle.vx_tasks.specs.Out.{AreDue, IsHeld, IsReadable, HasDone, HasActed, HasRoleTurned, IsConfirmedSo, confirm_entries, leaves_taken, IsKeptBy}
 use Rattle.vx_seats.specs.declared.seat.Seat.{Seat}
 use Rattle.vx_seats.specs.Staying.{EachSeat, SameFlags}
 use Rattle.vx_moves.specs.declared.books.Books.{Books}
@@ -94,6 +94,16 @@ acted_some told h i r (done.Judged ports) c was acted = let no = source_untransf
 acted_some told h i r done.Closed c was acted = let no = acted.may.confirmed in let yes = was.1.0 in cc
 acted_some told h i r done.Starved c was acted = absurd (no_sink h i was.0 acted.may.sink)
 acted_some told h i r d c was acted = come_under r h (entry.Confirm i c.positions c.made) i tt acted
+
+-- what it keeps
+by_confirmed : (h : Record) (i : ℕ) (r : Role) (d : Done) (c : Confirmed) → IsKeptBy h i r d → IsKeptBy (entry.Confirm i c.positions c.made ∷ h) i r d
+by_confirmed h i r done.Nothing c is = is
+by_confirmed h i r (done.Read turned) c is = is
+by_confirmed h i r (done.Attempted all sent answer) c is = is
+by_confirmed h i r (done.Judged ports) c is = is
+by_confirmed h i r done.Closed c is = is
+by_confirmed h i r done.Short c is = is
+by_confirmed h i r done.Starved c is = is
 
 acted_behind : (told : Told) (h : Record) (i : ℕ) (r : Role) (d : Done) (confirmed : Option Confirmed) → IsConfirmedSo h i d confirmed → HasActed told h i r d →
     HasActed told (confirm_entries i confirmed ++ h) i r d
@@ -174,6 +184,7 @@ module _ {P : Type 0} {told_by : P → Told} {old : Books P} {landing : Landing 
         held = rw now on.held;
         told = rw now back.told;
         acted = rw now (acted_behind (told_by landing.task.port) old.log i landing.task.role landing.done c back.confirmed back.acted);
+        remembers = rw now (same_behind (λ k. IsKeptBy k i landing.task.role landing.done) old.log i c (λ c is. by_confirmed old.log i landing.task.role landing.done c is) back.kept);
         fit = back.fit;
         kept = kept_on one.places two.places i (rw (rows, seats) within) leaves.rooms kept;
         well = well_on i leaves (rw seats well);

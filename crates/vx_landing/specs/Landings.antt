@@ -36,7 +36,7 @@ use Rattle.vx_tasks.specs.declared.confirming.Confirmed.{Confirmed}
 use Rattle.vx_tasks.specs.declared.landing.Done.{Done}
 use Rattle.vx_tasks.specs.declared.landing.Done.TheVariants as done
 use Rattle.vx_tasks.specs.declared.task.Task.{Task}
-use Rattle.vx_tasks.specs.Out.{AreDue, IsHeld, TellsDone, HasActed, is_unfit, lacks_cut, leaves_unfit, leaves_taken, turn_entry, confirm_entries}
+use Rattle.vx_tasks.specs.Out.{AreDue, IsHeld, TellsDone, HasActed, IsKeptBy, is_unfit, lacks_cut, leaves_unfit, leaves_taken, turn_entry, confirm_entries}
 use Rattle.vx_seats.specs.Calls.{HasTaskBack}
 use Rattle.vx_seats.specs.Staying.{OneSeat, SameFlags}
 use Rattle.vx_moves.specs.Returns.{IsReturned}
@@ -125,6 +125,7 @@ pub record IsBackWith {P : Type 0} (told_by : P → Told) (books : Books P) (i :
   pub held : IsHeld books.log i parcels
   pub told : TellsDone (told_by task.port) books.log i parcels outcome
   pub acted : HasActed (told_by task.port) books.log i task.role outcome
+  pub remembers : IsKeptBy books.log i task.role outcome
   pub fit : is_unfit task.role ≡ leaves_unfit outcome
   pub kept : IsSome (parcels_here books.places (Held i))
   pub well : IfSome (slice_get books.seats i) IsWellAt

@@ -1,3 +1,10 @@
 pub mod Saying
 pub mod Picking
 pub mod Bits
+pub mod Latest
+pub mod SameKeys
+pub mod Seen
+pub mod Sampling
+pub mod Kept
+pub mod Fed
+pub mod Cached

@@ -58,7 +58,8 @@ length-tests [] (test ∷ tests) mean = absurd mean
 length-tests (text ∷ texts) [] mean = absurd mean
 length-tests (text ∷ texts) (test ∷ tests) mean = omega (arith, length-tests texts tests mean.1)
 
-bit_of : (passes : Bool) → (if passes then 1 else 0) ≡ port_bits (if passes then 0 ∷ [] else [])
+-- what passes is put out on port 0 alone, as a bit
+pub bit_of : (passes : Bool) → (if passes then 1 else 0) ≡ port_bits (if passes then 0 ∷ [] else [])
 bit_of true = refl
 bit_of false = refl
 

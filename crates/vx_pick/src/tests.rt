@@ -1,11 +1,11 @@
 //! Each public call once, of vx_transform and of this crate.
 ghost use Rattle.std.specs.Prelude.{◌≡◌, [], IfOk};
 
-use crate::{Filter, Picker, Route};
+use crate::{Dedupe, Filter, Picker, Route, Sample};
 use std::alloc::Global;
 use std::process::Abort;
 use std::test::Fail;
-use vx_condition::{Condition, ConditionList, parse};
+use vx_condition::{Condition, ConditionList, DedupeFields, parse};
 use vx_ledger::{Batches, Finalizers, Parcel, SharedEvent};
 use vx_status::Outcome;
 use vx_transform::{Output, Shelf, Transform};
@@ -186,4 +186,52 @@ fn pickers_by_one_condition_and_by_two(rt: HostRuntime) -> Result<(), Fail> {
     let mut two = Picker::Route(route(&rt, rt.alloc(), true)?);
     picked(&rt, rt.alloc(), &mut two, "xy", 0b11)?;
     picked(&rt, rt.alloc(), &mut two, "z", 0b100)
+}
+
+#[test]
+fn sample_with_exclude(rt: HostRuntime) -> Result<(), Fail> {
+    let exclude = parse(rt.alloc(), ".message == \"x\"")?;
+    let mut sample = Sample::new(2, Some(exclude));
+    answers(&rt, rt.alloc(), &mut sample, "a", Some(0b1))?;
+    answers(&rt, rt.alloc(), &mut sample, "x", Some(0b1))?;
+    answers(&rt, rt.alloc(), &mut sample, "b", None)?;
+    answers(&rt, rt.alloc(), &mut sample, "c", Some(0b1))?;
+    is_still(&rt, rt.alloc(), &mut sample, 1)
+}
+
+#[test]
+fn dedupe_of_two_keys(rt: HostRuntime) -> Result<(), Fail> {
+    let mut paths: Vec<Path> = Vec::new(rt.alloc());
+    paths.push(Path::read(rt.alloc(), ".message")?)?;
+    let by = DedupeFields::Match(ItemList::from_vec(paths));
+    let mut dedupe = Dedupe::new(rt.alloc(), by, 2)?;
+    answers(&rt, rt.alloc(), &mut dedupe, "a", Some(0b1))?;
+    answers(&rt, rt.alloc(), &mut dedupe, "b", Some(0b1))?;
+    answers(&rt, rt.alloc(), &mut dedupe, "a", None)?;
+    answers(&rt, rt.alloc(), &mut dedupe, "c", Some(0b1))?;
+    answers(&rt, rt.alloc(), &mut dedupe, "b", Some(0b1))?;
+    is_still(&rt, rt.alloc(), &mut dedupe, 1)
+}
+
+// An event with two whole numbers.
+fn numbers(alloc: Global, a: i64, n: i64) -> Result<Event, Fail> {
+    let mut event = Event::new(alloc);
+    event.put(&Path::read(alloc, ".a")?, Value::Whole(a))?;
+    event.put(&Path::read(alloc, ".n")?, Value::Whole(n))?;
+    Ok(event)
+}
+
+#[test]
+fn dedupe_that_ignores_a_field(rt: HostRuntime) -> Result<(), Fail> {
+    let mut names: Vec<Text> = Vec::new(rt.alloc());
+    names.push(Text::copy_of(rt.alloc(), "n")?)?;
+    let by = DedupeFields::Ignore(ItemList::from_vec(names));
+    let mut picker = Picker::Dedupe(Dedupe::new(rt.alloc(), by, 10)?);
+    let first = numbers(rt.alloc(), 1, 1)?;
+    let repeat = numbers(rt.alloc(), 1, 2)?;
+    let other = numbers(rt.alloc(), 2, 2)?;
+    assert_eq!(rt; picker.ports_for(rt.alloc(), &first)?, 0b1);
+    assert_eq!(rt; picker.ports_for(rt.alloc(), &repeat)?, 0);
+    assert_eq!(rt; picker.ports_for(rt.alloc(), &other)?, 0b1);
+    Ok(())
 }

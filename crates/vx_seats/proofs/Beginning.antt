@@ -22,7 +22,7 @@ use Rattle.vx_record.proofs.Wired.{begun_legal, component_there}
 use Rattle.vx_counts.proofs.Stays.{others_stay}
 use Rattle.vx_tasks.specs.declared.task.Role.TheVariants.{Unfit}
 use Rattle.vx_tasks.specs.declared.task.Task.{Task}
-use Rattle.vx_tasks.specs.Home.{IsAtHome}
+use Rattle.vx_tasks.specs.Home.{StandsAt, IsAtHome}
 use Rattle.vx_seats.specs.declared.facts.Facts.{Facts}
 use Rattle.vx_seats.specs.declared.seat.Seat.{Seat}
 use Rattle.vx_seats.specs.Knowing.{HasFailed, HasHome, IsKnown, Knows, judged_by, outlets_at, wired_outlets}
@@ -39,12 +39,13 @@ map_same f g same (x ∷ xs) = rw (same x, map_same f g same xs) refl
 module _ {P : Type 0} (told_by : P → Told) (plan : Plan) (once : Bool) (now : ℕ) (accepted : IsPlan plan) where
   -- each task is at home: nothing is owed, and nothing was to be confirmed
   home_fresh : (f : Facts) (i : ℕ) (o : Option (Task P)) → AreNew f → IsSomeAnd o (λ task. (now : ℕ) → IsAtHome told_by (begun plan once now) i task) →
-      IfSome o (λ task. task.role ≢ Unfit) → IfSome o (HasHome told_by f (begun plan once now) i)
-  home_fresh f i None new home fit = tt
-  home_fresh f i (Some task) new home fit = record {
+      IfSome o (λ task. task.role ≢ Unfit) → IfSome o (λ task. StandsAt task.role []) → IfSome o (HasHome told_by f (begun plan once now) i)
+  home_fresh f i None new home fit kept = tt
+  home_fresh f i (Some task) new home fit kept = record {
     home = refl;
     settled = λ owing going. and_right (transform_at (begun plan once now) i) false refl;
     answered = λ device owing going. refl;
+    kept = λ owing going. kept;
     task_is = rw new.starved (home now);
     shut = λ is. let contrary : false ≡ true = sym new.closed ∙ is in cc;
     fit = λ known. fit;
@@ -82,7 +83,7 @@ module _ {P : Type 0} (told_by : P → Told) (plan : Plan) (once : Bool) (now : 
         facts = (let tried : sink_at (begun plan once now) i ≡ true → HasFailed (begun plan once now) i seat.facts.failures seat.facts.failed_at [] = λ sink copy here. absurd (omega (arith, here)) in assumption (fresh.facts, tried));
         progress = record { unnoticed = fresh.progress.unnoticed; waits = fresh.progress.waits_are ∙ sym waits; prefix = fresh.progress.prefix (judged_by (begun plan once now)) };
         counts = λ none. fresh.counts ∙ sym (others_stay (Install 0 plan once (first_instances 0 plan.components) now) [] i (begun_legal plan once now accepted) tt);
-        home = home_fresh seat.facts i seat.task fresh.facts fresh.home fresh.fit;
+        home = home_fresh seat.facts i seat.task fresh.facts fresh.home fresh.fit fresh.kept;
         away = away_fresh seat.task _ _ fresh.home;
       }
 

@@ -9,7 +9,7 @@ use Rattle.vx_plan.specs.declared.component.Component.{Component}
 use Rattle.vx_plan.specs.Components.{component_named}
 use Rattle.vx_plan.specs.Options.{has_device, reading_interval}
 use Rattle.vx_record.specs.declared.entry.Entry.{Entry}
-use Rattle.vx_record.specs.declared.entry.Entry.TheVariants.{Install, Lease, Confirm}
+use Rattle.vx_record.specs.declared.entry.Entry.TheVariants.{Install, Lease, Answer, Confirm}
 use Rattle.vx_record.specs.declared.tally.Tally.{Tally}
 use Rattle.vx_record.specs.Records.{Record}
 use Rattle.vx_record.specs.Legal.{IsLegal}
@@ -33,6 +33,7 @@ use Rattle.vx_counts.proofs.OwnEntries.{counted_by_own}
 use Rattle.vx_tasks.specs.declared.task.Task.{Task}
 use Rattle.vx_tasks.specs.Telling.{IsTold}
 use Rattle.vx_tasks.specs.Home.{HasCome}
+use Rattle.vx_tasks.proofs.Answered.{AnswersNone, spares_none, stands_on}
 use Rattle.vx_seats.specs.declared.facts.Facts.{Facts}
 use Rattle.vx_seats.specs.declared.progress.Progress.{Progress}
 use Rattle.vx_seats.specs.declared.seat.Seat.{Seat}
@@ -122,6 +123,11 @@ module _ {P : Type 0} where
       go None f = absurd f
       go (Some c) f = sym f.interval
 
+-- an entry behind which no more is owed answers nothing
+less_answers : (e : Entry) (i : ℕ) → OwesNoMore e → AnswersNone i e
+less_answers (Answer j made discarded kept) i less = absurd less
+less_answers e i less = tt
+
 -- TASKS AT HOME
 module _ {P : Type 0} (told_by : P → Told) where
   pub but_by : (starved : Bool) (h k : Record) (i : ℕ) (task : Task P) → ((t : Told) → IsTold t h i → IsTold t k i) → (HasCome h i task.role → HasCome k i task.role) →
@@ -142,6 +148,7 @@ module _ {P : Type 0} {told_by : P → Told} where
     home = stays is_out out_own h e i is ∙ has.home;
     settled = λ owing going. owes_far h e i none is (has.settled owing (cause_earlier h e going));
     answered = λ device owing going. answered_far h e i is (has.answered (sym (told_on false (λ (c : Component). has_device c.settings) h e i none) ∙ device) owing (cause_earlier h e going));
+    kept = λ owing going. stands_on task.role h e i (spares_none e i is) (has.kept owing (cause_earlier h e going));
     task_is = but_by told_by f.starved h (e ∷ h) i task (λ t. told_far t h e i none is) (come_far task.role h e i legal none is) has.task_is;
     shut = has.shut;
     fit = has.fit;
@@ -156,6 +163,7 @@ module _ {P : Type 0} {told_by : P → Told} where
     home = out ∙ has.home;
     settled = λ owing going. owes_still h e i less (has.settled owing (cause_earlier h e going));
     answered = λ device owing going. answered_still h e i mute less (has.answered (sym (told_on false (λ (c : Component). has_device c.settings) h e i none) ∙ device) owing (cause_earlier h e going));
+    kept = λ owing going. stands_on task.role h e i (less_answers e i less) (has.kept owing (cause_earlier h e going));
     task_is = but_by told_by f.starved h (e ∷ h) i task (λ t. told_mute t h e i mute) (come_mute task.role h e i mute) has.task_is;
     shut = shut;
     fit = has.fit;

@@ -57,6 +57,7 @@ use Rattle.vx_seats.proofs.Knowing.{CountsOwn, apart_of, but_by, counts_on, devi
 use Rattle.vx_seats.proofs.Owing.{owes_still}
 use Rattle.vx_seats.proofs.Progressing.{asked_due, births_apart, count_born, count_noticed, count_on, due_unnoticed, going_on, may_new, none_unported, progress_on, tells, unborn_unnoticed, unnoticed_few}
 use Rattle.vx_seats.proofs.Staying.{there, writes, written}
+use Rattle.vx_tasks.proofs.Answered.{stands_on}
 use Rattle.vx_seats.proofs.Telling.{told_mute, come_mute}
 
 -- what is known of seats leads to what is known of others behind an entry
@@ -164,6 +165,7 @@ module _ {P : Type 0} (told_by : P → Told) where
       home = home.home;
       settled = home.settled;
       answered = home.answered;
+      kept = λ owing going. rw shuts.0 (home.kept owing going);
       task_is = home_shut f.starved h i was is shuts.0 shuts.1 home.task_is;
       shut = λ _. shuts.1.shut;
       fit = λ counted. rw shuts.0 (home.fit counted);
@@ -309,6 +311,7 @@ module _ {P : Type 0} {told_by : P → Told} (i : ℕ) {items now : List (Seat P
           home = rw (itself i) refl;
           settled = λ owing going. owes_still h (Home i) i tt (back.settled owing going);
           answered = back.answered;
+          kept = λ owing going. stands_on task.role h (Home i) i tt (back.kept owing going);
           task_is = but_by told_by was.facts.starved h (Home i ∷ h) i task (λ t. told_mute t h (Home i) i tt) (come_mute task.role h (Home i) i tt) back.task_is;
           shut = back.shut;
           fit = back.fit;
@@ -394,7 +397,7 @@ module _ {P : Type 0} {told_by : P → Told} (i : ℕ) {items now : List (Seat P
     progress = k.progress;
     counts = k.counts;
     home = IfSome_then was.task k.home (λ task home.
-        record { home = home.home; settled = λ owing going. cc; answered = λ device owing going. cc; task_is = home.task_is; shut = home.shut; fit = home.fit });
+        record { home = home.home; settled = λ owing going. cc; answered = λ device owing going. cc; kept = λ owing going. cc; task_is = home.task_is; shut = home.shut; fit = home.fit });
     away = k.away;
   })
 
@@ -406,7 +409,7 @@ module _ {P : Type 0} {told_by : P → Told} (i : ℕ) {items now : List (Seat P
     progress = k.progress;
     counts = k.counts;
     home = IfSome_then was.task k.home (λ task home.
-        record { home = home.home; settled = home.settled; answered = home.answered; task_is = but_less told_by was.facts.starved h i task home.task_is; shut = home.shut; fit = home.fit });
+        record { home = home.home; settled = home.settled; answered = home.answered; kept = home.kept; task_is = but_less told_by was.facts.starved h i task home.task_is; shut = home.shut; fit = home.fit });
     away = k.away;
   })
 

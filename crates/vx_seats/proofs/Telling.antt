@@ -1,5 +1,5 @@
 -- What a port tells, and how far its task has come, stays behind entries that are of another task, or of none, or tell nothing.
-use Rattle.std.proofs.Common.{◌≡◌, ◌∙◌, ℕ, ◌+◌, false, List, [], ◌∷◌, IfSome, refl, sym, ap, subst, arith}
+use Rattle.std.proofs.Common.{◌≡◌, ◌∙◌, ℕ, ◌+◌, false, [], ◌∷◌, refl, sym, ap, subst, arith}
 use Rattle.std.specs.Prelude.{if◌then◌else◌}
 use Rattle.std.proofs.lemmas.List.{append-nil}
 use Rattle.vx_ends.specs.Told.{Told}
@@ -10,7 +10,6 @@ use Rattle.vx_record.specs.Records.{Record}
 use Rattle.vx_record.specs.Legal.{IsLegal}
 use Rattle.vx_record.specs.Tasks.{is_of, IsOwn}
 use Rattle.vx_record.specs.Installs.{wiring, component_of, device_at, told}
-use Rattle.vx_record.specs.Reads.{taken}
 use Rattle.vx_record.specs.Ready.{reading_moment}
 use Rattle.vx_record.specs.PortCounts.{finish_count}
 use Rattle.vx_record.proofs.Mine.{others}

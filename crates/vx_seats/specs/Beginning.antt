@@ -11,7 +11,7 @@ use Rattle.vx_record.specs.Wirings.{begun}
 use Rattle.vx_counts.specs.Meets.{Meets}
 use Rattle.vx_sourcecore.specs.Prefixes.{Judgement, IsPrefixOf}
 use Rattle.vx_tasks.specs.declared.task.Role.TheVariants.{Unfit}
-use Rattle.vx_tasks.specs.Home.{IsAtHome}
+use Rattle.vx_tasks.specs.Home.{StandsAt, IsAtHome}
 use Rattle.vx_seats.specs.declared.facts.Facts.{Facts}
 use Rattle.vx_seats.specs.declared.progress.Progress.{Progress}
 use Rattle.vx_seats.specs.declared.seat.Seat.{Seat}
@@ -38,7 +38,7 @@ pub record HasBorneNone (p : Progress) (waits : Bool) : Type 0 where
   pub prefix : (judged : Judgement) → IsPrefixOf p.prefix judged [] []
 
 -- a seat as it begins, for a component of a plan: its task is at home as a record has it that begins with the plan, for files
--- that end with what they have or go on, and is fit for work
+-- that end with what they have or go on, is fit for work, and keeps nothing of an event
 pub record IsFresh {P : Type 0} (told_by : P → Told) (plan : Plan) (once : Bool) (i : ℕ) (seat : Seat P) (c : Component) : Type 0 where
   pub fitted : IsFittedTo seat c
   pub outlet : seat.outlet ≡ map (reader_numbers plan c.name) (counting 0 (length (port_names c)))
@@ -47,6 +47,7 @@ pub record IsFresh {P : Type 0} (told_by : P → Told) (plan : Plan) (once : Boo
   pub counts : Meets i [] seat.counts.tally
   pub home : IsSomeAnd seat.task (λ task. (now : ℕ) → IsAtHome told_by (begun plan once now) i task)
   pub fit : IfSome seat.task (λ task. task.role ≢ Unfit)
+  pub kept : IfSome seat.task (λ task. StandsAt task.role [])
 
 -- a seat for each component, in the plan's order
 pub record AreFresh {P : Type 0} (told_by : P → Told) (plan : Plan) (once : Bool) (seats : List (Seat P)) : Type 0 where

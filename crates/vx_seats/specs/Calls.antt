@@ -11,6 +11,7 @@ use Rattle.vx_sourcecore.specs.declared.ends.Ends.{Ends}
 use Rattle.vx_sourcecore.specs.Prefixes.{Judgement, IsPrefixOf, IsReadyFor, IsAskFor, ends_of}
 use Rattle.vx_tasks.specs.declared.task.Role.TheVariants.{Unfit}
 use Rattle.vx_tasks.specs.declared.task.Task.{Task}
+use Rattle.vx_tasks.specs.Home.{HasKept}
 use Rattle.vx_seats.specs.declared.facts.Facts.{Facts}
 use Rattle.vx_seats.specs.declared.progress.Progress.{Progress}
 use Rattle.vx_seats.specs.declared.seat.Seat.{Seat}
@@ -37,11 +38,12 @@ abbrev pub HadNobody : {P : Type 0} → List (Seat P) → ℕ → Type 0
 HadNobody seats i = IfSome (slice_get seats i) (λ seat. seat.task ≡ None)
 
 -- a task comes home as the record has it: its instance owes nothing where its batch was born, nor, where it has a device, a confirm
--- that it was leased for, its port isn't started where it is closed for good, and it is fit for work where what the instance counts
--- is known
+-- that it was leased for, what it keeps stands for what it answered where that is so and the run goes on, its port isn't started where
+-- it is closed for good, and it is fit for work where what the instance counts is known
 pub record IsBack {P : Type 0} (told_by : P → Told) (f : Facts) (h : Record) (i : ℕ) (task : Task P) : Type 0 where
   pub settled : f.owing ≡ false → cause_of h ≡ None → owes h i ≡ false
   pub answered : device_at h i ≡ true → f.owing ≡ false → cause_of h ≡ None → last_confirm h i ≡ asked h i
+  pub kept : f.owing ≡ false → cause_of h ≡ None → HasKept h i task.role
   pub task_is : IsAtHomeBut told_by f.starved h i task
   pub shut : f.closed ≡ true → (told_by task.port).started ≡ false
   pub fit : f.behind ≡ false → task.role ≢ Unfit

@@ -28,7 +28,7 @@ use Rattle.vx_counts.specs.Meets.{Meets}
 use Rattle.vx_tasks.specs.declared.task.Role.TheVariants.{Unfit}
 use Rattle.vx_tasks.specs.declared.task.Task.{Task}
 use Rattle.vx_tasks.specs.Telling.{IsToldButGiven}
-use Rattle.vx_tasks.specs.Home.{HasCome, IsAtHome}
+use Rattle.vx_tasks.specs.Home.{HasCome, HasKept, IsAtHome}
 use Rattle.vx_seats.specs.declared.facts.Batching.{Batching}
 use Rattle.vx_seats.specs.declared.facts.Facts.{Facts}
 use Rattle.vx_seats.specs.declared.progress.Progress.{Progress}
@@ -121,12 +121,14 @@ abbrev pub IsAtHomeBut : {P : Type 0} → (P → Told) → Bool → Record → �
 IsAtHomeBut told_by true h i task = IsToldButGiven (told_by task.port) h i × HasCome h i task.role
 IsAtHomeBut told_by false h i task = IsAtHome told_by h i task
 
--- what is at home isn't out, owes nothing where its batch was born, nor, where it has a device, a confirm that it was leased for,
--- its port isn't started where it is closed for good, and it is fit for work where what it counts is known
+-- what is at home isn't out, owes nothing where its batch was born, nor, where it has a device, a confirm that it was leased for, what it
+-- keeps stands for what it answered where that is so and the run goes on, its port isn't started where it is closed for good, and it is
+-- fit for work where what it counts is known
 pub record HasHome {P : Type 0} (told_by : P → Told) (f : Facts) (h : Record) (i : ℕ) (task : Task P) : Type 0 where
   pub home : is_out h i ≡ false
   pub settled : f.owing ≡ false → cause_of h ≡ None → owes h i ≡ false
   pub answered : device_at h i ≡ true → f.owing ≡ false → cause_of h ≡ None → last_confirm h i ≡ asked h i
+  pub kept : f.owing ≡ false → cause_of h ≡ None → HasKept h i task.role
   pub task_is : IsAtHomeBut told_by f.starved h i task
   pub shut : f.closed ≡ true → (told_by task.port).started ≡ false
   pub fit : f.behind ≡ false → task.role ≢ Unfit

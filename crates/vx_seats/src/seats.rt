@@ -54,9 +54,13 @@ pub struct Seats<P: Port> {
 
 impl<P: Port> Model for Seats<P> {
     ghost use Rattle.std.specs.Prelude.{List};
+    ghost use Rattle.std.specs.Coded.{codes};
+    ghost use Rattle.vx_value.specs.DatumCode.{coded_datum};
     ghost use Rattle.vx_seats.specs.declared.seat.Seat.{Seat};
 
     ghost Value = { List (Seat P) };
+
+    ghost coded = { Prim.hlevel (codes, coded_datum) };
 
     ghost view = { λ s. s.seats.items };
 }

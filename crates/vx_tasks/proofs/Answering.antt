@@ -1,5 +1,5 @@
 -- What was judged may be answered.
-use Rattle.std.proofs.Common.{◌≡◌, ℕ, ◌≤◌, Bool, true, false, List, [], ◌∷◌, ◌++◌, reverse, length, refl, sym, ap, ◌∙◌, arith, subst}
+use Rattle.std.proofs.Common.{◌≡◌, ℕ, suc, ◌≤◌, Bool, true, false, List, [], ◌∷◌, ◌++◌, reverse, length, refl, sym, ap, ◌∙◌, arith, subst}
 use Rattle.std.specs.Prelude.{◌≢◌, ◌==◌, is_some, map, if◌then◌else◌}
 use Rattle.std.proofs.lemmas.Bool.{eq-eqb}
 use Rattle.std.proofs.lemmas.Bool.Decides.{nat_tests}
@@ -35,10 +35,13 @@ use Rattle.vx_tasks.specs.declared.landing.Landing.{Landing}
 use Rattle.vx_tasks.specs.declared.task.Role.{Role}
 use Rattle.vx_tasks.specs.Doing.{events_in}
 use Rattle.vx_tasks.specs.Judging.{put_out_on, refused_on, AreDistinct}
-use Rattle.vx_tasks.specs.Laws.{JudgeIs, EachJudged, HeldDistinct, AnswersNow}
-use Rattle.vx_tasks.specs.Out.{IsHeld, is_unfit, leaves_unfit, HasJudged, HasActed, HasDone}
+use Rattle.vx_record.specs.declared.entry.Entry.TheVariants.{Answer}
+use Rattle.vx_tasks.specs.Home.{StandsAt, HasKept}
+use Rattle.vx_tasks.specs.Laws.{JudgeIs, EachJudged, HeldDistinct, AnswersNow, AnswerKept}
+use Rattle.vx_tasks.specs.Out.{IsHeld, is_unfit, leaves_unfit, picked_ports, HasJudged, HasActed, HasDone}
 use Rattle.vx_tasks.proofs.Dividing.{noted_on}
 use Rattle.vx_tasks.proofs.Judges.{come_judges, runs_by}
+use Rattle.vx_tasks.proofs.Answered.{answered_next}
 use Rattle.vx_tasks.proofs.Given.{AllCame, took_some, all_came}
 use Rattle.vx_tasks.proofs.Writing.{events_said}
 
@@ -65,29 +68,25 @@ one_refused (port ∷ ports) n copies rest some =
     let test : (n == 0) ≡ false = grind (arith, nat_tests, some, bit) in
     ap (λ (b : Bool). if b then copies ++ rest else rest) (sym test)
 
--- the ports that a judge says of some events
-abbrev said_by : Judge → List Event → List Event → List ℕ
-said_by judge before events = map (λ (event : Event). port_bits (judge before event)) events
-
--- inputs that came as some parcels, of which it says the same whatever was before, are answered as these are put out
+-- inputs that came as some parcels are answered as these are put out
 answered_so : (h : Record) (judge : Judge) (xs : List Input) (parcels : List Parcel) (ports : List ℕ) (earlier : List Event) →
     numbers parcels ≡ parcels_given xs → AllCame h xs → map (parcel_event h) (numbers parcels) ≡ events_in parcels →
-    ((before : List Event) → ports ≡ said_by judge before (events_in parcels)) →
+    ports ≡ picked_ports judge earlier (events_in parcels) →
     (judged judge earlier xs ≡ put_out_on ports parcels) × (refused judge earlier xs ≡ refused_on ports parcels)
 answered_so h judge [] [] [] earlier same came events said = (refl, refl)
 answered_so h judge [] [] (n ∷ ns) earlier same came events said = (refl, refl)
 answered_so h judge [] (p ∷ ps) ports earlier same came events said = cc
 answered_so h judge (x ∷ xs) [] ports earlier same came events said = cc
-answered_so h judge (x ∷ xs) (p ∷ ps) [] earlier same came events said = let none = said [] in cc
+answered_so h judge (x ∷ xs) (p ∷ ps) [] earlier same came events said = cc
 answered_so h judge (x ∷ xs) (p ∷ ps) (n ∷ ns) earlier same came events said =
     let own : numbers_of p.finalizers ≡ x.copies = cc in
     let event : parcel_event h (numbers_of p.finalizers) ≡ p.event = cc in
-    let now : n ≡ port_bits (judge earlier p.event) = first_same n ns _ _ (said earlier) in
+    let now : n ≡ port_bits (judge earlier p.event) = first_same n ns _ _ said in
     let next : List Event = earlier ++ events_of (x.step ∷ []) in
     let step : x.step ≡ comes p.event came.0.0 =
     came.0.1 ∙ ap (λ (e : Event). comes e came.0.0) (ap (parcel_event h) (sym own) ∙ event) in
     let rest = answered_so h judge xs ps ns next (rest_same _ _ _ _ same) came.1 (rest_same _ _ _ _ events)
-    (λ before. rest_same n ns _ _ (said before)) in (
+    (rest_same n ns _ _ said ∙ ap (λ (s : Step). picked_ports judge (earlier ++ events_of (s ∷ [])) (events_in ps)) (sym step)) in (
       ap (λ (s : Step). output_by judge earlier s x.copies ++ judged judge next xs) step
           ∙ ap (λ (cs : List ℕ). put_on (judge earlier p.event) p.event cs ++ judged judge next xs) (sym own)
           ∙ ap (λ (os : List Output). put_on (judge earlier p.event) p.event (numbers_of p.finalizers) ++ os) rest.0
@@ -103,6 +102,11 @@ answered_so h judge (x ∷ xs) (p ∷ ps) (n ∷ ns) earlier same came events sa
 
     rest_same : {X : Type 0} (a : X) (more : List X) (b : X) (rest : List X) → a ∷ more ≡ b ∷ rest → more ≡ rest
     rest_same a more b rest is = cc
+
+-- as many are said as there are events
+length-picked : (judge : Judge) (earlier es : List Event) → length (picked_ports judge earlier es) ≡ length es
+length-picked judge earlier [] = refl
+length-picked judge earlier (e ∷ es) = ap suc (length-picked judge (earlier ++ e ∷ []) es)
 
 -- where there is something to answer, it is not to the flush
 unflushed : (xs : List Input) → xs ≢ [] → or_flush (reverse xs) ≡ reverse xs
@@ -146,17 +150,25 @@ module _ (h : Record) (i : ℕ) (does : Role) (ports : List ℕ) (parcels : List
     rule_here : (judge : Judge) × RunsBy h i (judges judge)
     rule_here = runs_by h i judge_here (acted.meant (λ none. given_some (unanswered h i) some_here (sym given_here ∙ none)))
 
-    said_here : (before : List Event) → ports ≡ said_by rule_here.0 before (events_in parcels)
-    said_here before =
-        acted.judged rule_here.0 before rule_here.1
-        ∙ ap (said_by rule_here.0 before) (ap (map (parcel_event h)) (sym held.held) ∙ events_said h parcels held.known held.filled)
+    said_here : ports ≡ picked_ports rule_here.0 (answered_events h i) (events_in parcels)
+    said_here =
+        acted.judged rule_here.0 rule_here.1
+        ∙ ap (picked_ports rule_here.0 (answered_events h i)) (ap (map (parcel_event h)) (sym held.held) ∙ events_said h parcels held.known held.filled)
 
     -- each parcel was
     pub length_here : length ports ≡ length parcels
     length_here =
-        ap length (said_here [])
-        ∙ length-map (events_in parcels) (λ (event : Event). port_bits (rule_here.0 [] event))
+        ap length said_here
+        ∙ length-picked rule_here.0 (answered_events h i) (events_in parcels)
         ∙ length-map parcels (λ (p : Parcel). p.event)
+
+    -- behind its answer what it keeps stands for that too
+    pub kept_here : HasKept (Answer i (put_out_on ports parcels) (refused_on ports parcels) [] ∷ h) i does
+    kept_here =
+        subst (StandsAt does)
+        (ap (λ (ps : List (List ℕ)). answered_events h i ++ map (parcel_event h) ps) given_here
+        ∙ sym (answered_next h i (put_out_on ports parcels) (refused_on ports parcels) [] some_here (all_came h i legal run judge_here)))
+        acted.kept
 
     -- what the record has it answer
     abbrev outs : List Output
@@ -207,3 +219,8 @@ pub answers_now : {P : Type 0} (told_by : P → Told) → AnswersNow told_by
 answers_now told_by h landing ports legal run back is =
     answer_here h landing.instance landing.task.role ports landing.held.items legal (came_fit told_by h landing ports back is) back.held
     (came_judged told_by h landing ports back is) run (out_to_worker h landing.instance ∙ ap is_some back.out)
+
+pub answer_kept : {P : Type 0} (told_by : P → Told) → AnswerKept told_by
+answer_kept told_by h landing ports legal run back is =
+    kept_here h landing.instance landing.task.role ports landing.held.items legal (came_fit told_by h landing ports back is) back.held
+    (came_judged told_by h landing ports back is) run

@@ -21,10 +21,13 @@ use Rattle.vx_tasks.specs.declared.landing.Done.TheVariants as done
 use Rattle.vx_tasks.specs.declared.landing.Landing.{Landing}
 use Rattle.vx_tasks.specs.declared.task.Role.{Role}
 use Rattle.vx_tasks.specs.declared.task.Role.TheVariants as role
+use Rattle.vx_pick.specs.Picks.{StandsFor}
+use Rattle.vx_pick.specs.declared.picker.Picker.{Picker}
+use Rattle.vx_record.specs.Transforms.{answered_events}
 use Rattle.vx_tasks.specs.Jobs.{DoesJob, IsPortedAs, KeepsRole}
 use Rattle.vx_tasks.proofs.Alone.{come_ported}
 use Rattle.vx_tasks.proofs.Judges.{no_source, no_generator, no_sink, no_hole}
-use Rattle.vx_tasks.specs.Home.{HasCome}
+use Rattle.vx_tasks.specs.Home.{HasCome, HasKept}
 use Rattle.vx_record.specs.Owing.{owes_answer}
 use Rattle.vx_tasks.specs.declared.work.Job.{Job}
 use Rattle.vx_tasks.specs.declared.work.Job.TheVariants as job
@@ -32,7 +35,7 @@ use Rattle.vx_tasks.specs.declared.work.Work.{Work}
 use Rattle.vx_tasks.specs.Telling.{IsTold, GoesBeyond, IsToldBeyond}
 use Rattle.vx_tasks.specs.Laws.{StarvedBeyond}
 use Rattle.vx_tasks.specs.Doing.{MayAct}
-use Rattle.vx_tasks.specs.Out.{IsIdle, MayReadNow, IsGiven, AreDue, HasLeft, confirm_entries, IsConfirmedSo, TellsDone, HasActed, is_unfit, leaves_unfit, leaves_taken, HasDone}
+use Rattle.vx_tasks.specs.Out.{IsIdle, MayReadNow, IsGiven, AreDue, HasLeft, confirm_entries, IsConfirmedSo, TellsDone, HasActed, IsKeptBy, is_unfit, leaves_unfit, leaves_taken, HasDone}
 
 -- a source that isn't dry wasn't told the end of all
 read_unended : (h : Record) (i worker : ℕ) → IsLegal h → out_to h i ≡ Some worker → IsIdle h i → MayReadNow h i → all_ended h i ≡ false
@@ -74,7 +77,7 @@ fit_of told h i was now (done.Read turned) fit keeps acted = acted.fit
 fit_of told h i role.Unfit now d fit keeps acted = cc
 fit_of told h i (role.Source core) (role.Source next) d fit keeps acted = refl
 fit_of told h i (role.Generator generator) (role.Generator next) d fit keeps acted = refl
-fit_of told h i (role.Sink codec) (role.Sink next) d fit keeps acted = refl
+fit_of told h i (role.Sink codec) (role.Sink writes) d fit keeps acted = refl
 fit_of told h i role.Blackhole role.Blackhole d fit keeps acted = refl
 fit_of told h i (role.Transform picker) (role.Transform next) d fit keeps acted = refl
 fit_of told h i was now d fit keeps acted = absurd keeps
@@ -96,6 +99,32 @@ untaken_of h i job.Collect r d legal given come fit was does left = was (λ is. 
 untaken_of h i job.Attempt r d legal given come fit was does left = was (λ is. cc)
 untaken_of h i job.Close r d legal given come fit was does left = was (λ is. cc)
 
+-- who isn't changed keeps what it kept, and who keeps nothing does
+kept_still : (h : Record) (i : ℕ) (was now : Role) (d : Done) → KeepsRole was now d →
+    ((picker next : Picker) → KeepsRole (role.Transform picker) (role.Transform next) d → next ≡ picker) → HasKept h i was → HasKept h i now
+kept_still h i was (role.Source core) d keeps same kept = tt
+kept_still h i was (role.Generator generator) d keeps same kept = tt
+kept_still h i was (role.Sink codec) d keeps same kept = tt
+kept_still h i was role.Blackhole d keeps same kept = tt
+kept_still h i was role.Unfit d keeps same kept = tt
+kept_still h i (role.Transform picker) (role.Transform next) d keeps same kept =
+    subst (λ (p : Picker). StandsFor p (answered_events h i)) (sym (same picker next keeps)) kept
+kept_still h i (role.Source core) (role.Transform next) d keeps same kept = absurd keeps
+kept_still h i (role.Generator generator) (role.Transform next) d keeps same kept = absurd keeps
+kept_still h i (role.Sink codec) (role.Transform next) d keeps same kept = absurd keeps
+kept_still h i role.Blackhole (role.Transform next) d keeps same kept = absurd keeps
+kept_still h i role.Unfit (role.Transform next) d keeps same kept = absurd keeps
+
+-- what it keeps stands for what it has answered, unless it judged, or no memory was found
+kept_of : (h : Record) (i : ℕ) (was now : Role) (d : Done) → KeepsRole was now d → HasKept h i was → IsKeptBy h i now d
+kept_of h i was now (done.Judged ports) keeps kept = tt
+kept_of h i was now done.Short keeps kept = tt
+kept_of h i was now done.Nothing keeps kept = kept_still h i was now done.Nothing keeps (λ picker next same. same.1) kept
+kept_of h i was now (done.Read turned) keeps kept = kept_still h i was now (done.Read turned) keeps (λ picker next same. same.1) kept
+kept_of h i was now (done.Attempted all sent answer) keeps kept = kept_still h i was now (done.Attempted all sent answer) keeps (λ picker next same. same.1) kept
+kept_of h i was now done.Closed keeps kept = kept_still h i was now done.Closed keeps (λ picker next same. same.1) kept
+kept_of h i was now done.Starved keeps kept = kept_still h i was now done.Starved keeps (λ picker next same. same.1) kept
+
 module _ {P : Type 0} (told_by : P → Told) (h : Record) (work : Work P) (legal : IsLegal h) (left : HasLeft told_by h work) where
   -- what was confirmed, and then done
   pub done_of : (mid port : P) (role : Role) (confirmed : Option Confirmed) (done : Done) →
@@ -111,6 +140,7 @@ module _ {P : Type 0} (told_by : P → Told) (h : Record) (work : Work P) (legal
       let acted : HasActed (told_by port) h work.instance role done = acts h work.instance (record {
         given = left.job;
         come = left.home.come;
+        kept = left.kept;
         held = left.held;
         ended = told.ended ∙ ended_behind h work.instance confirmed;
         wrote = subst (λ (w : List ℕ). IfSome (told_by mid).given (λ bytes. bytes ≡ w)) (given_behind h work.instance confirmed) told.given;
@@ -124,6 +154,7 @@ module _ {P : Type 0} (told_by : P → Told) (h : Record) (work : Work P) (legal
         told = tells (confirm_entries work.instance confirmed ++ h) work.instance
             (ported_behind h work.instance confirmed work.task.role (come_ported h work.instance work.task.role left.home.come)) told;
         acted = acted;
+        kept = kept_of h work.instance work.task.role role done keeps left.kept;
         settled = left.settled;
         untaken = untaken_of h work.instance work.job work.task.role done legal left.job left.home.come left.fit left.untaken does;
         fit = fit_of (told_by port) h work.instance work.task.role role done left.fit keeps acted;
@@ -139,6 +170,7 @@ module _ {P : Type 0} (told_by : P → Told) (h : Record) (work : Work P) (legal
     confirmed = tt;
     told = same h work.instance left.home.told;
     acted = left.home.come;
+    kept = tt;
     settled = left.settled;
     untaken = λ is. cc;
     fit = left.fit;

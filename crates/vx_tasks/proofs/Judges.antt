@@ -100,6 +100,8 @@ swallows_none other of is = cc
 picker_judges : (s : Settings) (picker : Picker) → Picks s picker → is_judging s ≡ true
 picker_judges (settings.Filter condition) picker picks = refl
 picker_judges (settings.Route routes reroute) picker picks = refl
+picker_judges (settings.Sample rate exclude) picker picks = refl
+picker_judges (settings.Dedupe fields most) picker picks = refl
 picker_judges other picker picks = absurd picks
 
 module _ (h : Record) (i : ℕ) (legal : IsLegal h) (transform : transform_at h i ≡ true) where

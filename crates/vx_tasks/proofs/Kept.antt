@@ -25,7 +25,7 @@ use Rattle.vx_record.specs.Reads.{bytes_taken, taken}
 use Rattle.vx_record.specs.Sourcing.{failed_starts}
 use Rattle.vx_record.specs.Confirms.{due, is_confirm_due}
 use Rattle.vx_record.specs.Owing.{took_since, owes_discards, owes_answer, is_done}
-use Rattle.vx_record.specs.Transforms.{Rule, judges, RunsBy, port_bits}
+use Rattle.vx_record.specs.Transforms.{Rule, judges, RunsBy, answered_events}
 use Rattle.vx_record.specs.Ready.{can_read}
 use Rattle.vx_record.specs.Tasks.{is_of, mine, out_to}
 use Rattle.vx_record.specs.Makers.{Spares}
@@ -53,13 +53,14 @@ use Rattle.vx_tasks.specs.declared.task.Role.TheVariants as role
 use Rattle.vx_tasks.specs.declared.work.Job.{Job}
 use Rattle.vx_tasks.specs.declared.work.Job.TheVariants as job
 use Rattle.vx_tasks.specs.Telling.{IsTold, GoesBeyond}
-use Rattle.vx_tasks.specs.Home.{HasCome}
-use Rattle.vx_tasks.specs.Out.{IsReadable, IsIdle, IsHeld, MayAttemptNow, MayReadNow, MayCloseNow, MayJudgeNow, IsGiven, AreJudged, AreDue, turn_entry, deeds, confirm_entries, IsConfirmedSo, TellsDone, HasRoleTurned, HasActed}
+use Rattle.vx_tasks.specs.Home.{HasCome, StandsAt, HasKept}
+use Rattle.vx_tasks.specs.Out.{IsReadable, IsIdle, IsHeld, MayAttemptNow, MayReadNow, MayCloseNow, MayJudgeNow, IsGiven, AreJudged, AreDue, turn_entry, deeds, confirm_entries, IsConfirmedSo, IsKeptBy, TellsDone, HasRoleTurned, HasActed, events_held, picked_ports}
 use Rattle.vx_tasks.specs.Laws.{LeftKept, DoneKept}
 use Rattle.vx_tasks.proofs.Staying.{stays, runs, wired_runs, device_is, told_same, held_stays}
 use Rattle.vx_tasks.proofs.Alone.{generated_same}
 use Rattle.vx_tasks.proofs.Closing.{told_by, attempt_stays}
 use Rattle.vx_tasks.proofs.Writing.{events_said}
+use Rattle.vx_tasks.proofs.Answered.{answered_stays}
 use Rattle.vx_tasks.proofs.Discarding.{discards_later}
 
 -- RECORDS WITH THE SAME ENTRIES OF A TASK
@@ -278,9 +279,29 @@ module _ (old new : Record) (i worker : ℕ) (legal : IsLegal old) (adds : OnlyA
   rule_kept rule by = record { component = by.component; runs = sym run ∙ by.runs; transform = by.transform; tests = by.tests; mean = by.mean; ruled = by.ruled }
 
   judged_kept : (parcels : List Parcel) (ports : List ℕ) → IsHeld old i parcels → IsHeld new i parcels → AreJudged old i ports → AreJudged new i ports
-  judged_kept parcels ports was now are = λ judge earlier by.
-      are judge earlier (rule_kept (judges judge) by)
-      ∙ ap (map (λ (event : Event). port_bits (judge earlier event))) (held_events old parcels was ∙ sym (held_events new parcels now))
+  judged_kept parcels ports was now are = λ judge by.
+      are judge (rule_kept (judges judge) by)
+      ∙ ap (λ (earlier : List Event). picked_ports judge earlier (events_held old i)) (sym (answered_stays old new i adds))
+      ∙ ap (picked_ports judge (answered_events new i)) (held_events old parcels was ∙ sym (held_events new parcels now))
+
+  -- what it keeps stands for what it did
+  stands_kept : (r : Role) → HasKept old i r → HasKept new i r
+  stands_kept r = subst (StandsAt r) (sym (answered_stays old new i adds))
+
+  behind_kept : (r : Role) (parcels : List Parcel) → IsHeld old i parcels → IsHeld new i parcels →
+      StandsAt r (answered_events old i ++ events_held old i) → StandsAt r (answered_events new i ++ events_held new i)
+  behind_kept r parcels was now is =
+      subst (λ (es : List Event). StandsAt r (answered_events new i ++ es)) (held_events old parcels was ∙ sym (held_events new parcels now))
+      (subst (λ (es : List Event). StandsAt r (es ++ events_held old i)) (sym (answered_stays old new i adds)) is)
+
+  by_kept : (r : Role) (d : Done) → IsKeptBy old i r d → IsKeptBy new i r d
+  by_kept r done.Nothing is = stands_kept r is
+  by_kept r (done.Read turned) is = stands_kept r is
+  by_kept r (done.Attempted all sent answer) is = stands_kept r is
+  by_kept r (done.Judged ports) is = tt
+  by_kept r done.Closed is = stands_kept r is
+  by_kept r done.Short is = tt
+  by_kept r done.Starved is = stands_kept r is
 
   meant_kept : (parcels : List Parcel) → IsHeld old i parcels → IsHeld new i parcels → (at old (Held i) ≢ [] → IsSomeAnd (component_of old i) (λ (c : Component). AreMeant (conditions_of c.settings))) →
       at new (Held i) ≢ [] → IsSomeAnd (component_of new i) (λ (c : Component). AreMeant (conditions_of c.settings))
@@ -306,7 +327,13 @@ module _ (old new : Record) (i worker : ℕ) (legal : IsLegal old) (adds : OnlyA
     ok = is.ok;
     swallowed = λ none. is.swallowed (sym ported ∙ none);
   }
-  acted_kept told r parcels (done.Judged ports) was now is = record { may = judge_kept is.may; come = come_kept r is.come; judged = judged_kept parcels ports was now is.judged; meant = meant_kept parcels was now is.meant }
+  acted_kept told r parcels (done.Judged ports) was now is = record {
+    may = judge_kept is.may;
+    come = come_kept r is.come;
+    judged = judged_kept parcels ports was now is.judged;
+    kept = behind_kept r parcels was now is.kept;
+    meant = meant_kept parcels was now is.meant;
+  }
   acted_kept told r parcels done.Closed was now is = record { may = close_kept is.may; come = come_kept r is.come; shut = is.shut }
   acted_kept told r parcels done.Short was now is = come_kept r is
   acted_kept told r parcels done.Starved was now is = record {
@@ -328,6 +355,7 @@ left_kept told old new work legal adds left =
         told = told_same (told work.task.port) old new i (same old new i w legal adds left.out) (wired old new i w legal adds left.out) left.home.told;
         come = come_kept old new i w legal adds left.out work.task.role left.home.come;
       };
+      kept = stands_kept old new i w legal adds left.out work.task.role left.kept;
       held = held_stays work.held.items old new i adds legal left.held;
       asked = due_kept old new i w legal adds left.out work.positions left.asked;
       job = given_kept old new i w legal adds left.out work.job left.job;
@@ -348,6 +376,7 @@ done_kept told old new landing legal adds back =
       confirmed = so_kept old new i w legal adds back.out landing.done landing.confirmed back.confirmed;
       told = tells_behind (told landing.task.port) old new i (same old new i w legal adds back.out) (wired old new i w legal adds back.out) landing.confirmed landing.held.items landing.done back.told;
       acted = acted_kept old new i w legal adds back.out (told landing.task.port) landing.task.role landing.held.items landing.done back.held now back.acted;
+      kept = by_kept old new i w legal adds back.out landing.task.role landing.done back.kept;
       settled = settled_kept old new i w legal adds back.out back.settled;
       untaken = λ no. untaken_kept old new i w legal adds back.out (back.untaken no);
       fit = back.fit;

@@ -12,4 +12,5 @@ pub mod Dividing
 pub mod Judges
 pub mod Given
 pub mod Alone
+pub mod Answered
 pub mod Answering

@@ -1,11 +1,13 @@
 -- A task that is at home.
-use Rattle.std.specs.Prelude.{◌≡◌, ℕ, true, false, Some, IsSomeAnd}
+use Rattle.std.specs.Prelude.{◌≡◌, ℕ, true, false, List, Some, IsSomeAnd}
+use Rattle.vx_value.specs.declared.event.Event.{Event}
 use Rattle.vx_ends.specs.Told.{Told}
 use Rattle.vx_plan.specs.declared.component.Component.{Component}
 use Rattle.vx_plan.specs.Options.{encoding}
-use Rattle.vx_pick.specs.Picks.{Picks}
+use Rattle.vx_pick.specs.Picks.{Picks, StandsFor}
 use Rattle.vx_record.specs.Records.{Record}
 use Rattle.vx_record.specs.Installs.{component_of, device_at}
+use Rattle.vx_record.specs.Transforms.{answered_events}
 use Rattle.vx_sourcecore.specs.Abreast.{IsAbreast}
 use Rattle.vx_sourcecore.specs.Generators.{IsGenerating}
 use Rattle.vx_sourcecore.specs.Lines.{is_swallowing}
@@ -23,6 +25,19 @@ HasCome h i (Sink codec) = IsSomeAnd (component_of h i) (λ (c : Component). enc
 HasCome h i Blackhole = IsSomeAnd (component_of h i) (λ (c : Component). is_swallowing c.settings ≡ true)
 HasCome h i (Transform picker) = IsSomeAnd (component_of h i) (λ (c : Component). Picks c.settings picker)
 HasCome h i Unfit = Unit {0}
+
+-- what an instance keeps stands for some events: what a transform keeps that judges by those that came before
+abbrev pub StandsAt : Role → List Event → Type 0
+StandsAt (Source core) events = Unit {0}
+StandsAt (Generator generator) events = Unit {0}
+StandsAt (Sink codec) events = Unit {0}
+StandsAt Blackhole events = Unit {0}
+StandsAt (Transform picker) events = StandsFor picker events
+StandsAt Unfit events = Unit {0}
+
+-- for those that it has answered
+abbrev pub HasKept : Record → ℕ → Role → Type 0
+HasKept h i does = StandsAt does (answered_events h i)
 
 -- a task is as the record has it: its port tells that, and what it does has come so far
 pub record IsAtHome {P : Type 0} (told_by : P → Told) (h : Record) (i : ℕ) (task : Task P) : Type 0 where

@@ -3,6 +3,8 @@ use Rattle.std.specs.Prelude.{◌≡◌, ◌≤◌, Bool, true, false, List, [],
 use Rattle.vx_ends.specs.Told.{Told, Counts}
 use Rattle.vx_ends.specs.declared.position.Position.{Position}
 use Rattle.vx_ends.specs.declared.trouble.Reply.TheVariants as reply
+use Rattle.vx_plan.specs.declared.settings.Settings.{Settings}
+use Rattle.vx_pick.specs.Picks.{Picks}
 use Rattle.vx_sourcecore.specs.Turns.{ShowsTurn}
 use Rattle.vx_sourcecore.specs.Generators.{IsMade}
 use Rattle.vx_tasks.specs.declared.confirming.Confirmed.{Confirmed}
@@ -56,8 +58,14 @@ ButForRead (done.Read turned) fact = Unit {0}
 ButForRead done.Short fact = Unit {0}
 ButForRead other fact = fact
 
--- who reads goes on reading, and is changed by that alone, who writes by a codec goes on writing by it, and who picks goes on picking
--- so; only a read can leave a source of no use
+-- and one that holds behind each but a judgement, and one for which no memory was found
+abbrev pub ButForJudgement : Done → Type 0 → Type 0
+ButForJudgement (done.Judged ports) fact = Unit {0}
+ButForJudgement done.Short fact = Unit {0}
+ButForJudgement other fact = fact
+
+-- who reads goes on reading, and is changed by that alone, who writes by a codec goes on writing by it, and who picks goes on picking by
+-- the same settings, and is changed by judging alone; only a read can leave a source of no use
 abbrev pub KeepsRole : Role → Role → Done → Type 0
 KeepsRole (role.Source core) (role.Source next) outcome = ButForRead outcome (next ≡ core)
 KeepsRole (role.Source core) role.Unfit (done.Read turned) = Unit {0}
@@ -65,7 +73,8 @@ KeepsRole (role.Generator generator) (role.Generator next) outcome = ButForRead 
 KeepsRole (role.Generator generator) role.Unfit (done.Read turned) = Unit {0}
 KeepsRole (role.Sink codec) (role.Sink next) outcome = next ≡ codec
 KeepsRole role.Blackhole role.Blackhole outcome = Unit {0}
-KeepsRole (role.Transform picker) (role.Transform next) outcome = next ≡ picker
+KeepsRole (role.Transform picker) (role.Transform next) outcome =
+    ((settings : Settings) → Picks settings picker → Picks settings next) × ButForJudgement outcome (next ≡ picker)
 KeepsRole role.Unfit role.Unfit outcome = Unit {0}
 KeepsRole was now outcome = ⊥
 

@@ -20,6 +20,7 @@ use Rattle.vx_places.specs.Holding.{AreKnown}
 use Rattle.vx_tasks.specs.declared.landing.Done.TheVariants.{Judged, Starved}
 use Rattle.vx_tasks.specs.declared.landing.Landing.{Landing}
 use Rattle.vx_tasks.specs.declared.work.Work.{Work}
+use Rattle.vx_tasks.specs.Home.{HasKept}
 use Rattle.vx_tasks.specs.Telling.{IsToldBeyond}
 use Rattle.vx_tasks.specs.Judging.{put_out_on, refused_on, passed, stopped, AreDistinct, AreDivided}
 use Rattle.vx_tasks.specs.Out.{IsUnread, StaysClosed, HasLeft, HasDone, confirm_entries}
@@ -41,7 +42,7 @@ StarvedBeyond told_by = (h : Record) (landing : Landing _) → HasDone told_by h
 abbrev pub ClosedStays : Type 0
 ClosedStays = (h : Record) (i : ℕ) → IsUnread h → is_batch_closed h i (lease_now h i) ≡ true → StaysClosed h i
 
--- an instance that judged what it holds is a transform that judges each event by itself
+-- an instance that judged what it holds is a transform that judges event by event
 abbrev pub JudgeIs : {P : Type 0} → (P → Told) → Type 0
 JudgeIs told_by =
     (h : Record) (landing : Landing _) (ports : List ℕ) → IsLegal h → HasDone told_by h landing → landing.done ≡ Judged ports →
@@ -63,6 +64,13 @@ AnswersNow told_by =
     (h : Record) (landing : Landing _) (ports : List ℕ) → IsLegal h → abandoned h ≡ false → HasDone told_by h landing →
     landing.done ≡ Judged ports →
     MayAnswer h landing.instance (put_out_on ports landing.held.items) (refused_on ports landing.held.items) []
+
+-- and behind that answer what it keeps stands for all that it has answered
+abbrev pub AnswerKept : {P : Type 0} → (P → Told) → Type 0
+AnswerKept told_by =
+    (h : Record) (landing : Landing _) (ports : List ℕ) → IsLegal h → abandoned h ≡ false → HasDone told_by h landing →
+    landing.done ≡ Judged ports →
+    HasKept (Answer landing.instance (put_out_on ports landing.held.items) (refused_on ports landing.held.items) [] ∷ h) landing.instance landing.task.role
 
 -- so parcels are divided into those that are put out and those that stay
 abbrev pub AnswerDivides : Type 0

@@ -25,7 +25,7 @@ use Rattle.vx_record.specs.SinkBatches.{is_full_batch, is_timed_out, is_last_bat
 use Rattle.vx_record.specs.Encoding.{given, encoded}
 use Rattle.vx_record.specs.Owing.{took_since, owes_discards, owes_answer, is_done}
 use Rattle.vx_record.specs.Parcels.{parcel_event}
-use Rattle.vx_record.specs.Transforms.{Judge, judges, RunsBy, port_bits}
+use Rattle.vx_record.specs.Transforms.{Judge, judges, RunsBy, port_bits, answered_events}
 use Rattle.vx_record.specs.Ready.{can_read}
 use Rattle.vx_record.specs.Places.Place.{Held}
 use Rattle.vx_record.specs.Shifts.{at}
@@ -47,7 +47,7 @@ use Rattle.vx_tasks.specs.declared.work.Job.{Job}
 use Rattle.vx_tasks.specs.declared.work.Job.TheVariants as job
 use Rattle.vx_tasks.specs.declared.work.Work.{Work}
 use Rattle.vx_tasks.specs.Telling.{IsTold, IsToldButGiven, GoesBeyond}
-use Rattle.vx_tasks.specs.Home.{HasCome, IsAtHome}
+use Rattle.vx_tasks.specs.Home.{HasCome, StandsAt, HasKept, IsAtHome}
 
 -- since it was leased an instance took no turn, made no attempt and confirmed nothing, and its port isn't closed for good
 pub record IsIdle (h : Record) (i : ℕ) : Type 0 where
@@ -127,6 +127,7 @@ pub record HasLeft {P : Type 0} (told_by : P → Told) (h : Record) (work : Work
   pub out : out_to h work.instance ≡ Some work.worker
   pub idle : IsIdle h work.instance
   pub home : IsAtHome told_by h work.instance work.task
+  pub kept : HasKept h work.instance work.task.role
   pub held : IsHeld h work.instance work.held.items
   pub asked : AreDue h work.instance work.positions
   pub settled : owes_discards h work.instance ≡ false
@@ -241,17 +242,28 @@ pub record HasClosed (told : Told) (h : Record) (i : ℕ) (worker_role : Role) :
   pub come : HasCome h i worker_role
   pub shut : told.started ≡ false
 
--- each parcel that the instance holds is put out on the ports in its place, which are those that its component says of the event
+-- the ports on which some events are put out, as bits, each by those that came before it
+abbrev pub picked_ports : Judge → List Event → List Event → List ℕ
+picked_ports judge earlier [] = []
+picked_ports judge earlier (e ∷ es) = port_bits (judge earlier e) ∷ picked_ports judge (earlier ++ e ∷ []) es
+
+-- the events of what an instance holds
+abbrev pub events_held : Record → ℕ → List Event
+events_held h i = map (parcel_event h) (at h (Held i))
+
+-- each parcel that the instance holds is put out on the ports in its place, which are those that its component says of the event, behind
+-- all that it has answered
 abbrev pub AreJudged : Record → ℕ → List ℕ → Type 0
 AreJudged h i ports =
-    (judge : Judge) (earlier : List Event) → RunsBy h i (judges judge) →
-    ports ≡ map (λ (event : Event). port_bits (judge earlier event)) (map (parcel_event h) (at h (Held i)))
+    (judge : Judge) → RunsBy h i (judges judge) → ports ≡ picked_ports judge (answered_events h i) (events_held h i)
 
--- all that an instance holds was judged, and if that is anything the conditions of its component mean something
+-- all that an instance holds was judged, and if that is anything the conditions of its component mean something; what it keeps stands
+-- for that too
 pub record HasJudged (h : Record) (i : ℕ) (worker_role : Role) (ports : List ℕ) : Type 0 where
   pub may : MayJudgeNow h i
   pub come : HasCome h i worker_role
   pub judged : AreJudged h i ports
+  pub kept : StandsAt worker_role (answered_events h i ++ events_held h i)
   pub meant : at h (Held i) ≢ [] → IsSomeAnd (component_of h i) (λ (c : Component). AreMeant (conditions_of c.settings))
 
 -- what was done
@@ -264,6 +276,17 @@ HasActed told h i worker_role done.Closed = HasClosed told h i worker_role
 HasActed told h i worker_role done.Short = HasCome h i worker_role
 HasActed told h i worker_role done.Starved = HasStarved told h i worker_role
 
+-- what an instance keeps stands for what it has answered, unless it judged, or no memory was found, which may have been in the midst of
+-- judging
+abbrev pub IsKeptBy : Record → ℕ → Role → Done → Type 0
+IsKeptBy h i does done.Nothing = HasKept h i does
+IsKeptBy h i does (done.Read turned) = HasKept h i does
+IsKeptBy h i does (done.Attempted all sent answer) = HasKept h i does
+IsKeptBy h i does (done.Judged ports) = Unit {0}
+IsKeptBy h i does done.Closed = HasKept h i does
+IsKeptBy h i does done.Short = Unit {0}
+IsKeptBy h i does done.Starved = HasKept h i does
+
 -- a task with what was done: its port tells what the record will have
 pub record HasDone {P : Type 0} (told_by : P → Told) (h : Record) (landing : Landing P) : Type 0 where
   pub out : out_to h landing.instance ≡ Some landing.worker
@@ -272,6 +295,7 @@ pub record HasDone {P : Type 0} (told_by : P → Told) (h : Record) (landing : L
   pub confirmed : IsConfirmedSo h landing.instance landing.done landing.confirmed
   pub told : TellsDone (told_by landing.task.port) (confirm_entries landing.instance landing.confirmed ++ h) landing.instance landing.held.items landing.done
   pub acted : HasActed (told_by landing.task.port) h landing.instance landing.task.role landing.done
+  pub kept : IsKeptBy h landing.instance landing.task.role landing.done
   pub settled : owes_discards h landing.instance ≡ false
   pub untaken : leaves_taken landing.done ≡ false → owes_answer h landing.instance ≡ false
   pub fit : is_unfit landing.task.role ≡ leaves_unfit landing.done

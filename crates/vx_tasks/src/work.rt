@@ -1,4 +1,4 @@
-ghost use Rattle.std.specs.Prelude.{◌≡◌, ◌⊎◌, ◌<◌, ℕ, List, length, IfOk, OnOk, true, false};
+ghost use Rattle.std.specs.Prelude.{◌≡◌, ◌⊎◌, ◌<◌, ◌++◌, ℕ, List, length, IfOk, OnOk, true, false};
 ghost use Rattle.vx_record.specs.Records.{Record};
 ghost use Rattle.vx_record.specs.Legal.{IsLegal};
 ghost use Rattle.vx_record.specs.Installs.{device_at};
@@ -11,7 +11,8 @@ ghost use Rattle.vx_tasks.specs.Out.{HasLeft, HasDone, TellsDone, HasActed, HasR
 ghost use Rattle.vx_ends.specs.Told.{Told};
 ghost use Rattle.vx_plan.specs.declared.settings.Settings.{Settings};
 ghost use Rattle.vx_plan.specs.Options.{conditions_of};
-ghost use Rattle.vx_pick.specs.Picks.{Picks, AreMeant};
+ghost use Rattle.vx_pick.specs.Picks.{Picks, StandsFor, AreMeant};
+ghost use Rattle.vx_value.specs.declared.event.Event.{Event};
 ghost use Rattle.vx_tasks.specs.Doing.{MayAct, written, events_in, AllPicked};
 ghost use Rattle.vx_tasks.specs.Jobs.{DoesJob, IsPortedAs, LacksConfirm, KeepsRole, NoneFell, ShowsAlone, ShowsDone, ShowsWork, StartsNone, StartsOnce};
 ghost use Rattle.vx_tasks.specs.declared.landing.Done.{Done};
@@ -148,7 +149,7 @@ fn act<P: Port>(alloc: Global, job: Job, port: &mut P, role: Role, held: &Line<P
     }
 }
 
-/// Judges what a transform holds. Where no memory was found nothing is judged.
+/// Judges what a transform holds. Where no memory was found nothing is put out, though what it keeps may stand for some of that.
 fn judge(alloc: Global, picker: Picker, held: &Line<Parcel>) -> Deed
     ensures told { (told : Told) (h : Record) (i : ℕ) → IsTold told h i → TellsDone told h i held.now.items result.done }
     ensures acted { (told : Told) (h : Record) (i : ℕ) → MayAct told h i (Role.Transform picker) held.now.items Job.Judge → HasActed told h i result.role result.done }
@@ -167,15 +168,16 @@ fn judge(alloc: Global, picker: Picker, held: &Line<Parcel>) -> Deed
     }
 }
 
-/// The ports on which each of some parcels is put out, in order, by their events.
+/// The ports on which each of some parcels is put out, in order, by their events and those that came before.
 fn judge_all(
     alloc: Global,
     picker: &mut Picker,
     parcels: &Line<Parcel>,
 ) -> Result<PortsList, WantOfMemory>
-    ensures ports { IfOk result (λ ports. (settings : Settings) → Picks settings picker.old → AllPicked settings (events_in parcels.now.items) ports) }
+    ensures ports { IfOk result (λ ports. (settings : Settings) (earlier : List Event) → Picks settings picker.old → StandsFor picker.old earlier → AllPicked settings earlier (events_in parcels.now.items) ports) }
     ensures meant { OnOk result ((settings : Settings) → Picks settings picker.old → 0 < length parcels.now.items → AreMeant (conditions_of settings)) }
-    ensures same { picker.new ≡ picker.old }
+    ensures stands { OnOk result ((earlier : List Event) → StandsFor picker.old earlier → StandsFor picker.new (earlier ++ events_in parcels.now.items)) }
+    ensures picks { (settings : Settings) → Picks settings picker.old → Picks settings picker.new }
 {
     let mut ports = PortsList::new(alloc);
     for i in 0..parcels.len() {

@@ -1,4 +1,4 @@
-use Rattle.vx_tasks.proofs.Answering.{judge_is, each_judged, held_distinct, answers_now}
+use Rattle.vx_tasks.proofs.Answering.{judge_is, each_judged, held_distinct, answers_now, answer_kept}
 use Rattle.vx_tasks.proofs.Closing.{closed_stays}
 use Rattle.vx_tasks.proofs.Doing.{starved_beyond}
 use Rattle.vx_tasks.proofs.Dividing.{answer_divides, answer_known}
@@ -28,6 +28,9 @@ returns-clause-distinct g c = held_distinct g.P.Port.told
 
 pub returns-clause-answers : goal.returns-clause-answers
 returns-clause-answers g c = answers_now g.P.Port.told
+
+pub returns-clause-kept : goal.returns-clause-kept
+returns-clause-kept g c = answer_kept g.P.Port.told
 
 pub returns-clause-divides : goal.returns-clause-divides
 returns-clause-divides g c = answer_divides

@@ -1,4 +1,4 @@
-use Rattle.std.proofs.Common.{◌≡◌, ◌<◌, ◌∷◌, ℕ, zero, suc, true, false, List, [], Option, Some, None, IfSome, IsSome, length, arith, refl}
+use Rattle.std.proofs.Common.{◌≡◌, ◌<◌, ◌∷◌, ℕ, zero, suc, true, false, List, [], Option, Some, None, IfSome, IsSome, length, arith, refl, sym, ◌∙◌}
 use Rattle.std.specs.Prelude.{slice_get}
 use Rattle.vx_ends.specs.Told.{Told}
 use Rattle.vx_record.specs.declared.entry.Entry.TheVariants.{Lease}
@@ -6,9 +6,12 @@ use Rattle.vx_record.specs.Records.{Record}
 use Rattle.vx_record.specs.Turns.{is_out}
 use Rattle.vx_balance.proofs.Steps.{aside_kept}
 use Rattle.vx_tasks.specs.declared.task.Task.{Task}
-use Rattle.vx_tasks.specs.Home.{IsAtHome}
+use Rattle.vx_record.specs.Ceasing.{cause_of}
+use Rattle.vx_tasks.specs.Home.{HasKept, IsAtHome}
+use Rattle.vx_tasks.proofs.Answered.{stands_on}
 use Rattle.vx_seats.specs.declared.seat.Seat.{Seat}
 use Rattle.vx_seats.specs.Knowing.{HasHome, IsKnown}
+use Rattle.vx_seats.proofs.Progressing.{going_on}
 use Rattle.vx_seats.proofs.Telling.{told_mute, come_mute}
 use Rattle.vx_moves.specs.Stands.{Steps}
 use Rattle.vx_moves.proofs.Stepping.{lease_kept, lease_later, never_both, still, step}
@@ -27,6 +30,14 @@ lent_home told_by None h i worker now task some had fed = absurd cc
 lent_home told_by (Some seat) h i worker now task some had fed =
     let home = rw fed at had.task_is in
     record { told = told_mute (told_by task.port) h (Lease i worker now 0) i tt home.told; come = come_mute task.role h (Lease i worker now 0) i tt home.come }
+
+-- and what it keeps stands for what it answered
+lent_kept : {P : Type 0} (told_by : P → Told) (o : Option (Seat P)) (h : Record) (i worker now : ℕ) (task : Task P) → IsSome o →
+    IfSome o (λ seat. HasHome told_by seat.facts h i task) →
+    IfSome o (λ seat. seat.facts.owing ≡ false) → cause_of h ≡ None → HasKept (Lease i worker now 0 ∷ h) i task.role
+lent_kept told_by None h i worker now task some had settled going = absurd cc
+lent_kept told_by (Some seat) h i worker now task some had settled going =
+    stands_on task.role h (Lease i worker now 0) i tt (had.kept settled going)
 
 -- who isn't out is at home
 nobody : {P : Type 0} (told_by : P → Told) (o : Option (Seat P)) (h : Record) (i : ℕ) → IsSome o →
@@ -62,6 +73,8 @@ returns g c =
         steps = steps;
         home = rw c.note.ensures (lent_home g.P.Port.told (slice_get d.seats i) d.log i worker now c.in-Some.task
             (there d.seats i c.requires.within) (gave.home d.log s.seats) c.requires.fit.fed);
+        kept = rw c.note.ensures (lent_kept g.P.Port.told (slice_get d.seats i) d.log i worker now c.in-Some.task
+            (there d.seats i c.requires.within) (gave.home d.log s.seats) c.requires.fit.settled (going_on d.log (λ over. sym c.requires.going ∙ over)));
         due = rw c.note.ensures (gave.due d.log worker 0 c.requires.fit.settled s.seats (steps.follows, s.legal));
         seats = gave.left;
         rooms = λ j. (refl, refl);
