@@ -5,15 +5,18 @@ It prints a line for each check, and ends with 'N passed, M failed'. The status 
 """
 
 import json
+import random
 import re
 import sys
+from collections import OrderedDict
 
-from running import FIRST, check, counted, go_through, outcome_of, run, tally, written
+from running import FIRST, TOP, check, counted, go_through, outcome_of, run, tally, written
 
 LINES = '[sources.in]\ntype = "stdin"\n'
 OBJECTS = LINES + 'decoding.codec = "json"\n'
 MESSAGES = '[sinks.out]\ntype = "console"\ninputs = ["in"]\nencoding.codec = "text"\n'
 EVENTS = MESSAGES.replace('"text"', '"json"')
+THINNED = str(TOP / "examples" / "thinned.toml")
 FILTERED = EVENTS.replace('["in"]', '["f"]')
 
 
@@ -180,12 +183,12 @@ def conditions():
 
 
 # Names with their values.
-VARIABLES = {b"A": b"1", b"AB": b"long", b"my_host_1": b"h", b"E": b"", b"D": b"$A $$ ${A}"}
+VARIABLES = {b"A": b"1", b"AB": b"long", b"my.host_1": b"h", b"E": b"", b"D": b"$A $$ ${A}"}
 
 # Texts, and what becomes of each, or the variable that is missing, and where.
 REPLACED = [
     ("", ""), ("end $", "end $"), ("${", "${"), ("${A", "${A"), ("${A:-x", "${A:-x"), ("${}", "${}"), ("${:-x}", "${:-x}"), ("${A-x}", "${A-x}"),
-    ("${A:x}", "${A:x}"), ("${-$A", "${-1"), ("$my_host_1!${my_host_1}", "h!h"), ("$A$my.host_1!", ("my.host_1", 2)), ("$AB$A-$A.", ("A.", 6)), ("${A}B$AB", "1Blong"),
+    ("${A:x}", "${A:x}"), ("${-$A", "${-1"), ("$my.host_1!${my.host_1}", "h!h"), ("$AB$A-$A.", ("A.", 6)), ("${A}B$AB", "1Blong"),
     ("[$E][${E}][${E:-d}][${E:-}][${Z:-}]", "[][][d][][]"), ("${Z:-a$A{b}c}", "a$A{bc}"), ("$D", "$A $$ ${A}"), ("$$A $$$A", "$A $1"),
     ("# $A é$A→", "# 1 é1→"), ("é$N $M", ("N", 2)), ("a=$A ${B:-c} $$ $-", "a=1 c $ $-"), ("$9", ("9", 0)), ("x ${N}", ("N", 2)),
 ]
@@ -255,6 +258,33 @@ def transforms():
         check(f"counts of {name}", seen == (0, wanted, b""), seen)
 
 
+def passed_by(events, most, rate):
+    """The events that a dedupe of so many messages and a sample at that rate pass, where errors aren't counted."""
+    kept, count, out = OrderedDict(), 0, []
+    for event in events:
+        known = event["message"] in kept
+        kept[event["message"]] = None
+        kept.move_to_end(event["message"])
+        if len(kept) > most:
+            kept.popitem(last=False)
+        is_error = event["level"] == "error"
+        if known:
+            continue
+        if is_error or count % rate == 0:
+            out.append(event)
+        count += not is_error
+    return out
+
+
+def thinned():
+    """Events of which repeats are dropped, and of the others all but each error and one of ten."""
+    chosen = random.Random(7)
+    events = [{"level": chosen.choice(["error", "info", "info"]), "message": f"m{chosen.randrange(1500)}", "n": n, "source_type": "stdin"} for n in range(5000)]
+    wanted = b"".join(map(written, passed_by(events, 1000, 10)))
+    seen = run(b"".join(map(written, events)), ["--config", THINNED])
+    check("events that are thinned", seen == (0, wanted, b""), (seen[0], len(seen[1]), len(wanted), seen[2]))
+
+
 def components():
     """The counts of components stand by the bytes of their names, whatever the order of the configuration, and so do those of no lines."""
     sinks = '[sinks.b]\ntype = "console"\ntarget = "stderr"\ninputs = ["i*", "in"]\nencoding.codec = "text"\n[sinks.B]\ntype = "blackhole"\ninputs = ["in"]\n'
@@ -266,4 +296,4 @@ def components():
 
 
 if __name__ == "__main__":
-    sys.exit(go_through([objects, messages, lengths, conditions, variables, transforms, components]))
+    sys.exit(go_through([objects, messages, lengths, conditions, variables, transforms, thinned, components]))

@@ -16,6 +16,8 @@ BEFORE_OPTIONS = SOURCE + '[sinks.out]\ntype = "console"\ninputs = ["in"]\n'
 BEFORE_INPUTS = SOURCE + '[sinks.out]\ntype = "console"\nencoding.codec = "text"\n'
 BEFORE_FILTER = SOURCE + SINK + '[transforms.t]\ntype = "filter"\ninputs = ["in"]\n'
 BEFORE_ROUTE = SOURCE + SINK + '[transforms.t]\ntype = "route"\ninputs = ["in"]\n'
+BEFORE_SAMPLE = BEFORE_FILTER.replace('"filter"', '"sample"')
+BEFORE_DEDUPE = BEFORE_FILTER.replace('"filter"', '"dedupe"')
 BEFORE_ROUTED = BEFORE_ROUTE.replace(SINK, "") + "route.a = 'exists(.a)'\n" + BEFORE_INPUTS.replace(SOURCE, "")
 
 # what one line of two bytes comes to
@@ -295,6 +297,44 @@ ROUTE_OPTIONS = [
     ("route.a = 'a'\nx = 1\n[transforms.u]\ntype = \"filter\"", "unknown option transforms.t.x"),
 ]
 
+# options of a sample
+SAMPLE_OPTIONS = [
+    ("", "missing option transforms.t.rate"),
+    ("rate = 1", None),
+    ("rate = 9223372036854775807", None),
+    ("rate = 0", "bad value at transforms.t.rate"),
+    ("rate = -1", "bad value at transforms.t.rate"),
+    ("rate = 2.0", "bad value at transforms.t.rate"),
+    ("rate = 2\nexclude = 'exists(.a)'", None),
+    ("rate = 2\nexclude = 'exists(.a'", "bad value at transforms.t.exclude"),
+    ("rate = 2\nexclude = 1", "bad value at transforms.t.exclude"),
+    ("rate = 2\ncondition = 'exists(.a)'", "unknown option transforms.t.condition"),
+]
+
+# options of a dedupe
+DEDUPE_OPTIONS = [
+    ("", None),
+    ("fields.match = ['message', '.a.b', '\"x y\".c']", None),
+    ("fields.match = []", "bad value at transforms.t.fields.match"),
+    ("fields.match = 'message'", "bad value at transforms.t.fields.match"),
+    ("fields.match = ['a..b']", "bad value at transforms.t.fields.match"),
+    ("fields.match = ['']", "bad value at transforms.t.fields.match"),
+    ("fields.match = ['a', 1]", "bad value at transforms.t.fields.match"),
+    ("fields.match = ['" + 30 * "a." + "a']", None),
+    ("fields.match = ['" + 31 * "a." + "a']", "bad value at transforms.t.fields.match"),
+    ("fields.ignore = []", None),
+    ("fields.ignore = ['a..b', '']", None),
+    ("fields.ignore = ['a', 1]", "bad value at transforms.t.fields.ignore"),
+    ("fields.ignore = ['a']\nfields.match = ['b']", "bad value at transforms.t.fields.match"),
+    ("fields.ignore = 1\nfields.match = ['b']", "bad value at transforms.t.fields.ignore"),
+    ("fields = 1", "unknown option transforms.t.fields"),
+    ("fields.x = 1", "unknown option transforms.t.fields.x"),
+    ("cache.num_events = 1", None),
+    ("cache.num_events = 1000000", None),
+    ("cache.num_events = 0", "bad value at transforms.t.cache.num_events"),
+    ("cache.num_events = 1000001", "bad value at transforms.t.cache.num_events"),
+]
+
 # inputs of the sink, where a route has the ports a and _unmatched
 ROUTE_INPUTS = [
     ('inputs = ["t.a"]', None),
@@ -493,7 +533,7 @@ def configurations():
     tables = [
         ("", WHOLE, ""), (SOURCE, COMPONENTS, "\n" + SINK), (BEFORE_OPTIONS, SINK_OPTIONS, "\n"), (BEFORE_OPTIONS, BUFFERS, "\n"), (BEFORE_OPTIONS, BATCHES, "\n"), (BEFORE_OPTIONS, RETRIES, "\n"), (SOURCE, SOURCE_OPTIONS, "\n" + SINK),
         (SOURCE.replace("stdin", "demo_logs"), DEMO_OPTIONS, "\n" + SINK), (BEFORE_OPTIONS.replace("console", "blackhole"), HOLE_OPTIONS, "\n"),
-        (BEFORE_FILTER, FILTER_OPTIONS, "\n"), (BEFORE_ROUTE, ROUTE_OPTIONS, "\n"), (BEFORE_ROUTED, ROUTE_INPUTS, "\n"),
+        (BEFORE_FILTER, FILTER_OPTIONS, "\n"), (BEFORE_ROUTE, ROUTE_OPTIONS, "\n"), (BEFORE_SAMPLE, SAMPLE_OPTIONS, "\n"), (BEFORE_DEDUPE, DEDUPE_OPTIONS, "\n"), (BEFORE_ROUTED, ROUTE_INPUTS, "\n"),
         (BEFORE_INPUTS, INPUTS, "\n"), ("", FILES, "\n"), ("", TWO_FAULTS, ""), ("", FORMS, ""), ("", NAMES, ""),
         ("", [(graph(rows), why) for rows, why in GRAPHS], ""),
     ]

@@ -12,7 +12,7 @@ use Rattle.vx_reading.specs.declared.finding.Finding.{Finding}
 use Rattle.vx_reading.specs.declared.kind.Kind.TheVariants.{DemoLogs}
 use Rattle.vx_reading.specs.declared.trouble.Trouble.TheVariants.{BadValue}
 use Rattle.vx_reading.specs.Components.{Part, parts, kind_of}
-use Rattle.vx_reading.specs.Findings.{Owner, findings, kind_findings, later_findings, option_findings, given_findings, row_findings, lacking, crowded, found_if}
+use Rattle.vx_reading.specs.Findings.{Owner, findings, kind_findings, own_findings, later_findings, option_findings, given_findings, row_findings, lacking, crowded, found_if}
 use Rattle.vx_reading.specs.Judging.{pairs_of, pairs_in, items_in, Given, given, alone, is_given, is_line, are_lines, is_lines}
 use Rattle.vx_reading.specs.Made.{is_unbroken}
 use Rattle.vx_reading.specs.Options.{rows_of, type_row, format_row, lines_row}
@@ -121,7 +121,7 @@ has_lines part = are_texts (texts_at (codes "lines") part.value)
 of_kind : (first : Option Word) (part : Part) → kind_findings first part DemoLogs ≡ [] → has_lines part ≡ true
 of_kind first part none =
     let all = given (rows_of DemoLogs) (pairs_in part.value) in
-    let options = none_left (option_findings _ _ (rows_of DemoLogs) all) _ (none_right (later_findings first part) _ none) in
+    let options = none_left (option_findings _ _ (rows_of DemoLogs) all) _ (none_left (own_findings part DemoLogs all) _ (none_right (later_findings first part) _ none)) in
     let fit = value_fits _ _ part.value (none_left (given_findings _ _ (rows_of DemoLogs) all) _ options) (lines_given _ _ all options) in
     there_made (get (codes "lines") part.value) fit
 

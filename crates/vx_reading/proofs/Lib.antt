@@ -1,4 +1,5 @@
 pub mod Lists
+pub mod Numbers
 pub mod Precedence
 pub mod Answering
 pub mod OneAnswer

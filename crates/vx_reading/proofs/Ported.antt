@@ -13,20 +13,27 @@ use Rattle.vx_plan.specs.declared.global.Global.{Global}
 use Rattle.vx_plan.specs.declared.plan.Plan.{Plan}
 use Rattle.vx_plan.proofs.Tests.{and_made}
 use Rattle.vx_reading.specs.declared.kind.Kind.{Kind}
-use Rattle.vx_reading.specs.declared.kind.Kind.TheVariants.{Stdin, FileIn, DemoLogs, Filter, Route, Console, FileOut, Blackhole}
+use Rattle.vx_reading.specs.declared.kind.Kind.TheVariants.{Stdin, FileIn, DemoLogs, Filter, Route, Sample, Dedupe, Console, FileOut, Blackhole}
 use Rattle.vx_reading.specs.Components.{Part, parts, kind_of}
 use Rattle.vx_reading.specs.Findings.{findings}
 use Rattle.vx_reading.specs.Made.{is_made}
 use Rattle.vx_reading.specs.Options.{kind_class}
-use Rattle.vx_reading.specs.Plans.{component, component_of, global_of, ways_of}
+use Rattle.vx_reading.specs.Plans.{component, component_of, global_of, ways_of, rate_of, keys_of}
 use Rattle.vx_reading.specs.Reading.{IsReading, IsPlanOf}
 use Rattle.vx_reading.proofs.Accepted.{kind_class_of}
 use Rattle.vx_reading.proofs.Few.{none_left}
 use Rattle.vx_reading.proofs.Generating.{has_lines, lines_there}
+use Rattle.vx_reading.proofs.Numbers.{rate_some, keys_some, keys_few}
 use Rattle.vx_reading.proofs.Routes.{few_ways}
 
 few_told : (n : _) → n ≤ 64 → nat_le n 64 ≡ true
 few_told n few = grind (arith, nat_tests)
+
+some_told : (n : _) → 1 ≤ n → nat_le 1 n ≡ true
+some_told n some = grind (arith, nat_tests)
+
+most_told : (n : _) → n ≤ 1000000 → nat_le n 1000000 ≡ true
+most_told n few = grind (arith, nat_tests)
 
 kind_made : (whole : Global) (part : Part) (kind : Kind) → same_class (kind_class kind) part.class ≡ true → (kind ≡ Route → length (ways_of part.value) ≤ 64) → (kind ≡ DemoLogs → has_lines part ≡ true) →
     is_made (component whole part kind) ≡ true
@@ -59,6 +66,18 @@ kind_made whole part Route same few lines = go part.class same
     go : (class : Class) → same_class Transform class ≡ true → is_made (record (component whole part Route) { class = class }) ≡ true
     go Source e = cc
     go Transform e = ap (λ (b : Bool). b || false || false) (few_told (length (ways_of part.value)) (few refl))
+    go Sink e = cc
+kind_made whole part Sample same few lines = go part.class same
+  where
+    go : (class : Class) → same_class Transform class ≡ true → is_made (record (component whole part Sample) { class = class }) ≡ true
+    go Source e = cc
+    go Transform e = ap (λ (b : Bool). b || false || false) (some_told (rate_of part.value) (rate_some part.value))
+    go Sink e = cc
+kind_made whole part Dedupe same few lines = go part.class same
+  where
+    go : (class : Class) → same_class Transform class ≡ true → is_made (record (component whole part Dedupe) { class = class }) ≡ true
+    go Source e = cc
+    go Transform e = ap (λ (b : Bool). b || false || false) (and_made (nat_le 1 (keys_of part.value)) (nat_le (keys_of part.value) 1000000) (some_told (keys_of part.value) (keys_some part.value)) (most_told (keys_of part.value) (keys_few part.value)))
     go Sink e = cc
 kind_made whole part Console same few lines = go part.class same
   where

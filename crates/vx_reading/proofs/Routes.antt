@@ -14,7 +14,7 @@ use Rattle.vx_plan.specs.declared.route.Route.{Route as Way}
 use Rattle.vx_reading.specs.declared.finding.Finding.{Finding}
 use Rattle.vx_reading.specs.declared.kind.Kind.TheVariants.{Route}
 use Rattle.vx_reading.specs.Components.{Part, parts, kind_of}
-use Rattle.vx_reading.specs.Findings.{Owner, findings, kind_findings, later_findings, option_findings, given_findings, row_findings, lacking, crowded}
+use Rattle.vx_reading.specs.Findings.{Owner, findings, kind_findings, own_findings, later_findings, option_findings, given_findings, row_findings, lacking, crowded}
 use Rattle.vx_reading.specs.Judging.{Pair, pairs_of, pairs_in, is_table, Given, given_by, given, within, alone, count_given}
 use Rattle.vx_reading.specs.Options.{rows_of, type_row, inputs_row, route_row, most_routes, covers}
 use Rattle.vx_reading.specs.Plans.{way_of, ways_of}
@@ -108,7 +108,7 @@ few_given owner lead all none =
 
 few_of_kind : (first : Option Word) (part : Part) → kind_findings first part Route ≡ [] → length (ways_of part.value) ≤ 64
 few_of_kind first part none =
-    let given_few = few_given _ _ (given (rows_of Route) (pairs_in part.value)) (none_left _ _ (none_right (later_findings first part) _ none)) in
+    let given_few = few_given _ _ (given (rows_of Route) (pairs_in part.value)) (none_left _ _ (none_left (own_findings part Route (given (rows_of Route) (pairs_in part.value))) _ (none_right (later_findings first part) _ none))) in
     let ways = ways_count part.value in
     omega (arith, given_few, ways)
 

@@ -13,7 +13,7 @@ use Rattle.vx_reading.specs.declared.trouble.Trouble.{Trouble}
 use Rattle.vx_reading.specs.declared.trouble.Trouble.TheVariants.{UnknownKind, UnknownOption, MissingOption, BadValue, TooMany}
 use Rattle.vx_reading.specs.Components.{Part, section_name, section, parts, part_path, is_name, is_taken, type_in, first_stdin, is_later_stdin}
 use Rattle.vx_reading.specs.Judging.{Pair, pairs_in, is_table, Given, given, is_given, count_given, judged}
-use Rattle.vx_reading.specs.Options.{Row, dot, place_path, most_at, global_rows, rows_of, stage_rows, most_room, kind_named}
+use Rattle.vx_reading.specs.Options.{Row, Exclusion, exclusion_of, dot, place_path, most_at, global_rows, rows_of, stage_rows, most_room, kind_named}
 use Rattle.vx_reading.specs.Stages.{stages_for, when_full_of, is_misplaced, room_of_all}
 
 -- the part of a document to which a fault belongs: 0 for the whole, 1 to 3 for the three tables, and a component's name
@@ -67,6 +67,12 @@ row_findings owner lead all row = lacking owner lead all row ++ crowded owner le
 abbrev pub option_findings : Owner → Word → List Row → List Given → List Finding
 option_findings owner lead rows all = given_findings owner lead rows all ++ flat_map (row_findings owner lead all) rows
 
+-- the fault of two options that exclude each other and are both given
+abbrev pub excluded : Owner → Word → List Given → Option Exclusion → List Finding
+excluded owner lead all None = []
+excluded owner lead all (Some x) =
+    if is_given x.earlier all && is_given x.later all then found owner (lead ++ place_path x.later) BadValue ∷ [] else []
+
 -- whether a name is that of one of the three tables
 abbrev pub is_section : Word → Bool
 is_section name =
@@ -119,11 +125,16 @@ abbrev pub buffer_findings : Owner → Word → List Data → List Finding
 buffer_findings owner lead [] = []
 buffer_findings owner lead (stage ∷ rest) = stage_findings owner lead (is_empty rest) stage ++ buffer_findings owner lead rest
 
+-- the faults of the options of a component of a type
+abbrev pub own_findings : Part → Kind → List Given → List Finding
+own_findings part kind all =
+    option_findings (owner_of part) (part_lead part) (rows_of kind) all ++ excluded (owner_of part) (part_lead part) all (exclusion_of kind)
+
 -- the faults of a component whose type is known
 abbrev pub kind_findings : Option Word → Part → Kind → List Finding
 kind_findings first part kind =
     later_findings first part
-    ++ (option_findings (owner_of part) (part_lead part) (rows_of kind) (given (rows_of kind) (pairs_in part.value))
+    ++ (own_findings part kind (given (rows_of kind) (pairs_in part.value))
     ++ buffer_findings (owner_of part) (buffer_lead part) (stages_for kind part.value))
 
 -- the same by what its type is called

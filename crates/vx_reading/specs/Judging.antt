@@ -1,12 +1,13 @@
 -- What a table gives, and how each value of it is judged.
-use Rattle.std.specs.Prelude.{ℕ, ℤ, pos, negsuc, Bool, false, true, not, ◌&&◌, ◌||◌, ◌==◌, Option, Some, None, option_and_then, List, [], ◌∷◌, length, map, find, count_by, codes, if◌then◌else◌, nat_lt, nat_le}
+use Rattle.std.specs.Prelude.{ℕ, ℤ, pos, negsuc, Bool, false, true, not, ◌&&◌, ◌||◌, ◌==◌, Option, Some, None, option_and_then, List, [], ◌∷◌, length, map, find, count_by, codes, if◌then◌else◌, is_some, nat_lt, nat_le}
 use Rattle.std.specs.List.{list_any, list_all, flat_map}
 use Rattle.vx_value.specs.Texts.{Word, same_text, is_empty}
+use Rattle.vx_value.specs.Paths.{path_names}
 use Rattle.toml.specs.Data.{Data, Items, no_items, item, Members, no_members, member, get, as_table, as_array, as_str, as_integer, as_bool}
 use Rattle.vx_reading.specs.declared.trouble.Trouble.{Trouble}
 use Rattle.vx_reading.specs.declared.trouble.Trouble.TheVariants.{UnknownOption, BadValue, TooMany}
 use Rattle.vx_reading.specs.Made.{is_unbroken}
-use Rattle.vx_reading.specs.Options.{Place, Alone, Within, Either, Each, Shape, Truth, AnyText, OneOf, Texts, Whole, Condition, Stages, Lines, OneFile, FixedText, Row, covers, fits_place}
+use Rattle.vx_reading.specs.Options.{Place, Alone, Within, Either, Each, Shape, Truth, AnyText, OneOf, Texts, Whole, Condition, Stages, Lines, OneFile, FixedText, Paths, Names, Row, covers, fits_place}
 
 -- a name and the value under it
 pub record Pair : Type 0 where
@@ -159,6 +160,26 @@ is_one_file value = elim (as_array value) [ None ↦ false | Some items ↦ are_
 abbrev pub is_fixed : Data → Bool
 is_fixed value = elim (as_str value) [ None ↦ false | Some text ↦ not (is_template text) ]
 
+-- the path that a text spells, if it is one and has at most 31 names
+abbrev pub path_spelled : Word → Option (List Word)
+path_spelled text = elim (path_names text) [ None ↦ None | Some names ↦ if nat_le (length names) 31 then Some names else None ]
+
+-- whether a value is the text of a path
+abbrev pub is_path : Data → Bool
+is_path value = elim (as_str value) [ None ↦ false | Some text ↦ is_some (path_spelled text) ]
+
+-- whether a list has values, and each is one
+abbrev pub are_paths : List Data → Bool
+are_paths items = not (is_empty items) && list_all is_path items
+
+-- whether a value is such a list
+abbrev pub is_paths : Data → Bool
+is_paths value = elim (as_array value) [ None ↦ false | Some items ↦ are_paths (items_in items) ]
+
+-- whether a value is a list of texts
+abbrev pub is_names : Data → Bool
+is_names value = elim (as_array value) [ None ↦ false | Some items ↦ not (list_any (λ d. not (is_text d)) (items_in items)) ]
+
 -- what is wrong with a value, by what it has to be
 abbrev pub fits : Shape → Data → Option Trouble
 fits Truth value = if is_truth value then None else Some BadValue
@@ -171,6 +192,8 @@ fits (Stages most) value = fits_stages most (stages_in value)
 fits Lines value = if is_lines value then None else Some BadValue
 fits OneFile value = if is_one_file value then None else Some BadValue
 fits FixedText value = if is_fixed value then None else Some BadValue
+fits Paths value = if is_paths value then None else Some BadValue
+fits Names value = if is_names value then None else Some BadValue
 
 -- the row of what is given at a place
 abbrev pub row_at : List Row → Place → Option Row

@@ -4,7 +4,7 @@ use Rattle.std.specs.List.{list_all}
 use Rattle.vx_value.specs.Texts.{Word, is_empty}
 use Rattle.vx_plan.specs.declared.component.Component.{Component}
 use Rattle.vx_plan.specs.declared.settings.Settings.{Settings}
-use Rattle.vx_plan.specs.declared.settings.Settings.TheVariants.{DemoLogs, Filter, Route, Blackhole}
+use Rattle.vx_plan.specs.declared.settings.Settings.TheVariants.{DemoLogs, Filter, Route, Sample, Dedupe, Blackhole}
 use Rattle.vx_plan.specs.Components.{is_source, is_transform, is_sink}
 use Rattle.vx_plan.specs.Options.{has_device}
 
@@ -12,10 +12,13 @@ use Rattle.vx_plan.specs.Options.{has_device}
 abbrev pub is_ported : Component → Bool
 is_ported c = has_device c.settings && not (is_transform c)
 
--- whether options are those of a filter, or of a route of at most 64 ways
+-- whether options are those of a filter, of a route of at most 64 ways, of a sample that passes one of some, or of a dedupe that keeps
+-- some keys
 abbrev pub is_picking : Settings → Bool
 is_picking (Filter condition) = true
 is_picking (Route ways reroute) = nat_le (length ways) 64
+is_picking (Sample rate exclude) = nat_le 1 rate
+is_picking (Dedupe fields most) = nat_le 1 most && nat_le most 1000000
 is_picking other = false
 
 -- whether a text has no line feed

@@ -6,7 +6,7 @@ use Rattle.vx_plan.specs.declared.class.Class.{Class}
 use Rattle.vx_plan.specs.declared.class.Class.TheVariants.{Source, Transform, Sink}
 pub use Rattle.vx_plan.specs.Accepted.{same_class}
 use Rattle.vx_reading.specs.declared.kind.Kind.{Kind}
-use Rattle.vx_reading.specs.declared.kind.Kind.TheVariants.{Stdin, FileIn, DemoLogs, Filter, Route, Console, FileOut, Blackhole}
+use Rattle.vx_reading.specs.declared.kind.Kind.TheVariants.{Stdin, FileIn, DemoLogs, Filter, Route, Sample, Dedupe, Console, FileOut, Blackhole}
 
 -- where an option stands in a table: by itself; in a table of its own, whose name comes first; in either way, by itself under the
 -- first name, or in a table of that name under the second; or under each name in a table of its own, so many times at most
@@ -18,7 +18,7 @@ pub data Place : Type 0 where
 
 -- what a value has to be: a truth, a text, one of some texts, a list of texts, at most so many, a whole number between two, both
 -- among them, a condition, the stages of a buffer, at most so many, a list of some texts without line feeds, a list of one text that is
--- no pattern, or a text that is no template
+-- no pattern, a text that is no template, a list of some texts that are paths of fields, or a list of texts
 pub data Shape : Type 0 where
   Truth : Shape
   AnyText : Shape
@@ -30,6 +30,8 @@ pub data Shape : Type 0 where
   Lines : Shape
   OneFile : Shape
   FixedText : Shape
+  Paths : Shape
+  Names : Shape
 
 -- an option: where it stands, what its value has to be, and whether it has to be there
 pub record Row : Type 0 where
@@ -175,6 +177,34 @@ route_row = record { place = Each (codes "route") most_routes; shape = Condition
 abbrev pub reroute_row : Row
 reroute_row = record { place = Alone (codes "reroute_unmatched"); shape = Truth; required = false }
 
+-- the largest whole number that a text can say
+abbrev pub most_whole : ℕ
+most_whole = 2 ^ 63 - 1
+
+-- of how many events that it counts a sample passes one
+abbrev pub rate_row : Row
+rate_row = record { place = Alone (codes "rate"); shape = Whole 1 most_whole; required = true }
+
+-- what it passes uncounted
+abbrev pub exclude_row : Row
+exclude_row = record { place = Alone (codes "exclude"); shape = Condition; required = false }
+
+-- the values by which events repeat each other
+abbrev pub match_row : Row
+match_row = record { place = Within (codes "fields") (codes "match"); shape = Paths; required = false }
+
+-- or the fields that don't count for that
+abbrev pub ignore_row : Row
+ignore_row = record { place = Within (codes "fields") (codes "ignore"); shape = Names; required = false }
+
+-- how many keys a dedupe may keep
+abbrev pub most_keys : ℕ
+most_keys = 1000000
+
+-- how many it keeps
+abbrev pub keys_row : Row
+keys_row = record { place = Within (codes "cache") (codes "num_events"); shape = Whole 1 most_keys; required = false }
+
 -- what a source does with its texts
 abbrev pub format_row : Row
 format_row = record { place = Alone (codes "format"); shape = OneOf (codes "shuffle" ∷ []); required = true }
@@ -186,10 +216,6 @@ lines_row = record { place = Alone (codes "lines"); shape = Lines; required = tr
 -- whether each line begins with its number
 abbrev pub sequence_row : Row
 sequence_row = record { place = Alone (codes "sequence"); shape = Truth; required = false }
-
--- the largest whole number that a text can say
-abbrev pub most_whole : ℕ
-most_whole = 2 ^ 63 - 1
 
 -- how many lines a source makes
 abbrev pub count_row : Row
@@ -246,13 +272,25 @@ rows_of FileIn = type_row ∷ line_bytes_row ∷ include_row ∷ read_from_row �
 rows_of DemoLogs = type_row ∷ format_row ∷ lines_row ∷ sequence_row ∷ count_row ∷ interval_row ∷ seed_row ∷ []
 rows_of Filter = type_row ∷ inputs_row ∷ condition_row ∷ []
 rows_of Route = type_row ∷ inputs_row ∷ route_row ∷ reroute_row ∷ []
+rows_of Sample = type_row ∷ inputs_row ∷ rate_row ∷ exclude_row ∷ []
+rows_of Dedupe = type_row ∷ inputs_row ∷ match_row ∷ ignore_row ∷ keys_row ∷ []
 rows_of Console = type_row ∷ inputs_row ∷ target_row ∷ codec_row ∷ acknowledgements_row ∷ buffer_row ∷ batch_events_row ∷ batch_timeout_row ∷ retries_row ∷ first_wait_row ∷ longest_wait_row ∷ []
 rows_of FileOut = type_row ∷ inputs_row ∷ path_row ∷ compression_row ∷ codec_row ∷ acknowledgements_row ∷ buffer_row ∷ batch_events_row ∷ batch_timeout_row ∷ retries_row ∷ first_wait_row ∷ longest_wait_row ∷ []
 rows_of Blackhole = type_row ∷ inputs_row ∷ print_interval_row ∷ acknowledgements_row ∷ buffer_row ∷ batch_events_row ∷ batch_timeout_row ∷ retries_row ∷ first_wait_row ∷ longest_wait_row ∷ []
 
+-- two options that exclude each other: what is wrong is the later one, by the bytes of their paths
+pub record Exclusion : Type 0 where
+  pub earlier : Place
+  pub later : Place
+
+-- those of a type
+abbrev pub exclusion_of : Kind → Option Exclusion
+exclusion_of Dedupe = Some (record { earlier = ignore_row.place; later = match_row.place })
+exclusion_of other = None
+
 -- the types, each with the table in which it stands and its name
 abbrev pub kinds : List Kind
-kinds = Stdin ∷ FileIn ∷ DemoLogs ∷ Filter ∷ Route ∷ Console ∷ FileOut ∷ Blackhole ∷ []
+kinds = Stdin ∷ FileIn ∷ DemoLogs ∷ Filter ∷ Route ∷ Sample ∷ Dedupe ∷ Console ∷ FileOut ∷ Blackhole ∷ []
 
 abbrev pub kind_class : Kind → Class
 kind_class Stdin = Source
@@ -260,6 +298,8 @@ kind_class FileIn = Source
 kind_class DemoLogs = Source
 kind_class Filter = Transform
 kind_class Route = Transform
+kind_class Sample = Transform
+kind_class Dedupe = Transform
 kind_class Console = Sink
 kind_class FileOut = Sink
 kind_class Blackhole = Sink
@@ -270,6 +310,8 @@ kind_name FileIn = codes "file"
 kind_name DemoLogs = codes "demo_logs"
 kind_name Filter = codes "filter"
 kind_name Route = codes "route"
+kind_name Sample = codes "sample"
+kind_name Dedupe = codes "dedupe"
 kind_name Console = codes "console"
 kind_name FileOut = codes "file"
 kind_name Blackhole = codes "blackhole"

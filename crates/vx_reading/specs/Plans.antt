@@ -1,7 +1,9 @@
 -- The plan of a document without faults.
-use Rattle.std.specs.Prelude.{ℕ, Bool, Option, Some, None, option_and_then, unwrap_or, List, [], ◌∷◌, map, codes, if◌then◌else◌, true, false}
+use Rattle.std.specs.Prelude.{ℕ, Bool, Option, Some, None, option_and_then, option_map, unwrap_or, List, [], ◌∷◌, map, codes, if◌then◌else◌, true, false}
 use Rattle.std.specs.List.{flat_map}
 use Rattle.vx_value.specs.Texts.{Word, same_text}
+use Rattle.vx_condition.specs.declared.dedupe_fields.DedupeFields.{DedupeFields}
+use Rattle.vx_condition.specs.declared.dedupe_fields.DedupeFields.TheVariants.{Match, Ignore}
 use Rattle.toml.specs.Data.{Data, Items, get, as_str, as_array, as_bool}
 use Rattle.vx_json.specs.declared.codec.Codec.{Codec}
 use Rattle.vx_json.specs.declared.codec.Codec.TheVariants as codec
@@ -21,10 +23,10 @@ use Rattle.vx_plan.specs.declared.settings.Settings.TheVariants as settings
 use Rattle.vx_plan.specs.declared.sink_settings.SinkSettings.{SinkSettings}
 pub use Rattle.vx_plan.specs.Graphs.{nodes_of}
 use Rattle.vx_reading.specs.declared.kind.Kind.{Kind}
-use Rattle.vx_reading.specs.declared.kind.Kind.TheVariants.{Stdin, FileIn, DemoLogs, Filter, Route, Console, FileOut, Blackhole}
+use Rattle.vx_reading.specs.declared.kind.Kind.TheVariants.{Stdin, FileIn, DemoLogs, Filter, Route, Sample, Dedupe, Console, FileOut, Blackhole}
 use Rattle.vx_reading.specs.Components.{Part, parts, kind_of}
-use Rattle.vx_reading.specs.Judging.{Pair, pairs_in, items_in, whole_in}
-use Rattle.vx_reading.specs.Options.{most_length, most_whole, most_print_interval, most_batch, most_seconds}
+use Rattle.vx_reading.specs.Judging.{Pair, pairs_in, items_in, whole_in, path_spelled}
+use Rattle.vx_reading.specs.Options.{most_length, most_whole, most_keys, most_print_interval, most_batch, most_seconds}
 use Rattle.vx_reading.specs.Stages.{buffer_of}
 
 -- a text, or another where it isn't given
@@ -131,9 +133,9 @@ ways_of value = elim (get (codes "route") value) [ None ↦ [] | Some inner ↦ 
 abbrev pub is_rerouted : Data → Bool
 is_rerouted value = unwrap_or (truth_at (codes "reroute_unmatched") value) true
 
--- the whole number under a name of a table, from 0 to a largest one; where there is none, another
-abbrev pub whole_at : Word → ℕ → ℕ → Data → ℕ
-whole_at name most otherwise value = unwrap_or (option_and_then (whole_in 0 most) (get name value)) otherwise
+-- the whole number between two under a name of a table; where there is none, another
+abbrev pub whole_at : Word → ℕ → ℕ → ℕ → Data → ℕ
+whole_at name least most otherwise value = unwrap_or (option_and_then (whole_in least most) (get name value)) otherwise
 
 -- whether numbers stand before the lines of a source: they don't where it doesn't say
 abbrev pub is_numbered : Data → Bool
@@ -144,18 +146,55 @@ abbrev pub demo_of : Data → DemoSettings
 demo_of value = record {
   lines = texts_at (codes "lines") value;
   sequence = is_numbered value;
-  count = whole_at (codes "count") most_whole most_whole value;
-  seed = whole_at (codes "seed") most_whole 0 value;
+  count = whole_at (codes "count") 0 most_whole most_whole value;
+  seed = whole_at (codes "seed") 0 most_whole 0 value;
 }
 
 -- how many seconds lie between two lines of a source that makes them: one where it doesn't say
 abbrev pub interval_of : Data → ℕ
-interval_of value = whole_at (codes "interval") most_seconds 1 value
+interval_of value = whole_at (codes "interval") 0 most_seconds 1 value
 
 -- the whole number between two under a name of a table that stands under another name; where there is none, another
 abbrev pub whole_within : Word → Word → ℕ → ℕ → ℕ → Data → ℕ
 whole_within group name least most otherwise value =
     unwrap_or (option_and_then (λ (inner : Data). option_and_then (whole_in least most) (get name inner)) (get group value)) otherwise
+
+-- of how many events a sample passes one; it has to say
+abbrev pub rate_of : Data → ℕ
+rate_of value = whole_at (codes "rate") 1 most_whole 1 value
+
+-- the condition under a name of a table, if there is one
+abbrev pub condition_given : Word → Data → Option Word
+condition_given name value = option_map condition_of (get name value)
+
+-- the path that a value is
+abbrev pub path_in : Data → List (List Word)
+path_in value = elim (option_and_then path_spelled (as_str value)) [ None ↦ [] | Some names ↦ names ∷ [] ]
+
+-- the list under a name of a table that stands under another name
+abbrev pub list_within : Word → Word → Data → Option Items
+list_within group name value = option_and_then (λ (inner : Data). option_and_then as_array (get name inner)) (get group value)
+
+-- the paths of the values by which events repeat each other where a dedupe says neither
+abbrev pub default_paths : List (List Word)
+default_paths = (codes "timestamp" ∷ []) ∷ (codes "host" ∷ []) ∷ (codes "message" ∷ []) ∷ []
+
+-- some paths, or those
+abbrev pub matched : Option Items → DedupeFields
+matched None = Match default_paths
+matched (Some items) = Match (flat_map path_in (items_in items))
+
+-- by what events repeat each other: by all fields but some, where it says which, and else by the values at some paths
+abbrev pub fields_of : Data → DedupeFields
+fields_of value =
+    elim (list_within (codes "fields") (codes "ignore") value) [
+      | None ↦ matched (list_within (codes "fields") (codes "match") value)
+      | Some items ↦ Ignore (texts_of (Some items))
+    ]
+
+-- how many keys a dedupe keeps: 5,000 where it doesn't say
+abbrev pub keys_of : Data → ℕ
+keys_of value = whole_within (codes "cache") (codes "num_events") 1 most_keys 5000 value
 
 -- with how many parcels a batch of a sink is closed: with one where it doesn't say
 abbrev pub batch_events_of : Data → ℕ
@@ -198,12 +237,14 @@ settings_of global value FileIn =
 settings_of global value DemoLogs = settings.DemoLogs (demo_of value) (interval_of value)
 settings_of global value Filter = settings.Filter (condition_at (codes "condition") value)
 settings_of global value Route = settings.Route (ways_of value) (is_rerouted value)
+settings_of global value Sample = settings.Sample (rate_of value) (condition_given (codes "exclude") value)
+settings_of global value Dedupe = settings.Dedupe (fields_of value) (keys_of value)
 settings_of global value Console =
     settings.Console (target_named (text_at (codes "target") value)) (codec_named (text_within (codes "encoding") (codes "codec") value)) (sink_of global value)
 settings_of global value FileOut =
     settings.FileOut (path_of value) compression.None (codec_named (text_within (codes "encoding") (codes "codec") value)) (sink_of global value)
 settings_of global value Blackhole =
-    settings.Blackhole (whole_at (codes "print_interval_secs") most_print_interval 0 value) (sink_of global value)
+    settings.Blackhole (whole_at (codes "print_interval_secs") 0 most_print_interval 0 value) (sink_of global value)
 
 -- the inputs of a component of a type; a source has none
 abbrev pub inputs_for : Kind → Data → List Word
@@ -212,6 +253,8 @@ inputs_for FileIn value = []
 inputs_for DemoLogs value = []
 inputs_for Filter value = inputs_of value
 inputs_for Route value = inputs_of value
+inputs_for Sample value = inputs_of value
+inputs_for Dedupe value = inputs_of value
 inputs_for Console value = inputs_of value
 inputs_for FileOut value = inputs_of value
 inputs_for Blackhole value = inputs_of value

@@ -7,7 +7,7 @@ use Rattle.vx_plan.specs.declared.stage.Stage.{Stage}
 use Rattle.vx_plan.specs.declared.when_full.WhenFull.{WhenFull}
 use Rattle.vx_plan.specs.declared.when_full.WhenFull.TheVariants.{Block, DropNewest, Overflow}
 use Rattle.vx_reading.specs.declared.kind.Kind.{Kind}
-use Rattle.vx_reading.specs.declared.kind.Kind.TheVariants.{Stdin, FileIn, DemoLogs, Filter, Route, Console, FileOut, Blackhole}
+use Rattle.vx_reading.specs.declared.kind.Kind.TheVariants.{Stdin, FileIn, DemoLogs, Filter, Route, Sample, Dedupe, Console, FileOut, Blackhole}
 use Rattle.vx_reading.specs.Components.{Part, kind_of}
 use Rattle.vx_reading.specs.Judging.{whole_in, stages_in}
 use Rattle.vx_reading.specs.Options.{most_room}
@@ -23,6 +23,8 @@ stages_for FileIn value = []
 stages_for DemoLogs value = []
 stages_for Filter value = []
 stages_for Route value = []
+stages_for Sample value = []
+stages_for Dedupe value = []
 stages_for Console value = stages_of value
 stages_for FileOut value = stages_of value
 stages_for Blackhole value = stages_of value
@@ -74,6 +76,8 @@ room_for FileIn value = 0
 room_for DemoLogs value = 0
 room_for Filter value = 0
 room_for Route value = 0
+room_for Sample value = 0
+room_for Dedupe value = 0
 room_for Console value = room_in (buffer_of value)
 room_for FileOut value = room_in (buffer_of value)
 room_for Blackhole value = room_in (buffer_of value)

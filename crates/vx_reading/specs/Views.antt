@@ -1,6 +1,7 @@
 -- What the code's borrowed rows and values stand for.
 use Rattle.std.specs.Prelude.{List, map}
 use Rattle.toml.specs.View.{view}
+use Rattle.vx_reading.specs.declared.exclusion.Exclusion as exclusion
 use Rattle.vx_reading.specs.declared.given.Given as given
 use Rattle.vx_reading.specs.declared.owner.Owner as owner
 use Rattle.vx_reading.specs.declared.pair.Pair as pair
@@ -13,7 +14,7 @@ use Rattle.vx_reading.specs.declared.shape.Shape.TheVariants as shapes
 use Rattle.vx_reading.specs.Components.{Part}
 use Rattle.vx_reading.specs.Findings.{Owner}
 use Rattle.vx_reading.specs.Judging.{Given, Pair}
-use Rattle.vx_reading.specs.Options.{Place, Alone, Within, Either, Each, Shape, Truth, AnyText, OneOf, Texts, Whole, Condition, Stages, Lines, OneFile, FixedText, Row}
+use Rattle.vx_reading.specs.Options.{Place, Alone, Within, Either, Each, Shape, Truth, AnyText, OneOf, Texts, Whole, Condition, Stages, Lines, OneFile, FixedText, Paths, Names, Row, Exclusion}
 
 abbrev pub place_view : place.Place → Place
 place_view (places.Alone name) = Alone name.now
@@ -32,9 +33,14 @@ shape_view (shapes.Stages most) = Stages most
 shape_view shapes.Lines = Lines
 shape_view shapes.OneFile = OneFile
 shape_view shapes.FixedText = FixedText
+shape_view shapes.Paths = Paths
+shape_view shapes.Names = Names
 
 abbrev pub row_view : row.Row → Row
 row_view r = record { place = place_view r.place; shape = shape_view r.shape; required = r.required }
+
+abbrev pub exclusion_view : exclusion.Exclusion → Exclusion
+exclusion_view x = record { earlier = place_view x.earlier; later = place_view x.later }
 
 abbrev pub pair_view : pair.Pair → Pair
 pair_view p = record { name = p.name.now; value = view p.value.now }

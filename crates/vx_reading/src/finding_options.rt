@@ -1,9 +1,10 @@
-ghost use Rattle.std.specs.Prelude.{◌≡◌, ◌++◌, OnOk};
-ghost use Rattle.vx_reading.specs.Findings.{found_if, given_findings, lacking, crowded, row_findings, option_findings};
+ghost use Rattle.std.specs.Prelude.{◌≡◌, ◌++◌, Some, OnOk};
+ghost use Rattle.vx_reading.specs.Findings.{found_if, given_findings, lacking, crowded, row_findings, option_findings, excluded};
 ghost use Rattle.vx_reading.specs.Judging.{judged};
 ghost use Rattle.vx_reading.specs.Options.{place_path};
-ghost use Rattle.vx_reading.specs.Views.{owner_view, rows_view, row_view, given_view, givens_view};
+ghost use Rattle.vx_reading.specs.Views.{owner_view, rows_view, row_view, given_view, givens_view, exclusion_view};
 
+use crate::exclusion::Exclusion;
 use crate::finding::{FindingList, push};
 use crate::given::{Given, count_given, is_given, most_at};
 use crate::judging::judged;
@@ -26,7 +27,7 @@ fn push_judged(
     ensures { OnOk result (findings.new
         ≡ findings.old ++ found_if (owner_view owner.entry) (lead.now ++ place_path (given_view given.entry).place) (judged (rows_view rows.now) (given_view given.entry))) }
 {
-    match judged(rows, given) {
+    match judged(alloc, rows, given)? {
         None => Ok(()),
         Some(trouble) => {
             let path = option_path(alloc, lead, given.place)?;
@@ -128,4 +129,23 @@ pub(crate) fn push_options(
         push_row(alloc, findings, owner, lead, all, *row)?;
     }
     Ok(())
+}
+
+/// Adds the fault of two options that exclude each other, where both are given.
+pub(crate) fn push_excluded(
+    alloc: Global,
+    findings: &mut FindingList,
+    owner: Owner<'_>,
+    lead: &str,
+    all: &[Given<'_>],
+    exclusion: Exclusion,
+) -> Result<(), WantOfMemory>
+    ensures { OnOk result (findings.new ≡ findings.old ++ excluded (owner_view owner.entry) lead.now (givens_view all.now) (Some (exclusion_view exclusion))) }
+{
+    if is_given(exclusion.earlier, all) && is_given(exclusion.later, all) {
+        let path = option_path(alloc, lead, exclusion.later)?;
+        push(alloc, findings, owner, path, Trouble::BadValue)
+    } else {
+        Ok(())
+    }
 }

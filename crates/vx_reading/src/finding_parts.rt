@@ -2,18 +2,18 @@ ghost use Rattle.std.specs.Prelude.{◌≡◌, ◌++◌, Some, OnOk};
 ghost use Rattle.std.specs.Option.{option_map};
 ghost use Rattle.toml.specs.View.{view};
 ghost use Rattle.vx_reading.specs.Components.{type_in};
-ghost use Rattle.vx_reading.specs.Findings.{owner_of, part_finding, part_lead as part_lead_of, buffer_lead as buffer_lead_of, later_findings, option_findings, buffer_findings, kind_findings, text_findings, type_findings, part_findings};
+ghost use Rattle.vx_reading.specs.Findings.{owner_of, part_finding, part_lead as part_lead_of, buffer_lead as buffer_lead_of, later_findings, own_findings, buffer_findings, kind_findings, text_findings, type_findings, part_findings};
 ghost use Rattle.vx_reading.specs.Judging.{given, pairs_in as pairs_in_view};
 ghost use Rattle.vx_reading.specs.Options.{rows_of as rows_for};
 ghost use Rattle.vx_reading.specs.Stages.{stages_for as stages_given};
 ghost use Rattle.vx_reading.specs.Views.{owner_view, part_view};
 
 use crate::finding::{FindingList, push};
-use crate::finding_options::push_options;
+use crate::finding_options::{push_excluded, push_options};
 use crate::finding_stages::push_stages;
 use crate::given::{given_in, is_table};
 use crate::kind::Kind;
-use crate::options::{kind_named, rows_of, section_number};
+use crate::options::{exclusion_of, kind_named, rows_of, section_number};
 use crate::owner::Owner;
 use crate::pair::pairs_in;
 use crate::part::{Part, is_later_stdin, is_taken};
@@ -76,7 +76,7 @@ fn push_own(
     kind: Kind,
 ) -> Result<(), WantOfMemory>
     ensures { OnOk result (findings.new
-        ≡ findings.old ++ option_findings (owner_of (part_view part.entry)) (part_lead_of (part_view part.entry)) (rows_for kind) (given (rows_for kind) (pairs_in_view (part_view part.entry).value))) }
+        ≡ findings.old ++ own_findings (part_view part.entry) kind (given (rows_for kind) (pairs_in_view (part_view part.entry).value))) }
 {
     let rows = rows_of(kind);
     let pairs = pairs_in(alloc, part.value)?;
@@ -89,7 +89,18 @@ fn push_own(
         lead.as_str(),
         rows,
         all.as_slice(),
-    )
+    )?;
+    match exclusion_of(kind) {
+        Some(exclusion) => push_excluded(
+            alloc,
+            findings,
+            owner_of(part),
+            lead.as_str(),
+            all.as_slice(),
+            exclusion,
+        ),
+        None => Ok(()),
+    }
 }
 
 /// Adds the faults of the stages of the buffer of a component of a type.

@@ -1,19 +1,22 @@
-ghost use Rattle.std.specs.Prelude.{◌≡◌, ◌≤◌, map, not, IfSome};
+ghost use Rattle.std.specs.Prelude.{◌≡◌, ◌≤◌, map, not, IfOk, IfSome, Some, None, if◌then◌else◌};
 ghost use Rattle.std.specs.Option.{option_map};
 ghost use Rattle.std.specs.List.{list_any, list_all};
 ghost use Rattle.toml.specs.View.{view, items_view};
 ghost use Rattle.vx_value.specs.Texts.{same_text};
-ghost use Rattle.vx_reading.specs.Judging.{fits, fits_texts, fits_stages, stages_in, is_table as is_table_view, judged, items_in, is_truth, is_text, is_one_of, between, whole_in, row_at, is_vrl, names_vrl, has_text, is_line, are_lines, is_lines, is_file, are_one_file, is_one_file, is_fixed, judged_by};
+ghost use Rattle.vx_reading.specs.Judging.{fits, fits_texts, fits_stages, stages_in, is_table as is_table_view, judged, items_in, is_truth, is_text, is_one_of, between, whole_in, row_at, is_vrl, names_vrl, has_text, is_line, are_lines, is_lines, is_file, are_one_file, is_one_file, is_fixed, is_path, are_paths, is_paths, is_names, judged_by};
+ghost use Rattle.vx_reading.specs.declared.trouble.Trouble.TheVariants.{BadValue};
 ghost use Rattle.vx_reading.specs.Views.{shape_view, rows_view, row_view, place_view, given_view};
 
 use crate::given::{Given, covers, fits_place, is_table};
 use crate::place::Place;
 use crate::row::Row;
 use crate::shape::Shape;
-use crate::texts::{is_pattern, is_template, is_unbroken, same_text};
+use crate::texts::{is_pattern, is_template, is_unbroken, path_spelled, same_text};
 use crate::trouble::Trouble;
+use std::alloc::Global;
 use std::slice;
 use toml::Value;
+use vx_value::WantOfMemory;
 
 /// Whether a value is a truth.
 fn is_truth(value: &Value) -> bool
@@ -260,28 +263,94 @@ fn is_fixed(value: &Value) -> bool
     }
 }
 
+/// Whether a value is the text of a path.
+fn is_path(alloc: Global, value: &Value) -> Result<bool, WantOfMemory>
+    ensures { IfOk result (λ b. b ≡ is_path (view value.now)) }
+{
+    match value.as_str() {
+        Some(text) => Ok(path_spelled(alloc, text)?.is_some()),
+        None => Ok(false),
+    }
+}
+
+/// Whether each of some values is the text of a path.
+fn has_paths(alloc: Global, items: &[Value]) -> Result<bool, WantOfMemory>
+    ensures { IfOk result (λ b. b ≡ list_all is_path (items_in (items_view items.now))) }
+{
+    for item in items {
+        if !is_path(alloc, item)? {
+            return Ok(false);
+        }
+    }
+    Ok(true)
+}
+
+/// Whether there are some values, and each is the text of a path.
+#[tactic(auto, using(crate::proofs::Lists::no_items))]
+fn are_paths(alloc: Global, items: &[Value]) -> Result<bool, WantOfMemory>
+    ensures { IfOk result (λ b. b ≡ are_paths (items_in (items_view items.now))) }
+{
+    if items.is_empty() {
+        return Ok(false);
+    }
+    has_paths(alloc, items)
+}
+
+/// Whether a value is a list of such texts, one at least.
+fn is_paths(alloc: Global, value: &Value) -> Result<bool, WantOfMemory>
+    ensures { IfOk result (λ b. b ≡ is_paths (view value.now)) }
+{
+    match value.as_array() {
+        Some(items) => are_paths(alloc, items.as_slice()),
+        None => Ok(false),
+    }
+}
+
+/// Whether a value is a list of texts.
+fn is_names(value: &Value) -> bool
+    ensures { result ≡ is_names (view value.now) }
+{
+    match value.as_array() {
+        Some(items) => !has_other(items.as_slice()),
+        None => false,
+    }
+}
+
+/// What is wrong with a value that should be a list of paths.
+fn fits_paths(alloc: Global, value: &Value) -> Result<Option<Trouble>, WantOfMemory>
+    ensures { IfOk result (λ trouble. trouble ≡ (if is_paths (view value.now) then None else Some BadValue)) }
+{
+    if is_paths(alloc, value)? {
+        Ok(None)
+    } else {
+        Ok(Some(Trouble::BadValue))
+    }
+}
+
 /// What is wrong with a value, by what it has to be.
-fn fits(shape: Shape, value: &Value) -> Option<Trouble>
-    ensures { result ≡ fits (shape_view shape) (view value.now) }
+fn fits(alloc: Global, shape: Shape, value: &Value) -> Result<Option<Trouble>, WantOfMemory>
+    ensures { IfOk result (λ trouble. trouble ≡ fits (shape_view shape) (view value.now)) }
 {
     match shape {
-        Shape::Truth if is_truth(value) => None,
-        Shape::AnyText if is_text(value) => None,
-        Shape::OneOf(texts) if is_one_of(texts, value) => None,
+        Shape::Truth if is_truth(value) => Ok(None),
+        Shape::AnyText if is_text(value) => Ok(None),
+        Shape::OneOf(texts) if is_one_of(texts, value) => Ok(None),
         Shape::Texts(most) => match value.as_array() {
-            Some(items) => fits_texts(most, items.as_slice()),
-            None => Some(Trouble::BadValue),
+            Some(items) => Ok(fits_texts(most, items.as_slice())),
+            None => Ok(Some(Trouble::BadValue)),
         },
         Shape::Whole(least, most) => match whole_in(least, most, value) {
-            Some(_) => None,
-            None => Some(Trouble::BadValue),
+            Some(_) => Ok(None),
+            None => Ok(Some(Trouble::BadValue)),
         },
-        Shape::Condition if is_text(value) || is_vrl(value) => None,
-        Shape::Stages(most) => fits_stages(most, stages_in(value)),
-        Shape::Lines if is_lines(value) => None,
-        Shape::OneFile if is_one_file(value) => None,
-        Shape::FixedText if is_fixed(value) => None,
-        _ => Some(Trouble::BadValue),
+        Shape::Condition if is_text(value) || is_vrl(value) => Ok(None),
+        Shape::Stages(most) => Ok(fits_stages(most, stages_in(value))),
+        Shape::Lines if is_lines(value) => Ok(None),
+        Shape::OneFile if is_one_file(value) => Ok(None),
+        Shape::FixedText if is_fixed(value) => Ok(None),
+        Shape::Paths => fits_paths(alloc, value),
+        Shape::Names if is_names(value) => Ok(None),
+        _ => Ok(Some(Trouble::BadValue)),
     }
 }
 
@@ -298,22 +367,26 @@ fn row_at<'a>(rows: &'a [Row], place: Place<'_>) -> Option<&'a Row>
 }
 
 /// What is wrong with an option that is given, by its row.
-fn judged_by(row: &Row, given: Given<'_>) -> Option<Trouble>
-    ensures { result ≡ judged_by (row_view row.now) (given_view given.entry) }
+fn judged_by(alloc: Global, row: &Row, given: Given<'_>) -> Result<Option<Trouble>, WantOfMemory>
+    ensures { IfOk result (λ trouble. trouble ≡ judged_by (row_view row.now) (given_view given.entry)) }
 {
     if fits_place(row.place, given.place) {
-        fits(row.shape, given.value)
+        fits(alloc, row.shape, given.value)
     } else {
-        Some(Trouble::BadValue)
+        Ok(Some(Trouble::BadValue))
     }
 }
 
 /// What is wrong with an option that is given.
-pub(crate) fn judged(rows: &[Row], given: Given<'_>) -> Option<Trouble>
-    ensures { result ≡ judged (rows_view rows.now) (given_view given.entry) }
+pub(crate) fn judged(
+    alloc: Global,
+    rows: &[Row],
+    given: Given<'_>,
+) -> Result<Option<Trouble>, WantOfMemory>
+    ensures { IfOk result (λ trouble. trouble ≡ judged (rows_view rows.now) (given_view given.entry)) }
 {
     match row_at(rows, given.place) {
-        Some(row) => judged_by(row, given),
-        None => Some(Trouble::UnknownOption),
+        Some(row) => judged_by(alloc, row, given),
+        None => Ok(Some(Trouble::UnknownOption)),
     }
 }

@@ -11,6 +11,10 @@ pub(crate) enum Kind {
     Filter,
     /// A transform that puts events out by conditions.
     Route,
+    /// A transform that passes one of some events.
+    Sample,
+    /// A transform that discards repeats.
+    Dedupe,
     /// A sink that writes to standard output or standard error.
     Console,
     /// A sink that appends to a file.

@@ -1,6 +1,8 @@
 //! A configuration is read: a text and an environment give a plan, or the first fault.
 #![tactic(auto)]
 
+mod exclusion;
+mod fields;
 mod finding;
 mod finding_options;
 mod finding_parts;

@@ -1,9 +1,11 @@
 ghost use Rattle.std.specs.Prelude.{◌≡◌};
+ghost use Rattle.std.specs.Option.{option_map};
 ghost use Rattle.vx_reading.specs.Components.{section_name};
 ghost use Rattle.vx_reading.specs.Findings.{section_number, is_section};
-ghost use Rattle.vx_reading.specs.Options.{global_rows, rows_of, stage_rows, kind_named};
-ghost use Rattle.vx_reading.specs.Views.{rows_view};
+ghost use Rattle.vx_reading.specs.Options.{global_rows, rows_of, stage_rows, exclusion_of, kind_named};
+ghost use Rattle.vx_reading.specs.Views.{rows_view, exclusion_view};
 
+use crate::exclusion::Exclusion;
 use crate::kind::Kind;
 use crate::place::Place;
 use crate::row::Row;
@@ -154,6 +156,52 @@ static ROUTE_ROWS: [Row; 4] = [
     Row {
         place: Place::Alone("reroute_unmatched"),
         shape: Shape::Truth,
+        required: false,
+    },
+];
+
+/// The options of a transform that passes one of some events.
+static SAMPLE_ROWS: [Row; 4] = [
+    TYPE_ROW,
+    INPUTS_ROW,
+    Row {
+        place: Place::Alone("rate"),
+        shape: Shape::Whole(1, MOST_WHOLE),
+        required: true,
+    },
+    Row {
+        place: Place::Alone("exclude"),
+        shape: Shape::Condition,
+        required: false,
+    },
+];
+
+/// The values by which events repeat each other.
+const MATCH_PLACE: Place<'static> = Place::Within("fields", "match");
+
+/// The fields that don't count for that.
+const IGNORE_PLACE: Place<'static> = Place::Within("fields", "ignore");
+
+/// How many keys a transform that discards repeats may keep.
+pub(crate) const MOST_KEYS: u64 = 1_000_000;
+
+/// The options of a transform that discards repeats.
+static DEDUPE_ROWS: [Row; 5] = [
+    TYPE_ROW,
+    INPUTS_ROW,
+    Row {
+        place: MATCH_PLACE,
+        shape: Shape::Paths,
+        required: false,
+    },
+    Row {
+        place: IGNORE_PLACE,
+        shape: Shape::Names,
+        required: false,
+    },
+    Row {
+        place: Place::Within("cache", "num_events"),
+        shape: Shape::Whole(1, MOST_KEYS),
         required: false,
     },
 ];
@@ -316,9 +364,24 @@ pub(crate) fn rows_of(kind: Kind) -> &'static [Row]
         Kind::DemoLogs => &DEMO_LOGS_ROWS,
         Kind::Filter => &FILTER_ROWS,
         Kind::Route => &ROUTE_ROWS,
+        Kind::Sample => &SAMPLE_ROWS,
+        Kind::Dedupe => &DEDUPE_ROWS,
         Kind::Console => &CONSOLE_ROWS,
         Kind::FileOut => &FILE_OUT_ROWS,
         Kind::Blackhole => &BLACKHOLE_ROWS,
+    }
+}
+
+/// The two options of a type that exclude each other, if it has such.
+pub(crate) fn exclusion_of(kind: Kind) -> Option<Exclusion>
+    ensures { option_map exclusion_view result ≡ exclusion_of kind }
+{
+    match kind {
+        Kind::Dedupe => Some(Exclusion {
+            earlier: IGNORE_PLACE,
+            later: MATCH_PLACE,
+        }),
+        _ => None,
     }
 }
 
@@ -339,6 +402,8 @@ pub(crate) fn kind_named(class: Class, name: &str) -> Option<Kind>
         Class::Source if same_text("demo_logs", name) => Some(Kind::DemoLogs),
         Class::Transform if same_text("filter", name) => Some(Kind::Filter),
         Class::Transform if same_text("route", name) => Some(Kind::Route),
+        Class::Transform if same_text("sample", name) => Some(Kind::Sample),
+        Class::Transform if same_text("dedupe", name) => Some(Kind::Dedupe),
         Class::Sink if same_text("console", name) => Some(Kind::Console),
         Class::Sink if same_text("file", name) => Some(Kind::FileOut),
         Class::Sink if same_text("blackhole", name) => Some(Kind::Blackhole),

@@ -4,12 +4,15 @@ ghost use Rattle.std.specs.List.{flat_map};
 ghost use Rattle.toml.specs.View.{view, items_view};
 ghost use Rattle.vx_reading.specs.Judging.{items_in, pairs_in as pairs_in_view};
 ghost use Rattle.vx_reading.specs.Components.{parts};
-ghost use Rattle.vx_reading.specs.Plans.{text_at, text_within, truth_at, truth_in, truth_either, acknowledgements_of, global_of, text_of, texts_at, inputs_of, inputs_for, target_named, length_at, include_of, path_of, decoding_named, codec_named, condition_of, condition_at, way_of, ways_of, is_rerouted, whole_at, is_numbered, demo_of, interval_of, whole_within, batch_events_of, batch_timeout_of, retries_of, first_wait_of, longest_wait_of, sink_of, settings_of, component, component_of, plan_of};
+ghost use Rattle.vx_reading.specs.Plans.{text_at, text_within, truth_at, truth_in, truth_either, acknowledgements_of, global_of, text_of, texts_at, inputs_of, inputs_for, target_named, length_at, include_of, path_of, decoding_named, codec_named, condition_of, condition_at, condition_given, way_of, ways_of, is_rerouted, whole_at, is_numbered, demo_of, interval_of, whole_within, rate_of, keys_of, batch_events_of, batch_timeout_of, retries_of, first_wait_of, longest_wait_of, sink_of, settings_of, component, component_of, plan_of};
 ghost use Rattle.vx_reading.specs.Views.{pair_view, part_view, parts_view};
 
+use crate::fields::fields_of;
 use crate::judging::whole_in;
 use crate::kind::Kind;
-use crate::options::{MOST_BATCH, MOST_LENGTH, MOST_PRINT_INTERVAL, MOST_SECONDS, MOST_WHOLE};
+use crate::options::{
+    MOST_BATCH, MOST_KEYS, MOST_LENGTH, MOST_PRINT_INTERVAL, MOST_SECONDS, MOST_WHOLE,
+};
 use crate::pair::{Pair, pairs_in};
 use crate::part::{Part, kind_of};
 use crate::stages::buffer_of;
@@ -116,7 +119,7 @@ fn push_text(alloc: Allocator, texts: &mut TextList, value: &Value) -> Result<()
 }
 
 /// The texts among some values.
-fn texts_of(alloc: Allocator, values: &[Value]) -> Result<TextList, WantOfMemory>
+pub(crate) fn texts_of(alloc: Allocator, values: &[Value]) -> Result<TextList, WantOfMemory>
     ensures { IfOk result (λ texts. texts ≡ flat_map text_of (items_in (items_view values.now))) }
 {
     let mut texts = TextList::new(alloc);
@@ -152,9 +155,13 @@ fn inputs_for(alloc: Allocator, kind: Kind, table: &Value) -> Result<TextList, W
 {
     match kind {
         Kind::Stdin | Kind::FileIn | Kind::DemoLogs => Ok(TextList::new(alloc)),
-        Kind::Filter | Kind::Route | Kind::Console | Kind::FileOut | Kind::Blackhole => {
-            inputs_of(alloc, table)
-        }
+        Kind::Filter
+        | Kind::Route
+        | Kind::Sample
+        | Kind::Dedupe
+        | Kind::Console
+        | Kind::FileOut
+        | Kind::Blackhole => inputs_of(alloc, table),
     }
 }
 
@@ -245,6 +252,20 @@ fn condition_at<'a>(name: &str, table: &'a Value) -> &'a str
     }
 }
 
+/// The condition under a name of a table, if there is one.
+fn condition_given(
+    alloc: Allocator,
+    name: &str,
+    table: &Value,
+) -> Result<Option<Text>, WantOfMemory>
+    ensures { IfOk result (λ condition. condition ≡ condition_given name.now (view table.now)) }
+{
+    match table.get(name) {
+        Some(value) => Ok(Some(Text::copy_of(alloc, condition_of(value))?)),
+        None => Ok(None),
+    }
+}
+
 /// Adds a way of a route: the name of its port, and its condition.
 fn push_way(alloc: Allocator, ways: &mut RouteList, pair: Pair<'_>) -> Result<(), WantOfMemory>
     ensures { OnOk result (ways.new ≡ ways.old ++ way_of (pair_view pair.entry) ∷ []) }
@@ -291,14 +312,14 @@ fn is_rerouted(table: &Value) -> bool
     }
 }
 
-/// The whole number under a name of a table, from 0 to a largest one; where there is none, another.
-fn whole_at(name: &str, most: u64, otherwise: u64, table: &Value) -> u64
-    ensures { result ≡ whole_at name.now most otherwise (view table.now) }
+/// The whole number between two under a name of a table; where there is none, another.
+fn whole_at(name: &str, least: u64, most: u64, otherwise: u64, table: &Value) -> u64
+    ensures { result ≡ whole_at name.now least most otherwise (view table.now) }
 {
     let Some(value) = table.get(name) else {
         return otherwise;
     };
-    match whole_in(0, most, value) {
+    match whole_in(least, most, value) {
         Some(number) => number,
         None => otherwise,
     }
@@ -321,8 +342,8 @@ fn demo_of(alloc: Allocator, table: &Value) -> Result<DemoSettings, WantOfMemory
     Ok(DemoSettings {
         lines: texts_at(alloc, "lines", table)?,
         sequence: is_numbered(table),
-        count: whole_at("count", MOST_WHOLE, MOST_WHOLE, table),
-        seed: whole_at("seed", MOST_WHOLE, 0, table),
+        count: whole_at("count", 0, MOST_WHOLE, MOST_WHOLE, table),
+        seed: whole_at("seed", 0, MOST_WHOLE, 0, table),
     })
 }
 
@@ -362,6 +383,13 @@ fn whole_within(
         Some(number) => number,
         None => otherwise,
     }
+}
+
+/// How many keys a transform that discards repeats keeps: 5,000 where it doesn't say.
+fn keys_of(table: &Value) -> u32
+    ensures { result ≡ keys_of (view table.now) }
+{
+    whole_within("cache", "num_events", 1, MOST_KEYS, 5_000, table) as u32
 }
 
 /// With how many parcels a batch of a sink is closed: with one where it doesn't say.
@@ -466,6 +494,14 @@ fn settings_of(
             routes: ways_of(alloc, table)?,
             reroute_unmatched: is_rerouted(table),
         }),
+        Kind::Sample => Ok(Settings::Sample {
+            rate: whole_at("rate", 1, MOST_WHOLE, 1, table),
+            exclude: condition_given(alloc, "exclude", table)?,
+        }),
+        Kind::Dedupe => Ok(Settings::Dedupe {
+            fields: fields_of(alloc, table)?,
+            cache_num_events: keys_of(table),
+        }),
         Kind::Console => Ok(Settings::Console {
             target: target_named(text_at("target", table)),
             encoding_codec: codec_named(text_within("encoding", "codec", table)),
@@ -478,7 +514,7 @@ fn settings_of(
             sink: sink_of(alloc, global, table)?,
         }),
         Kind::Blackhole => Ok(Settings::Blackhole {
-            print_interval_secs: whole_at("print_interval_secs", MOST_PRINT_INTERVAL, 0, table),
+            print_interval_secs: whole_at("print_interval_secs", 0, MOST_PRINT_INTERVAL, 0, table),
             sink: sink_of(alloc, global, table)?,
         }),
     }

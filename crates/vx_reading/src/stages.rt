@@ -34,7 +34,13 @@ pub(crate) fn stages_for(kind: Kind, table: &Value) -> &[Value]
     ensures { items_in (items_view result.now) ≡ stages_for kind (view table.now) }
 {
     match kind {
-        Kind::Stdin | Kind::FileIn | Kind::DemoLogs | Kind::Filter | Kind::Route => &[],
+        Kind::Stdin
+        | Kind::FileIn
+        | Kind::DemoLogs
+        | Kind::Filter
+        | Kind::Route
+        | Kind::Sample
+        | Kind::Dedupe => &[],
         Kind::Console | Kind::FileOut | Kind::Blackhole => stages_of(table),
     }
 }
@@ -153,9 +159,16 @@ fn room_of(alloc: Global, part: Part<'_>) -> Result<u64, WantOfMemory>
             let buffer = buffer_of(alloc, part.value)?;
             room_in(buffer.as_slice())
         }
-        Some(Kind::Stdin | Kind::FileIn | Kind::DemoLogs | Kind::Filter | Kind::Route) | None => Ok(
-            0,
-        ),
+        Some(
+            Kind::Stdin
+            | Kind::FileIn
+            | Kind::DemoLogs
+            | Kind::Filter
+            | Kind::Route
+            | Kind::Sample
+            | Kind::Dedupe,
+        )
+        | None => Ok(0),
     }
 }
 

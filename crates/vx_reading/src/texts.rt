@@ -1,13 +1,14 @@
-ghost use Rattle.std.specs.Prelude.{◌≡◌};
+ghost use Rattle.std.specs.Prelude.{◌≡◌, IfOk};
 ghost use Rattle.std.specs.List.{list_all};
 ghost use Rattle.vx_value.specs.Texts.{same_text, text_lt};
 ghost use Rattle.vx_reading.specs.Made.{is_unbroken};
 ghost use Rattle.vx_reading.specs.Options.{is_name, is_name_byte, is_route_name};
 ghost use Rattle.vx_reading.specs.Conditions.{is_one};
-ghost use Rattle.vx_reading.specs.Judging.{has_byte, is_pattern, is_template};
+ghost use Rattle.vx_reading.specs.Judging.{has_byte, is_pattern, is_template, path_spelled};
 
+use std::alloc::Global;
 use std::cmp::Ordering;
-use vx_value::TextList;
+use vx_value::{Path, PathFault, TextList, WantOfMemory};
 
 /// The longest name of a component, in bytes.
 const LONGEST_NAME: usize = 64;
@@ -117,4 +118,18 @@ pub(crate) fn is_one(texts: &TextList, text: &str) -> bool
         }
     }
     false
+}
+
+/// How many names the path of a field may have.
+const MOST_NAMES: usize = 31;
+
+/// The path that a text spells; `None` where it is none, or has more than 31 names.
+pub(crate) fn path_spelled(alloc: Global, text: &str) -> Result<Option<Path>, WantOfMemory>
+    ensures { IfOk result (λ path. path ≡ path_spelled text.now) }
+{
+    match Path::read(alloc, text) {
+        Ok(path) if path.names().len() <= MOST_NAMES => Ok(Some(path)),
+        Ok(_) | Err(PathFault::Syntax { .. } | PathFault::Long) => Ok(None),
+        Err(PathFault::WantOfMemory) => Err(WantOfMemory),
+    }
 }

@@ -32,6 +32,8 @@ picking_judges (settings.Route ways reroute) is =
     let few : length ways ≤ 64 = grind (arith, nat_tests, is) in
     let all : length (names ++ codes "_unmatched" ∷ []) ≤ 65 = omega (arith, joined, mapped, few) in
     le_test (length (names ++ codes "_unmatched" ∷ [])) 65 all
+picking_judges (settings.Sample rate exclude) is = refl
+picking_judges (settings.Dedupe fields most) is = refl
 picking_judges other is = cc
 
 -- the ports of a transform are those of its options

@@ -1,4 +1,4 @@
-ghost use Rattle.std.specs.Prelude.{◌≡◌, ◌≢◌, ◌↔◌, ◌<◌, ◌^◌, [], ◌∷◌, length, map, true, false, Ok, Err, Some, IfOk, IfErr, IfSome, IsSomeAnd, OnOk, OnErr};
+ghost use Rattle.std.specs.Prelude.{◌≡◌, ◌≢◌, ◌↔◌, ◌<◌, ◌^◌, [], ◌∷◌, length, map, true, false, Ok, Err, Some, None, IfOk, IfErr, IfSome, IsSomeAnd, OnOk, OnErr};
 ghost use Rattle.vx_ends.specs.Texts.{IsTextAt};
 ghost use Rattle.std.specs.List.{list_all};
 ghost use Rattle.vx_value.specs.Texts.{Word};
@@ -18,10 +18,10 @@ ghost use Rattle.vx_run.specs.Calling.{HasBegun, HasCalledFor, call_of, port_cal
 
 use std::alloc::Global;
 use vx_cli::Fault;
-use vx_condition::ConditionList;
+use vx_condition::{Condition, ConditionList};
 use vx_ends::{Port, PortSpec, Trouble, World};
 use vx_hub::{Named, NamedList, Parts, PickerList};
-use vx_pick::{Filter, Picker, Route};
+use vx_pick::{Dedupe, Filter, Picker, Route, Sample};
 use vx_plan::{Component, Plan, Settings};
 use vx_reading::{ConditionLists, PlanFault, ReadPlan, read_plan};
 use vx_value::{Bytes, Text, VariableList, WantOfMemory};
@@ -134,7 +134,8 @@ fn pickers(
         let Some(list) = conditions.pop() else {
             unreachable!();
         };
-        match pickers.push(picker_of(component, list)) {
+        let picker = picker_of(alloc, component, list)?;
+        match pickers.push(picker) {
             Ok(()) => {}
             Err(_) => return Err(WantOfMemory),
         }
@@ -143,27 +144,50 @@ fn pickers(
 }
 
 /// What a component picks by that has these conditions, if it is a transform.
-fn picker_of(component: &Component, conditions: ConditionList) -> Option<Picker>
+fn picker_of(
+    alloc: Global,
+    component: &Component,
+    conditions: ConditionList,
+) -> Result<Option<Picker>, WantOfMemory>
     requires conditions { conditions ≡ conditions_by component.now }
     requires made { is_made component.now ≡ true }
-    ensures { IsPickerFor component.now result }
+    ensures { IfOk result (IsPickerFor component.now) }
 {
-    match &component.settings {
-        Settings::Filter { .. } => first_of(conditions),
+    match component.settings.copy(alloc)? {
+        Settings::Filter { .. } => Ok(filter_of(conditions)),
         Settings::Route {
             reroute_unmatched,
             ..
-        } => Some(Picker::Route(Route::new(conditions, *reroute_unmatched))),
-        _ => None,
+        } => Ok(Some(Picker::Route(Route::new(conditions, reroute_unmatched)))),
+        Settings::Sample { rate, .. } => {
+            let exclude = last_of(conditions);
+            Ok(Some(Picker::Sample(Sample::new(rate, exclude))))
+        }
+        Settings::Dedupe {
+            fields,
+            cache_num_events,
+        } => {
+            let dedupe = Dedupe::new(alloc, fields, cache_num_events)?;
+            Ok(Some(Picker::Dedupe(dedupe)))
+        }
+        _ => Ok(None),
     }
 }
 
-/// The filter by the last of some conditions, if there is one.
-fn first_of(conditions: ConditionList) -> Option<Picker>
-    ensures { (text : Word) → conditions ≡ text ∷ [] → result ≡ Some (Picker.Filter text) }
+/// The last of some conditions, if there is one.
+fn last_of(conditions: ConditionList) -> Option<Condition>
+    ensures some { (text : Word) → conditions ≡ text ∷ [] → result ≡ Some text }
+    ensures none { conditions ≡ [] → result ≡ None }
 {
     let mut conditions = conditions;
-    match conditions.pop() {
+    conditions.pop()
+}
+
+/// The filter by the last of some conditions, if there is one.
+fn filter_of(conditions: ConditionList) -> Option<Picker>
+    ensures { (text : Word) → conditions ≡ text ∷ [] → result ≡ Some (Picker.Filter text) }
+{
+    match last_of(conditions) {
         Some(condition) => Some(Picker::Filter(Filter::new(condition))),
         None => None,
     }

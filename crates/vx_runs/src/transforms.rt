@@ -1,4 +1,4 @@
-//! Whole runs through filters and routes.
+//! Whole runs through transforms that judge event by event.
 
 use crate::fixtures::Play;
 use crate::runs::{EMPTY, Run, runs};
@@ -106,4 +106,63 @@ encoding.codec = \"text\"
 #[test]
 fn cycle_is_refused(rt: HostRuntime) -> Result<(), Fail> {
     runs(&rt, rt.alloc(), &CYCLE)
+}
+
+/// A dedupe that keeps two keys: a repeat is the latest of its key again, and the third key pushes the second out.
+const TWO_KEYS: Run = Run {
+    text: "[sources.in]
+type = \"stdin\"
+
+[transforms.d]
+type = \"dedupe\"
+inputs = [\"in\"]
+cache.num_events = 2
+
+[sinks.out]
+type = \"console\"
+inputs = [\"d\"]
+encoding.codec = \"text\"
+",
+    steps: &[Play::Piece(0, "a\nb\na\nc\nb\n")],
+    shown: "source in read=10 lines=5 overlong=0 undecodable=0 events=5 unread=0 batches=1 delivered=1 errored=0 rejected=0 confirmed=10
+transform d taken=5 sent=4 dropped=1 unread=0
+sink out taken=4 newest=0 attempts=4 delivered=4 errored=0 rejected=0 bytes=8
+",
+    given: &["", "", "a\nb\nc\nb\n"],
+    ..EMPTY
+};
+
+#[test]
+fn dedupe_of_two_keys(rt: HostRuntime) -> Result<(), Fail> {
+    runs(&rt, rt.alloc(), &TWO_KEYS)
+}
+
+/// A sample of every second line, that passes each `x` uncounted.
+const EVERY_SECOND: Run = Run {
+    text: "[sources.in]
+type = \"stdin\"
+
+[transforms.s]
+type = \"sample\"
+inputs = [\"in\"]
+rate = 2
+exclude = '.message == \"x\"'
+
+[sinks.out]
+type = \"console\"
+inputs = [\"s\"]
+encoding.codec = \"text\"
+",
+    steps: &[Play::Piece(0, "a\nx\nb\nc\n")],
+    shown: "source in read=8 lines=4 overlong=0 undecodable=0 events=4 unread=0 batches=1 delivered=1 errored=0 rejected=0 confirmed=8
+transform s taken=4 sent=3 dropped=1 unread=0
+sink out taken=3 newest=0 attempts=3 delivered=3 errored=0 rejected=0 bytes=6
+",
+    given: &["", "", "a\nx\nc\n"],
+    ..EMPTY
+};
+
+#[test]
+fn sample_with_exclude(rt: HostRuntime) -> Result<(), Fail> {
+    runs(&rt, rt.alloc(), &EVERY_SECOND)
 }

@@ -13,5 +13,5 @@ loop-component-preserved c =
     let next = next_list components c.loop-component.component-index c.component-item.result c.loop-component.conditions.items c.pop.new.self.items c.in-Some.list there inv.left c.in-Some.ensures.items in
     record {
       left = next.1;
-      picked = picker_more components c.loop-component.component-index c.component-item.result c.loop-component.pickers c.push.new.self c.picker_of.result c.in-Ok.ensures.ok there inv.picked c.picker_of.ensures;
+      picked = picker_more components c.loop-component.component-index c.component-item.result c.loop-component.pickers c.push.new.self c.in_ok-picker.picker c.in-Ok.ensures.ok there inv.picked c.in_ok-picker.ensures;
     }

@@ -1,0 +1,57 @@
+-- Whole numbers that are read lie between two, whatever the document says.
+use Rattle.std.proofs.Common.{◌≡◌, ◌≤◌, ℕ, ℤ, pos, negsuc, Bool, true, false, nat_le, Option, Some, None, refl, arith}
+use Rattle.std.specs.Prelude.{◌&&◌, if◌then◌else◌, codes, option_and_then, unwrap_or}
+use Rattle.std.proofs.lemmas.Bool.Decides.{nat_tests}
+use Rattle.toml.specs.Data.{Data, as_integer, get}
+use Rattle.vx_plan.proofs.Tests.{and_both}
+use Rattle.vx_reading.specs.Judging.{between, whole_in}
+use Rattle.vx_reading.specs.Options.{most_whole, most_keys}
+use Rattle.vx_reading.specs.Plans.{rate_of, keys_of}
+
+-- a number is between two
+record IsBetween (least most n : ℕ) : Type 0 where
+  pub some : least ≤ n
+  pub few : n ≤ most
+
+least_told : (least n : ℕ) → nat_le least n ≡ true → least ≤ n
+least_told least n told = grind (arith, nat_tests)
+
+-- one that is read, or else another that is
+kept : (least most other : ℕ) (o : Option ℤ) → IsBetween least most other → IsBetween least most (unwrap_or (option_and_then (between least most) o) other)
+kept least most other None is = is
+kept least most other (Some (negsuc n)) is = is
+kept least most other (Some (pos n)) is = by_test (nat_le least n && nat_le n most) (λ e. e)
+  where
+    by_test : (b : Bool) → (b ≡ true → nat_le least n && nat_le n most ≡ true) → IsBetween least most (unwrap_or (if b then Some n else None) other)
+    by_test true so =
+        let both = and_both (nat_le least n) (nat_le n most) (so refl) in
+        record { some = least_told least n both.0; few = least_told n most both.1 }
+    by_test false so = is
+
+read_between : (least most other : ℕ) (o : Option Data) → IsBetween least most other → IsBetween least most (unwrap_or (option_and_then (whole_in least most) o) other)
+read_between least most other None is = is
+read_between least most other (Some value) is = kept least most other (as_integer value) is
+
+rate_between : (value : Data) → IsBetween 1 most_whole (rate_of value)
+rate_between value = read_between 1 most_whole 1 (get (codes "rate") value) (record { some = omega arith; few = omega arith })
+
+-- the rate of a sample is at least 1
+pub rate_some : (value : Data) → 1 ≤ rate_of value
+rate_some value = (rate_between value).some
+
+keys_between : (value : Data) → IsBetween 1 most_keys (keys_of value)
+keys_between value = go (get (codes "cache") value)
+  where
+    default : IsBetween 1 most_keys 5000
+    default = record { some = omega arith; few = omega arith }
+
+    go : (o : Option Data) → IsBetween 1 most_keys (unwrap_or (option_and_then (λ (inner : Data). option_and_then (whole_in 1 most_keys) (get (codes "num_events") inner)) o) 5000)
+    go None = default
+    go (Some inner) = read_between 1 most_keys 5000 (get (codes "num_events") inner) default
+
+-- a dedupe keeps some keys, and no more than it may
+pub keys_some : (value : Data) → 1 ≤ keys_of value
+keys_some value = (keys_between value).some
+
+pub keys_few : (value : Data) → keys_of value ≤ most_keys
+keys_few value = (keys_between value).few
