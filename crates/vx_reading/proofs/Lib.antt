@@ -13,6 +13,7 @@ pub mod Routes
 pub mod Generating
 pub mod Ported
 pub mod Trying
+pub mod Refused
 pub mod Refusing
 pub mod Sure
 pub mod Judged

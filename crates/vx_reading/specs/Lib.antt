@@ -6,6 +6,7 @@ pub mod Stages
 pub mod Findings
 pub mod Plans
 pub mod Conditions
+pub mod Refused
 pub mod Trying
 pub mod Reading
 pub mod Answers

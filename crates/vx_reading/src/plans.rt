@@ -3,8 +3,7 @@ ghost use Rattle.std.specs.Option.{option_map};
 ghost use Rattle.std.specs.List.{flat_map};
 ghost use Rattle.toml.specs.View.{view, items_view};
 ghost use Rattle.vx_reading.specs.Judging.{items_in, pairs_in as pairs_in_view};
-ghost use Rattle.vx_reading.specs.Components.{parts};
-ghost use Rattle.vx_reading.specs.Plans.{text_at, text_within, truth_at, truth_in, truth_either, acknowledgements_of, global_of, text_of, texts_at, inputs_of, inputs_for, target_named, length_at, include_of, path_of, decoding_named, codec_named, condition_of, condition_at, condition_given, way_of, ways_of, is_rerouted, whole_at, is_numbered, demo_of, interval_of, whole_within, rate_of, keys_of, batch_events_of, batch_timeout_of, retries_of, first_wait_of, longest_wait_of, sink_of, settings_of, component, component_of, plan_of};
+ghost use Rattle.vx_reading.specs.Plans.{text_at, text_within, truth_at, truth_in, truth_either, acknowledgements_of, global_of, text_of, texts_at, inputs_of, inputs_for, target_named, length_at, include_of, path_of, decoding_named, codec_named, condition_of, condition_at, condition_given, way_of, ways_of, is_rerouted, whole_at, is_numbered, demo_of, interval_of, whole_within, rate_of, keys_of, batch_events_of, batch_timeout_of, retries_of, first_wait_of, longest_wait_of, sink_of, settings_of, component, component_of};
 ghost use Rattle.vx_reading.specs.Views.{pair_view, part_view, parts_view};
 
 use crate::fields::fields_of;
@@ -21,7 +20,7 @@ use std::alloc::Global as Allocator;
 use toml::Value;
 use vx_plan::{
     Codec, Component, ComponentList, Compression, ConsoleTarget, Decoding, DemoSettings, Global,
-    Plan, ReadFrom, Route, RouteList, Settings, SinkSettings,
+    ReadFrom, Route, RouteList, Settings, SinkSettings,
 };
 use vx_value::{Text, TextList, WantOfMemory};
 
@@ -92,7 +91,7 @@ fn acknowledgements_of(otherwise: bool, table: &Value) -> bool
 }
 
 /// The options of the whole: sinks don't acknowledge where it doesn't say.
-fn global_of(alloc: Allocator, root: &Value) -> Result<Global, WantOfMemory>
+pub(crate) fn global_of(alloc: Allocator, root: &Value) -> Result<Global, WantOfMemory>
     ensures { IfOk result (λ global. global ≡ global_of (view root.now)) }
 {
     let data_dir = match text_at("data_dir", root) {
@@ -555,19 +554,17 @@ fn push_component(
     }
 }
 
-/// What a document stands for.
-pub(crate) fn plan_of(
+/// The components that the parts of a document stand for.
+pub(crate) fn components_of(
     alloc: Allocator,
-    root: &Value,
+    global: &Global,
     all: &[Part<'_>],
-) -> Result<Plan, WantOfMemory>
-    requires { parts_view all.now ≡ parts (view root.now) }
-    ensures { IfOk result (λ plan. plan ≡ plan_of (view root.now)) }
+) -> Result<ComponentList, WantOfMemory>
+    ensures { IfOk result (λ components. components ≡ flat_map (component_of global.now) (parts_view all.now)) }
 {
-    let global = global_of(alloc, root)?;
     let mut components = ComponentList::new(alloc);
     for part in all {
-        push_component(alloc, &mut components, &global, *part)?;
+        push_component(alloc, &mut components, global, *part)?;
     }
-    Plan::new(alloc, global, components)
+    Ok(components)
 }

@@ -13,7 +13,7 @@ use crate::first::first;
 use crate::graphs::nodes_of;
 use crate::part::{Part, parts};
 use crate::plan_fault::PlanFault;
-use crate::plans::plan_of;
+use crate::plans::{components_of, global_of};
 use crate::refusals::push_refusals;
 use crate::tried::{ConditionLists, Tried, try_all};
 use std::alloc::Global;
@@ -48,16 +48,19 @@ fn read_parts(alloc: Global, root: &Value, all: &[Part<'_>]) -> Result<ReadPlan,
     ensures judged { (refuses : Word → Bool) × IsRightlyJudged refuses (view root.now) (plan_in result) }
     ensures conditions { IfOk result HasConditions }
 {
-    let plan = plan_of(alloc, root, all)?;
+    let global = global_of(alloc, root)?;
+    let components = components_of(alloc, &global, all)?;
     let Tried {
         refused,
         conditions,
-    } = try_all(alloc, &plan)?;
+    } = try_all(alloc, &components)?;
     let mut found = findings(alloc, root, all)?;
-    push_refusals(alloc, &mut found, &refused, &plan.components)?;
+    push_refusals(alloc, &mut found, &refused, &components)?;
     if let Some(fault) = first(found) {
         return Err(fault);
     }
+    // A plan looks at each pair of its components: now they are known to be few.
+    let plan = Plan::new(alloc, global, components)?;
     let nodes = nodes_of(alloc, &plan)?;
     match check(alloc, nodes) {
         Ok(_) => Ok(ReadPlan { plan, conditions }),

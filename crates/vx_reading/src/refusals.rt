@@ -1,7 +1,9 @@
 // The faults of conditions that are refused.
-ghost use Rattle.std.specs.Prelude.{◌≡◌, ◌++◌, OnOk, map};
+ghost use Rattle.std.specs.Prelude.{◌≡◌, ◌++◌, IfOk, OnOk, map};
 ghost use Rattle.std.specs.List.{flat_map};
+ghost use Rattle.vx_value.specs.Texts.{Word};
 ghost use Rattle.vx_reading.specs.Conditions.{Placed, placed_way, placed_any, is_one, owner_by, refusal, refusals_of, refusals};
+ghost use Rattle.vx_reading.specs.Refused.{is_kept};
 ghost use Rattle.vx_reading.specs.Views.{place_view, owner_view};
 
 use crate::finding::{FindingList, push};
@@ -9,11 +11,35 @@ use crate::options::section_number;
 use crate::owner::Owner;
 use crate::paths::{lead_of, option_path};
 use crate::place::Place;
-use crate::texts::is_one;
 use crate::trouble::Trouble;
 use std::alloc::Global;
+use std::collections::BTreeSet;
 use vx_plan::{Component, ComponentList, RouteList, Settings};
 use vx_value::{Text, TextList, WantOfMemory};
+
+/// Texts that are refused, each once: to find one among many takes few comparisons.
+type Refused<'a> = BTreeSet<&'a str, Global>;
+
+/// Some texts, each once.
+fn by_bytes<'a>(alloc: Global, texts: &'a TextList) -> Result<Refused<'a>, WantOfMemory>
+    ensures { IfOk result (λ refused. (text : Word) → is_kept refused text ≡ is_one texts.now text) }
+{
+    let mut refused = BTreeSet::new(alloc);
+    for text in texts.as_slice() {
+        match refused.insert(text.as_str()) {
+            Ok(_) => {}
+            Err(_) => return Err(WantOfMemory),
+        }
+    }
+    Ok(refused)
+}
+
+/// Whether a text is refused.
+fn is_kept(refused: &Refused<'_>, text: &str) -> bool
+    ensures { result ≡ is_kept refused.now text.now }
+{
+    refused.contains(text)
+}
 
 /// To whom the faults of a component belong.
 fn owner_by(component: &Component) -> Owner<'_>
@@ -29,14 +55,14 @@ fn owner_by(component: &Component) -> Owner<'_>
 fn push_refusal(
     alloc: Global,
     findings: &mut FindingList,
-    refused: &TextList,
+    refused: &Refused<'_>,
     component: &Component,
     place: Place<'_>,
     text: &Text,
 ) -> Result<(), WantOfMemory>
-    ensures { OnOk result (findings.new ≡ findings.old ++ refusal (is_one refused.now) component.now (record { place = place_view place.entry; text = text.now })) }
+    ensures { OnOk result (findings.new ≡ findings.old ++ refusal (is_kept refused.now) component.now (record { place = place_view place.entry; text = text.now })) }
 {
-    if !is_one(refused, text.as_str()) {
+    if !is_kept(refused, text.as_str()) {
         return Ok(());
     }
     let lead = lead_of(alloc, component.class, component.name.as_str())?;
@@ -54,12 +80,12 @@ fn push_refusal(
 fn push_any(
     alloc: Global,
     findings: &mut FindingList,
-    refused: &TextList,
+    refused: &Refused<'_>,
     component: &Component,
     name: &str,
     text: &Option<Text>,
 ) -> Result<(), WantOfMemory>
-    ensures { OnOk result (findings.new ≡ findings.old ++ flat_map (refusal (is_one refused.now) component.now) (placed_any name.now text.now)) }
+    ensures { OnOk result (findings.new ≡ findings.old ++ flat_map (refusal (is_kept refused.now) component.now) (placed_any name.now text.now)) }
 {
     match text {
         Some(text) => push_refusal(
@@ -78,11 +104,11 @@ fn push_any(
 fn push_ways(
     alloc: Global,
     findings: &mut FindingList,
-    refused: &TextList,
+    refused: &Refused<'_>,
     component: &Component,
     ways: &RouteList,
 ) -> Result<(), WantOfMemory>
-    ensures { OnOk result (findings.new ≡ findings.old ++ flat_map (refusal (is_one refused.now) component.now) (map placed_way ways.now)) }
+    ensures { OnOk result (findings.new ≡ findings.old ++ flat_map (refusal (is_kept refused.now) component.now) (map placed_way ways.now)) }
 {
     for way in ways.as_slice() {
         let place = Place::Within("route", way.name.as_str());
@@ -95,10 +121,10 @@ fn push_ways(
 fn push_component(
     alloc: Global,
     findings: &mut FindingList,
-    refused: &TextList,
+    refused: &Refused<'_>,
     component: &Component,
 ) -> Result<(), WantOfMemory>
-    ensures { OnOk result (findings.new ≡ findings.old ++ refusals_of (is_one refused.now) component.now) }
+    ensures { OnOk result (findings.new ≡ findings.old ++ refusals_of (is_kept refused.now) component.now) }
 {
     match &component.settings {
         Settings::Filter { condition } => {
@@ -129,6 +155,21 @@ fn push_component(
 }
 
 /// Adds the faults of the conditions of some components.
+fn push_components(
+    alloc: Global,
+    findings: &mut FindingList,
+    refused: &Refused<'_>,
+    components: &ComponentList,
+) -> Result<(), WantOfMemory>
+    ensures { OnOk result (findings.new ≡ findings.old ++ refusals (is_kept refused.now) components.now) }
+{
+    for component in components.as_slice() {
+        push_component(alloc, findings, refused, component)?;
+    }
+    Ok(())
+}
+
+/// Adds the faults of the conditions of some components, of which these are refused.
 pub(crate) fn push_refusals(
     alloc: Global,
     findings: &mut FindingList,
@@ -137,8 +178,6 @@ pub(crate) fn push_refusals(
 ) -> Result<(), WantOfMemory>
     ensures { OnOk result (findings.new ≡ findings.old ++ refusals (is_one refused.now) components.now) }
 {
-    for component in components.as_slice() {
-        push_component(alloc, findings, refused, component)?;
-    }
-    Ok(())
+    let refused = by_bytes(alloc, refused)?;
+    push_components(alloc, findings, &refused, components)
 }

@@ -3,12 +3,11 @@ ghost use Rattle.std.specs.List.{list_all};
 ghost use Rattle.vx_value.specs.Texts.{same_text, text_lt};
 ghost use Rattle.vx_reading.specs.Made.{is_unbroken};
 ghost use Rattle.vx_reading.specs.Options.{is_name, is_name_byte, is_route_name};
-ghost use Rattle.vx_reading.specs.Conditions.{is_one};
 ghost use Rattle.vx_reading.specs.Judging.{has_byte, is_pattern, is_template, path_spelled};
 
 use std::alloc::Global;
 use std::cmp::Ordering;
-use vx_value::{Path, PathFault, TextList, WantOfMemory};
+use vx_value::{Path, PathFault, WantOfMemory};
 
 /// The longest name of a component, in bytes.
 const LONGEST_NAME: usize = 64;
@@ -106,18 +105,6 @@ pub(crate) fn is_template(text: &str) -> bool
     ensures { result ≡ is_template text.now }
 {
     has_byte(b'{', text)
-}
-
-/// Whether one of some texts is this.
-pub(crate) fn is_one(texts: &TextList, text: &str) -> bool
-    ensures { result ≡ is_one texts.now text.now }
-{
-    for other in texts.as_slice() {
-        if same_text(other.as_str(), text) {
-            return true;
-        }
-    }
-    false
 }
 
 /// How many names the path of a field may have.

@@ -1,4 +1,4 @@
-// The conditions of a plan are read, each once.
+// The conditions of some components are read, each once.
 ghost use Rattle.std.specs.Prelude.{◌≡◌, ◌∷◌, ◌++◌, [], List, IfOk, OnOk, map};
 ghost use Rattle.vx_value.specs.Texts.{Word};
 ghost use Rattle.vx_plan.specs.declared.component.Component.{Component as SpecComponent};
@@ -9,13 +9,13 @@ ghost use Rattle.vx_reading.specs.Trying.{Tries};
 
 use std::alloc::Global;
 use vx_condition::{Condition, ConditionFault, ConditionList, parse};
-use vx_plan::{Component, Plan, RouteList, Settings};
+use vx_plan::{Component, ComponentList, RouteList, Settings};
 use vx_value::{ItemList, Text, TextList, WantOfMemory};
 
-/// The conditions of each component of a plan, in their order.
+/// The conditions of each of some components, in their order.
 pub type ConditionLists = ItemList<ConditionList>;
 
-/// The conditions of a plan: the texts that are refused, and if there are none, those of each component.
+/// The conditions of some components: the texts that are refused, and if there are none, those of each component.
 #[derive(Drop)]
 pub(crate) struct Tried {
     pub refused: TextList,
@@ -146,13 +146,13 @@ fn try_component(
     }
 }
 
-/// Reads the conditions of a plan.
-pub(crate) fn try_all(alloc: Global, plan: &Plan) -> Result<Tried, WantOfMemory>
-    ensures { IfOk result (λ tried. Tries (all_conditions plan.now.components) (map conditions_by plan.now.components) [] tried.refused [] tried.conditions) }
+/// Reads the conditions of some components.
+pub(crate) fn try_all(alloc: Global, components: &ComponentList) -> Result<Tried, WantOfMemory>
+    ensures { IfOk result (λ tried. Tries (all_conditions components.now) (map conditions_by components.now) [] tried.refused [] tried.conditions) }
 {
     let mut refused = TextList::new(alloc);
     let mut conditions = ConditionLists::new(alloc);
-    for component in plan.components.as_slice() {
+    for component in components.as_slice() {
         try_component(alloc, component, &mut refused, &mut conditions)?;
     }
     Ok(Tried {

@@ -1,7 +1,6 @@
 use Rattle.std.proofs.Common.{List, [], ◌∷◌, map, sym, ap, ◌∙◌, subst, drop, arith, ◌+◌}
 use Rattle.std.proofs.lemmas.List.{drop_more, drop_all}
 use Rattle.vx_plan.specs.declared.component.Component.{Component}
-use Rattle.vx_plan.specs.declared.plan.Plan.{Plan}
 use Rattle.vx_reading.specs.Conditions.{conditions_by, all_conditions}
 use Rattle.vx_reading.specs.Trying.{Tries}
 use Rattle.vx_reading.proofs.Trying.{tries_none, tries_both}
@@ -18,8 +17,7 @@ loop-component-preserved c refused conditions rest =
 pub returns : goal.returns
 returns c =
     let all = c.as_slice-component-items.result.now in
-    let same = c.as_slice-component-items.ensures ∙ ap (λ (p : Plan). p.components) c.plan.view_is in
-    subst (λ (xs : List Component). Tries (all_conditions xs) (map conditions_by xs) [] c.loop-component.refused [] c.loop-component.conditions) same
+    subst (λ (xs : List Component). Tries (all_conditions xs) (map conditions_by xs) [] c.loop-component.refused [] c.loop-component.conditions) c.as_slice-component-items.ensures
     (c.loop-component.invariant c.loop-component.refused c.loop-component.conditions
     (subst (λ (xs : List Component). Tries (all_conditions xs) (map conditions_by xs) c.loop-component.refused c.loop-component.refused c.loop-component.conditions c.loop-component.conditions)
     (sym (drop_all c.loop-component.component-index all (grind (arith, c.loop-component-test.false)))) (tries_none c.loop-component.refused c.loop-component.conditions)))

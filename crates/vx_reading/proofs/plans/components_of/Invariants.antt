@@ -2,7 +2,7 @@ use Rattle.std.proofs.Common.{◌≡◌, ◌++◌, drop}
 use Rattle.std.specs.List.{flat_map}
 use Rattle.vx_reading.specs.Plans.{component_of}
 use Rattle.vx_reading.specs.Views.{parts_view}
-use Rattle.vx_reading.proofs.plans.plan_of.Given as goal
+use Rattle.vx_reading.proofs.plans.components_of.Given as goal
 
 -- what is left to add makes the list whole
 abbrev pub invariant-loop-part : goal.invariant-loop-part

@@ -1,9 +1,0 @@
-use Rattle.std.proofs.Common.{◌≡◌, ◌++◌, drop}
-use Rattle.vx_reading.specs.Conditions.{is_one, refusals}
-use Rattle.vx_reading.proofs.refusals.push_refusals.Given as goal
-
--- what is left to add makes the list whole
-abbrev pub invariant-loop-component : goal.invariant-loop-component
-invariant-loop-component l =
-    l.findings ++ refusals (is_one l.refused) (drop l.component-index l.component-items)
-    ≡ l.initial.findings ++ refusals (is_one l.refused) l.component-items
