@@ -3,19 +3,21 @@
 
 For 1, 16, 64 and 255 consoles it runs the program on as many lines of 100 bytes as give 510,000 copies, with all consoles on
 standard output, which is a pipe that is read to its end. A run in which nobody reads the source says what a line costs before it is
-copied. They run in turn, five times each; the least processor time counts. A first argument is another number of copies. It needs
+copied. They run in turn, eleven times each; the median of the processor time counts, since a processor that others use too is
+faster at some times than at others. A first argument is another number of copies. It needs
 Python 3.11, `mawk` and GNU `time`.
 """
 
 import subprocess
 import sys
+from statistics import median
 
 from events import load, measure
 from program import TOP, VECTOR, lines_file
 
 CONSOLES = [1, 16, 64, 255]
 COPIES = 510_000
-ROUNDS = 5
+ROUNDS = 11
 SOURCE = '[sources.in]\ntype = "stdin"\n'
 SINK = '[sinks.s{}]\ntype = "console"\ninputs = ["in"]\nencoding.codec = "text"\n'
 # a sink is asked for: this one reads a source that makes nothing
@@ -36,7 +38,7 @@ def main():
     paths = {count: configuration(count) for count in counts}
     # (the script builds the program, which is then measured by itself)
     subprocess.run([str(TOP / "vector"), "validate", str(paths[1])], stdout=subprocess.DEVNULL, check=True)
-    print(f"{copies} copies of lines of 100 bytes, the best of {ROUNDS} runs; before: {load()}")
+    print(f"{copies} copies of lines of 100 bytes, the median of {ROUNDS} runs; before: {load()}")
     took = {name: {count: [] for count in counts} for name in ["vector", "mawk"]}
     for _ in range(ROUNDS):
         for count in counts:
@@ -44,8 +46,8 @@ def main():
             for name, words in programs.items():
                 took[name][count].append(measure(words, files[count])[1])
     lines = {count: files[count].stat().st_size // 100 for count in counts}
-    line = min(took["vector"][0]) * 1e6 / lines[0]
-    whole = {name: {count: min(runs[count]) * 1e6 / (lines[count] * count) for count in CONSOLES} for name, runs in took.items()}
+    line = median(took["vector"][0]) * 1e6 / lines[0]
+    whole = {name: {count: median(runs[count]) * 1e6 / (lines[count] * count) for count in CONSOLES} for name, runs in took.items()}
     alone = {count: whole["vector"][count] - line / count for count in CONSOLES}
     print(f"a line that nobody reads: {line:6.2f} us of a processor")
     for count in CONSOLES:
