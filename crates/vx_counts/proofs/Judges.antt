@@ -1,4 +1,4 @@
--- Transforms that judge each event by itself put out and discard whole parcels that they took, each of which has one copy.
+-- Transforms that judge event by event put out and discard whole parcels that they took, each of which has one copy.
 use Rattle.std.proofs.Common.{◌≡◌, ℕ, Bool, true, false, List, [], ◌∷◌, ◌++◌, length, map, reverse, refl, sym, ap, subst, ◌∙◌, arith}
 use Rattle.std.specs.Prelude.{◌==◌, if◌then◌else◌, count_by}
 use Rattle.std.proofs.lemmas.Bool.{eqb-true}

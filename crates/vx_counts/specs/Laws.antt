@@ -99,7 +99,7 @@ AllMet = (h : Record) (kept : List Tally) → EachMeets h 0 kept → kept ≡ ta
 abbrev pub OneCopyEach : Type 0
 OneCopyEach = (h : Record) → IsLegal h → no_answer h ≡ true → AllOnes (all_puts h)
 
--- nor do transforms that judge each event by itself
+-- nor do transforms that judge event by event
 abbrev pub JudgesOneCopyEach : Type 0
 JudgesOneCopyEach = (h : Record) → IsLegal h → OnlyJudges h → AllOnes (all_puts h)
 

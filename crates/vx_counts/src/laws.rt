@@ -19,7 +19,7 @@ pub fn places()
 {}
 
 /// Of a parcel that was taken the first copy comes first, and no other; of one of which no copy is spent, none was spent in any way.
-/// Where no transform answered, or each judges every event by itself, each parcel has one copy.
+/// Where no transform answered, or each judges event by event, each parcel has one copy.
 pub fn firsts()
     ensures taken { FirstOfTaken }
     ensures unspent { UnspentNone }
@@ -28,7 +28,7 @@ pub fn firsts()
 {}
 
 /// What a transform discards counts once for each parcel that it took, where it discards whole parcels. Where each transform judges
-/// every event by itself, it counts once for each copy.
+/// event by event, it counts once for each copy.
 pub fn discards()
     ensures whole { DroppedWhole }
     ensures judged { JudgeDrops }

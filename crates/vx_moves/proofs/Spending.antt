@@ -128,7 +128,7 @@ spent_falls h i c outcome live =
 notice_keeps : (h : Record) (b : ℕ) (status : BatchStatus) → unspent (Notice b status ∷ h) ≡ unspent h
 notice_keeps h b status = let same : next_copy h + 0 ≡ next_copy h = omega arith in simp (same, append-nil)
 
--- WHERE COPIES STAND: where each transform judges each event by itself, each parcel has one, which comes first in it
+-- WHERE COPIES STAND: where each transform judges event by event, each parcel has one, which comes first in it
 one_among : (before : List Put) (put : Put) (after : List Put) → AllOnes (before ++ put ∷ after) → IsOne put.copies
 one_among [] put after all = all.0
 one_among (x ∷ xs) put after all = one_among xs put after all.1

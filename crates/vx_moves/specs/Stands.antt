@@ -19,7 +19,7 @@ use Rattle.vx_moves.specs.Rooms.{AreRooms}
 use Rattle.vx_moves.specs.declared.run.Run.{Run}
 use Rattle.vx_moves.specs.declared.books.Books.{Books}
 
--- what is known of the run is what the record has; each transform judges each event by itself; what came home had returned, but
+-- what is known of the run is what the record has; each transform judges event by event; what came home had returned, but
 -- where memory was wanting
 pub record IsRun (run : Run) (h : Record) : Type 0 where
   pub installed : in_force h ≡ Some run.plan

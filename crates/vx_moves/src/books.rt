@@ -8,7 +8,7 @@ use vx_seats::Seats;
 
 /// Where parcels stand, what is known of each instance, which batches are open, what is known of the run, and what happened.
 ///
-/// It can't be dropped, since parcels stand in it. Books stand for records in which each transform judges each event by itself.
+/// It can't be dropped, since parcels stand in it. Books stand for records in which each transform judges event by event.
 pub struct Books<P: Port> {
     pub places: Places,
     pub seats: Seats<P>,

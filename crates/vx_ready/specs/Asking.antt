@@ -43,7 +43,7 @@ is_ported c = has_device c.settings && not (is_transform c)
 abbrev pub has_few_ports : Component → Bool
 has_few_ports c = nat_le (length (port_names c)) 65
 
--- whether it is a transform that judges each event by itself, without a port of its own, and puts out on few
+-- whether it is a transform that judges event by event, without a port of its own, and puts out on few
 abbrev pub is_judge : Component → Bool
 is_judge c = is_transform c && is_judging c.settings && not (has_device c.settings) && has_few_ports c
 
@@ -64,7 +64,7 @@ abbrev pub all_served : List Component → Bool
 all_served [] = true
 all_served (c ∷ rest) = is_served c && all_served rest
 
--- each component of the plan works with a port, judges each event by itself, makes its lines itself or writes nothing, and there
+-- each component of the plan works with a port, judges event by event, makes its lines itself or writes nothing, and there
 -- are fewer than 2^32 instances
 pub record IsServed {P : Type 0} (books : Books P) : Type 0 where
   pub served : all_served books.run.plan.components ≡ true

@@ -1,4 +1,4 @@
--- Transforms that judge each event by itself: what they hold, and what they may answer.
+-- Transforms that judge event by event: what they hold, and what they may answer.
 use Rattle.std.specs.Prelude.{ℕ, ◌<◌, ◌≡◌, ◌≢◌, Bool, true, false, ◌&&◌, List, [], map, reverse}
 use Rattle.vx_plan.specs.declared.component.Component.{Component}
 use Rattle.vx_plan.specs.declared.settings.Settings.{Settings}
@@ -17,7 +17,7 @@ use Rattle.vx_record.specs.Answering.{MayAnswer}
 use Rattle.vx_record.specs.Shifts.{at}
 use Rattle.vx_record.specs.Legal.{IsLegal}
 
--- whether a component of these settings judges each event by itself
+-- whether a component of these settings judges event by event
 abbrev pub is_judging : Settings → Bool
 is_judging (Stdin max_length codec) = false
 is_judging (FileIn most path from codec) = false

@@ -61,7 +61,7 @@ pub fn answering()
     ensures last { TickLast }
 {}
 
-/// A transform that judges each event by itself holds what it took since its last answer, or what that discarded and isn't spent;
+/// A transform that judges event by event holds what it took since its last answer, or what that discarded and isn't spent;
 /// and it may answer what it took as it judges.
 pub fn judging()
     ensures given { HeldIsGiven }

@@ -1,4 +1,4 @@
--- Each component of a plan that was read works with a port, judges each event by itself, makes its lines itself or writes nothing.
+-- Each component of a plan that was read works with a port, judges event by event, makes its lines itself or writes nothing.
 use Rattle.std.proofs.Common.{◌≡◌, ℕ, ◌+◌, ◌≤◌, Bool, true, false, List, [], ◌∷◌, ◌++◌, map, length, refl, ◌∙◌, ap, arith}
 use Rattle.std.specs.Prelude.{◌&&◌, ◌||◌, not, nat_le, codes}
 use Rattle.std.specs.List.{list_all}
