@@ -81,7 +81,9 @@ fn is_blocked(rt: &impl Abort, alloc: Global, text: &str) -> Result<(), Fail> {
 /// Checks that a text stands for some bytes.
 fn is_lossy(rt: &impl Abort, alloc: Global, bytes: &[u8], want: &str) -> Result<(), Fail> {
     let text = Text::lossy(alloc, bytes)?;
-    assert_eq!(rt; text.as_str(), want);
+    assert!(rt; text.as_str() == want);
+    let taken = Text::from_bytes(alloc, Bytes::copy_of(alloc, bytes)?)?;
+    assert!(rt; taken.as_str() == want);
     Ok(())
 }
 

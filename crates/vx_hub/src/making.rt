@@ -224,12 +224,27 @@ fn seat_all<P: Port>(seats: Vec<Seat<P>>, roles: Vec<Role>, ports: Vec<Named<P>>
     ensures seated { AreSeatedFrom 0 seats.items roles.items ports.items result.items }
 {
     let (mut seats, mut roles, mut ports) = (seats, roles, ports);
-    while let Some(Named { name: _, port }) = ports.pop() {
+    while let Some(named) = ports.pop() {
         let Some(role) = roles.pop() else {
             unreachable!();
         };
         let i = ports.len();
-        seats[i].task = Some(Task { port, role });
+        let port = unnamed(named);
+        give_task(&mut seats[i], Task { port, role });
     }
     seats
+}
+
+/// A port without the name of its component.
+fn unnamed<P: Port>(named: Named<P>) -> P
+    ensures { result ≡ named.port }
+{
+    named.port
+}
+
+/// Gives a seat its task.
+fn give_task<P: Port>(seat: &mut Seat<P>, task: Task<P>)
+    ensures { seat.new ≡ record seat.old { task = Some task } }
+{
+    seat.task = Some(task);
 }

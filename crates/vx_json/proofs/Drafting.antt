@@ -1,13 +1,13 @@
 -- The fields of an object that is read, in a tree.
-use Rattle.std.proofs.Common.{◌≡◌, Bool, true, false, List, [], ◌∷◌, ◌++◌, refl, sym, ◌∙◌, ap, String, Global, string_bytes}
+use Rattle.std.proofs.Common.{◌≡◌, true, false, List, [], ◌∷◌, ◌++◌, refl, sym, ◌∙◌, ap, String, Global, string_bytes}
 use Rattle.std.specs.declared.cmp.Ordering.{Ordering}
 use Rattle.std.specs.declared.cmp.Ordering.TheVariants.{Less, Equal, Greater}
-use Rattle.std.specs.Ordering.{is_lt, is_gt, is_eq, match_ordering}
+use Rattle.std.specs.Ordering.{match_ordering}
 use Rattle.std.specs.BTreeMap.{insert_entry}
 use Rattle.std.specs.String.{string_cmp}
 use Rattle.std.specs.List.Sorted.{IsStrictlySortedBy}
 use Rattle.std.specs.Map.{keys_of}
-use Rattle.vx_value.specs.Texts.{Word, text_lt, same_text}
+use Rattle.vx_value.specs.Texts.{Word, text_lt}
 use Rattle.vx_value.specs.Datum.{Datum, NamedDatum}
 use Rattle.vx_value.specs.Events.{with_field, names_rise}
 use Rattle.vx_value.specs.Orders.{text_cmp}

@@ -58,14 +58,14 @@ impl Draft {
         match &mut self.kept {
             Kept::List(fields) => {
                 if stays_list(fields, name.as_str()) {
-                    return put_field(alloc, fields, name, value);
+                    return put_field(fields, name, value);
                 }
                 let mut tree = plant(alloc, fields)?;
-                insert(&mut tree, name, value)?;
+                insert(alloc, &mut tree, name, value)?;
                 self.kept = Kept::Tree(tree);
                 Ok(())
             }
-            Kept::Tree(tree) => insert(tree, name, value),
+            Kept::Tree(tree) => insert(alloc, tree, name, value),
         }
     }
 
@@ -88,13 +88,15 @@ fn stays_list(fields: &FieldList, name: &str) -> bool {
 
 /// Puts a value under a name, in place of one that stands there.
 fn insert(
+    alloc: Global,
     tree: &mut BTreeMap<String, Value, Global>,
     name: Text,
     value: Value,
 ) -> Result<(), WantOfMemory>
     ensures { OnOk result (tree_fields tree.new.entries ≡ with_field (tree_fields tree.old.entries) name (datum_of value)) }
 {
-    match tree.insert(name.into_string(), value) {
+    let name = name.into_string(alloc)?;
+    match tree.insert(name, value) {
         Ok(_before) => Ok(()),
         Err(_) => Err(WantOfMemory),
     }
@@ -110,7 +112,7 @@ fn plant(
     let _ = fields.len();
     let mut tree = BTreeMap::new(alloc);
     while let Some(field) = fields.pop() {
-        insert(&mut tree, field.name, field.value)?;
+        insert(alloc, &mut tree, field.name, field.value)?;
     }
     Ok(tree)
 }

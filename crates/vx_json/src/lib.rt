@@ -33,7 +33,7 @@ pub use demo_settings::DemoSettings;
 pub use encode::encode_event;
 pub use json_fault::JsonFault;
 pub use laws::{line_events, one_object};
-pub use line::line_event;
+pub use line::{line_event, line_into_event};
 pub use probe::Probe;
 pub use reader::read;
 pub use writer::{write, write_value};

@@ -1,23 +1,23 @@
-ghost use Rattle.std.specs.Prelude.{◌≡◌, OnOk, IfOk};
+ghost use Rattle.std.specs.Prelude.{◌≡◌, [], ◌∷◌, codes, OnOk, IfOk};
 ghost use Rattle.std.specs.Option.{option_copied};
+ghost use Rattle.vx_value.specs.Datum.{Words};
 ghost use Rattle.vx_json.specs.Objects.{object_of};
-ghost use Rattle.vx_json.specs.LineEvents.{message_of, with_text, from_source, content_of, line_fields, event_fields};
+ghost use Rattle.vx_json.specs.LineEvents.{with_text, from_source, content_of, line_fields, event_fields};
 
 use crate::decoding::Decoding;
 use crate::json_fault::JsonFault;
 use crate::put_field::put_field;
 use crate::reader::read;
 use std::alloc::Global;
-use vx_value::{Event, FieldList, Text, Value, WantOfMemory};
+use vx_value::{Bytes, Event, FieldList, Text, Value, WantOfMemory};
 
 /// The event of a line as text: its message.
-fn message(alloc: Global, line: &[u8]) -> Result<Event, WantOfMemory>
-    ensures { IfOk result (λ event. event.fields ≡ message_of line.now) }
+fn message(alloc: Global, text: Text) -> Result<Event, WantOfMemory>
+    ensures { IfOk result (λ event. event.fields ≡ record { name = codes "message"; value = Words text } ∷ []) }
 {
     let mut fields = FieldList::new(alloc);
     let name = Text::copy_of(alloc, "message")?;
-    let text = Text::lossy(alloc, line)?;
-    put_field(alloc, &mut fields, name, Value::Words(text))?;
+    put_field(&mut fields, name, Value::Words(text))?;
     Ok(Event { fields })
 }
 
@@ -32,13 +32,16 @@ fn object(alloc: Global, line: &[u8]) -> Result<Option<Event>, WantOfMemory>
     }
 }
 
-/// The event that a line gives by itself, if it gives one.
-fn content(alloc: Global, decoding: Decoding, line: &[u8]) -> Result<Option<Event>, WantOfMemory>
-    ensures { IfOk result (λ event. event_fields event ≡ content_of decoding line.now) }
+/// The event that a line gives by itself, if it gives one. A line that is UTF-8 becomes the message without a copy.
+fn content(alloc: Global, decoding: Decoding, line: Bytes) -> Result<Option<Event>, WantOfMemory>
+    ensures { IfOk result (λ event. event_fields event ≡ content_of decoding line) }
 {
     match decoding {
-        Decoding::Bytes => Ok(Some(message(alloc, line)?)),
-        Decoding::Json => object(alloc, line),
+        Decoding::Bytes => {
+            let text = Text::from_bytes(alloc, line)?;
+            Ok(Some(message(alloc, text)?))
+        }
+        Decoding::Json => object(alloc, line.as_slice()),
     }
 }
 
@@ -51,7 +54,7 @@ fn add_text(alloc: Global, event: &mut Event, name: &str, text: &Text) -> Result
     }
     let name = Text::copy_of(alloc, name)?;
     let text = text.copy(alloc)?;
-    put_field(alloc, &mut event.fields, name, Value::Words(text))
+    put_field(&mut event.fields, name, Value::Words(text))
 }
 
 /// Puts the type of the source into an event, and the path of its file if it reads one.
@@ -85,6 +88,21 @@ pub fn line_event(
 ) -> Result<Option<Event>, WantOfMemory>
     ensures { IfOk result (λ event. event_fields event
         ≡ line_fields decoding source_type.now (option_copied file.entry) line.now) }
+{
+    let line = Bytes::copy_of(alloc, line)?;
+    line_into_event(alloc, decoding, line, source_type, file)
+}
+
+/// The event that `line_event` gives of a line. Under `Bytes` a line that is UTF-8 becomes the message without a copy.
+pub fn line_into_event(
+    alloc: Global,
+    decoding: Decoding,
+    line: Bytes,
+    source_type: &Text,
+    file: Option<&Text>,
+) -> Result<Option<Event>, WantOfMemory>
+    ensures { IfOk result (λ event. event_fields event
+        ≡ line_fields decoding source_type.now (option_copied file.entry) line) }
 {
     let Some(mut event) = content(alloc, decoding, line)? else {
         return Ok(None);

@@ -1,11 +1,8 @@
-ghost use Rattle.std.specs.Prelude.{◌≡◌, ◌++◌, ◌∷◌, [], false, OnOk, IsTrue};
-ghost use Rattle.std.specs.Ordering.{is_gt};
-ghost use Rattle.vx_value.specs.Datum.{Datum};
+ghost use Rattle.std.specs.Prelude.{◌≡◌, OnOk, IsTrue};
 ghost use Rattle.vx_value.specs.Values.{datum_of};
-ghost use Rattle.vx_value.specs.Events.{with_field, last_below, names_rise};
-ghost use Rattle.vx_json.specs.Puts.{last_order, in_order};
+ghost use Rattle.vx_value.specs.Events.{with_field, names_rise};
+ghost use Rattle.vx_json.specs.Puts.{last_order};
 
-use std::alloc::Global;
 use std::cmp::Ordering;
 use vx_value::{Field, FieldList, Text, Value, WantOfMemory};
 
@@ -25,73 +22,15 @@ pub(crate) fn last_order(fields: &FieldList, name: &str) -> Ordering
     }
 }
 
-/// Takes the fields off whose names come behind another.
-fn take_above(
-    fields: &mut FieldList,
-    name: &str,
-    taken: &mut Vec<Field>,
-) -> Result<(), WantOfMemory>
-    ensures joined { OnOk result ((value : Datum) →
-        with_field fields.old name.now value ++ in_order taken.old.items
-        ≡ with_field fields.new name.now value ++ in_order taken.new.items) }
-    ensures last { OnOk result (is_gt (last_order fields.new name.now) ≡ false) }
-{
-    while last_order(fields, name).is_gt() {
-        let Some(field) = fields.pop() else {
-            return Ok(());
-        };
-        taken.push(field)?;
-    }
-    Ok(())
-}
-
-/// Takes the last field off where it has a name.
-fn drop_same(fields: &mut FieldList, name: &str)
-    requires { is_gt (last_order fields.old name.now) ≡ false }
-    ensures joined { (value : Datum) →
-        with_field fields.old name.now value ≡ fields.new ++ record { name = name.now; value = value } ∷ [] }
-    ensures below { IsTrue (last_below fields.new name.now) }
-{
-    if !last_order(fields, name).is_eq() {
-        return;
-    }
-    let Some(_same) = fields.pop() else {
-        return;
-    };
-}
-
-/// Puts fields back that were taken off.
-fn put_back(fields: &mut FieldList, taken: Vec<Field>) -> Result<(), WantOfMemory>
-    requires { IsTrue (names_rise (fields.old ++ in_order taken.items)) }
-    ensures { OnOk result (fields.new ≡ fields.old ++ in_order taken.items) }
-{
-    let mut taken = taken;
-    while let Some(field) = taken.pop() {
-        match fields.push(field) {
-            Ok(()) => {}
-            Err(_) => return Err(WantOfMemory),
-        }
-    }
-    Ok(())
-}
-
-/// Puts a value under a name, in place of one that stands there. For want of memory nothing is known of the fields.
-pub fn put_field(
-    alloc: Global,
-    fields: &mut FieldList,
-    name: Text,
-    value: Value,
-) -> Result<(), WantOfMemory>
+/// Puts a value under a name, in place of one that stands there. A name behind all others costs the same however many they are.
+pub fn put_field(fields: &mut FieldList, name: Text, value: Value) -> Result<(), WantOfMemory>
     ensures { OnOk result (fields.new ≡ with_field fields.old name (datum_of value)) }
 {
-    let _ = fields.len();
-    let mut taken = Vec::new(alloc);
-    take_above(fields, name.as_str(), &mut taken)?;
-    drop_same(fields, name.as_str());
-    match fields.push(Field { name, value }) {
-        Ok(()) => {}
-        Err(_) => return Err(WantOfMemory),
+    if !last_order(fields, name.as_str()).is_lt() {
+        return fields.put_under(name, value);
     }
-    put_back(fields, taken)?;
-    Ok(())
+    match fields.push(Field { name, value }) {
+        Ok(()) => Ok(()),
+        Err(_) => Err(WantOfMemory),
+    }
 }

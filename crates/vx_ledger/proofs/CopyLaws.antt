@@ -52,6 +52,13 @@ renumbered_copied first i [] c l g = grind arith
 renumbered_copied first zero (x ∷ xs) c l g = grind (arith, common_steps)
 renumbered_copied first (suc i) (x ∷ xs) c l g = grind (arith, common_steps, renumbered_copied (first + 1) i xs c)
 
+-- a single copy with a fresh number
+pub renumbered_alone : (first : ℕ) (cs : List Copy) (c : Copy) → length cs ≡ 1 → c ≡ get_or cs 0 c →
+    renumbered first cs ≡ record { batch = c.batch; number = first; place = c.place } ∷ []
+renumbered_alone first [] c one is = grind arith
+renumbered_alone first (x ∷ []) c one is = grind (arith, common_steps)
+renumbered_alone first (x ∷ y ∷ cs) c one is = grind arith
+
 -- one more target at the end
 pub children_of_more : (k first : ℕ) (parent : List Copy) →
     children_of (k + 1) first parent

@@ -3,7 +3,7 @@ use Rattle.std.proofs.Common.{◌≡◌, ℕ, zero, suc, ◌+◌, ◌-◌, ◌*�
 use Rattle.std.specs.List.{All}
 use Rattle.std.specs.Int.{bit_at}
 use Rattle.std.proofs.lemmas.Grind.{common_steps}
-use Rattle.std.proofs.lemmas.List.{take_more}
+use Rattle.std.proofs.lemmas.List.{take_all, take_more}
 use Rattle.std.proofs.lemmas.List.Elements.{All-append, All-nil, All-head, All-tail}
 use Rattle.vx_ledger.specs.declared.child.Child.{Child}
 use Rattle.vx_ledger.specs.declared.parcel.Parcel.{Parcel}
@@ -106,6 +106,11 @@ pub children_for_last : (targets others : List ℕ) (last first : ℕ) (parcel :
 children_for_last targets others last first parcel e =
     let count : length targets - 1 ≡ length others = rw (e, length-append others (last ∷ [])) (omega arith) in
     rw (count, e) (children_for_more others last first parcel)
+
+-- the last target of a list, behind the others
+pub last_behind : (targets : List ℕ) (last : ℕ) → last + 1 ≡ length targets → targets ≡ take last targets ++ get_or targets last 0 ∷ []
+last_behind targets last e =
+    sym (take_all (last + 1) targets (omega arith)) ∙ take_more targets last 0 (omega arith)
 
 -- one more target of a list
 pub children_for_step : (targets : List ℕ) (i first : ℕ) (parcel : Parcel) → i < length targets →

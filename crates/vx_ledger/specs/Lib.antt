@@ -1,3 +1,4 @@
 pub mod Copies
+pub mod KeptCopies
 pub mod Ledger
 pub mod Routing

@@ -2,7 +2,6 @@
 ghost use Rattle.std.specs.Prelude.{◌≡◌, ◌+◌, ◌^◌, ◌≤◌, IfOk};
 ghost use Rattle.vx_ledger.specs.Copies.{numbered, each_alone};
 
-use crate::children::unmake_all;
 use crate::finalizers::Finalizers;
 use std::alloc::Global;
 use vx_value::WantOfMemory;
@@ -18,13 +17,7 @@ pub(crate) fn each_numbered(
 {
     let mut lists = Vec::with_capacity(alloc, n as usize)?;
     for i in 0..n {
-        match Finalizers::alone(alloc, first, first + u64::from(i)) {
-            Ok(copy) => lists.push_reserved(copy),
-            Err(WantOfMemory) => {
-                unmake_all(lists);
-                return Err(WantOfMemory);
-            }
-        }
+        lists.push_reserved(Finalizers::alone(alloc, first, first + u64::from(i)));
     }
     Ok(lists)
 }

@@ -1,4 +1,4 @@
-ghost use Rattle.std.specs.Prelude.{◌≡◌, ℕ, ◌+◌, ◌-◌, ◌*◌, ◌^◌, ◌<◌, ◌≤◌, ◌↔◌, ◌==◌, [], ◌∷◌, ◌++◌, List, length, take, min, replicate, slice_get, slice_set, All, IfOk, IfErr, OnErr, OnOk, IsErr, IsTrue, vec_capacity};
+ghost use Rattle.std.specs.Prelude.{◌≡◌, ℕ, ◌+◌, ◌-◌, ◌*◌, ◌^◌, ◌<◌, ◌≤◌, ◌↔◌, ◌==◌, [], ◌∷◌, ◌++◌, List, length, take, min, replicate, slice_get, slice_set, All, IfOk, IfErr, IfSome, OnErr, OnOk, IsErr, IsTrue, vec_capacity};
 ghost use Rattle.std.specs.Int.{bit_at};
 ghost use Rattle.std.specs.Option.{option_copied};
 ghost use Rattle.vx_ledger.specs.Ledger.{AreLive, Exchanges, IsKept, IsShort, grown_rows};
@@ -131,12 +131,23 @@ impl Outlet {
         ensures room { IfOk result (λ r. length r.0.items < vec_capacity r.0) }
         ensures few { OnOk result (length (targets_of ports self.now) < 2 ^ 63) }
     {
-        let mut targets = self.targets(ports, count)?;
-        let Some(last) = targets.pop() else {
-            unreachable!();
-        };
-        let others = route::children(*self.ports.allocator(), targets.as_slice(), parcel, first)?;
-        Ok((others, last as u32))
+        let alloc = *self.ports.allocator();
+        if let Some(targets) = self.only_targets(ports) {
+            return route::others(alloc, targets.as_slice(), parcel, first);
+        }
+        let targets = self.targets(ports, count)?;
+        route::others(alloc, targets.as_slice(), parcel, first)
+    }
+
+    // The targets of the ports, where the outlet has a single port and that is one of them.
+    fn only_targets(&self, ports: u128) -> Option<&NumberList>
+        ensures targets { IfSome result (λ targets. targets.now ≡ targets_of ports self.now) }
+        ensures instances { IfSome result (λ targets. All (λ t. t < 2 ^ 32) targets.now) }
+    {
+        if self.ports.len() != 1 || !is_named(ports, 0) {
+            return None;
+        }
+        Some(&self.ports[0])
     }
 
     // How many targets the ports have, or 2^64 - 1 where they are more.

@@ -1,5 +1,5 @@
 // The children that a route makes.
-ghost use Rattle.std.specs.Prelude.{◌≡◌, ℕ, ◌+◌, ◌*◌, ◌^◌, ◌<◌, ◌≤◌, [], ◌∷◌, ◌++◌, List, length, All, IfOk, vec_capacity};
+ghost use Rattle.std.specs.Prelude.{◌≡◌, ℕ, ◌+◌, ◌-◌, ◌*◌, ◌^◌, ◌<◌, ◌≤◌, [], ◌∷◌, ◌++◌, List, length, All, IfOk, vec_capacity};
 ghost use Rattle.vx_ledger.specs.Routing.{child_of, children_for};
 
 use crate::child::{Child, ChildList};
@@ -60,6 +60,25 @@ pub(crate) fn children(
         number += parcel.finalizers.len();
     }
     Ok(children)
+}
+
+// The children for all targets but the last, with room for one child more, and the last target.
+pub(crate) fn others(
+    alloc: Global,
+    targets: &[u64],
+    parcel: &Parcel,
+    first: u64,
+) -> Result<(Vec<Child>, u32), WantOfMemory>
+    requires some { 0 < length targets.now }
+    requires instances { All (λ t. t < 2 ^ 32) targets.now }
+    requires fits { first + length targets.now * length parcel.now.finalizers ≤ 2 ^ 63 }
+    ensures children { IfOk result (λ r. children_for targets.now first parcel.now ≡ r.0.items ++ child_of r.1 (first + (length targets.now - 1) * length parcel.now.finalizers) parcel.now ∷ []) }
+    ensures room { IfOk result (λ r. length r.0.items < vec_capacity r.0) }
+    ensures few { length targets.now < 2 ^ 63 }
+{
+    let last = targets.len() - 1;
+    let others = children(alloc, &targets[..last], parcel, first)?;
+    Ok((others, targets[last] as u32))
 }
 
 // The children with the last one behind them. It takes no memory.

@@ -1,11 +1,12 @@
 -- A port is put behind those that there are.
-use Rattle.std.proofs.Common.{◌≡◌, ◌∙◌, ℕ, zero, suc, ◌+◌, ◌<◌, List, [], ◌∷◌, ◌++◌, length, get_or, Option, Some, refl, sym, ap, subst, arith}
+use Rattle.std.proofs.Common.{◌≡◌, ◌∙◌, ℕ, Bool, zero, suc, ◌+◌, ◌<◌, List, [], ◌∷◌, ◌++◌, length, get_or, Option, Some, refl, sym, ap, subst, arith}
 use Rattle.std.specs.Prelude.{slice_get}
 use Rattle.vx_plan.specs.declared.component.Component.{Component}
 use Rattle.vx_ends.specs.declared.port_spec.PortSpec.{PortSpec}
-use Rattle.vx_ends.specs.Told.{Told}
+use Rattle.vx_ends.specs.Told.{Told, IsFresh}
 use Rattle.vx_hub.specs.declared.parts.Named.{Named}
 use Rattle.vx_hub.specs.Making.{IsUntouched, AreUntouched}
+use Rattle.vx_tasks.specs.Telling.{HasCounted}
 
 untouched_more : {P : Type 0} (told_by : P → Told) (needs : Component → Option PortSpec) (components : List Component) (ports : List (Named P)) (component : Component) (named : Named P) → slice_get components (length ports) ≡ Some component →
     AreUntouched told_by needs components ports → IsUntouched (needs component) (told_by named.port) → AreUntouched told_by needs components (ports ++ named ∷ [])
@@ -36,3 +37,28 @@ longer (y ∷ ys) x = omega (arith, longer ys x)
 
 pub one_more : {X : Type 0} (xs more : List X) (x : X) → more ≡ xs ++ x ∷ [] → length more ≡ length xs + 1
 one_more xs more x is = ap length is ∙ longer xs x
+
+none_counted : (exact : Bool) (n : ℕ) → n ≡ 0 → HasCounted exact 0 n
+none_counted exact n is = record { least = omega (arith, is); exactly = λ on. is }
+
+-- a port that is fresh for that is untouched
+fresh_untouched : (spec : PortSpec) (told : Told) → IsFresh spec told → IsUntouched (Some spec) told
+fresh_untouched spec told fresh = record {
+  made_for = fresh.made_for;
+  taken = fresh.taken;
+  given = fresh.given;
+  confirmed = fresh.confirmed;
+  ended = fresh.ended;
+  closed = fresh.closed;
+  starts = none_counted told.exact told.starts fresh.starts;
+  faults = none_counted told.exact told.faults fresh.faults;
+  refusals = none_counted told.exact told.refusals fresh.refusals;
+  idles = none_counted told.exact told.idles fresh.idles;
+  finishes = none_counted told.exact told.finishes fresh.finishes;
+  confirms = none_counted told.exact told.confirms fresh.confirms;
+}
+
+-- so is one that is fresh for what is needed
+pub port_untouched : (needs found : Option PortSpec) (spec : PortSpec) (told : Told) → found ≡ needs → found ≡ Some spec → IsFresh spec told → IsUntouched needs told
+port_untouched needs found spec told is there fresh =
+    subst (λ (needed : Option PortSpec). IsUntouched needed told) (sym there ∙ is) (fresh_untouched spec told fresh)

@@ -1,5 +1,5 @@
 -- The lines that a source's turn completes, and their events.
-use Rattle.std.proofs.Common.{◌≡◌, ℕ, zero, suc, ◌+◌, ◌<◌, ◌≤◌, Bool, true, false, cond, List, [], ◌∷◌, ◌++◌, length, take, map, leb, eqb, arith, get_or, refl, sym, subst, ◌∙◌, ap}
+use Rattle.std.proofs.Common.{◌≡◌, ℕ, suc, ◌+◌, ◌≤◌, Bool, true, false, cond, List, [], ◌∷◌, ◌++◌, length, take, map, leb, eqb, arith, refl, sym, subst, ◌∙◌, ap}
 use Rattle.std.specs.Prelude.{◌==◌, if◌then◌else◌, Option, Some, None, is_some, IfSome, Result, Ok, Err, IfOk, flat_map}
 use Rattle.std.proofs.lemmas.Bool.Decides.{nat_tests}
 use Rattle.std.proofs.lemmas.List.{length-append, flat_map_more}
@@ -25,14 +25,6 @@ use Rattle.vx_sourcecore.specs.Turns.{cut_of}
 use Rattle.vx_sourcecore.specs.Sources.{events_of_cut, last_end, frame_of, IsOf, HasFed, HasFinished, HasBrought, BringsSome, new_lines as cut_lines, new_overlong as cut_overlong}
 use Rattle.vx_sourcecore.proofs.Dues.{map_more}
 
-one_more : (i : ℕ) → suc i ≡ i + 1
-one_more i = omega arith
-
-take_next : (lines : List Line) (i : ℕ) (line : Line) → i < length lines → line ≡ get_or lines i line → take (suc i) lines ≡ take i lines ++ line ∷ []
-take_next [] i line l is = absurd (omega arith)
-take_next (x ∷ lines) zero line l is = ap (λ (y : Line). y ∷ []) (sym is)
-take_next (x ∷ lines) (suc i) line l is = ap (λ (ls : List Line). x ∷ ls) (take_next lines i line (omega arith) is)
-
 end_last : (lines : List Line) (line : Line) → last_end (lines ++ line ∷ []) ≡ line.end
 end_last [] line = refl
 end_last (x ∷ []) line = refl
@@ -53,17 +45,16 @@ TellsLine old empty gives new =
     (d : Decoding) (given : List Frame) (frame : Frame) (over : ℕ) → IsToldOf d frame empty gives → AreTold d given over old → AreTold d (given ++ frame ∷ []) over new
 
 -- one line more gives its event more, if it gives one, and its end, and counts once
-pub line_step : (d : Decoding) (source_type : Word) (file : Option Word) (lines : List Line) (i : ℕ) (line : Line) (event : Option Event) (empty gives : Bool) (old new : Cut) → i < length lines → line ≡ get_or lines i line →
+pub line_step : (d : Decoding) (source_type : Word) (file : Option Word) (lines : List Line) (line : Line) (event : Option Event) (empty gives : Bool) (old new : Cut) →
     event_fields event ≡ line_fields d source_type file line.bytes → empty ≡ is_empty line.bytes → gives ≡ is_some event → TellsLine old.new empty gives new.new →
-    new.events ≡ old.events ++ event_with (event_fields event) → new.end ≡ line.end → IsOf d source_type file (take i lines) 0 old → IsOf d source_type file (take (i + 1) lines) 0 new
-line_step d source_type file lines i line event empty gives old new l is made bare some tells pushed ends so =
+    new.events ≡ old.events ++ event_with (event_fields event) → new.end ≡ line.end → IsOf d source_type file lines 0 old → IsOf d source_type file (lines ++ line ∷ []) 0 new
+line_step d source_type file lines line event empty gives old new made bare some tells pushed ends so =
     let f : Line → List Event = events_of_cut d source_type file in
-    let more : take (i + 1) lines ≡ take i lines ++ line ∷ [] = ap (λ k. take k lines) (sym (one_more i)) ∙ take_next lines i line l is in
     record {
-      each = pushed ∙ ap (λ (o : Option (List NamedDatum)). old.events ++ event_with o) made ∙ ap (λ (es : List Event). es ++ f line) so.each ∙ flat_map_more f [] (take i lines) line ∙ ap (flat_map f) (sym more);
-      last = ends ∙ sym (ap last_end more ∙ end_last (take i lines) line);
-      new = subst (λ (fs : List Frame). AreTold d fs 0 new.new) (sym (ap (map frame_of) more ∙ map_more frame_of (take i lines) line))
-          (tells d (map frame_of (take i lines)) (frame_of line) 0 (record { empty_is = bare; gives_is = (source_type, (file, some ∙ some_fields event ∙ ap (λ (o : Option (List NamedDatum)). is_some o) made)) }) so.new);
+      each = pushed ∙ ap (λ (o : Option (List NamedDatum)). old.events ++ event_with o) made ∙ ap (λ (es : List Event). es ++ f line) so.each ∙ flat_map_more f [] lines line;
+      last = ends ∙ sym (end_last lines line);
+      new = subst (λ (fs : List Frame). AreTold d fs 0 new.new) (sym (map_more frame_of lines line))
+          (tells d (map frame_of lines) (frame_of line) 0 (record { empty_is = bare; gives_is = (source_type, (file, some ∙ some_fields event ∙ ap (λ (o : Option (List NamedDatum)). is_some o) made)) }) so.new);
     }
 
 kept_few : (limit : ℕ) (f : Frame) (fs : List Frame) (n : ℕ) → length fs ≤ n → length (kept limit f fs) ≤ n + 1

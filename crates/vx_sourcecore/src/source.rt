@@ -8,7 +8,7 @@ use std::alloc::Global;
 use std::snapshot::Snapshot;
 use vx_ends::{Port, Took, Trouble};
 use vx_frame::{Framer, LineList};
-use vx_json::{Decoding, line_event};
+use vx_json::{Decoding, line_into_event};
 use vx_ledger::{SharedEvent, SharedEventList};
 use vx_value::{Event, Text, WantOfMemory};
 
@@ -185,7 +185,7 @@ impl SourceCore {
     {
         let (lines, overlong) = framed?;
         self.last = Some(stream);
-        self.lines(&lines, overlong).ok()
+        self.lines(lines, overlong).ok()
     }
 
     /// The stream of which bytes were last taken, which is 0 where none were, and the unfinished line with which it ends, if there is
@@ -216,23 +216,29 @@ impl SourceCore {
         if finished.is_err() {
             return None;
         }
-        self.lines(&lines, overlong).ok()
+        self.lines(lines, overlong).ok()
     }
 
     /// What some lines give, beside so many that were too long.
-    fn lines(&self, lines: &LineList, overlong: u64) -> Result<Cut, WantOfMemory>
-        ensures { IfOk result (λ cut. (over : ℕ) → overlong ≡ capped over → IsOf self.now.decoding self.now.source_type self.now.file lines.now over cut) }
+    fn lines(&self, lines: LineList, overlong: u64) -> Result<Cut, WantOfMemory>
+        ensures { IfOk result (λ cut. (over : ℕ) → overlong ≡ capped over → IsOf self.now.decoding self.now.source_type self.now.file lines over cut) }
     {
         let mut cut = Cut {
             events: SharedEventList::new(self.alloc),
             end: 0,
             new: NewLines::none(),
         };
-        for line in lines.as_slice() {
-            let bytes = line.bytes.as_slice();
+        for line in lines.into_vec() {
+            let bare = line.bytes.as_slice().is_empty();
             let file = self.file.as_ref();
-            let event = line_event(self.alloc, self.decoding, bytes, &self.source_type, file)?;
-            cut.new.line(bytes.is_empty(), event.is_some());
+            let event = line_into_event(
+                self.alloc,
+                self.decoding,
+                line.bytes,
+                &self.source_type,
+                file,
+            )?;
+            cut.new.line(bare, event.is_some());
             push(self.alloc, &mut cut.events, event)?;
             cut.end = line.end;
         }

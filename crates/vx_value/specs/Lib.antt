@@ -1,4 +1,5 @@
 pub mod Texts
+pub mod KeptTexts
 pub mod Datum
 pub mod DatumCode
 pub mod Values

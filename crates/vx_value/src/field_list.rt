@@ -256,24 +256,31 @@ impl FieldList {
         }
     }
 
-    // Puts a value under a name. For want of memory the fields are as before.
+    /// Puts a value under a name, in place of one that stands there. For want of memory the fields are as before.
+    pub fn put_under(&mut self, name: Text, value: Value) -> Result<(), WantOfMemory>
+        ensures ok { OnOk result (self.new ≡ with_field self.old name (datum_of value)) }
+        ensures err { OnErr result (self.new ≡ self.old) }
+    {
+        let gap = match self.place(name.as_str()) {
+            Ok(i) => {
+                self.fields[i].value = value;
+                return Ok(());
+            }
+            Err(i) => i,
+        };
+        match self.insert(gap, Field { name, value }) {
+            Ok(()) => Ok(()),
+            Err(_) => Err(WantOfMemory),
+        }
+    }
+
+    // Puts a value under a copy of a name. For want of memory the fields are as before.
     fn set(&mut self, name: &Text, value: Value) -> Result<(), WantOfMemory>
         ensures ok { OnOk result (self.new ≡ with_field self.old name.now (datum_of value)) }
         ensures err { OnErr result (self.new ≡ self.old) }
     {
-        match self.place(name.as_str()) {
-            Ok(i) => {
-                self.fields[i].value = value;
-                Ok(())
-            }
-            Err(i) => {
-                let name = name.copy(*self.fields.allocator())?;
-                match self.insert(i, Field { name, value }) {
-                    Ok(()) => Ok(()),
-                    Err(_) => Err(WantOfMemory),
-                }
-            }
-        }
+        let name = name.copy(*self.fields.allocator())?;
+        self.put_under(name, value)
     }
 
     // Puts a value at a path, and makes the fields that are missing on the way.

@@ -12,6 +12,7 @@ mod path_mode;
 mod path_reader;
 mod put_fault;
 mod queue;
+mod short_text;
 mod text;
 mod value;
 mod value_list;

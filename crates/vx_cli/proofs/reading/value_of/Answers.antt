@@ -6,4 +6,4 @@ use Rattle.vx_cli.proofs.reading.value_of.Goals as goal
 pub returns-clause-value : goal.returns-clause-value
 returns-clause-value c =
     sym (first_value-rows (found_of c.args.matches.now) c.args.name.now)
-    ∙ sym c.in-Some.ensures ∙ ap Some (sym c.in_ok-copy_of-in-Some.ensures)
+    ∙ sym c.in-Some.ensures ∙ ap Some (sym c.in_ok-copy_of-in-Some.ensures.copy)

@@ -3,10 +3,10 @@ use Rattle.vx_seats.proofs.Staying.{read_seat, other_seat, size_set}
 use Rattle.vx_hub.proofs.Begun.{popped, seated_more}
 use Rattle.vx_hub.proofs.making.seat_all.Goals as goal
 
-pub loop-port-preserved : goal.loop-port-preserved
-loop-port-preserved g c =
-    let v = c.loop-port.invariant in
-    let seats = c.loop-port.seats.items in
+pub loop-named-preserved : goal.loop-named-preserved
+loop-named-preserved g c =
+    let v = c.loop-named.invariant in
+    let seats = c.loop-named.seats.items in
     let i = c.len-i.result in
     let port = popped c.pop.new.self.items c.args.ports.items c.in-Some.ensures.items v.ports in
     let role = popped c.pop-in-Some.new.self.items c.args.roles.items c.in-Some-pop.ensures.items v.roles in
@@ -24,7 +24,7 @@ loop-port-preserved g c =
       ports = port.0;
       roles = role.0;
       seats = λ j l. other_seat seats i j _ (λ e. omega (arith, e, here, l)) ∙ v.seats j (omega (arith, l, fewer));
-      seated = rw (← here) (seated_more c.args.seats.items c.args.roles.items c.args.ports.items seats
-          i {role = c.in-Some-pop.role} {named = c.in-Some.field-0} within there (rw (here, ← both) role.1) (rw here port.1)
+      seated = rw (c.give_task.ensures, c.unnamed-port.ensures, ← here) (seated_more c.args.seats.items c.args.roles.items c.args.ports.items seats
+          i {role = c.in-Some-pop.role} {named = c.in-Some.named} within there (rw (here, ← both) role.1) (rw here port.1)
           (rw (here, ← fewer) v.seated));
     }

@@ -3,8 +3,8 @@ use Rattle.vx_hub.specs.Beginning.{AreSeatedFrom}
 use Rattle.vx_hub.proofs.Begun.{SameBelow}
 use Rattle.vx_hub.proofs.making.seat_all.Given as goal
 
-abbrev pub invariant-loop-port : goal.invariant-loop-port
-invariant-loop-port g l = record {
+abbrev pub invariant-loop-named : goal.invariant-loop-named
+invariant-loop-named g l = record {
   roles_size : length l.roles.items ≡ length l.ports.items;
   size : length l.seats.items ≡ length l.fn.seats.items;
   within : length l.ports.items ≤ length l.fn.seats.items;
@@ -14,5 +14,5 @@ invariant-loop-port g l = record {
   seated : AreSeatedFrom (length l.ports.items) l.fn.seats.items l.fn.roles.items l.fn.ports.items l.seats.items;
 }
 
-abbrev pub decreases-loop-port : goal.decreases-loop-port
-decreases-loop-port g l = length l.ports.items
+abbrev pub decreases-loop-named : goal.decreases-loop-named
+decreases-loop-named g l = length l.ports.items

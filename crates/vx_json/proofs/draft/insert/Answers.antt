@@ -1,4 +1,4 @@
-use Rattle.std.proofs.Common.{◌≡◌, ◌∙◌, sym, ap}
+use Rattle.std.proofs.Common.{◌∙◌, ap}
 use Rattle.vx_value.specs.Events.{with_field}
 use Rattle.vx_value.specs.Values.{datum_of}
 use Rattle.vx_json.specs.Drafts.{tree_fields}
@@ -8,5 +8,5 @@ use Rattle.vx_json.proofs.draft.insert.Goals as goal
 pub returns-in-Ok : goal.returns-in-Ok
 returns-in-Ok c =
     ap tree_fields c.in-Ok.ensures.entries
-    ∙ tree-insert c.args.tree.now.entries c.into_string.result c.args.value
-    ∙ ap (λ n. with_field (tree_fields c.args.tree.now.entries) n (datum_of c.args.value)) c.into_string.ensures
+    ∙ tree-insert c.args.tree.now.entries c.in_ok-name.name c.args.value
+    ∙ ap (λ n. with_field (tree_fields c.args.tree.now.entries) n (datum_of c.args.value)) c.in_ok-name.ensures

@@ -60,7 +60,7 @@ returns-clause-replaced c =
     let environment = c.args.environment.now in
     let none = rw c.in_default.is at (split_parts 36 rest c.split_once.result c.split_once.ensures.cases (lit< tt)) in
     let end = text_end environment (place c.args.text.now rest) rest none in
-    cc (end, c.loop-before.invariant.text, c.in_ok-copy_of.ensures, c.as_str.ensures.value, c.in_ok-push-2.ensures.ok)
+    cc (end, c.loop-before.invariant.text, c.in_ok-copy_of.ensures.copy, c.as_str.ensures.value, c.in_ok-push-2.ensures.ok)
 
 pub returns-clause-whole : goal.returns-clause-whole
 returns-clause-whole c =

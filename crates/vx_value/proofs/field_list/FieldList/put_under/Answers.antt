@@ -2,7 +2,7 @@ use Rattle.std.proofs.Common.{◌∙◌, ap}
 use Rattle.vx_value.specs.Events.{with_field}
 use Rattle.vx_value.specs.Values.{datum_of}
 use Rattle.vx_value.proofs.Writes.{replaced, replaced-rise}
-use Rattle.vx_value.proofs.field_list.FieldList.set.Goals as goal
+use Rattle.vx_value.proofs.field_list.FieldList.put_under.Goals as goal
 
 pub invariant_of-self : goal.invariant_of-self
 invariant_of-self c =
