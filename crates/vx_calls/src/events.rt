@@ -25,3 +25,12 @@ pub(crate) fn put(alloc: Global, event: &mut Event, path: &str, value: Value) ->
     event.put(&path, value)?;
     Ok(())
 }
+
+/// An event with whole numbers at some paths.
+pub(crate) fn event_of_wholes(alloc: Global, wholes: &[(&str, i64)]) -> Result<Event, Fail> {
+    let mut event = Event::new(alloc);
+    for (path, whole) in wholes {
+        put(alloc, &mut event, *path, Value::Whole(*whole))?;
+    }
+    Ok(event)
+}

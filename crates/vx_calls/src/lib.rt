@@ -8,11 +8,15 @@ mod comparing;
 #[cfg(test)]
 mod conditions;
 #[cfg(test)]
+mod counts;
+#[cfg(test)]
 mod events;
 #[cfg(test)]
 mod frames;
 #[cfg(test)]
 mod graphs;
+#[cfg(test)]
+mod groups;
 #[cfg(test)]
 mod json_events;
 #[cfg(test)]
@@ -20,11 +24,19 @@ mod ledgers;
 #[cfg(test)]
 mod lists;
 #[cfg(test)]
+mod os_ends;
+#[cfg(test)]
+mod parcels;
+#[cfg(test)]
+mod pickers;
+#[cfg(test)]
 mod plans;
 #[cfg(test)]
 mod prefixes;
 #[cfg(test)]
 mod probes;
+#[cfg(test)]
+mod schedules;
 #[cfg(test)]
 mod sources;
 #[cfg(test)]

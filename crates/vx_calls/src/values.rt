@@ -1,5 +1,5 @@
 use crate::comparing::spaced;
-use crate::events::{has_put_answer, put};
+use crate::events::{event_of_wholes, has_put_answer};
 use crate::lists::{add, one};
 use std::alloc::Global;
 use std::process::Abort;
@@ -15,15 +15,6 @@ fn is_whole(value: Option<&Value>, whole: i64) -> bool {
         Some(Value::Whole(found)) => *found == whole,
         _ => false,
     }
-}
-
-// An event with whole numbers at some paths.
-fn event_of_wholes(alloc: Global, wholes: &[(&str, i64)]) -> Result<Event, Fail> {
-    let mut event = Event::new(alloc);
-    for (path, whole) in wholes {
-        put(alloc, &mut event, *path, Value::Whole(*whole))?;
-    }
-    Ok(event)
 }
 
 // Checks that an event has a whole number at a path.

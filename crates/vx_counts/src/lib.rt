@@ -3,8 +3,6 @@
 
 mod counts;
 mod laws;
-#[cfg(test)]
-mod tests;
 
 pub use counts::Counts;
 pub use laws::{all, confirms, discards, firsts, others, owners, places, roles};

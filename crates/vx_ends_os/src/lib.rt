@@ -25,6 +25,3 @@ pub use os_clock::OsClock;
 pub use os_port::OsPort;
 pub use os_printer::OsPrinter;
 pub use os_world::OsWorld;
-
-#[cfg(test)]
-mod tests;

@@ -10,8 +10,6 @@ mod picker;
 mod route;
 mod sample;
 mod seen_keys;
-#[cfg(test)]
-mod tests;
 
 pub use dedupe::Dedupe;
 pub use filter::Filter;

@@ -14,8 +14,6 @@ mod plan;
 mod reduce;
 mod reduce_settings;
 mod refused;
-#[cfg(test)]
-mod tests;
 
 pub use reduce::Reduce;
 pub use reduce_settings::ReduceSettings;

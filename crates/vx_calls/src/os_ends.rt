@@ -1,8 +1,7 @@
 //! The ends on this system: its files, in the folder in which a test runs, its clock and its streams.
 
-ghost use Rattle.std.specs.Prelude.{◌<◌, length};
-
-use crate::{HeldStreams, OsClock, OsPort, OsPrinter, OsWorld};
+use crate::comparing::{joined, same};
+use crate::lists::one;
 use std::alloc::Global;
 use std::fs::OpenOptions;
 use std::io::Write;
@@ -10,7 +9,8 @@ use std::process::Abort;
 use std::rt::Files;
 use std::test::Fail;
 use std::{fs, io};
-use vx_ends::{Clock, Form, Port, PortSpec, Position, PositionList, Printer, Took, Trouble, World};
+use vx_ends::{Clock, Form, Port, PortSpec, Position, Printer, Took, Trouble, World};
+use vx_ends_os::{HeldStreams, OsClock, OsPort, OsPrinter, OsWorld};
 use vx_value::{Text, WantOfMemory};
 
 /// What is done with a port and the files around it, and what has to come of it.
@@ -75,11 +75,9 @@ fn words_of(alloc: Global, took: Took, into: &[u8]) -> Result<String, Fail> {
             let bytes = into.get(..n as usize).unwrap_or(b"?");
             Ok(String::from_utf8_lossy(alloc, bytes)?)
         }
-        Took::Bytes { .. } | Took::StreamEnded { .. } => {
-            Ok(String::from_str(alloc, "another stream")?)
-        }
-        Took::AllEnded => Ok(String::from_str(alloc, "all ended")?),
-        Took::Idle => Ok(String::from_str(alloc, "idle")?),
+        Took::Bytes { .. } | Took::StreamEnded { .. } => { joined(alloc, &["another stream"]) }
+        Took::AllEnded => joined(alloc, &["all ended"]),
+        Took::Idle => joined(alloc, &["idle"]),
     }
 }
 
@@ -95,11 +93,8 @@ fn takes<P: Port>(rt: &(impl Abort + AllocGlobal), port: &mut P, want: &str) -> 
 
 /// What a port answers to a confirm of an end of the one stream.
 fn confirm<P: Port>(alloc: Global, port: &mut P, end: u64) -> Result<Result<(), Trouble>, Fail> {
-    let mut positions = PositionList::new(alloc);
-    match positions.push(Position { stream: 0, end }) {
-        Ok(()) => Ok(port.confirm(&positions)),
-        Err(_) => Err(Fail::new("no memory")),
-    }
+    let positions = one(alloc, Position { stream: 0, end })?;
+    Ok(port.confirm(&positions))
 }
 
 /// Gives a text whole.
@@ -128,7 +123,7 @@ fn put(rt: &impl Files, path: &str, text: &str) -> io::Result<()> {
 /// Checks what stands in a file.
 fn has(rt: &(impl Abort + Files + Alloc), path: &str, want: &str) -> Result<(), Fail> {
     let text = fs::read_to_string(rt, path)?;
-    assert_eq!(rt; text.as_str(), want, "at {path}");
+    same(rt, text.as_str(), want, path);
     Ok(())
 }
 

@@ -1,7 +1,7 @@
 use Rattle.std.proofs.Common.{arith, ◌≡◌, ◌+◌, [], ◌∷◌}
 use Rattle.vx_ledger.specs.Copies.{copies_of}
 use Rattle.vx_ledger.proofs.CopyLaws.{copies_of-append}
-use Rattle.vx_pick.proofs.tests.no_copies.Goals as goal
+use Rattle.vx_calls.proofs.parcels.no_copies.Goals as goal
 
 pub spend-requires : goal.spend-requires
 spend-requires g c = λ b p.

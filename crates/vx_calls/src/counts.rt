@@ -1,6 +1,6 @@
-//! Each call made once.
+//! What an instance counts, by each of its calls.
 
-use crate::Counts;
+use vx_counts::Counts;
 use vx_ends::Position;
 use vx_record::Tally;
 use vx_sourcecore::NewLines;

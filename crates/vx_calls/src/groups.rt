@@ -1,13 +1,13 @@
 //! Groups that end, expire and are flushed.
-ghost use Rattle.std.specs.Prelude.{◌≡◌, [], IfOk};
 
-use crate::{Reduce, ReduceSettings};
+use crate::events::{event_of_wholes, put};
+use crate::lists::one;
+use crate::parcels::{bare, close, end};
 use std::alloc::Global;
 use std::process::Abort;
 use std::test::Fail;
-use vx_condition::{Condition, How, PathList, Strategy, StrategyList, parse};
-use vx_ledger::{Batches, Finalizers, Parcel, SharedEvent};
-use vx_status::Outcome;
+use vx_condition::{Condition, How, Strategy, StrategyList, parse};
+use vx_reduce::{Reduce, ReduceSettings};
 use vx_transform::{Output, Shelf, Transform};
 use vx_value::{Event, ItemList, Path, Text, Value, WantOfMemory};
 
@@ -26,11 +26,9 @@ fn reduce(
     ends_when: Option<&str>,
     strategies: StrategyList,
 ) -> Result<Reduce, Fail> {
-    let mut paths: Vec<Path> = Vec::new(alloc);
-    paths.push(Path::read(alloc, ".id")?)?;
-    let group_by: PathList = ItemList::from_vec(paths);
+    let path = Path::read(alloc, ".id")?;
     Ok(Reduce::new(ReduceSettings {
-        group_by,
+        group_by: one(alloc, path)?,
         starts_when: condition(alloc, starts_when)?,
         ends_when: condition(alloc, ends_when)?,
         expire_after_ms: 10,
@@ -44,18 +42,9 @@ fn summing(alloc: Global) -> Result<Reduce, Fail> {
     reduce(alloc, None, Some("exists(.last)"), ItemList::new(alloc))
 }
 
-// Puts a value under a name.
-fn put(alloc: Global, event: &mut Event, name: &str, value: Value) -> Result<(), Fail> {
-    let path = Path::read(alloc, name)?;
-    event.put(&path, value)?;
-    Ok(())
-}
-
 // An event with an identity, a number and a text.
 fn event(alloc: Global, id: i64, n: i64, t: &str) -> Result<Event, Fail> {
-    let mut event = Event::new(alloc);
-    put(alloc, &mut event, ".id", Value::Whole(id))?;
-    put(alloc, &mut event, ".n", Value::Whole(n))?;
+    let mut event = event_of_wholes(alloc, &[(".id", id), (".n", n)])?;
     let words = Text::copy_of(alloc, t)?;
     put(alloc, &mut event, ".t", Value::Words(words))?;
     Ok(event)
@@ -68,20 +57,6 @@ fn last(alloc: Global, id: i64, n: i64, t: &str) -> Result<Event, Fail> {
     Ok(event)
 }
 
-// A list without copies, which no ledger has to take back.
-fn no_copies(rt: &impl Abort, alloc: Global) -> Result<Finalizers, Fail>
-    ensures { IfOk result (λ copies. copies ≡ []) }
-{
-    let mut batches = Batches::new(alloc)?;
-    let (_, mut copies) = batches.born(0, 1)?;
-    let Some(copy) = copies.pop() else {
-        panic!(rt; "no copy");
-    };
-    batches.spend(copy, Outcome::Delivered);
-    assert!(rt; copies.is_empty());
-    Ok(copies)
-}
-
 // Gives an event without copies.
 fn give(
     rt: &impl Abort,
@@ -91,14 +66,11 @@ fn give(
     now: u64,
     shelf: &mut Shelf,
 ) {
-    let Ok(event) = SharedEvent::new(alloc, event) else {
-        panic!(rt; "no memory");
-    };
-    let finalizers = match no_copies(rt, alloc) {
-        Ok(finalizers) => finalizers,
+    let parcel = match bare(rt, alloc, event) {
+        Ok(parcel) => parcel,
         Err(_fail) => panic!(rt; "no memory"),
     };
-    match reduce.apply(alloc, Parcel { event, finalizers }, now, shelf) {
+    match reduce.apply(alloc, parcel, now, shelf) {
         Ok(()) => {}
         Err(_) => panic!(rt; "no memory"),
     }
@@ -110,30 +82,20 @@ fn comes(rt: &impl Abort, shelf: &mut Shelf, want: Event) {
         panic!(rt; "no output");
     };
     let Output { ports, parcel } = output;
-    let Parcel { event, finalizers } = parcel;
-    assert!(rt; finalizers.is_empty());
-    finalizers.end();
     assert_eq!(rt; ports, 1);
-    assert!(rt; event.get().is_same(&want));
+    assert!(rt; end(rt, parcel).get().is_same(&want));
 }
 
-// Ends a shelf on which nothing stands any more, and what holds nothing any more.
-fn close(rt: &impl Abort, alloc: Global, reduce: Reduce, shelf: Shelf) {
-    let mut shelf = shelf;
-    let mut reduce = reduce;
+// Ends what holds nothing any more, and a shelf on which nothing stands any more.
+fn end_both(rt: &impl Abort, alloc: Global, reduce: Reduce, shelf: Shelf) {
+    let (mut reduce, mut shelf) = (reduce, shelf);
     if let Err(WantOfMemory) = reduce.flush(alloc, &mut shelf) {
         panic!(rt; "no memory");
     }
     if let Some(_copy) = reduce.surrender() {
         panic!(rt; "a copy");
     }
-    if let Some(_output) = shelf.take_output() {
-        panic!(rt; "an output more");
-    }
-    if let Some(_parcel) = shelf.take_dropped() {
-        panic!(rt; "a parcel more");
-    }
-    shelf.end();
+    close(rt, shelf);
     reduce.end();
 }
 
@@ -157,19 +119,17 @@ fn a_group_ends(rt: HostRuntime) -> Result<(), Fail> {
     assert!(&rt; reduce.tick(alloc, 14, &mut shelf).is_ok());
     comes(&rt, &mut shelf, alone);
     assert_eq!(&rt; reduce.due(), None);
-    close(&rt, alloc, reduce, shelf);
+    end_both(&rt, alloc, reduce, shelf);
     Ok(())
 }
 
 // A reduce that joins texts, and whose groups begin with a field `last`.
 fn joining(alloc: Global) -> Result<Reduce, Fail> {
-    let mut strategies: Vec<Strategy> = Vec::new(alloc);
-    strategies.push(Strategy {
+    let strategy = Strategy {
         field: Text::copy_of(alloc, "t")?,
         how: How::Concat,
-    })?;
-    let strategies = ItemList::from_vec(strategies);
-    reduce(alloc, Some("exists(.last)"), None, strategies)
+    };
+    reduce(alloc, Some("exists(.last)"), None, one(alloc, strategy)?)
 }
 
 #[test]
@@ -192,6 +152,6 @@ fn groups_are_flushed_in_order(rt: HostRuntime) -> Result<(), Fail> {
     assert!(&rt; reduce.flush(alloc, &mut shelf).is_ok());
     comes(&rt, &mut shelf, alone);
     comes(&rt, &mut shelf, newer);
-    close(&rt, alloc, reduce, shelf);
+    end_both(&rt, alloc, reduce, shelf);
     Ok(())
 }
