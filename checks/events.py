@@ -40,7 +40,7 @@ def spelled(value):
         return str(value)
     if isinstance(value, dict):
         return "{" + ",".join(f"{spelled(name)}:{spelled(value[name])}" for name in sorted(value, key=str.encode)) + "}"
-    if isinstance(value, list):
+    if isinstance(value, (list, tuple)):
         return "[" + ",".join(map(spelled, value)) + "]"
     return json.dumps(value, ensure_ascii=False)
 

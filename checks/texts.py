@@ -4,11 +4,13 @@
 It prints a line for each check, and ends with 'N passed, M failed'. The status is 1 where one failed.
 """
 
+import shutil
+import subprocess
 import sys
 import tempfile
 from pathlib import Path
 
-from running import FIRST, USAGE, check, go_through, run
+from running import FIRST, PROGRAM, USAGE, check, go_through, run
 
 SOURCE = '[sources.in]\ntype = "stdin"\n'
 SINK = '[sinks.out]\ntype = "console"\ninputs = ["in"]\nencoding.codec = "text"\n'
@@ -583,5 +585,38 @@ def as_many_as_may_be():
             judged(folder, SOURCE + SINK.replace('["in"]', "[" + '"in", ' * count + "]"), why)
 
 
+# Programs in the place of `rt`: one that builds, and one that doesn't.
+BUILDS = "#!/bin/sh\nprintf '#!/bin/sh\\necho \"$@\"\\nexit 64\\n' >out/vector\nchmod +x out/vector\necho noise\n"
+FAILS = "#!/bin/sh\necho why\nexit 1\n"
+
+
+def called(folder, *words):
+    """The status, the output and the errors of the script in a folder, with `rt` in its folder bin alone."""
+    ran = subprocess.run([f"{folder}/vector", *words], stdin=subprocess.DEVNULL, capture_output=True, env={"PATH": f"{folder}/bin:/usr/bin:/bin"})
+    return ran.returncode, ran.stdout.decode(), ran.stderr.decode().replace(folder, "..")
+
+
+def script():
+    """The script that builds the program where it isn't built: what it says of that, once, and where it can't."""
+    building = "vector: building, more than an hour, once\n"
+    with tempfile.TemporaryDirectory() as folder:
+        top = Path(folder)
+        for name in ["bin", "crates/vector/src"]:
+            (top / name).mkdir(parents=True)
+        shutil.copy(PROGRAM, folder)
+        (top / "crates.txt").touch()
+        seen = called(folder, "a")
+        check("a script without rt", seen == (127, "", "vector: it has to be built, and there is no rt on the path\n"), seen)
+        (top / "bin/rt").touch(0o755)
+        (top / "crates/vector/out").touch()
+        seen = called(folder, "a")
+        check("a script that can't write", seen == (126, "", "vector: cannot write in ../crates/vector/out\n"), seen)
+        (top / "crates/vector/out").unlink()
+        for text, wanted in [(FAILS, (1, "", f"{building}why\nvector: it could not be built\n")), (BUILDS, (64, "a b\n", building)), (FAILS, (64, "a b\n", ""))]:
+            (top / "bin/rt").write_text(text)
+            seen = called(folder, "a", "b")
+            check(f"a script that builds: {wanted}", seen == wanted, seen)
+
+
 if __name__ == "__main__":
-    sys.exit(go_through([words, files, configurations, faults_of_one_line, forms_of_one_option, as_many_as_may_be]))
+    sys.exit(go_through([words, files, script, configurations, faults_of_one_line, forms_of_one_option, as_many_as_may_be]))
