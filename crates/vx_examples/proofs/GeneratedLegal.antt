@@ -11,8 +11,8 @@ use Rattle.vx_record.specs.Legal.{IsLegal, IsClosed}
 use Rattle.vx_record.specs.Batches.{batches}
 use Rattle.vx_record.specs.Parcels.{port_list}
 use Rattle.std.specs.Prelude.{Some}
-use Rattle.vx_json.specs.DemoLines.{word_at, demo_line}
-use Rattle.vx_json.specs.declared.demo_settings.DemoSettings.{DemoSettings}
+use Rattle.vx_demo.specs.DemoLines.{word_at, demo_line}
+use Rattle.vx_demo.specs.declared.demo_settings.DemoSettings.{DemoSettings}
 use Rattle.vx_record.specs.Records.{Record}
 use Rattle.vx_record.specs.declared.taken.Taken.{Taken}
 use Rattle.vx_record.specs.Generating.{generator_of, lines_from, IsNextOf, IsGenerated}

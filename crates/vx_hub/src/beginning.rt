@@ -13,7 +13,8 @@ ghost use Rattle.vx_hub.specs.Beginning.{IsBegun, IsSourceFor, IsRoleBut, IsWork
 use std::alloc::Global;
 use vx_counts::Counts;
 use vx_ends::Port;
-use vx_json::{Decoding, DemoSettings};
+use vx_demo::DemoSettings;
+use vx_json::Decoding;
 use vx_ledger::Outlet;
 use vx_plan::{Class, Component, Plan, Settings, StageList};
 use vx_seats::{Batching, Facts, Progress, Seat};

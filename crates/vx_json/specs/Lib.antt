@@ -16,7 +16,6 @@ pub mod Writable
 pub mod Objects
 pub mod LineEvents
 pub mod LineLaws
-pub mod DemoLines
 pub mod Runs
 pub mod Openings
 pub mod Spots

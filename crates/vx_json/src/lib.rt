@@ -3,7 +3,6 @@
 
 mod codec;
 mod decoding;
-mod demo_settings;
 mod draft;
 mod encode;
 mod frame;
@@ -29,7 +28,6 @@ mod writer;
 
 pub use codec::Codec;
 pub use decoding::Decoding;
-pub use demo_settings::DemoSettings;
 pub use encode::encode_event;
 pub use json_fault::JsonFault;
 pub use laws::{line_events, one_object};

@@ -4,7 +4,7 @@ use Rattle.vx_value.specs.Texts.{Word}
 use Rattle.vx_json.specs.declared.codec.Codec.{Codec}
 use Rattle.vx_json.specs.declared.decoding.Decoding.{Decoding}
 use Rattle.vx_json.specs.declared.decoding.Decoding.TheVariants.{Bytes}
-use Rattle.vx_json.specs.declared.demo_settings.DemoSettings.{DemoSettings}
+use Rattle.vx_demo.specs.declared.demo_settings.DemoSettings.{DemoSettings}
 use Rattle.vx_plan.specs.declared.route.Route.{Route as Way}
 use Rattle.vx_plan.specs.declared.settings.Settings.{Settings}
 use Rattle.vx_plan.specs.declared.settings.Settings.TheVariants.{Stdin, FileIn, DemoLogs, Filter, Route, Sample, Dedupe, Reduce, Host, Console, FileOut, Blackhole}

@@ -3,7 +3,7 @@ ghost use Rattle.std.specs.Prelude.{◌≡◌, IfOk};
 use crate::route::{Route, RouteList};
 use std::alloc::Global;
 use vx_condition::{DedupeFields, PathList, Strategy, StrategyList};
-use vx_json::DemoSettings;
+use vx_demo::DemoSettings;
 use vx_value::{Text, WantOfMemory};
 
 /// What generated input is made of, once more.

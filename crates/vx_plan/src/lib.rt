@@ -35,5 +35,6 @@ pub use settings::Settings;
 pub use sink_settings::SinkSettings;
 pub use stage::{Stage, StageList};
 pub use vx_condition::{DedupeFields, How, PathList, Strategy, StrategyList};
-pub use vx_json::{Codec, Decoding, DemoSettings};
+pub use vx_demo::DemoSettings;
+pub use vx_json::{Codec, Decoding};
 pub use when_full::WhenFull;

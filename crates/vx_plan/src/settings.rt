@@ -17,7 +17,8 @@ use crate::sink_settings::SinkSettings;
 use std::alloc::Global;
 use vx_condition::{DedupeFields, PathList, StrategyList};
 use vx_ends::Form;
-use vx_json::{Codec, Decoding, DemoSettings};
+use vx_demo::DemoSettings;
+use vx_json::{Codec, Decoding};
 use vx_value::{Text, WantOfMemory};
 
 /// The options of a component, one variant for each type.

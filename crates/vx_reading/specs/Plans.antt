@@ -9,7 +9,7 @@ use Rattle.vx_json.specs.declared.codec.Codec.{Codec}
 use Rattle.vx_json.specs.declared.codec.Codec.TheVariants as codec
 use Rattle.vx_json.specs.declared.decoding.Decoding.{Decoding}
 use Rattle.vx_json.specs.declared.decoding.Decoding.TheVariants as decoding
-use Rattle.vx_json.specs.declared.demo_settings.DemoSettings.{DemoSettings}
+use Rattle.vx_demo.specs.declared.demo_settings.DemoSettings.{DemoSettings}
 use Rattle.vx_plan.specs.declared.component.Component.{Component}
 use Rattle.vx_plan.specs.declared.compression.Compression.TheVariants as compression
 use Rattle.vx_plan.specs.declared.console_target.ConsoleTarget.{ConsoleTarget}

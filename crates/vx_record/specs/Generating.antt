@@ -1,8 +1,8 @@
 -- What a source that makes its lines itself gives.
 use Rattle.std.specs.Prelude.{ℕ, zero, suc, ◌+◌, ◌-◌, ◌≡◌, ◌<◌, min, Option, Some, None, [], ◌∷◌, ◌++◌, ◌==◌, if◌then◌else◌}
 use Rattle.vx_value.specs.Texts.{Word}
-use Rattle.vx_json.specs.DemoLines.{demo_line}
-use Rattle.vx_json.specs.declared.demo_settings.DemoSettings.{DemoSettings}
+use Rattle.vx_demo.specs.DemoLines.{demo_line}
+use Rattle.vx_demo.specs.declared.demo_settings.DemoSettings.{DemoSettings}
 use Rattle.vx_plan.specs.declared.component.Component.{Component}
 use Rattle.vx_plan.specs.Options.{demo_of, reading_interval}
 use Rattle.vx_record.specs.declared.taken.Taken.{Taken}

@@ -7,8 +7,8 @@ use Rattle.std.proofs.lemmas.Bool.{and_from as both_true, and_parts}
 use Rattle.std.proofs.lemmas.Bool.Decides.{nat_tests}
 use Rattle.vx_value.specs.Texts.{Word}
 use Rattle.vx_frame.specs.Frames.{Parts, cut}
-use Rattle.vx_json.specs.DemoLines.{word_at, line_mark, demo_line}
-use Rattle.vx_json.specs.declared.demo_settings.DemoSettings.{DemoSettings}
+use Rattle.vx_demo.specs.DemoLines.{word_at, line_mark, demo_line}
+use Rattle.vx_demo.specs.declared.demo_settings.DemoSettings.{DemoSettings}
 use Rattle.vx_record.specs.Copies.{count}
 use Rattle.vx_record.specs.Generating.{lines_from}
 use Rattle.vx_record.proofs.Counts.{count-append}

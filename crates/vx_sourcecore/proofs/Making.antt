@@ -7,7 +7,7 @@ use Rattle.std.proofs.lemmas.List.{append-nil}
 use Rattle.vx_value.specs.Texts.{Word}
 use Rattle.vx_frame.specs.Frames.{cut as parts}
 use Rattle.vx_frame.specs.Framings.{unfinished}
-use Rattle.vx_json.specs.declared.demo_settings.DemoSettings.{DemoSettings}
+use Rattle.vx_demo.specs.declared.demo_settings.DemoSettings.{DemoSettings}
 use Rattle.vx_record.specs.Records.{Record}
 use Rattle.vx_record.specs.Copies.{count}
 use Rattle.vx_record.specs.Generating.{lines_given}

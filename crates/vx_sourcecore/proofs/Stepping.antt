@@ -6,8 +6,8 @@ use Rattle.rand_pcg.specs.Pcg.{multiplier_64, pcg32}
 use Rattle.vx_value.specs.Texts.{Word}
 use Rattle.vx_json.specs.Growth.{Keeps}
 use Rattle.vx_json.proofs.Growths.{keeps-more}
-use Rattle.vx_json.specs.DemoLines.{generator, word_at, demo_line}
-use Rattle.vx_json.specs.declared.demo_settings.DemoSettings.{DemoSettings}
+use Rattle.vx_demo.specs.DemoLines.{generator, word_at, demo_line}
+use Rattle.vx_demo.specs.declared.demo_settings.DemoSettings.{DemoSettings}
 use Rattle.vx_record.specs.Generating.{lines_from}
 use Rattle.vx_sourcecore.specs.Lines.{generator_at}
 

@@ -1,7 +1,7 @@
 -- A source that makes its lines itself, as far as a record has it.
 use Rattle.std.specs.Prelude.{◌≡◌, ℕ, true, Option, Some, None, IfSome, IsSomeAnd, [], ◌∷◌}
 use Rattle.std.specs.List.{list_all}
-use Rattle.vx_json.specs.declared.demo_settings.DemoSettings.{DemoSettings}
+use Rattle.vx_demo.specs.declared.demo_settings.DemoSettings.{DemoSettings}
 use Rattle.vx_record.specs.Records.{Record}
 use Rattle.vx_record.specs.Reads.{ended_streams}
 use Rattle.vx_record.specs.Generating.{generator_of, lines_given, lines_at_once, IsGenerated}

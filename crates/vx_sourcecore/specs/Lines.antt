@@ -4,8 +4,8 @@ use Rattle.std.specs.List.{list_all}
 use Rattle.rand_pcg.specs.Lcg.{Lcg, advance}
 use Rattle.rand_pcg.specs.Pcg.{multiplier_64}
 use Rattle.vx_value.specs.Texts.{Word, is_empty}
-use Rattle.vx_json.specs.DemoLines.{generator}
-use Rattle.vx_json.specs.declared.demo_settings.DemoSettings.{DemoSettings}
+use Rattle.vx_demo.specs.DemoLines.{generator}
+use Rattle.vx_demo.specs.declared.demo_settings.DemoSettings.{DemoSettings}
 use Rattle.vx_record.specs.Generating.{lines_from}
 use Rattle.vx_plan.specs.declared.settings.Settings.{Settings}
 use Rattle.vx_plan.specs.declared.settings.Settings.TheVariants.{Stdin, FileIn, DemoLogs, Filter, Route, Sample, Dedupe, Reduce, Host, Console, FileOut, Blackhole}

@@ -1,5 +1,5 @@
 ghost use Rattle.std.specs.Prelude.{◌≡◌, ◌+◌, ◌-◌, ◌^◌, ◌<◌, ◌≤◌, [], ◌∷◌, ◌++◌, length, min, IfOk, OnOk, OnErr};
-ghost use Rattle.vx_json.specs.DemoLines.{word_at, line_mark, demo_line};
+ghost use Rattle.vx_demo.specs.DemoLines.{word_at, line_mark, demo_line};
 ghost use Rattle.vx_json.specs.Growth.{Keeps};
 ghost use Rattle.vx_record.specs.Generating.{lines_from};
 ghost use Rattle.vx_sourcecore.specs.Lines.{left_of, generator_at};
@@ -9,7 +9,7 @@ use rand_core::SeedableRng;
 use rand_core::utils::NextWord;
 use rand_pcg::Pcg32;
 use std::marker::Model;
-use vx_json::DemoSettings;
+use vx_demo::DemoSettings;
 use vx_value::{Bytes, WantOfMemory};
 
 /// The source of generated lines. Contracts see what the lines are made of, and how many it gave.

@@ -5,7 +5,7 @@ ghost use Rattle.vx_sourcecore.specs.Lines.{is_unbroken, next_lines, behind};
 use crate::demo_lines::Lines;
 use crate::source::{SourceCore, Turned};
 use std::snapshot::Snapshot;
-use vx_json::DemoSettings;
+use vx_demo::DemoSettings;
 use vx_value::{Bytes, WantOfMemory};
 
 /// A source that makes its lines itself, all of stream 0, and cuts them like bytes that it took. It needs no port.

@@ -1,5 +1,5 @@
 use Rattle.std.proofs.Common.{rules}
-use Rattle.vx_json.specs.DemoLines.{generator}
+use Rattle.vx_demo.specs.DemoLines.{generator}
 use Rattle.vx_sourcecore.specs.Lines.{generator_at}
 use Rattle.vx_sourcecore.proofs.demo_lines.generator_at.Goals as goal
 

@@ -19,7 +19,7 @@ pub struct DemoSettings {
 }
 
 impl DemoSettings {
-    ghost use Rattle.vx_json.specs.DemoLines.{word_at};
+    ghost use Rattle.vx_demo.specs.DemoLines.{word_at};
 
     /// The word of the generator that chooses the line of that number, from 0 on.
     #[tactic(auto, unfolding(crate::specs::DemoLines::word_at, crate::specs::DemoLines::generator))]

@@ -4,7 +4,7 @@ use Rattle.rand_core.specs.Pcg32Seed.{pcg32_seed}
 use Rattle.rand_pcg.specs.Lcg.{Lcg, advance}
 use Rattle.rand_pcg.specs.Pcg.{multiplier_64, pcg32_of_seed, output_xsh_rr}
 use Rattle.vx_value.specs.Texts.{Word}
-use Rattle.vx_json.specs.declared.demo_settings.DemoSettings.{DemoSettings}
+use Rattle.vx_demo.specs.declared.demo_settings.DemoSettings.{DemoSettings}
 
 -- the generator of a seed: the 32-bit PCG, whose seed is made of the number
 unfoldable pub generator : ℕ → Lcg
