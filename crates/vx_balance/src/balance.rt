@@ -80,7 +80,8 @@ impl Balance {
         requires held { HasHeld self.old parent }
         ensures splits { IfOk result (λ children. Splits k parent children self.old self.new) }
         ensures numbers { 2 ^ 63 < self.old.next + k * length parent → IsErr result }
-        ensures cause { IfErr result (λ refused. IsShort self.old.next (k * length parent) refused.cause) }
+        ensures cause { IfErr result
+            (λ refused. IsShort self.old.next (k * length parent) refused.cause) }
         ensures back { IfErr result (λ refused. refused.finalizers ≡ parent) }
         ensures unchanged { OnErr result (self.new ≡ self.old) }
     {
@@ -99,12 +100,16 @@ impl Balance {
         parcel: Parcel,
     ) -> Result<Routed, RouteRefused>
         requires { HasHeld self.old parcel.finalizers }
-        ensures routes { IfChildren result (λ children. Routes (targets_of ports outlet.now) parcel children self.old self.new) }
+        ensures routes { IfChildren result
+            (λ children. Routes (targets_of ports outlet.now) parcel children self.old self.new) }
         ensures no_consumer { IsNoConsumer result ↔ (targets_of ports outlet.now ≡ []) }
         ensures whole { IfNoConsumer result (λ back. back ≡ parcel) }
         ensures unmoved { IfNoConsumer result (λ _. self.new ≡ self.old) }
-        ensures numbers { 2 ^ 63 < self.old.next + length (targets_of ports outlet.now) * length parcel.finalizers → IsErr result }
-        ensures cause { IfErr result (λ refused. IsShort self.old.next (length (targets_of ports outlet.now) * length parcel.finalizers) refused.cause) }
+        ensures numbers { 2 ^ 63 < self.old.next + length
+            (targets_of ports outlet.now) * length parcel.finalizers → IsErr result }
+        ensures cause { IfErr result
+            (λ refused. IsShort self.old.next
+            (length (targets_of ports outlet.now) * length parcel.finalizers) refused.cause) }
         ensures back { IfErr result (λ refused. refused.parcel ≡ parcel) }
         ensures unchanged { OnErr result (self.new ≡ self.old) }
     {

@@ -16,7 +16,8 @@ use vx_value::{Bytes, Text, WantOfMemory};
 /// The faults are tried in the order of `CheckpointFault`. Of equal keys the last counts, and blanks stand around and
 /// between the tokens as JSON allows.
 pub fn read(alloc: Global, bytes: &[u8]) -> Result<Checkpoint, CheckpointFault>
-    ensures says { IfOk result (λ checkpoint. Says bytes.now (Mark checkpoint.path checkpoint.offset)) }
+    ensures says { IfOk result
+        (λ checkpoint. Says bytes.now (Mark checkpoint.path checkpoint.offset)) }
     ensures refused { IfErr result (IsFault bytes.now) }
 {
     match Value::from_slice(alloc, bytes) {
@@ -34,7 +35,8 @@ pub fn read(alloc: Global, bytes: &[u8]) -> Result<Checkpoint, CheckpointFault>
 /// The checkpoint of a document.
 #[tactic(auto, unfolding(crate::specs::Document::reading))]
 fn checkpoint_of(alloc: Global, value: &Value) -> Result<Checkpoint, CheckpointFault>
-    ensures says { IfOk result (λ checkpoint. reading (view value.now) ≡ Mark checkpoint.path checkpoint.offset) }
+    ensures says { IfOk result
+        (λ checkpoint. reading (view value.now) ≡ Mark checkpoint.path checkpoint.offset) }
     ensures refused { IfErr result (IsShapeFault (view value.now)) }
 {
     match version_of(value) {
@@ -72,7 +74,8 @@ fn member_count(value: &Value) -> usize
 
 /// The checkpoint of a document of version 1.
 fn first_version(alloc: Global, value: &Value) -> Result<Checkpoint, CheckpointFault>
-    ensures says { IfOk result (λ checkpoint. first_version (view value.now) ≡ Mark checkpoint.path checkpoint.offset) }
+    ensures says { IfOk result
+        (λ checkpoint. first_version (view value.now) ≡ Mark checkpoint.path checkpoint.offset) }
     ensures refused { IfErr result (IsFirstShapeFault (view value.now)) }
 {
     if member_count(value) != 3 {
@@ -93,7 +96,8 @@ fn first_version(alloc: Global, value: &Value) -> Result<Checkpoint, CheckpointF
 /// The path of a document, where it is a text.
 #[tactic(auto, unfolding(crate::specs::Document::path_of))]
 fn path_of(value: &Value) -> Option<&str>
-    ensures { MatchOption result (path_of (view value.now) ≡ None) (λ path. path_of (view value.now) ≡ Some path.now) }
+    ensures { MatchOption result (path_of (view value.now) ≡ None)
+        (λ path. path_of (view value.now) ≡ Some path.now) }
 {
     value.get("path").and_then(Value::as_str)
 }
@@ -108,8 +112,10 @@ fn document_of(alloc: Global, path: &str, offset: u64) -> Result<Value, AllocErr
 
 /// The text of a document, in its compact form.
 fn text_of(alloc: Global, path: &str, offset: u64) -> Result<String, AllocError>
-    ensures compact { IfOk result (λ text. string_bytes text ≡ compact_text (document_of path.now offset)) }
-    ensures read { IfOk result (λ text. value_of (string_bytes text) ≡ Some (document_of path.now offset)) }
+    ensures compact { IfOk result
+        (λ text. string_bytes text ≡ compact_text (document_of path.now offset)) }
+    ensures read { IfOk result
+        (λ text. value_of (string_bytes text) ≡ Some (document_of path.now offset)) }
 {
     let value = document_of(alloc, path, offset)?;
     value.to_string(alloc)
@@ -119,10 +125,13 @@ fn text_of(alloc: Global, path: &str, offset: u64) -> Result<String, AllocError>
 pub fn write(alloc: Global, checkpoint: &Checkpoint) -> Result<Bytes, WantOfMemory>
     requires { checkpoint.now.offset < 2 ^ 63 }
     ensures text { IfOk result
-        (λ bytes. bytes ≡ compact_text (document_of checkpoint.now.path checkpoint.now.offset) ++ 10 ∷ []) }
-    ensures reads_back { IfOk result (λ bytes. Says bytes (Mark checkpoint.now.path checkpoint.now.offset)) }
+        (λ bytes. bytes ≡ compact_text (document_of checkpoint.now.path checkpoint.now.offset) ++ 10
+        ∷ []) }
+    ensures reads_back { IfOk result
+        (λ bytes. Says bytes (Mark checkpoint.now.path checkpoint.now.offset)) }
     ensures alone { IfOk result
-        (λ bytes. (other : Reading) → Says bytes other → other ≡ Mark checkpoint.now.path checkpoint.now.offset) }
+        (λ bytes. (other : Reading) → Says bytes other →
+        other ≡ Mark checkpoint.now.path checkpoint.now.offset) }
 {
     let text = text_of(alloc, checkpoint.path.as_str(), checkpoint.offset)?;
     let mut bytes = Bytes::copy_of(alloc, text.as_bytes())?;

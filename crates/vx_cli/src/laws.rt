@@ -13,8 +13,10 @@ ghost use Rattle.vx_cli.specs.declared.fault.Fault.TheVariants.{Usage};
 
 /// A list of words is at most one command, and none where it is in no command's grammar.
 pub fn one_command()
-    ensures one { (words : List Word) (a b : Command) → IsCommand words a → IsCommand words b → a ≡ b }
-    ensures apart { (words : List Word) (command : Command) → IsNoCommand words → IsCommand words command → ⊥ }
+    ensures one { (words : List Word) (a b : Command) → IsCommand words a → IsCommand words b →
+        a ≡ b }
+    ensures apart { (words : List Word) (command : Command) → IsNoCommand words →
+        IsCommand words command → ⊥ }
 {}
 
 /// How a file is named: by each spelling of the option, and to `validate`; and how the counts, and an end with the files that are there,
@@ -23,20 +25,34 @@ pub fn one_command()
 /// Behind `=`, and behind the `--` of `validate`, it is any word. Right behind `-c` it has a byte, and doesn't begin
 /// with `=`. As a word of its own it doesn't begin with a hyphen, or is a hyphen alone; `refusals` tells of other words.
 pub fn spellings()
-    ensures long { (file : Word) → IsPlain file → IsCommand (codes "--config" ∷ file ∷ []) (Run file false false) }
-    ensures long_sign { (file : Word) → IsCommand ((codes "--config=" ++ file) ∷ []) (Run file false false) }
-    ensures short { (file : Word) → IsPlain file → IsCommand (codes "-c" ∷ file ∷ []) (Run file false false) }
-    ensures short_sign { (file : Word) → IsCommand ((codes "-c=" ++ file) ∷ []) (Run file false false) }
-    ensures short_at_once { (b : ℕ) (rest : Word) → b ≢ 61 → IsCommand ((codes "-c" ++ b ∷ rest) ∷ []) (Run (b ∷ rest) false false) }
-    ensures hyphen { IsCommand (codes "--config" ∷ codes "-" ∷ []) (Run (codes "-") false false) × IsCommand (codes "-c" ∷ codes "-" ∷ []) (Run (codes "-") false false) }
-    ensures stats { (file : Word) → IsCommand ((codes "--config=" ++ file) ∷ codes "--stats" ∷ []) (Run file false true) }
-    ensures stats_first { (file : Word) → IsCommand (codes "--stats" ∷ (codes "--config=" ++ file) ∷ []) (Run file false true) }
-    ensures once { (file : Word) → IsCommand ((codes "--config=" ++ file) ∷ codes "--once" ∷ []) (Run file true false) }
-    ensures once_first { (file : Word) → IsCommand (codes "--once" ∷ (codes "--config=" ++ file) ∷ []) (Run file true false) }
-    ensures once_and_stats { (file : Word) → IsCommand (codes "--stats" ∷ (codes "--config=" ++ file) ∷ codes "--once" ∷ []) (Run file true true) }
-    ensures validate { (file : Word) → IsPlain file → IsCommand (codes "validate" ∷ file ∷ []) (Validate file) }
+    ensures long { (file : Word) → IsPlain file →
+        IsCommand (codes "--config" ∷ file ∷ []) (Run file false false) }
+    ensures long_sign { (file : Word) →
+        IsCommand ((codes "--config=" ++ file) ∷ []) (Run file false false) }
+    ensures short { (file : Word) → IsPlain file →
+        IsCommand (codes "-c" ∷ file ∷ []) (Run file false false) }
+    ensures short_sign { (file : Word) →
+        IsCommand ((codes "-c=" ++ file) ∷ []) (Run file false false) }
+    ensures short_at_once { (b : ℕ) (rest : Word) → b ≢ 61 →
+        IsCommand ((codes "-c" ++ b ∷ rest) ∷ []) (Run (b ∷ rest) false false) }
+    ensures hyphen { IsCommand (codes "--config" ∷ codes "-" ∷ []) (Run (codes "-") false false)
+        × IsCommand (codes "-c" ∷ codes "-" ∷ []) (Run (codes "-") false false) }
+    ensures stats { (file : Word) →
+        IsCommand ((codes "--config=" ++ file) ∷ codes "--stats" ∷ []) (Run file false true) }
+    ensures stats_first { (file : Word) →
+        IsCommand (codes "--stats" ∷ (codes "--config=" ++ file) ∷ []) (Run file false true) }
+    ensures once { (file : Word) →
+        IsCommand ((codes "--config=" ++ file) ∷ codes "--once" ∷ []) (Run file true false) }
+    ensures once_first { (file : Word) →
+        IsCommand (codes "--once" ∷ (codes "--config=" ++ file) ∷ []) (Run file true false) }
+    ensures once_and_stats { (file : Word) →
+        IsCommand (codes "--stats" ∷ (codes "--config=" ++ file) ∷ codes "--once" ∷ [])
+        (Run file true true) }
+    ensures validate { (file : Word) → IsPlain file →
+        IsCommand (codes "validate" ∷ file ∷ []) (Validate file) }
     ensures validate_hyphen { IsCommand (codes "validate" ∷ codes "-" ∷ []) (Validate (codes "-")) }
-    ensures behind_dashes { (file : Word) → IsCommand (codes "validate" ∷ codes "--" ∷ file ∷ []) (Validate file) }
+    ensures behind_dashes { (file : Word) →
+        IsCommand (codes "validate" ∷ codes "--" ∷ file ∷ []) (Validate file) }
 {}
 
 /// Words that are no command: too few, the option or a flag twice, a value of a flag, a word too many, and the words for help and
@@ -49,22 +65,34 @@ pub fn refusals()
     ensures long_alone { IsNoCommand (codes "--config" ∷ []) }
     ensures short_alone { IsNoCommand (codes "-c" ∷ []) }
     ensures option_as_file { IsNoCommand (codes "--config" ∷ codes "--config" ∷ []) }
-    ensures twice { (file other : Word) → IsNoCommand ((codes "--config=" ++ file) ∷ (codes "--config=" ++ other) ∷ []) }
-    ensures twice_short { (file other : Word) → IsNoCommand ((codes "--config=" ++ file) ∷ (codes "-c=" ++ other) ∷ []) }
+    ensures twice { (file other : Word) →
+        IsNoCommand ((codes "--config=" ++ file) ∷ (codes "--config=" ++ other) ∷ []) }
+    ensures twice_short { (file other : Word) →
+        IsNoCommand ((codes "--config=" ++ file) ∷ (codes "-c=" ++ other) ∷ []) }
     ensures stats_alone { IsNoCommand (codes "--stats" ∷ []) }
-    ensures stats_twice { (file : Word) → IsNoCommand (codes "--stats" ∷ codes "--stats" ∷ (codes "--config=" ++ file) ∷ []) }
-    ensures stats_value { (file value : Word) → IsNoCommand ((codes "--stats=" ++ value) ∷ (codes "--config=" ++ file) ∷ []) }
+    ensures stats_twice { (file : Word) →
+        IsNoCommand (codes "--stats" ∷ codes "--stats" ∷ (codes "--config=" ++ file) ∷ []) }
+    ensures stats_value { (file value : Word) →
+        IsNoCommand ((codes "--stats=" ++ value) ∷ (codes "--config=" ++ file) ∷ []) }
     ensures once_alone { IsNoCommand (codes "--once" ∷ []) }
-    ensures once_twice { (file : Word) → IsNoCommand (codes "--once" ∷ codes "--once" ∷ (codes "--config=" ++ file) ∷ []) }
-    ensures once_value { (file value : Word) → IsNoCommand ((codes "--once=" ++ value) ∷ (codes "--config=" ++ file) ∷ []) }
-    ensures more { (file word : Word) → IsPlain word → IsNoCommand ((codes "--config=" ++ file) ∷ word ∷ []) }
+    ensures once_twice { (file : Word) →
+        IsNoCommand (codes "--once" ∷ codes "--once" ∷ (codes "--config=" ++ file) ∷ []) }
+    ensures once_value { (file value : Word) →
+        IsNoCommand ((codes "--once=" ++ value) ∷ (codes "--config=" ++ file) ∷ []) }
+    ensures more { (file word : Word) → IsPlain word →
+        IsNoCommand ((codes "--config=" ++ file) ∷ word ∷ []) }
     ensures validate_alone { IsNoCommand (codes "validate" ∷ []) }
-    ensures validate_two { (file word : Word) → IsPlain file → IsPlain word → IsNoCommand (codes "validate" ∷ file ∷ word ∷ []) }
-    ensures long_hyphened { (word : Word) (rest : List Word) → IsUtf8 word → IsHyphened word → IsNoCommand (codes "--config" ∷ word ∷ rest) }
-    ensures short_hyphened { (word : Word) (rest : List Word) → IsUtf8 word → IsHyphened word → IsNoCommand (codes "-c" ∷ word ∷ rest) }
+    ensures validate_two { (file word : Word) → IsPlain file → IsPlain word →
+        IsNoCommand (codes "validate" ∷ file ∷ word ∷ []) }
+    ensures long_hyphened { (word : Word) (rest : List Word) → IsUtf8 word → IsHyphened word →
+        IsNoCommand (codes "--config" ∷ word ∷ rest) }
+    ensures short_hyphened { (word : Word) (rest : List Word) → IsUtf8 word → IsHyphened word →
+        IsNoCommand (codes "-c" ∷ word ∷ rest) }
     ensures validate_dashes { IsNoCommand (codes "validate" ∷ codes "--" ∷ []) }
-    ensures validate_hyphened { (word : Word) (rest : List Word) → IsUtf8 word → IsHyphened word → word ≢ codes "--" → IsNoCommand (codes "validate" ∷ word ∷ rest) }
-    ensures validate_option { (file : Word) → IsNoCommand (codes "validate" ∷ (codes "--config=" ++ file) ∷ []) }
+    ensures validate_hyphened { (word : Word) (rest : List Word) → IsUtf8 word → IsHyphened word →
+        word ≢ codes "--" → IsNoCommand (codes "validate" ∷ word ∷ rest) }
+    ensures validate_option { (file : Word) →
+        IsNoCommand (codes "validate" ∷ (codes "--config=" ++ file) ∷ []) }
     ensures help { IsNoCommand (codes "--help" ∷ []) × IsNoCommand (codes "-h" ∷ []) }
     ensures version { IsNoCommand (codes "--version" ∷ []) × IsNoCommand (codes "-V" ∷ []) }
 {}
@@ -78,8 +106,10 @@ pub fn printed_names()
     ensures bytes { (text : Word) → All IsPlainByte (shown text) }
     ensures bounded { (text : Word) → length (shown text) ≤ 258 }
     ensures whole { (text : Word) → length (spelled text) ≤ 256 → shown text ≡ spelled text }
-    ensures cut { (text : Word) → 256 < length (spelled text) → IsCutAt 256 (chars text) (shown text) }
-    ensures same { (text : Word) → IsUtf8 text → NoCharPasses is_hidden text → length text ≤ 256 → shown text ≡ text }
+    ensures cut { (text : Word) → 256 < length (spelled text) →
+        IsCutAt 256 (chars text) (shown text) }
+    ensures same { (text : Word) → IsUtf8 text → NoCharPasses is_hidden text → length text ≤ 256 →
+        shown text ≡ text }
 {}
 
 /// Where something is printed of a fault, and not how the program is called, that is one line, whatever the fault names.

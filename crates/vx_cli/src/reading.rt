@@ -91,7 +91,8 @@ fn matches_of<'a>(
     ensures parsed { IfOk result (IsParsedFrom command.entry) }
     ensures rows { IfOk result (λ matches.
         rows_of (found_of matches) ≡ matches_of (app_of command.entry) (texts words.entry.now)) }
-    ensures usage { IsErrOf result CliFault.Usage → IsTaken (app_of command.entry) (texts words.entry.now) → ⊥ }
+    ensures usage { IsErrOf result CliFault.Usage →
+        IsTaken (app_of command.entry) (texts words.entry.now) → ⊥ }
 {
     match command.try_get_matches_from(words) {
         Ok(matches) => Ok(matches),
@@ -112,7 +113,8 @@ fn fault_of(kind: ErrorKind) -> CliFault
 /// The value of an argument that has one.
 fn value_of(alloc: Global, matches: &ArgMatches<'_>, name: &str) -> Result<Text, CliFault>
     requires { is_some (first_value (found_of matches.now) name.now) ≡ true }
-    ensures value { IfOk result (λ value. first_of name.now (rows_of (found_of matches.now)) ≡ Some value) }
+    ensures value { IfOk result
+        (λ value. first_of name.now (rows_of (found_of matches.now)) ≡ Some value) }
     ensures fault { IfErr result (λ fault. fault ≡ CliFault.WantOfMemory) }
 {
     match matches.get_str(name) {

@@ -63,7 +63,8 @@ impl Conjunction {
     /// Whether each term holds of an event. It takes memory only for a match.
     #[cycle(holds)]
     pub fn holds(&self, alloc: Global, event: &Event) -> Result<bool, WantOfMemory>
-        ensures value { IfOk result (λ holds. holds ≡ conjunction_holds (conjunction_of self.now) event.now.fields) }
+        ensures value { IfOk result
+            (λ holds. holds ≡ conjunction_holds (conjunction_of self.now) event.now.fields) }
         ensures lean { is_free_conjunction (conjunction_of self.now) ≡ true → IsOk result }
     {
         for term in self.terms.as_slice() {

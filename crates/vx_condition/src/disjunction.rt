@@ -61,7 +61,8 @@ impl Disjunction {
     /// Whether some branch holds of an event. It takes memory only for a match.
     #[cycle(holds)]
     pub fn holds(&self, alloc: Global, event: &Event) -> Result<bool, WantOfMemory>
-        ensures value { IfOk result (λ holds. holds ≡ disjunction_holds (disjunction_of self.now) event.now.fields) }
+        ensures value { IfOk result
+            (λ holds. holds ≡ disjunction_holds (disjunction_of self.now) event.now.fields) }
         ensures lean { is_free_disjunction (disjunction_of self.now) ≡ true → IsOk result }
     {
         for branch in self.branches.as_slice() {

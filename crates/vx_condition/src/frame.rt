@@ -50,7 +50,8 @@ impl Frame {
 
     /// Ends the branch that has begun.
     pub fn end_branch(&mut self, alloc: Global) -> Result<(), WantOfMemory>
-        ensures { OnOk result (self.new ≡ record self.old { branches = all_branches self.old; terms = [] }) }
+        ensures { OnOk result
+            (self.new ≡ record self.old { branches = all_branches self.old; terms = [] }) }
     {
         let terms = mem::replace(&mut self.terms, Conjunction::new(alloc));
         self.branches.push(terms)

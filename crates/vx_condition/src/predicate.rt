@@ -48,7 +48,8 @@ impl Predicate {
 
 // Whether the value at a path is the literal, where a missing one counts as null.
 fn is_at(event: &Event, path: &Path, literal: &Literal) -> bool
-    ensures { result ≡ is_literal literal.now (unwrap_or (value_at event.now.fields path.now) Null) }
+    ensures { result ≡ is_literal literal.now
+        (unwrap_or (value_at event.now.fields path.now) Null) }
 {
     match event.get(path) {
         Some(value) => literal.is(value),
@@ -58,7 +59,8 @@ fn is_at(event: &Event, path: &Path, literal: &Literal) -> bool
 
 // Whether the value at a path is a whole number that compares so to another.
 fn is_compared(event: &Event, path: &Path, comparison: Comparison, number: i64) -> bool
-    ensures { result ≡ is_whole_and (λ whole. compares comparison whole number) (value_at event.now.fields path.now) }
+    ensures { result ≡ is_whole_and (λ whole. compares comparison whole number)
+        (value_at event.now.fields path.now) }
 {
     match event.get(path) {
         Some(Value::Whole(whole)) => comparison.holds(*whole, number),
@@ -83,7 +85,9 @@ fn is_matched(
     path: &Path,
     pattern: &Pattern,
 ) -> Result<bool, WantOfMemory>
-    ensures { IfOk result (λ found. found ≡ is_words_and (has_match pattern.now) (value_at event.now.fields path.now)) }
+    ensures { IfOk result
+        (λ found. found
+        ≡ is_words_and (has_match pattern.now) (value_at event.now.fields path.now)) }
 {
     match event.get(path) {
         Some(Value::Words(words)) => pattern.is_in(alloc, words.as_str()),

@@ -49,7 +49,13 @@ impl Reader {
 
     /// A reader before everything.
     pub fn new(alloc: Global, keeps: bool) -> Self
-        ensures { result ≡ record { frame = record { base = 0; branches = []; terms = []; negations = 0 }; outer = []; mode = Mode.Start; keeps = keeps } }
+        ensures { result
+            ≡ record {
+              frame = record { base = 0; branches = []; terms = []; negations = 0 };
+              outer = [];
+              mode = Mode.Start;
+              keeps = keeps;
+            } }
     {
         Reader {
             frame: Frame::new(alloc, 0),
@@ -82,8 +88,10 @@ impl Reader {
 
     // Goes on with what is expected, where a byte is the one that is wanted.
     fn pass(&mut self, wanted: bool, next: Expected) -> Result<(), Stop>
-        ensures ok { OnOk result (cond wanted (Ok (at self.old (Mode.Expects next))) (Err Stop.Refused) ≡ Ok self.new) }
-        ensures stop { IfErr result (Stops (cond wanted (Ok (at self.old (Mode.Expects next))) (Err Stop.Refused))) }
+        ensures ok { OnOk result
+            (cond wanted (Ok (at self.old (Mode.Expects next))) (Err Stop.Refused) ≡ Ok self.new) }
+        ensures stop { IfErr result
+            (Stops (cond wanted (Ok (at self.old (Mode.Expects next))) (Err Stop.Refused))) }
     {
         if wanted {
             self.stand(Mode::Expects(next));
@@ -256,7 +264,8 @@ impl Reader {
 
     // Takes a byte where the closing bracket of a call is expected.
     fn close_call(&mut self, predicate: Predicate, byte: u8) -> Result<(), Stop>
-        ensures ok { OnOk result (expected 32 self.old (Expected.Close predicate) byte ≡ Ok self.new) }
+        ensures ok { OnOk result
+            (expected 32 self.old (Expected.Close predicate) byte ≡ Ok self.new) }
         ensures stop { IfErr result (Stops (expected 32 self.old (Expected.Close predicate) byte)) }
     {
         if byte == b')' {

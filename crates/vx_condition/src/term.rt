@@ -32,7 +32,8 @@ impl Term {
     /// Whether it holds of an event. It takes memory only for a match.
     #[cycle(holds)]
     pub fn holds(&self, alloc: Global, event: &Event) -> Result<bool, WantOfMemory>
-        ensures value { IfOk result (λ holds. holds ≡ term_holds (term_view self.now) event.now.fields) }
+        ensures value { IfOk result
+            (λ holds. holds ≡ term_holds (term_view self.now) event.now.fields) }
         ensures lean { is_free_term (term_view self.now) ≡ true → IsOk result }
     {
         let plain = self.atom.holds(alloc, event)?;
@@ -47,7 +48,8 @@ impl Atom {
     /// Whether it holds of an event. It takes memory only for a match.
     #[cycle(holds)]
     pub fn holds(&self, alloc: Global, event: &Event) -> Result<bool, WantOfMemory>
-        ensures value { IfOk result (λ holds. holds ≡ term_holds (atom_view self.now) event.now.fields) }
+        ensures value { IfOk result
+            (λ holds. holds ≡ term_holds (atom_view self.now) event.now.fields) }
         ensures lean { is_free_term (atom_view self.now) ≡ true → IsOk result }
     {
         match self {

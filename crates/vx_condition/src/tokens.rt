@@ -126,8 +126,15 @@ impl Reader {
         names: TextList,
     ) -> Result<(), Stop>
         requires { IsUtf8 name }
-        ensures ok { OnOk result (cond (nat_lt (length names) 30) (Ok (at self.old (Mode.Path use_of PathPlace.Name [] (names ++ name ∷ [])))) (Err Stop.Refused) ≡ Ok self.new) }
-        ensures stop { IfErr result (Stops (cond (nat_lt (length names) 30) (Ok (at self.old (Mode.Path use_of PathPlace.Name [] (names ++ name ∷ [])))) (Err Stop.Refused))) }
+        ensures ok { OnOk result
+            (cond (nat_lt (length names) 30)
+            (Ok (at self.old (Mode.Path use_of PathPlace.Name [] (names ++ name ∷ []))))
+            (Err Stop.Refused) ≡ Ok self.new) }
+        ensures stop { IfErr result
+            (Stops
+            (cond (nat_lt (length names) 30)
+            (Ok (at self.old (Mode.Path use_of PathPlace.Name [] (names ++ name ∷ []))))
+            (Err Stop.Refused))) }
     {
         if names.len() >= 30 {
             return Err(Stop::Refused);
@@ -149,8 +156,11 @@ impl Reader {
     ) -> Result<(), Stop>
         requires text { IsUtf8 name }
         requires few { length names < 31 }
-        ensures ok { OnOk result (behind_blanks 32 self.old (behind_path use_of (names ++ name ∷ [])) byte ≡ Ok self.new) }
-        ensures stop { IfErr result (Stops (behind_blanks 32 self.old (behind_path use_of (names ++ name ∷ [])) byte)) }
+        ensures ok { OnOk result
+            (behind_blanks 32 self.old (behind_path use_of (names ++ name ∷ [])) byte
+            ≡ Ok self.new) }
+        ensures stop { IfErr result
+            (Stops (behind_blanks 32 self.old (behind_path use_of (names ++ name ∷ [])) byte)) }
     {
         let names = names_with(alloc, names, name)?;
         self.behind_blanks(alloc, behind_path(use_of, Path::of(names)), byte)
@@ -167,8 +177,10 @@ impl Reader {
         byte: u8,
     ) -> Result<(), Stop>
         requires { byte < 128 → IsUtf8 name }
-        ensures ok { OnOk result (in_path 32 self.old use_of place name names byte PathStep.Refused ≡ Ok self.new) }
-        ensures stop { IfErr result (Stops (in_path 32 self.old use_of place name names byte PathStep.Refused)) }
+        ensures ok { OnOk result
+            (in_path 32 self.old use_of place name names byte PathStep.Refused ≡ Ok self.new) }
+        ensures stop { IfErr result
+            (Stops (in_path 32 self.old use_of place name names byte PathStep.Refused)) }
     {
         let may_end = place.may_end() && names.len() < 31 && byte < 128;
         if !may_end {
@@ -186,7 +198,8 @@ impl Reader {
         names: TextList,
         byte: u8,
     ) -> Result<(), Stop>
-        ensures ok { OnOk result (self.new ≡ at self.old (Mode.Path use_of next (name ++ byte ∷ []) names)) }
+        ensures ok { OnOk result
+            (self.new ≡ at self.old (Mode.Path use_of next (name ++ byte ∷ []) names)) }
         ensures stop { IfErr result (λ stop. stop ≡ Stop.WantOfMemory) }
     {
         let name = held_with(name, byte)?;
@@ -205,8 +218,13 @@ impl Reader {
         byte: u8,
     ) -> Result<(), Stop>
         requires { byte < 128 → IsUtf8 name }
-        ensures ok { OnOk result (in_path 32 self.old use_of place name names byte (path_step place (length name == 0) byte) ≡ Ok self.new) }
-        ensures stop { IfErr result (Stops (in_path 32 self.old use_of place name names byte (path_step place (length name == 0) byte))) }
+        ensures ok { OnOk result
+            (in_path 32 self.old use_of place name names byte
+            (path_step place (length name == 0) byte) ≡ Ok self.new) }
+        ensures stop { IfErr result
+            (Stops
+            (in_path 32 self.old use_of place name names byte
+            (path_step place (length name == 0) byte))) }
     {
         match place.step(name.len() == 0, byte) {
             PathStep::Adds(next) => self.add_to_name(use_of, next, name, names, byte),
@@ -264,7 +282,8 @@ impl Reader {
         byte: u8,
     ) -> Result<(), Stop>
         requires { byte < 128 → IsUtf8 held }
-        ensures ok { OnOk result (in_text self.old use_of behind_backslash held byte ≡ Ok self.new) }
+        ensures ok { OnOk result
+            (in_text self.old use_of behind_backslash held byte ≡ Ok self.new) }
         ensures stop { IfErr result (Stops (in_text self.old use_of behind_backslash held byte)) }
     {
         if behind_backslash {
@@ -312,7 +331,8 @@ impl Reader {
     ) -> Result<(), Stop>
         requires some { negative ≡ true → 0 < size }
         requires fits { fits negative size ≡ true }
-        ensures ok { OnOk result (in_whole self.old path operator negative size byte ≡ Ok self.new) }
+        ensures ok { OnOk result
+            (in_whole self.old path operator negative size byte ≡ Ok self.new) }
         ensures stop { IfErr result (Stops (in_whole self.old path operator negative size byte)) }
     {
         if !is_digit(byte) {
@@ -334,7 +354,8 @@ impl Reader {
 fn larger(negative: bool, size: u64, byte: u8) -> Option<u64>
     requires digit { is_digit byte ≡ true }
     requires fits { fits negative size ≡ true }
-    ensures { result ≡ cond (not (size == 0) && fits negative (10 * size + (byte - 48))) (Some (10 * size + (byte - 48))) None }
+    ensures { result ≡ cond (not (size == 0) && fits negative (10 * size + (byte - 48)))
+        (Some (10 * size + (byte - 48))) None }
 {
     let wide = u128::from(size) * 10 + u128::from(byte - b'0');
     let most = if negative { 1 << 63 } else { (1 << 63) - 1 };
@@ -409,7 +430,8 @@ impl Reader {
         comparison: Comparison,
         byte: u8,
     ) -> Result<(), Stop>
-        ensures ok { OnOk result (moved 32 self.old (Mode.Angle path comparison) byte ≡ Ok self.new) }
+        ensures ok { OnOk result
+            (moved 32 self.old (Mode.Angle path comparison) byte ≡ Ok self.new) }
         ensures stop { IfErr result (Stops (moved 32 self.old (Mode.Angle path comparison) byte)) }
     {
         if byte == b'=' {

@@ -41,8 +41,10 @@ impl Counts {
 
     /// A source took so many bytes, or was told an end, and that completed some lines.
     pub fn read(&mut self, bytes: u64, new: NewLines)
-        ensures { (h : Record) → (i stream : ℕ) → (took : Taken) → IsLegal (Read i stream took ∷ h) → bytes ≡ capped (length (bytes_of took)) →
-            AreNew h i stream took new → Meets i h self.old.tally → Meets i (Read i stream took ∷ h) self.new.tally }
+        ensures { (h : Record) → (i stream : ℕ) → (took : Taken) →
+            IsLegal (Read i stream took ∷ h) → bytes ≡ capped (length (bytes_of took)) →
+            AreNew h i stream took new → Meets i h self.old.tally →
+            Meets i (Read i stream took ∷ h) self.new.tally }
     {
         let tally = &mut self.tally;
         tally.read = tally.read.saturating_add(bytes);
@@ -53,9 +55,11 @@ impl Counts {
 
     /// A source bore a batch of so many events.
     pub fn bore(&mut self, events: u64)
-        ensures { (h : Record) → (i b place stream end : ℕ) → (copies : List ℕ) → (made : List Event) → (waits : Bool) →
-            IsLegal (Born i b place copies made waits stream end ∷ h) → events ≡ capped (length made) →
-            Meets i h self.old.tally → Meets i (Born i b place copies made waits stream end ∷ h) self.new.tally }
+        ensures { (h : Record) → (i b place stream end : ℕ) → (copies : List ℕ) →
+            (made : List Event) → (waits : Bool) →
+            IsLegal (Born i b place copies made waits stream end ∷ h) →
+            events ≡ capped (length made) → Meets i h self.old.tally →
+            Meets i (Born i b place copies made waits stream end ∷ h) self.new.tally }
     {
         let tally = &mut self.tally;
         tally.events = tally.events.saturating_add(events);
@@ -64,7 +68,8 @@ impl Counts {
 
     /// One of its batches has its notice.
     pub fn noticed(&mut self, status: BatchStatus)
-        ensures { (h : Record) → (i b : ℕ) → IsLegal (Notice b status ∷ h) → is_batch_of h i b ≡ true → Meets i h self.old.tally →
+        ensures { (h : Record) → (i b : ℕ) → IsLegal (Notice b status ∷ h) →
+            is_batch_of h i b ≡ true → Meets i h self.old.tally →
             Meets i (Notice b status ∷ h) self.new.tally }
     {
         let tally = &mut self.tally;
@@ -77,8 +82,8 @@ impl Counts {
 
     /// Positions were confirmed to a source's port.
     pub fn confirmed(&mut self, positions: &[Position])
-        ensures { (h : Record) → (i : ℕ) → IsLegal (Confirm i positions.now true ∷ h) → Meets i h self.old.tally →
-            Meets i (Confirm i positions.now true ∷ h) self.new.tally }
+        ensures { (h : Record) → (i : ℕ) → IsLegal (Confirm i positions.now true ∷ h) →
+            Meets i h self.old.tally → Meets i (Confirm i positions.now true ∷ h) self.new.tally }
     {
         let ends = total(positions);
         self.tally.confirmed = ends;
@@ -86,16 +91,17 @@ impl Counts {
 
     /// A transform or a sink took a parcel from its buffer.
     pub fn took(&mut self)
-        ensures { (h : Record) → (i s : ℕ) → (copies : List ℕ) → IsLegal (Take i s copies ∷ h) → Meets i h self.old.tally →
-            Meets i (Take i s copies ∷ h) self.new.tally }
+        ensures { (h : Record) → (i s : ℕ) → (copies : List ℕ) → IsLegal (Take i s copies ∷ h) →
+            Meets i h self.old.tally → Meets i (Take i s copies ∷ h) self.new.tally }
     {
         self.tally.taken = self.tally.taken.saturating_add(1);
     }
 
     /// A transform answered: it put out so many parcels, each once whatever its ports, and discarded so many of those that it took.
     pub fn answered(&mut self, sent: u64, dropped: u64)
-        ensures { (h : Record) → (i : ℕ) → (outputs : List Output) → (discarded kept : List ℕ) → IsLegal (Answer i outputs discarded kept ∷ h) →
-            sent ≡ capped (length outputs) → dropped ≡ capped (count_by (is_first h i) discarded) → Meets i h self.old.tally →
+        ensures { (h : Record) → (i : ℕ) → (outputs : List Output) → (discarded kept : List ℕ) →
+            IsLegal (Answer i outputs discarded kept ∷ h) → sent ≡ capped (length outputs) →
+            dropped ≡ capped (count_by (is_first h i) discarded) → Meets i h self.old.tally →
             Meets i (Answer i outputs discarded kept ∷ h) self.new.tally }
     {
         let tally = &mut self.tally;
@@ -105,8 +111,9 @@ impl Counts {
 
     /// A sink gave its port so many bytes.
     pub fn attempted(&mut self, bytes: u64)
-        ensures { (h : Record) → (i : ℕ) → (copies : List ℕ) → (gave : Word) → (reply : Reply) → IsLegal (Attempt i copies gave reply ∷ h) →
-            bytes ≡ capped (length gave) → Meets i h self.old.tally → Meets i (Attempt i copies gave reply ∷ h) self.new.tally }
+        ensures { (h : Record) → (i : ℕ) → (copies : List ℕ) → (gave : Word) → (reply : Reply) →
+            IsLegal (Attempt i copies gave reply ∷ h) → bytes ≡ capped (length gave) →
+            Meets i h self.old.tally → Meets i (Attempt i copies gave reply ∷ h) self.new.tally }
     {
         let tally = &mut self.tally;
         tally.attempts = tally.attempts.saturating_add(1);
@@ -115,8 +122,9 @@ impl Counts {
 
     /// The first copy of a parcel that a source or a transform put out was spent for want of a reader. Its other copies count no more.
     pub fn unread(&mut self)
-        ensures { (h : Record) → (i j c : ℕ) → IsLegal (Spent j c NoConsumer ∷ h) → IsGiver (class_at h i) → BeginsUnread h i c →
-            Meets i h self.old.tally → Meets i (Spent j c NoConsumer ∷ h) self.new.tally }
+        ensures { (h : Record) → (i j c : ℕ) → IsLegal (Spent j c NoConsumer ∷ h) →
+            IsGiver (class_at h i) → BeginsUnread h i c → Meets i h self.old.tally →
+            Meets i (Spent j c NoConsumer ∷ h) self.new.tally }
     {
         self.tally.unread = self.tally.unread.saturating_add(1);
     }
@@ -124,8 +132,9 @@ impl Counts {
     /// The first copy of a parcel for a sink was dropped as the newest, since its buffer was full. The sender `j` spends it.
     /// Its other copies count no more.
     pub fn dropped_newest(&mut self)
-        ensures { (h : Record) → (i j c : ℕ) → IsLegal (Spent j c NewestDropped ∷ h) → class_at h i ≡ Some Sink → BeginsNewest h i c →
-            Meets i h self.old.tally → Meets i (Spent j c NewestDropped ∷ h) self.new.tally }
+        ensures { (h : Record) → (i j c : ℕ) → IsLegal (Spent j c NewestDropped ∷ h) →
+            class_at h i ≡ Some Sink → BeginsNewest h i c → Meets i h self.old.tally →
+            Meets i (Spent j c NewestDropped ∷ h) self.new.tally }
     {
         self.tally.newest = self.tally.newest.saturating_add(1);
     }
@@ -133,7 +142,8 @@ impl Counts {
     /// The copy that came first in a parcel that a sink took was spent. Its other copies don't count. What is held is never dropped
     /// as the newest.
     pub fn spent(&mut self, outcome: Outcome)
-        ensures { (h : Record) → (i j c : ℕ) → is_newest outcome ≡ false → IsLegal (Spent j c outcome ∷ h) → class_at h i ≡ Some Sink → is_first h i c ≡ true →
+        ensures { (h : Record) → (i j c : ℕ) → is_newest outcome ≡ false →
+            IsLegal (Spent j c outcome ∷ h) → class_at h i ≡ Some Sink → is_first h i c ≡ true →
             Meets i h self.old.tally → Meets i (Spent j c outcome ∷ h) self.new.tally }
     {
         let tally = &mut self.tally;

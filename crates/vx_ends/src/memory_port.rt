@@ -116,13 +116,19 @@ impl Port for MemoryPort {
 
         ensures started { OnOk result (IsTrue self.new.started) }
         ensures closed { OnErr result (self.new.started ≡ self.old.started) }
-        ensures again { IsTrue self.old.started → IsOk result × (told_by self.new ≡ told_by self.old) }
+        ensures again { IsTrue self.old.started →
+            IsOk result × (told_by self.new ≡ told_by self.old) }
         ensures bytes { SameBytes (told_by self.old) (told_by self.new) }
         ensures cause { HasCause self.old.faults self.new.faults result }
         ensures unrefused { result ≢ Err Trouble.Refused }
         ensures idles { self.old.idles ≤ self.new.idles }
         ensures refusals { self.old.refusals ≤ self.new.refusals }
-        ensures counts { CountsBy (record nothing { failed = is_failed result; started = is_ok result && not self.old.started }) (told_by self.old) (told_by self.new) }
+        ensures counts { CountsBy
+            (record nothing {
+              failed = is_failed result;
+              started = is_ok result && not self.old.started;
+            }) (told_by self.old)
+            (told_by self.new) }
     {
         if self.started {
             return Ok(());
@@ -137,14 +143,31 @@ impl Port for MemoryPort {
     fn take(&mut self, into: &mut [u8]) -> Result<Took, Trouble>
         requires { 0 < length into.old }
 
-        ensures answer { result ≡ answer_of (length into.old) (upcoming self.old.script.past self.old.script.rest) }
-        ensures brought { take (length (brought_by (length into.old) (upcoming self.old.script.past self.old.script.rest))) into.new ≡ brought_by (length into.old) (upcoming self.old.script.past self.old.script.rest) }
-        ensures steps { self.new.script.rest ≡ rest_after (length into.old) (upcoming self.old.script.past self.old.script.rest) }
-        ensures after { self.new ≡ record self.old { script = self.new.script; over = over_after self.old.over result; faults = raised self.old.faults (is_failed result); idles = raised self.old.idles (is_idle result) } }
+        ensures answer { result ≡ answer_of (length into.old)
+            (upcoming self.old.script.past self.old.script.rest) }
+        ensures brought { take
+            (length
+            (brought_by (length into.old) (upcoming self.old.script.past self.old.script.rest)))
+            into.new
+            ≡ brought_by (length into.old) (upcoming self.old.script.past self.old.script.rest) }
+        ensures steps { self.new.script.rest
+            ≡ rest_after (length into.old) (upcoming self.old.script.past self.old.script.rest) }
+        ensures after { self.new
+            ≡ record
+            self.old {
+              script = self.new.script;
+              over = over_after self.old.over result;
+              faults = raised self.old.faults (is_failed result);
+              idles = raised self.old.idles (is_idle result);
+            } }
 
         ensures within { IfOk result (IsWithin (length into.old)) }
-        ensures taken { (stream : ℕ) → Grows ((told_by self.old).taken stream) ((told_by self.new).taken stream) (piece_of stream result into.new) }
-        ensures left { (stream : ℕ) → Shrinks ((told_by self.old).left stream) ((told_by self.new).left stream) (piece_of stream result into.new) }
+        ensures taken { (stream : ℕ) →
+            Grows ((told_by self.old).taken stream) ((told_by self.new).taken stream)
+            (piece_of stream result into.new) }
+        ensures left { (stream : ℕ) →
+            Shrinks ((told_by self.old).left stream) ((told_by self.new).left stream)
+            (piece_of stream result into.new) }
         ensures ended { (told_by self.new).ended ≡ (told_by self.old).ended ++ ended_by result }
         ensures open { IfOk result (IsOfOpen (told_by self.old).ended) }
         ensures over { self.new.over ≡ over_after self.old.over result }
@@ -156,7 +179,9 @@ impl Port for MemoryPort {
         ensures idle { HasIdle self.old.idles self.new.idles result }
         ensures unrefused { result ≢ Err Trouble.Refused }
         ensures refusals { self.old.refusals ≤ self.new.refusals }
-        ensures counts { CountsBy (record nothing { failed = is_failed result; idle = is_idle result }) (told_by self.old) (told_by self.new) }
+        ensures counts { CountsBy
+            (record nothing { failed = is_failed result; idle = is_idle result }) (told_by self.old)
+            (told_by self.new) }
     {
         let answer = self.script.take(into);
         self.over = has_ended_all(self.over, &answer);
@@ -169,17 +194,28 @@ impl Port for MemoryPort {
         requires { 0 < length bytes.now }
 
         ensures answer { AnswersOrWants result (give_answer (first_act self.old.acts) bytes.now) }
-        ensures after { self.new ≡ record self.old { acts = later_acts self.old.acts; given = self.old.given ++ part_of result bytes.now; faults = raised self.old.faults (is_failed result); refusals = raised self.old.refusals (is_refused result) } }
+        ensures after { self.new
+            ≡ record
+            self.old {
+              acts = later_acts self.old.acts;
+              given = self.old.given ++ part_of result bytes.now;
+              faults = raised self.old.faults (is_failed result);
+              refusals = raised self.old.refusals (is_refused result);
+            } }
 
         ensures some { IfOk result (λ n. 0 < n) }
         ensures within { IfOk result (λ n. n ≤ length bytes.now) }
-        ensures given { Grows (told_by self.old).given (told_by self.new).given (part_of result bytes.now) }
-        ensures rest { SameBytes (record (told_by self.old) { given = (told_by self.new).given }) (told_by self.new) }
+        ensures given { Grows (told_by self.old).given (told_by self.new).given
+            (part_of result bytes.now) }
+        ensures rest { SameBytes (record (told_by self.old) { given = (told_by self.new).given })
+            (told_by self.new) }
         ensures started { self.new.started ≡ self.old.started }
         ensures cause { HasCause self.old.faults self.new.faults result }
         ensures refusal { HasRefusal self.old.refusals self.new.refusals result }
         ensures idles { self.old.idles ≤ self.new.idles }
-        ensures counts { CountsBy (record nothing { failed = is_failed result; refused = is_refused result }) (told_by self.old) (told_by self.new) }
+        ensures counts { CountsBy
+            (record nothing { failed = is_failed result; refused = is_refused result })
+            (told_by self.old) (told_by self.new) }
     {
         let act = self.acts.next();
         let answer = give_by(act, bytes, &mut self.given);
@@ -190,14 +226,26 @@ impl Port for MemoryPort {
 
     fn finish(&mut self) -> Result<(), Trouble>
         ensures answer { result ≡ finish_answer (first_act self.old.acts) }
-        ensures after { self.new ≡ record self.old { acts = later_acts self.old.acts; faults = raised self.old.faults (is_failed result); refusals = raised self.old.refusals (is_refused result); finishes = raised self.old.finishes (is_ok result) } }
+        ensures after { self.new
+            ≡ record
+            self.old {
+              acts = later_acts self.old.acts;
+              faults = raised self.old.faults (is_failed result);
+              refusals = raised self.old.refusals (is_refused result);
+              finishes = raised self.old.finishes (is_ok result);
+            } }
 
         ensures bytes { SameBytes (told_by self.old) (told_by self.new) }
         ensures started { self.new.started ≡ self.old.started }
         ensures cause { HasCause self.old.faults self.new.faults result }
         ensures refusal { HasRefusal self.old.refusals self.new.refusals result }
         ensures idles { self.old.idles ≤ self.new.idles }
-        ensures counts { CountsBy (record nothing { failed = is_failed result; refused = is_refused result; finished = is_ok result }) (told_by self.old) (told_by self.new) }
+        ensures counts { CountsBy
+            (record nothing {
+              failed = is_failed result;
+              refused = is_refused result;
+              finished = is_ok result;
+            }) (told_by self.old) (told_by self.new) }
     {
         let answer = answer_finish(self.acts.next());
         self.faults = count_if(self.faults, has_failed(&answer));
@@ -208,17 +256,29 @@ impl Port for MemoryPort {
 
     fn confirm(&mut self, positions: &PositionList) -> Result<(), Trouble>
         ensures answer { AnswersOrWants result (plain_answer (first_act self.old.acts)) }
-        ensures after { self.new ≡ record self.old { acts = later_acts self.old.acts; confirmed = confirmed_after self.old.confirmed result positions.now; faults = raised self.old.faults (is_failed result); confirms = raised self.old.confirms (is_ok result) } }
+        ensures after { self.new
+            ≡ record
+            self.old {
+              acts = later_acts self.old.acts;
+              confirmed = confirmed_after self.old.confirmed result positions.now;
+              faults = raised self.old.faults (is_failed result);
+              confirms = raised self.old.confirms (is_ok result);
+            } }
 
-        ensures ok { OnOk result (Grows (told_by self.old).confirmed (told_by self.new).confirmed positions.now) }
+        ensures ok { OnOk result
+            (Grows (told_by self.old).confirmed (told_by self.new).confirmed positions.now) }
         ensures err { OnErr result ((told_by self.new).confirmed ≡ (told_by self.old).confirmed) }
-        ensures rest { SameBytes (record (told_by self.old) { confirmed = (told_by self.new).confirmed }) (told_by self.new) }
+        ensures rest { SameBytes
+            (record (told_by self.old) { confirmed = (told_by self.new).confirmed })
+            (told_by self.new) }
         ensures started { self.new.started ≡ self.old.started }
         ensures cause { HasCause self.old.faults self.new.faults result }
         ensures unrefused { result ≢ Err Trouble.Refused }
         ensures idles { self.old.idles ≤ self.new.idles }
         ensures refusals { self.old.refusals ≤ self.new.refusals }
-        ensures counts { CountsBy (record nothing { failed = is_failed result; confirmed = is_ok result }) (told_by self.old) (told_by self.new) }
+        ensures counts { CountsBy
+            (record nothing { failed = is_failed result; confirmed = is_ok result })
+            (told_by self.old) (told_by self.new) }
     {
         let act = self.acts.next();
         let answer = confirm_by(self.alloc, act, positions, &mut self.confirmed);

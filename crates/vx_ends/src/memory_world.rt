@@ -58,7 +58,8 @@ fn find_text<'a>(configs: &'a [Config], path: &str) -> Option<&'a Bytes>
 fn find_script(scripts: &[Scripted], name: &str) -> Option<usize>
     ensures within { IfSome result (λ i. i < length scripts.now) }
     ensures some { IfSome result (λ i. script_for scripts.now name.now ≡ slice_get scripts.now i) }
-    ensures left { IfSome result (λ i. scripts_without scripts.now name.now ≡ remove scripts.now i) }
+    ensures left { IfSome result
+        (λ i. scripts_without scripts.now name.now ≡ remove scripts.now i) }
     ensures none { IfNone result (script_for scripts.now name.now ≡ None) }
     ensures all { IfNone result (scripts_without scripts.now name.now ≡ scripts.now) }
 {
@@ -113,12 +114,19 @@ impl World for MemoryWorld {
 
     fn config(&mut self, path: &str) -> Result<Bytes, Trouble>
         // It fails exactly where no text has the path.
-        ensures missing { IsErrOf result Trouble.Failed ↔ (text_at self.old.configs path.now ≡ None) }
-        ensures after { self.new ≡ record self.old { faults = raised self.old.faults (is_failed result); calls = call.Config path.now ∷ self.old.calls } }
+        ensures missing { IsErrOf result Trouble.Failed
+            ↔ (text_at self.old.configs path.now ≡ None) }
+        ensures after { self.new
+            ≡ record
+            self.old {
+              faults = raised self.old.faults (is_failed result);
+              calls = call.Config path.now ∷ self.old.calls;
+            } }
 
         ensures text { IfOk result (IsTextAt (Some self.old.configs) path.now) }
         ensures texts { Some self.new.configs ≡ Some self.old.configs }
-        ensures calls { Grows (Some (reverse self.old.calls)) (Some (reverse self.new.calls)) (call.Config path.now ∷ []) }
+        ensures calls { Grows (Some (reverse self.old.calls)) (Some (reverse self.new.calls))
+            (call.Config path.now ∷ []) }
         ensures cause { HasCause self.old.faults self.new.faults result }
         ensures unrefused { result ≢ Err Trouble.Refused }
     {
@@ -137,13 +145,24 @@ impl World for MemoryWorld {
 
     fn port(&mut self, spec: &PortSpec) -> Result<MemoryPort, WantOfMemory>
         // The port plays the next script of its name.
-        ensures script { IfOk result (λ port. port ≡ closed_port (Some spec.now) (steps_of (script_for self.old.scripts spec.now.name)) (acts_of (script_for self.old.scripts spec.now.name))) }
-        ensures ok { OnOk result (self.new ≡ record self.old { scripts = scripts_without self.old.scripts spec.now.name; calls = call.Port spec.now ∷ self.old.calls }) }
-        ensures err { OnErr result (self.new ≡ record self.old { calls = call.Port spec.now ∷ self.old.calls }) }
+        ensures script { IfOk result
+            (λ port. port
+            ≡ closed_port (Some spec.now) (steps_of (script_for self.old.scripts spec.now.name))
+            (acts_of (script_for self.old.scripts spec.now.name))) }
+        ensures ok { OnOk result
+            (self.new
+            ≡ record
+            self.old {
+              scripts = scripts_without self.old.scripts spec.now.name;
+              calls = call.Port spec.now ∷ self.old.calls;
+            }) }
+        ensures err { OnErr result
+            (self.new ≡ record self.old { calls = call.Port spec.now ∷ self.old.calls }) }
 
         ensures fresh { IfOk result (λ port. IsFresh spec.now (told_by port)) }
         ensures texts { Some self.new.configs ≡ Some self.old.configs }
-        ensures calls { Grows (Some (reverse self.old.calls)) (Some (reverse self.new.calls)) (call.Port spec.now ∷ []) }
+        ensures calls { Grows (Some (reverse self.old.calls)) (Some (reverse self.new.calls))
+            (call.Port spec.now ∷ []) }
         ensures faults { self.new.faults ≡ self.old.faults }
     {
         self.calls.note(&spec);

@@ -37,14 +37,19 @@ impl Script {
     /// Answers a take by the next step that isn't passed over.
     pub fn take(&mut self, into: &mut [u8]) -> Result<Took, Trouble>
         requires { 0 < length into.old }
-        ensures answer { result ≡ answer_of (length into.old) (upcoming self.old.past self.old.rest) }
-        ensures brought { take (length (brought_by (length into.old) (upcoming self.old.past self.old.rest))) into.new ≡ brought_by (length into.old) (upcoming self.old.past self.old.rest) }
-        ensures rest { self.new.rest ≡ rest_after (length into.old) (upcoming self.old.past self.old.rest) }
+        ensures answer { result ≡ answer_of (length into.old)
+            (upcoming self.old.past self.old.rest) }
+        ensures brought { take
+            (length (brought_by (length into.old) (upcoming self.old.past self.old.rest))) into.new
+            ≡ brought_by (length into.old) (upcoming self.old.past self.old.rest) }
+        ensures rest { self.new.rest
+            ≡ rest_after (length into.old) (upcoming self.old.past self.old.rest) }
         ensures told { Tells self.old self.new result into.new }
         ensures within { IfOk result (IsWithin (length into.old)) }
         ensures live { IfOk result (IsOfOpen (ends_of self.old.past)) }
         ensures all_ended { result ≡ Ok Took.AllEnded → self.new.rest ≡ [] }
-        ensures stream_ended { (stream : ℕ) → result ≡ Ok (Took.StreamEnded stream) → left_of stream self.new ≡ [] }
+        ensures stream_ended { (stream : ℕ) → result ≡ Ok (Took.StreamEnded stream) →
+            left_of stream self.new ≡ [] }
     {
         let place = live_place(self.steps.as_slice(), self.place);
         let (answer, behind) = play(self.steps.as_slice(), place, into);
@@ -86,7 +91,8 @@ fn ends_within(steps: &[Step], stream: u64) -> bool
 // Whether the step at a place is passed over.
 fn is_passed_at(steps: &[Step], place: Place) -> bool
     requires { place.step < length steps.now }
-    ensures { result ≡ passes_first (progress_of steps.now place.step place.offset).past (progress_of steps.now place.step place.offset).rest }
+    ensures { result ≡ passes_first (progress_of steps.now place.step place.offset).past
+        (progress_of steps.now place.step place.offset).rest }
 {
     match &steps[place.step] {
         Step::Bytes { stream, bytes } => {
@@ -99,9 +105,13 @@ fn is_passed_at(steps: &[Step], place: Place) -> bool
 
 // The next place at which a step isn't passed over.
 fn live_place(steps: &[Step], from: Place) -> Place
-    ensures past { SameTold (progress_of steps.now from.step from.offset).past (progress_of steps.now result.step result.offset).past }
-    ensures rest { (progress_of steps.now result.step result.offset).rest ≡ upcoming (progress_of steps.now from.step from.offset).past (progress_of steps.now from.step from.offset).rest }
-    ensures live { passes_first (progress_of steps.now result.step result.offset).past (progress_of steps.now result.step result.offset).rest ≡ false }
+    ensures past { SameTold (progress_of steps.now from.step from.offset).past
+        (progress_of steps.now result.step result.offset).past }
+    ensures rest { (progress_of steps.now result.step result.offset).rest
+        ≡ upcoming (progress_of steps.now from.step from.offset).past
+        (progress_of steps.now from.step from.offset).rest }
+    ensures live { passes_first (progress_of steps.now result.step result.offset).past
+        (progress_of steps.now result.step result.offset).rest ≡ false }
 {
     let mut place = from;
     while place.step < steps.len() && is_passed_at(steps, place) {
@@ -129,11 +139,18 @@ fn copy_from(bytes: &[u8], offset: usize, into: &mut [u8]) -> u32
 // What a take answers at a place, and the place behind it.
 fn play(steps: &[Step], place: Place, into: &mut [u8]) -> (Result<Took, Trouble>, Place)
     requires room { 0 < length into.old }
-    requires live { passes_first (progress_of steps.now place.step place.offset).past (progress_of steps.now place.step place.offset).rest ≡ false }
-    ensures answer { result.0 ≡ answer_of (length into.old) (progress_of steps.now place.step place.offset).rest }
-    ensures brought { take (length (brought_by (length into.old) (progress_of steps.now place.step place.offset).rest)) into.new ≡ brought_by (length into.old) (progress_of steps.now place.step place.offset).rest }
-    ensures rest { (progress_of steps.now result.1.step result.1.offset).rest ≡ rest_after (length into.old) (progress_of steps.now place.step place.offset).rest }
-    ensures told { Tells (progress_of steps.now place.step place.offset) (progress_of steps.now result.1.step result.1.offset) result.0 into.new }
+    requires live { passes_first (progress_of steps.now place.step place.offset).past
+        (progress_of steps.now place.step place.offset).rest ≡ false }
+    ensures answer { result.0
+        ≡ answer_of (length into.old) (progress_of steps.now place.step place.offset).rest }
+    ensures brought { take
+        (length (brought_by (length into.old) (progress_of steps.now place.step place.offset).rest))
+        into.new
+        ≡ brought_by (length into.old) (progress_of steps.now place.step place.offset).rest }
+    ensures rest { (progress_of steps.now result.1.step result.1.offset).rest
+        ≡ rest_after (length into.old) (progress_of steps.now place.step place.offset).rest }
+    ensures told { Tells (progress_of steps.now place.step place.offset)
+        (progress_of steps.now result.1.step result.1.offset) result.0 into.new }
 {
     if place.step >= steps.len() {
         return (Ok(Took::AllEnded), place);

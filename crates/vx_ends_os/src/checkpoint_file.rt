@@ -52,7 +52,9 @@ fn folder_of(place: &str) -> &str {
 // The checkpoint in the bytes of a document; none where there is no document.
 fn checkpoint_in(alloc: Global, bytes: Option<Vec<u8>>) -> Result<Option<Checkpoint>, Fault>
     ensures none { bytes ≡ None → result ≡ Ok None }
-    ensures some { IfSome bytes (λ bytes. IfOk result (λ kept. IsSomeAnd kept (λ kept. Says bytes.items (Mark kept.path kept.offset)))) }
+    ensures some { IfSome bytes
+        (λ bytes. IfOk result
+        (λ kept. IsSomeAnd kept (λ kept. Says bytes.items (Mark kept.path kept.offset)))) }
 {
     match bytes {
         Some(bytes) => Ok(Some(vx_checkpoint::read(alloc, bytes.as_slice())?)),
@@ -165,7 +167,8 @@ impl CheckpointFile {
     /// Where that can't be written, it is written where reading begins anew the next time, or the next confirm writes what
     /// is due then.
     pub(crate) fn forget(&mut self)
-        ensures offset { (self.new.mark.offset ≡ 0) ⊎ (self.new.mark.offset ≡ self.old.mark.offset) }
+        ensures offset { (self.new.mark.offset ≡ 0)
+            ⊎ (self.new.mark.offset ≡ self.old.mark.offset) }
         ensures same { SameDocument self.old self.new }
     {
         if self.mark.offset > 0 {

@@ -46,7 +46,8 @@ impl Device {
 
     /// Makes the device ready.
     pub(crate) fn start(&mut self) -> Result<(), Fault>
-        ensures { IfSome (file_of self.old) (λ was. IfSome was.place (λ _. IsSomeAnd (file_of self.new) (SaysNoMore was))) }
+        ensures { IfSome (file_of self.old)
+            (λ was. IfSome was.place (λ _. IsSomeAnd (file_of self.new) (SaysNoMore was))) }
     {
         match self {
             Device::Input(_) | Device::Output(_) => Ok(()),
@@ -98,7 +99,9 @@ impl Device {
 
     /// Notes how far its stream is done with, where it keeps that.
     pub(crate) fn confirm(&mut self, positions: &PositionList) -> Result<(), Fault>
-        ensures { OnOk result (IfSome (file_of self.old) (λ was. IsSomeAnd (file_of self.new) (SaysEnd positions.now was))) }
+        ensures { OnOk result
+            (IfSome (file_of self.old)
+            (λ was. IsSomeAnd (file_of self.new) (SaysEnd positions.now was))) }
     {
         match self {
             Device::Input(_) | Device::Output(_) | Device::FileOut(_) => Ok(()),

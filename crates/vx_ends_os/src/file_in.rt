@@ -100,7 +100,9 @@ impl FileIn {
     /// After a close it goes on at its place, and begins anew where the file is shorter.
     pub(crate) fn start(&mut self) -> Result<(), Fault>
         ensures taken { taken_of self.new.place ≡ taken_of self.old.place }
-        ensures first { self.old.place ≡ None → IfSome self.new.place (λ place. (next_of place ≡ said_of self.new) ⊎ (next_of place ≡ 0)) }
+        ensures first { self.old.place ≡ None →
+            IfSome self.new.place
+            (λ place. (next_of place ≡ said_of self.new) ⊎ (next_of place ≡ 0)) }
         ensures later { IfSome self.old.place (λ place. GoesOn place self.new.place) }
         ensures document { IfSome self.old.place (λ _. SaysNoMore self.old self.new) }
         ensures same { SameFile self.old self.new }
@@ -213,9 +215,12 @@ impl FileIn {
 
     // Goes on behind bytes that were read.
     fn took(&mut self, mut place: Place, bytes: &[u8])
-        ensures place { self.new.place ≡ Some (record place { taken = more place.taken (length bytes.now) }) }
-        ensures line { IsTrue self.new.in_line ↔ (slice_get bytes.now (length bytes.now - 1) ≢ Some 10) }
-        ensures rest { self.new ≡ record self.old { place = self.new.place; in_line = self.new.in_line } }
+        ensures place { self.new.place
+            ≡ Some (record place { taken = more place.taken (length bytes.now) }) }
+        ensures line { IsTrue self.new.in_line
+            ↔ (slice_get bytes.now (length bytes.now - 1) ≢ Some 10) }
+        ensures rest { self.new
+            ≡ record self.old { place = self.new.place; in_line = self.new.in_line } }
     {
         place.took(bytes.len() as u64);
         self.place = Some(place);
@@ -284,10 +289,14 @@ impl FileIn {
         requires room { 0 < length into.old }
         requires place { self.old.place ≡ Some place }
         ensures within { IsInRoom (length into.old) result }
-        ensures place { self.new.place ≡ Some (after_look self.old.in_line self.old.succeeded look place) }
+        ensures place { self.new.place
+            ≡ Some (after_look self.old.in_line self.old.succeeded look place) }
         ensures taken { taken_of self.new.place ≡ after_read place.taken result }
-        ensures succeeded { self.new.succeeded ≡ (is_other (next_of place) look && not self.old.succeeded) }
-        ensures file { self.new.file ≡ (if is_other (next_of place) look && self.old.succeeded then None else self.old.file) }
+        ensures succeeded { self.new.succeeded
+            ≡ (is_other (next_of place) look && not self.old.succeeded) }
+        ensures file { self.new.file
+            ≡ (if is_other (next_of place) look
+            && self.old.succeeded then None else self.old.file) }
         ensures goes_on { result ≢ Drawn.End }
         ensures document { SaysNoMore self.old self.new }
         ensures same { SameFile self.old self.new }
@@ -341,7 +350,11 @@ impl FileIn {
     /// can't be put there, the document may say what it did.
     pub(crate) fn confirm(&mut self, positions: &PositionList) -> Result<(), Fault>
         ensures ok { OnOk result (SaysEnd positions.now self.old self.new) }
-        ensures err { OnErr result (IfSome (greatest_end positions.now) (λ end. IfSome self.old.place (λ place. said_of self.new ≡ max (said_of self.old) (offset_at place.from place.base end)))) }
+        ensures err { OnErr result
+            (IfSome (greatest_end positions.now)
+            (λ end. IfSome self.old.place
+            (λ place. said_of self.new
+            ≡ max (said_of self.old) (offset_at place.from place.base end)))) }
         ensures kept { greatest_end positions.now ≡ None → self.new ≡ self.old }
         ensures unstarted { self.old.place ≡ None → self.new ≡ self.old }
         ensures same { SameFile self.old self.new }

@@ -85,13 +85,19 @@ impl Port for OsPort {
 
         ensures started { OnOk result (IsTrue (told_of self.new).started) }
         ensures closed { OnErr result ((told_of self.new).started ≡ (told_of self.old).started) }
-        ensures again { IsTrue (told_of self.old).started → IsOk result × (told_of self.new ≡ told_of self.old) }
+        ensures again { IsTrue (told_of self.old).started →
+            IsOk result × (told_of self.new ≡ told_of self.old) }
         ensures bytes { SameBytes (told_of self.old) (told_of self.new) }
         ensures cause { HasCause (told_of self.old).faults (told_of self.new).faults result }
         ensures unrefused { result ≢ Err Trouble.Refused }
         ensures idles { (told_of self.old).idles ≤ (told_of self.new).idles }
         ensures refusals { (told_of self.old).refusals ≤ (told_of self.new).refusals }
-        ensures counts { CountsBy (record nothing { failed = is_failed result; started = is_ok result && not (told_of self.old).started }) (told_of self.old) (told_of self.new) }
+        ensures counts { CountsBy
+            (record nothing {
+              failed = is_failed result;
+              started = is_ok result && not (told_of self.old).started;
+            }) (told_of self.old)
+            (told_of self.new) }
     {
         if self.started {
             return Ok(());

@@ -71,7 +71,8 @@ impl World for OsWorld {
         // The count of faults stays where the text was read.
         ensures kept { OnOk result (faults_of self.new ≡ faults_of self.old) }
 
-        ensures calls { Grows (Some (calls_of self.old)) (Some (calls_of self.new)) (call.Config path.now ∷ []) }
+        ensures calls { Grows (Some (calls_of self.old)) (Some (calls_of self.new))
+            (call.Config path.now ∷ []) }
         ensures cause { HasCause (faults_of self.old) (faults_of self.new) result }
         ensures unrefused { result ≢ Err Trouble.Refused }
     {
@@ -91,7 +92,8 @@ impl World for OsWorld {
         ensures device { IfOk result (StandsOn spec.now.form) }
 
         ensures fresh { IfOk result (λ port. IsFresh spec.now (⟦<OsPort as Port>⟧.told port)) }
-        ensures calls { Grows (Some (calls_of self.old)) (Some (calls_of self.new)) (call.Port spec.now ∷ []) }
+        ensures calls { Grows (Some (calls_of self.old)) (Some (calls_of self.new))
+            (call.Port spec.now ∷ []) }
         ensures faults { faults_of self.new ≡ faults_of self.old }
     {
         self.calls.note(&spec);

@@ -54,13 +54,20 @@ impl Advance {
     ) -> Result<(), WantOfMemory>
         requires held { length self.old.left.held ≤ limit + 1 }
         requires overlong { self.old.overlong ≡ capped self.old.overlong }
-        ensures lines { OnOk result (self.new.lines ≡ self.old.lines ++ map (line_of stream) (kept limit (record {
-          bytes = take (limit + 1) (self.old.left.held ++ part.now);
-          end = capped (self.old.left.seen + length part.now + 1);
-        }) [])) }
-        ensures overlong { OnOk result (self.new.overlong
-            ≡ capped (counted limit (take (limit + 1) (self.old.left.held ++ part.now)) self.old.overlong)) }
-        ensures seen { OnOk result (self.new.left.seen ≡ capped (self.old.left.seen + length part.now + 1)) }
+        ensures lines { OnOk result
+            (self.new.lines ≡ self.old.lines
+            ++ map (line_of stream)
+            (kept limit
+            (record {
+              bytes = take (limit + 1) (self.old.left.held ++ part.now);
+              end = capped (self.old.left.seen + length part.now + 1);
+            }) [])) }
+        ensures overlong { OnOk result
+            (self.new.overlong
+            ≡ capped
+            (counted limit (take (limit + 1) (self.old.left.held ++ part.now)) self.old.overlong)) }
+        ensures seen { OnOk result
+            (self.new.left.seen ≡ capped (self.old.left.seen + length part.now + 1)) }
         ensures held { OnOk result (self.new.left.held ≡ []) }
     {
         let room = limit as usize + 1;
@@ -94,8 +101,10 @@ impl Advance {
         bytes: &[u8],
     ) -> Result<Advance, WantOfMemory>
         requires { length left.held ≤ limit + 1 }
-        ensures lines { IfOk result (λ a. a.lines ≡ map (line_of stream) (lines_behind limit false left bytes.now)) }
-        ensures overlong { IfOk result (λ a. a.overlong ≡ capped (overlong + overlong_behind limit false left bytes.now)) }
+        ensures lines { IfOk result
+            (λ a. a.lines ≡ map (line_of stream) (lines_behind limit false left bytes.now)) }
+        ensures overlong { IfOk result
+            (λ a. a.overlong ≡ capped (overlong + overlong_behind limit false left bytes.now)) }
         ensures left { IfOk result (λ a. a.left ≡ left_behind limit left bytes.now) }
     {
         let room = limit as usize + 1;

@@ -73,7 +73,8 @@ impl Framer {
         ensures place { OnOk result (IsTrue (has_place self.new stream)) }
         ensures limit { self.new.limit ≡ self.old.limit }
         ensures overlong { self.new.overlong ≡ self.old.overlong }
-        ensures others { (other : ℕ) → other ≢ stream → unfinished self.new other ≡ unfinished self.old other }
+        ensures others { (other : ℕ) → other ≢ stream →
+            unfinished self.new other ≡ unfinished self.old other }
         ensures err { OnErr result (IsSameFraming self.old self.new) }
     {
         let beginning = Unfinished::nothing(self.alloc, 0);
@@ -91,7 +92,8 @@ impl Framer {
         ensures back { unfinished self.new stream ≡ left }
         ensures limit { self.new.limit ≡ self.old.limit }
         ensures overlong { self.new.overlong ≡ self.old.overlong }
-        ensures others { (other : ℕ) → other ≢ stream → unfinished self.new other ≡ unfinished self.old other }
+        ensures others { (other : ℕ) → other ≢ stream →
+            unfinished self.new other ≡ unfinished self.old other }
     {
         match self.streams.insert(stream, left) {
             Ok(_) => {}
@@ -114,7 +116,8 @@ impl Framer {
             + overlong_behind self.old.limit false (unfinished self.old stream) bytes.now)) }
         ensures left { OnOk result (unfinished self.new stream
             ≡ left_behind self.old.limit (unfinished self.old stream) bytes.now) }
-        ensures others { (other : ℕ) → other ≢ stream → unfinished self.new other ≡ unfinished self.old other }
+        ensures others { (other : ℕ) → other ≢ stream →
+            unfinished self.new other ≡ unfinished self.old other }
         ensures err { OnErr result (IsSameFraming self.old self.new) }
         ensures err_out { OnErr result (out.new ≡ out.old) }
 
@@ -124,9 +127,11 @@ impl Framer {
         ensures frames { OnOk result ((taken : List ℕ) → HasTaken self.old stream taken →
             frames (taken ++ bytes.now) self.old.limit false ≡ frames taken self.old.limit false
             ++ lines_behind self.old.limit false (unfinished self.old stream) bytes.now) }
-        ensures discarded { OnOk result ((taken : List ℕ) → HasTaken self.old stream taken →
-            discarded (taken ++ bytes.now) self.old.limit false ≡ discarded taken self.old.limit false
-            + overlong_behind self.old.limit false (unfinished self.old stream) bytes.now) }
+        ensures discarded { OnOk result
+            ((taken : List ℕ) → HasTaken self.old stream taken →
+            discarded (taken ++ bytes.now) self.old.limit false
+            ≡ discarded taken self.old.limit false + overlong_behind self.old.limit false
+            (unfinished self.old stream) bytes.now) }
     {
         let mut left = self.take_out(stream)?;
         let taken = take_piece(
@@ -157,7 +162,8 @@ impl Framer {
         ensures overlong { OnOk result (self.new.overlong ≡ capped (self.old.overlong
             + overlong_behind self.old.limit true (unfinished self.old stream) [])) }
         ensures left { OnOk result (unfinished self.new stream ≡ untouched) }
-        ensures others { (other : ℕ) → other ≢ stream → unfinished self.new other ≡ unfinished self.old other }
+        ensures others { (other : ℕ) → other ≢ stream →
+            unfinished self.new other ≡ unfinished self.old other }
         ensures err { OnErr result (IsSameFraming self.old self.new) }
         ensures err_out { OnErr result (out.new ≡ out.old) }
 

@@ -37,8 +37,10 @@ fn give_lines(
     more: LineList,
     out: &mut LineList,
 ) -> Result<(), WantOfMemory>
-    ensures ok { OnOk result (out.new ≡ out.old
-        ++ (map (line_of stream) (kept limit (record { bytes = whole.old.held; end = whole.old.seen }) []) ++ more)) }
+    ensures ok { OnOk result
+        (out.new ≡ out.old
+        ++ (map (line_of stream)
+        (kept limit (record { bytes = whole.old.held; end = whole.old.seen }) []) ++ more)) }
     ensures err_whole { OnErr result (whole.new ≡ whole.old) }
     ensures err_out { OnErr result (out.new ≡ out.old) }
 {
@@ -122,7 +124,8 @@ pub fn take_piece(
     requires { length left.old.held ≤ limit + 1 }
     ensures lines { OnOk result (out.new ≡ out.old
         ++ map (line_of stream) (lines_behind limit false left.old bytes.now)) }
-    ensures overlong { IfOk result (λ n. n ≡ capped (overlong + overlong_behind limit false left.old bytes.now)) }
+    ensures overlong { IfOk result
+        (λ n. n ≡ capped (overlong + overlong_behind limit false left.old bytes.now)) }
     ensures left { OnOk result (left.new ≡ left_behind limit left.old bytes.now) }
     ensures err_left { OnErr result (left.new ≡ left.old) }
     ensures err_out { OnErr result (out.new ≡ out.old) }

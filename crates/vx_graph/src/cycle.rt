@@ -45,7 +45,8 @@ pub fn find_cycle(
 ) -> Result<Option<TextList>, WantOfMemory>
     requires { rows.now ≡ rows_of nodes.now }
     ensures { IfOk result
-        (λ found. MatchOption found ((texts : List Word) → IsCycle nodes.now texts → ⊥) (λ texts. IsCycle nodes.now texts)) }
+        (λ found. MatchOption found ((texts : List Word) → IsCycle nodes.now texts → ⊥)
+        (λ texts. IsCycle nodes.now texts)) }
 {
     let marks = settled(alloc, rows)?;
     match first_unmarked(marks.as_slice()) {

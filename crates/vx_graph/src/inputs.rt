@@ -19,7 +19,8 @@ fn lacks_inputs(node: &Node) -> bool
 
 /// The name of the first component that must read somebody and has no input.
 pub fn first_bare(nodes: &[Node]) -> Option<&str>
-    ensures { MatchOption result (first_bare nodes.now ≡ None) (λ name. first_bare nodes.now ≡ Some name.now) }
+    ensures { MatchOption result (first_bare nodes.now ≡ None)
+        (λ name. first_bare nodes.now ≡ Some name.now) }
 {
     for node in nodes {
         if lacks_inputs(node) {
@@ -32,7 +33,8 @@ pub fn first_bare(nodes: &[Node]) -> Option<&str>
 /// A component's first input that means no output.
 fn unknown_in<'a>(nodes: &[Node], outputs: &[TextList], reader: &'a Node) -> Option<&'a str>
     requires { outputs.now ≡ map outputs_of nodes.now }
-    ensures { MatchOption result (unknown_in nodes.now reader.now ≡ None) (λ input. unknown_in nodes.now reader.now ≡ Some input.now) }
+    ensures { MatchOption result (unknown_in nodes.now reader.now ≡ None)
+        (λ input. unknown_in nodes.now reader.now ≡ Some input.now) }
 {
     for input in reader.inputs.as_slice() {
         if !is_known(nodes, outputs, reader.name.as_str(), input.as_str()) {
@@ -46,7 +48,8 @@ fn unknown_in<'a>(nodes: &[Node], outputs: &[TextList], reader: &'a Node) -> Opt
 pub fn first_unknown<'a>(nodes: &'a [Node], outputs: &[TextList]) -> Option<(&'a str, &'a str)>
     requires { outputs.now ≡ map outputs_of nodes.now }
     ensures { MatchOption result (first_unknown nodes.now ≡ None)
-        (λ found. first_unknown nodes.now ≡ Some (record { reader = found.0.now; input = found.1.now })) }
+        (λ found. first_unknown nodes.now
+        ≡ Some (record { reader = found.0.now; input = found.1.now })) }
 {
     for reader in nodes {
         if let Some(input) = unknown_in(nodes, outputs, reader) {

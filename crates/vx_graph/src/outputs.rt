@@ -182,7 +182,9 @@ fn row_of(
     texts: &[Text],
 ) -> Result<ItemList<bool>, WantOfMemory>
     ensures { IfOk result
-        (λ row. row ≡ map (λ (reader : Node). list_any (λ text. reads_output reader owner.now text) texts.now) nodes.now) }
+        (λ row. row
+        ≡ map (λ (reader : Node). list_any (λ text. reads_output reader owner.now text) texts.now)
+        nodes.now) }
 {
     let mut row = ItemList::new(alloc);
     for node in nodes {

@@ -57,7 +57,8 @@ fn first_of(text: &[u8]) -> Option<(u8, &[u8])>
 
 /// The first byte of a text, and what follows it.
 fn next<'a>(left: Left<'a>) -> Option<(u8, Left<'a>)>
-    ensures { MatchOption result (left_text left.entry ≡ []) (λ found. left_text left.entry ≡ found.0 ∷ left_text found.1) }
+    ensures { MatchOption result (left_text left.entry ≡ [])
+        (λ found. left_text left.entry ≡ found.0 ∷ left_text found.1) }
 {
     match left.name {
         [c, name @ ..] => Some((*c, Left { name, ..left })),
@@ -111,7 +112,8 @@ fn compare<'a>(form: &'a [u8], text: Left<'a>) -> Turn<'a>
 
 /// The last byte of some.
 fn last_of(text: &[u8]) -> Option<u8>
-    ensures { MatchOption result (text.now ≡ []) (λ last. (front : Word) × (text.now ≡ front ++ last ∷ [])) }
+    ensures { MatchOption result (text.now ≡ [])
+        (λ last. (front : Word) × (text.now ≡ front ++ last ∷ [])) }
 {
     match text {
         [.., last] => Some(*last),
@@ -121,7 +123,8 @@ fn last_of(text: &[u8]) -> Option<u8>
 
 /// The last byte of a text.
 fn last_left(text: Left) -> Option<u8>
-    ensures { MatchOption result (left_text text.entry ≡ []) (λ last. (front : Word) × (left_text text.entry ≡ front ++ last ∷ [])) }
+    ensures { MatchOption result (left_text text.entry ≡ [])
+        (λ last. (front : Word) × (left_text text.entry ≡ front ++ last ∷ [])) }
 {
     match last_of(text.port) {
         Some(last) => Some(last),

@@ -55,7 +55,8 @@ pub fn settled(alloc: Global, rows: &[ItemList<bool>]) -> Result<Vec<bool>, Want
 fn from_place(alloc: Global, path: &[usize], at: usize) -> Result<Vec<usize>, WantOfMemory>
     requires { Contains path.now at }
     ensures { IfOk result
-        (λ part. (k : ℕ) × (k < length path.now) × (slice_index path.now k ≡ at) × (part.items ≡ drop k path.now)) }
+        (λ part. (k : ℕ) × (k < length path.now) × (slice_index path.now k ≡ at)
+        × (part.items ≡ drop k path.now)) }
 {
     for (k, place) in path.iter().enumerate() {
         if *place == at {

@@ -12,8 +12,8 @@ ghost use Rattle.vx_hub.specs.Beginning.{IsBegun, IsSourceFor, IsRoleBut, IsWork
 
 use std::alloc::Global;
 use vx_counts::Counts;
-use vx_ends::Port;
 use vx_demo::DemoSettings;
+use vx_ends::Port;
 use vx_json::Decoding;
 use vx_ledger::Outlet;
 use vx_plan::{Class, Component, Plan, Settings, StageList};
@@ -31,7 +31,8 @@ const TRANSFORM_ROOM: usize = 100;
 
 /// The seats of the components of a plan, without tasks.
 pub(crate) fn make_seats<P: Port>(alloc: Global, plan: &Plan) -> Result<Vec<Seat<P>>, WantOfMemory>
-    ensures begun { IfOk result (λ seats. AreFor (IsBegun plan.now) plan.now.components seats.items) }
+    ensures begun { IfOk result
+        (λ seats. AreFor (IsBegun plan.now) plan.now.components seats.items) }
     ensures size { IfOk result (λ seats. length seats.items ≡ length plan.now.components) }
 {
     let mut seats = Vec::with_capacity(alloc, plan.components.len())?;
@@ -94,7 +95,10 @@ fn first_facts() -> Facts
 
 /// The outlet of a component: for each of its ports, in order, the instances that read it.
 fn make_outlet(alloc: Global, plan: &Plan, component: &Component) -> Result<Outlet, WantOfMemory>
-    ensures { IfOk result (λ outlet. outlet ≡ map (reader_numbers plan.now component.now.name) (counting 0 (length (port_names component.now)))) }
+    ensures { IfOk result
+        (λ outlet. outlet
+        ≡ map (reader_numbers plan.now component.now.name)
+        (counting 0 (length (port_names component.now)))) }
 {
     let Ok(ports) = u32::try_from(component.ports()) else {
         return Err(WantOfMemory);

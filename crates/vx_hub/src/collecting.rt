@@ -78,7 +78,8 @@ fn take_input<P: Port>(books: &mut Books<P>, i: u32, now: u64) -> bool
     requires few { length (since_lease books.old.log i) < 64 }
     requires gathering { IsGathering books.old i now }
     ensures took { result ≡ true → HasGatheredOne P.told i now books.old books.new }
-    ensures none { result ≡ false → (books.new ≡ books.old) × (is_empty (buffered books.old.log i) ≡ true) }
+    ensures none { result ≡ false →
+        (books.new ≡ books.old) × (is_empty (buffered books.old.log i) ≡ true) }
 {
     match books.places.first_filled(i) {
         Some(stage) => {
@@ -148,7 +149,8 @@ pub(crate) fn is_closed_out<P: Port>(books: &Books<P>, i: u32, now: u64) -> bool
 
 /// Whether so many parcels are as many as a batch may have, or the oldest of them has waited long enough, or an attempt of them failed.
 fn is_due(batching: Option<Batching>, facts: &Facts, held: usize, now: u64) -> bool
-    ensures { result ≡ (is_full_or_old batching facts.now.since held now || failed_before facts.now.failures) }
+    ensures { result
+        ≡ (is_full_or_old batching facts.now.since held now || failed_before facts.now.failures) }
 {
     match batching {
         Some(batching) => {

@@ -16,7 +16,8 @@ impl<P: Port> Hub<P> {
     /// given up. It takes no memory, and looks at each instance, so it is for where nobody has work.
     pub fn due(&self) -> Option<u64>
         requires { IsHub P.told self.now }
-        ensures soonest { self.now.fatal ≡ false → IsSoonest self.now.books (length self.now.books.seats) result }
+        ensures soonest { self.now.fatal ≡ false →
+            IsSoonest self.now.books (length self.now.books.seats) result }
         ensures sound { self.now.fatal ≡ true → result ≡ None }
     {
         if self.fatal {

@@ -45,7 +45,8 @@ impl<P: Port> Hub<P> {
         ensures hub { IsHub P.told self.new }
         ensures some { IfSome result (λ i. MayRetire self.old.books.log i) }
         ensures noted { IfSome result (λ i. self.new.books.log ≡ Retired i ∷ self.old.books.log) }
-        ensures none { (self.old.fatal ≡ false) ⊎ (abandoned self.old.books.log ≡ true) → IfNone result (NoneRetires self.old.books.log) }
+        ensures none { (self.old.fatal ≡ false) ⊎ (abandoned self.old.books.log ≡ true) →
+            IfNone result (NoneRetires self.old.books.log) }
         ensures run { self.new.books.run ≡ self.old.books.run }
         ensures tasks { EachSeat SameTask self.old.books.seats self.new.books.seats }
         ensures rest { self.new ≡ record self.old { books = self.new.books } }
@@ -119,7 +120,8 @@ fn first_over<P: Port>(books: &Books<P>) -> Option<u32>
     requires served { IsServed books.now }
     ensures within { IfSome result (λ i. i < length books.now.seats) }
     ensures may { IfSome result (λ i. MayRetire books.now.log i) }
-    ensures none { IsWell books.now ⊎ (abandoned books.now.log ≡ true) → IfNone result (NoneRetires books.now.log) }
+    ensures none { IsWell books.now ⊎ (abandoned books.now.log ≡ true) →
+        IfNone result (NoneRetires books.now.log) }
 {
     for i in 0..books.seats.len() as u32 {
         if may_retire(books, i) {
@@ -135,7 +137,8 @@ fn may_retire<P: Port>(books: &Books<P>, i: u32) -> bool
     requires within { i < length books.now.seats }
     requires served { IsServed books.now }
     ensures may { IsTrue result → MayRetire books.now.log i }
-    ensures not { result ≡ false → IsWell books.now ⊎ (abandoned books.now.log ≡ true) → MayRetire books.now.log i → ⊥ }
+    ensures not { result ≡ false → IsWell books.now ⊎ (abandoned books.now.log ≡ true) →
+        MayRetire books.now.log i → ⊥ }
 {
     if !is_closing(books, i) {
         return false;

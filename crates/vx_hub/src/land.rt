@@ -36,18 +36,24 @@ impl<P: Port> Hub<P> {
         requires room { IsHandOf self.old.books.log landing.instance landing.held.room }
         ensures hub { IsHub P.told self.new }
         ensures home { is_out self.new.books.log landing.instance ≡ false }
-        ensures noted { IsNotedSo (is_err result || abandoned self.old.books.log) landing self.old.books.log self.new.books.log }
+        ensures noted { IsNotedSo
+            (is_err result || abandoned self.old.books.log) landing self.old.books.log
+            self.new.books.log }
         ensures only { OnlyAdds (IsFor landing.instance) self.old.books.log self.new.books.log }
         ensures fatal { OnErr result (self.new.fatal ≡ true) }
         ensures reason { IfErr result (HasReason self.new.books.log) }
         ensures over { abandoned self.old.books.log ≡ true → result ≡ Ok tt }
-        ensures ceased { abandoned self.old.books.log ≡ true → IsGivenUp self.new.books.log landing.instance }
+        ensures ceased { abandoned self.old.books.log ≡ true →
+            IsGivenUp self.new.books.log landing.instance }
         ensures going { cause_of self.new.books.log ≡ cause_of self.old.books.log }
-        ensures marked { self.new.books.run.short ≡ (wants_memory landing.done || self.old.books.run.short) }
-        ensures task { abandoned self.old.books.log ≡ false → HasTask self.new.books.seats landing.instance landing.task }
+        ensures marked { self.new.books.run.short
+            ≡ (wants_memory landing.done || self.old.books.run.short) }
+        ensures task { abandoned self.old.books.log ≡ false →
+            HasTask self.new.books.seats landing.instance landing.task }
         ensures latest { self.new.books.run.latest ≡ self.old.books.run.latest }
         ensures stuck { self.old.fatal ≡ true → self.new.fatal ≡ true }
-        ensures sound { OnOk result (abandoned self.old.books.log ≡ false → self.new.fatal ≡ self.old.fatal) }
+        ensures sound { OnOk result
+            (abandoned self.old.books.log ≡ false → self.new.fatal ≡ self.old.fatal) }
     {
         match bring_home(&mut self.books, self.alloc, landing) {
             Ok(()) => Ok(()),

@@ -26,9 +26,12 @@ impl<P: Port> Hub<P> {
     /// answered `Fatal`. Where it doesn't hold, a sink may have to be closed still.
     pub fn has_ready_sink(&self, now: u64) -> bool
         requires { IsHub P.told self.now }
-        ensures some { IsTrue result → HasReadySink self.now.books (max now self.now.books.run.latest) }
+        ensures some { IsTrue result →
+            HasReadySink self.now.books (max now self.now.books.run.latest) }
         ensures sound { IsTrue result → self.now.fatal ≡ false }
-        ensures none { result ≡ false → self.now.fatal ≡ false → NoneFilled sink_at self.now.books (max now self.now.books.run.latest) (length self.now.books.seats) }
+        ensures none { result ≡ false → self.now.fatal ≡ false →
+            NoneFilled sink_at self.now.books (max now self.now.books.run.latest)
+            (length self.now.books.seats) }
     {
         match filled_of(&self.books, Class::Sink, now.max(self.books.run.latest)) {
             Some(_ready) => !self.fatal,
@@ -47,20 +50,32 @@ impl<P: Port> Hub<P> {
         ensures hub { IsHub P.told self.new }
         ensures left { IfSome result (HasLeft P.told self.new.books.log) }
         ensures worker { IfSome result (λ work. work.worker ≡ worker) }
-        ensures room { IfSome result (λ work. IsHandOf self.new.books.log work.instance work.held.room) }
+        ensures room { IfSome result
+            (λ work. IsHandOf self.new.books.log work.instance work.held.room) }
         ensures within { IfSome result (λ work. work.instance < length self.new.books.seats) }
         ensures size { length self.new.books.seats ≡ length self.old.books.seats }
         ensures only { OnlyAdds (IsBy worker) self.old.books.log self.new.books.log }
-        ensures noted { IfSome result (λ work. HasLeased work.instance worker (max now self.old.books.run.latest) self.old.books.log self.new.books.log) }
-        ensures latest { IfSome result (λ work. self.new.books.run.latest ≡ max now self.old.books.run.latest) }
-        ensures works { IfSome result (λ work. HadWork self.old.books.log (max now self.old.books.run.latest) work.instance work.job) }
-        ensures unclosed { IfSome result (λ work. IsUnclosed self.new.books.log work.instance (max now self.old.books.run.latest) work.job) }
+        ensures noted { IfSome result
+            (λ work. HasLeased work.instance worker
+            (max now self.old.books.run.latest) self.old.books.log self.new.books.log) }
+        ensures latest { IfSome result
+            (λ work. self.new.books.run.latest ≡ max now self.old.books.run.latest) }
+        ensures works { IfSome result
+            (λ work. HadWork self.old.books.log
+            (max now self.old.books.run.latest) work.instance work.job) }
+        ensures unclosed { IfSome result
+            (λ work. IsUnclosed self.new.books.log work.instance
+            (max now self.old.books.run.latest) work.job) }
         ensures had { IfSome result (λ work. HasTask self.old.books.seats work.instance work.task) }
-        ensures others { IfSome result (λ work. OthersKeep work.instance self.old.books.seats self.new.books.seats) }
+        ensures others { IfSome result
+            (λ work. OthersKeep work.instance self.old.books.seats self.new.books.seats) }
         ensures sound { self.old.fatal ≡ true → result ≡ None }
         ensures rest { self.new ≡ record self.old { books = self.new.books } }
-        ensures first { IfSome result (λ work. GoesFirst self.old.books (max now self.old.books.run.latest) work.instance) }
-        ensures none { IfNone result (self.old.fatal ≡ false → NoneHasWork self.old.books.log (max now self.old.books.run.latest)) }
+        ensures first { IfSome result
+            (λ work. GoesFirst self.old.books (max now self.old.books.run.latest) work.instance) }
+        ensures none { IfNone result
+            (self.old.fatal ≡ false →
+            NoneHasWork self.old.books.log (max now self.old.books.run.latest)) }
         ensures unchanged { IfNone result (self.new ≡ self.old) }
     {
         if self.fatal {

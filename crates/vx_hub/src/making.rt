@@ -44,7 +44,8 @@ impl<P: Port> Hub<P> {
     pub fn new(alloc: Global, parts: Parts<P>, now: u64) -> Result<Self, NewRefused<P>>
         requires ports { length parts.ports ≡ length parts.plan.components }
         requires few { length parts.plan.components < 2 ^ 32 }
-        requires untouched { AreUntouched P.told (port_of parts.once parts.plan.global.data_dir) parts.plan.components parts.ports }
+        requires untouched { AreUntouched P.told
+            (port_of parts.once parts.plan.global.data_dir) parts.plan.components parts.ports }
         requires accepted { IsPlan parts.plan }
         requires served { all_served parts.plan.components ≡ true }
         requires pickers { ArePickers parts.plan.components parts.pickers }
@@ -87,7 +88,8 @@ fn make_room<P: Port>(alloc: Global, plan: &Plan) -> Result<Room<P>, WantOfMemor
 /// The instances of a plan that are sources, in order.
 fn make_sources(alloc: Global, plan: &Plan) -> Result<Vec<u32>, WantOfMemory>
     requires { length plan.now.components < 2 ^ 32 }
-    ensures { IfOk result (λ sources. AreSources plan.now.components (length plan.now.components) sources.items) }
+    ensures { IfOk result
+        (λ sources. AreSources plan.now.components (length plan.now.components) sources.items) }
 {
     let mut sources = Vec::new(alloc);
     let components = plan.components.as_slice();
@@ -132,7 +134,8 @@ fn make_places(alloc: Global, plan: &Plan) -> Result<Places, WantOfMemory>
 fn add_place(alloc: Global, places: &mut Places, component: &Component) -> Result<(), WantOfMemory>
     ensures same { OnOk result (Same places.old places.new) }
     ensures size { OnOk result (length places.new ≡ length places.old + 1) }
-    ensures rooms { OnOk result (AddsRooms (rooms_of component.now) (hand_of component.now) places.old places.new) }
+    ensures rooms { OnOk result
+        (AddsRooms (rooms_of component.now) (hand_of component.now) places.old places.new) }
     ensures unchanged { OnErr result (places.new ≡ places.old) }
 {
     let rooms = stage_rooms(alloc, component)?;
@@ -143,7 +146,8 @@ fn add_place(alloc: Global, places: &mut Places, component: &Component) -> Resul
 fn begin<P: Port>(alloc: Global, parts: Parts<P>, room: Room<P>, now: u64) -> Hub<P>
     requires ports { length parts.ports ≡ length parts.plan.components }
     requires few { length parts.plan.components < 2 ^ 32 }
-    requires untouched { AreUntouched P.told (port_of parts.once parts.plan.global.data_dir) parts.plan.components parts.ports }
+    requires untouched { AreUntouched P.told
+        (port_of parts.once parts.plan.global.data_dir) parts.plan.components parts.ports }
     requires accepted { IsPlan parts.plan }
     requires served { all_served parts.plan.components ≡ true }
     requires pickers { ArePickers parts.plan.components parts.pickers }

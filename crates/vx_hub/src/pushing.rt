@@ -43,7 +43,9 @@ impl<P: Port> Hub<P> {
         ensures going { IfSome result (λ i. abandoned self.now.books.log ≡ false) }
         ensures fatal { IfSome result (λ i. self.now.fatal ≡ false) }
         ensures least { IfSome result (λ i. NoneMovesBelow i self.now.books) }
-        ensures none { IfNone result (self.now.fatal ≡ false → abandoned self.now.books.log ≡ false → NoneMoves self.now.books) }
+        ensures none { IfNone result
+            (self.now.fatal ≡ false → abandoned self.now.books.log ≡ false →
+            NoneMoves self.now.books) }
     {
         if self.fatal {
             return None;
@@ -76,9 +78,13 @@ impl<P: Port> Hub<P> {
         ensures tasks { EachSeat SameTask self.old.books.seats self.new.books.seats }
         ensures reason { IfErr result (HasReason self.new.books.log) }
         ensures entered { IfOk result (λ n. HaveEntered n self.old.books.log self.new.books.log) }
-        ensures moves { OnOk result (abandoned self.old.books.log ≡ false → is_out self.old.books.log instance ≡ false → CanMove self.old.books instance → Grew self.old.books.log self.new.books.log) }
-        ensures out { is_out self.old.books.log instance ≡ true → (result ≡ Ok 0) × (self.new ≡ self.old) }
-        ensures over { abandoned self.old.books.log ≡ true → (result ≡ Ok 0) × (self.new ≡ self.old) }
+        ensures moves { OnOk result
+            (abandoned self.old.books.log ≡ false → is_out self.old.books.log instance ≡ false →
+            CanMove self.old.books instance → Grew self.old.books.log self.new.books.log) }
+        ensures out { is_out self.old.books.log instance ≡ true →
+            (result ≡ Ok 0) × (self.new ≡ self.old) }
+        ensures over { abandoned self.old.books.log ≡ true →
+            (result ≡ Ok 0) × (self.new ≡ self.old) }
     {
         if !is_free(&self.books, instance) {
             return Ok(0);
@@ -100,7 +106,8 @@ fn is_pending<P: Port>(books: &Books<P>, i: u32) -> bool
     ensures home { IsTrue result → is_out books.now.log i ≡ false }
     ensures going { IsTrue result → abandoned books.now.log ≡ false }
     ensures work { IsTrue result → CanMove books.now i }
-    ensures none { result ≡ false → abandoned books.now.log ≡ false → is_out books.now.log i ≡ false → CanMove books.now i → ⊥ }
+    ensures none { result ≡ false → abandoned books.now.log ≡ false →
+        is_out books.now.log i ≡ false → CanMove books.now i → ⊥ }
 {
     if !is_free(books, i) {
         return false;
@@ -120,7 +127,8 @@ fn is_free<P: Port>(books: &Books<P>, i: u32) -> bool
     requires within { i < length books.now.seats }
     ensures home { IsTrue result → is_out books.now.log i ≡ false }
     ensures going { IsTrue result → abandoned books.now.log ≡ false }
-    ensures none { result ≡ false → abandoned books.now.log ≡ false → is_out books.now.log i ≡ false → ⊥ }
+    ensures none { result ≡ false → abandoned books.now.log ≡ false →
+        is_out books.now.log i ≡ false → ⊥ }
 {
     books.run.abandoned.is_none() && books.seats.get(i).task.is_some()
 }
@@ -131,7 +139,8 @@ fn can_split<P: Port>(books: &Books<P>, i: u32) -> bool
     requires within { i < length books.now.seats }
     ensures none_waits { IsTrue result → NoneWaits books.now.places i }
     ensures some { IsTrue result → HasOutput books.now.places i }
-    ensures none { result ≡ false → NoneWaits books.now.places i → HasOutput books.now.places i → ⊥ }
+    ensures none { result ≡ false → NoneWaits books.now.places i → HasOutput books.now.places i →
+        ⊥ }
 {
     books.places.none_waits(i) && books.places.has_output(i)
 }
@@ -142,8 +151,11 @@ fn room_of<P: Port>(books: &Books<P>, target: u32) -> Option<Option<usize>>
     requires stands { Stands P.told books.now }
     ensures there { IfSome result (λ stage. target < length books.now.seats) }
     ensures first { IfSome result (λ stage. IsFirstRoom books.now.places target stage) }
-    ensures drops { IfSome result (λ stage. IfNone stage (last_drops (stages_of books.now.log target) ≡ true)) }
-    ensures none { IfNone result ((stage : Option ℕ) → IsFirstRoom books.now.places target stage → IfNone stage (last_drops (stages_of books.now.log target) ≡ true) → ⊥) }
+    ensures drops { IfSome result
+        (λ stage. IfNone stage (last_drops (stages_of books.now.log target) ≡ true)) }
+    ensures none { IfNone result
+        ((stage : Option ℕ) → IsFirstRoom books.now.places target stage →
+        IfNone stage (last_drops (stages_of books.now.log target) ≡ true) → ⊥) }
 {
     if target as usize >= books.places.len() {
         return None;
@@ -165,7 +177,8 @@ fn pushable_at<P: Port>(books: &Books<P>, i: u32, child: usize) -> Option<Pushab
     ensures oldest { IfSome result (λ next. IsOldestFor books.now.places i next.target next.child) }
     ensures there { IfSome result (λ next. next.target < length books.now.seats) }
     ensures room { IfSome result (λ next. IsFirstRoom books.now.places next.target next.stage) }
-    ensures drops { IfSome result (λ next. IfNone next.stage (last_drops (stages_of books.now.log next.target) ≡ true)) }
+    ensures drops { IfSome result
+        (λ next. IfNone next.stage (last_drops (stages_of books.now.log next.target) ≡ true)) }
     ensures none { IfNone result ((pass : CanPass books.now i) → pass.child ≡ child → ⊥) }
 {
     let target = books.places.target_at(i, child)?;
@@ -187,7 +200,8 @@ fn find_pushable<P: Port>(books: &Books<P>, i: u32) -> Option<Pushable>
     ensures oldest { IfSome result (λ next. IsOldestFor books.now.places i next.target next.child) }
     ensures there { IfSome result (λ next. next.target < length books.now.seats) }
     ensures room { IfSome result (λ next. IsFirstRoom books.now.places next.target next.stage) }
-    ensures drops { IfSome result (λ next. IfNone next.stage (last_drops (stages_of books.now.log next.target) ≡ true)) }
+    ensures drops { IfSome result
+        (λ next. IfNone next.stage (last_drops (stages_of books.now.log next.target) ≡ true)) }
     ensures none { IfNone result (CanPass books.now i → ⊥) }
 {
     for k in 0..books.places.count_waiting(i) {

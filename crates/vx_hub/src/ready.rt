@@ -24,7 +24,8 @@ pub(crate) struct Ready {
 pub(crate) fn first_ready<P: Port>(books: &Books<P>, sources: &[u32], now: u64) -> Option<Ready>
     requires stands { Stands P.told books.now }
     requires served { IsServed books.now }
-    requires sources { AreSources books.now.run.plan.components (length books.now.seats) sources.now }
+    requires sources { AreSources books.now.run.plan.components
+        (length books.now.seats) sources.now }
     requires latest { books.now.run.latest ≤ now }
     ensures some { IfSome result (λ ready. IsReadyFor books.now now ready.instance ready.job) }
     ensures first { IfSome result (λ ready. GoesFirst books.now now ready.instance) }
@@ -66,7 +67,8 @@ pub(crate) fn filled_of<P: Port>(books: &Books<P>, class: Class, now: u64) -> Op
     requires served { IsServed books.now }
     ensures some { IfSome result (λ ready. IsReadyFor books.now now ready.instance ready.job) }
     ensures class { IfSome result (λ ready. class_test class books.now.log ready.instance ≡ true) }
-    ensures none { IfNone result (NoneFilled (class_test class) books.now now (length books.now.seats)) }
+    ensures none { IfNone result
+        (NoneFilled (class_test class) books.now now (length books.now.seats)) }
 {
     let mut from = 0;
     while let Some(i) = books.places.next_filled(from) {
@@ -81,7 +83,8 @@ pub(crate) fn filled_of<P: Port>(books: &Books<P>, class: Class, now: u64) -> Op
 /// Whether each source takes no more.
 fn are_dry<P: Port>(books: &Books<P>, sources: &[u32]) -> bool
     requires stands { Stands P.told books.now }
-    requires sources { AreSources books.now.run.plan.components (length books.now.seats) sources.now }
+    requires sources { AreSources books.now.run.plan.components
+        (length books.now.seats) sources.now }
     ensures { result ≡ false → all_dry books.now.log ≡ false }
 {
     for k in 0..sources.len() {
@@ -96,9 +99,11 @@ fn are_dry<P: Port>(books: &Books<P>, sources: &[u32]) -> bool
 fn ready_source<P: Port>(books: &Books<P>, sources: &[u32], now: u64) -> Option<Ready>
     requires stands { Stands P.told books.now }
     requires served { IsServed books.now }
-    requires sources { AreSources books.now.run.plan.components (length books.now.seats) sources.now }
+    requires sources { AreSources books.now.run.plan.components
+        (length books.now.seats) sources.now }
     ensures some { IfSome result (λ ready. IsReadyFor books.now now ready.instance ready.job) }
-    ensures none { IfNone result ((k : ℕ) → IfSome (slice_get sources.now k) (NoneFoundAt books.now now)) }
+    ensures none { IfNone result
+        ((k : ℕ) → IfSome (slice_get sources.now k) (NoneFoundAt books.now now)) }
 {
     for k in 0..sources.len() {
         let source = sources[k];
@@ -115,7 +120,8 @@ fn first_of<P: Port>(books: &Books<P>, class: Class, now: u64) -> Option<Ready>
     requires served { IsServed books.now }
     ensures some { IfSome result (λ ready. IsReadyFor books.now now ready.instance ready.job) }
     ensures class { IfSome result (λ ready. class_test class books.now.log ready.instance ≡ true) }
-    ensures none { IfNone result (NoneFound (class_test class) books.now now (length books.now.seats)) }
+    ensures none { IfNone result
+        (NoneFound (class_test class) books.now now (length books.now.seats)) }
 {
     for i in 0..books.seats.len() as u32 {
         if let Some(ready) = ready_of(books, i, class, now) {
@@ -132,7 +138,8 @@ fn ready_of<P: Port>(books: &Books<P>, i: u32, class: Class, now: u64) -> Option
     requires served { IsServed books.now }
     ensures some { IfSome result (λ ready. IsReadyFor books.now now ready.instance ready.job) }
     ensures class { IfSome result (λ ready. class_test class books.now.log ready.instance ≡ true) }
-    ensures none { IfNone result (class_test class books.now.log i ≡ true → NoneFoundAt books.now now i) }
+    ensures none { IfNone result
+        (class_test class books.now.log i ≡ true → NoneFoundAt books.now now i) }
 {
     if is_of(books, i, class) {
         job_of(books, i, now)

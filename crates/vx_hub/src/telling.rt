@@ -63,7 +63,8 @@ impl<P: Port> Hub<P> {
     /// Whether a copy is live, in a run that wasn't given up: it was made, and neither split nor spent.
     pub fn unspent(&self) -> bool
         requires hub { IsHub P.told self.now }
-        ensures { IsTrue result ↔ (HasLive self.now.books.log × (abandoned self.now.books.log ≡ false)) }
+        ensures { IsTrue result
+            ↔ (HasLive self.now.books.log × (abandoned self.now.books.log ≡ false)) }
     {
         self.books.run.abandoned.is_none() && !self.books.balance.is_settled()
     }

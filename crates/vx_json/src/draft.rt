@@ -93,7 +93,9 @@ fn insert(
     name: Text,
     value: Value,
 ) -> Result<(), WantOfMemory>
-    ensures { OnOk result (tree_fields tree.new.entries ≡ with_field (tree_fields tree.old.entries) name (datum_of value)) }
+    ensures { OnOk result
+        (tree_fields tree.new.entries
+        ≡ with_field (tree_fields tree.old.entries) name (datum_of value)) }
 {
     let name = name.into_string(alloc)?;
     match tree.insert(name, value) {

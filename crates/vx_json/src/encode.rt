@@ -10,7 +10,8 @@ use vx_value::{Bytes, Event, Value, WantOfMemory};
 
 /// Adds what a line of text has of a value.
 fn push_message(message: Option<&Value>, out: &mut Bytes) -> Result<(), WantOfMemory>
-    ensures ok { OnOk result (out.new ≡ out.old ++ message_text (option_map datum_of (option_copied message.entry))) }
+    ensures ok { OnOk result
+        (out.new ≡ out.old ++ message_text (option_map datum_of (option_copied message.entry))) }
     ensures err { OnErr result (out.new ≡ out.old) }
 {
     match message {
@@ -22,7 +23,8 @@ fn push_message(message: Option<&Value>, out: &mut Bytes) -> Result<(), WantOfMe
 
 /// Adds what an event is under a codec, without its line feed.
 fn push_event(codec: Codec, event: &Event, out: &mut Bytes) -> Result<(), WantOfMemory>
-    ensures ok { OnOk result (out.new ++ 10 ∷ [] ≡ out.old ++ encoded_event codec event.now.fields) }
+    ensures ok { OnOk result
+        (out.new ++ 10 ∷ [] ≡ out.old ++ encoded_event codec event.now.fields) }
     ensures err { OnErr result (out.new ≡ out.old) }
 {
     match codec {

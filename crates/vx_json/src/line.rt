@@ -13,7 +13,8 @@ use vx_value::{Bytes, Event, FieldList, Text, Value, WantOfMemory};
 
 /// The event of a line as text: its message.
 fn message(alloc: Global, text: Text) -> Result<Event, WantOfMemory>
-    ensures { IfOk result (λ event. event.fields ≡ record { name = codes "message"; value = Words text } ∷ []) }
+    ensures { IfOk result
+        (λ event. event.fields ≡ record { name = codes "message"; value = Words text } ∷ []) }
 {
     let mut fields = FieldList::new(alloc);
     let name = Text::copy_of(alloc, "message")?;

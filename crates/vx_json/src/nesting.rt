@@ -45,7 +45,9 @@ impl Nesting {
 
     /// Opens a level, where it can.
     pub fn open(&mut self, is_object: bool)
-        ensures { self.new.kinds ≡ (if nat_lt self.old.kinds (2 ^ 32) then opened is_object self.old.kinds else self.old.kinds) }
+        ensures { self.new.kinds
+            ≡ (if nat_lt self.old.kinds
+            (2 ^ 32) then opened is_object self.old.kinds else self.old.kinds) }
     {
         if self.is_full() {
             return;

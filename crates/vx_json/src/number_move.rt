@@ -73,7 +73,8 @@ fn is_written(whole: i64, text: &str) -> bool
 
 /// The whole number of 64 bits that a text is the spelling of.
 fn whole_of(text: &str) -> Option<i64>
-    ensures { result ≡ (if is_whole_text text.now then Some (signed_digits_value 10 text.now) else None) }
+    ensures { result
+        ≡ (if is_whole_text text.now then Some (signed_digits_value 10 text.now) else None) }
 {
     match text.parse::<i64>() {
         Ok(whole) => {

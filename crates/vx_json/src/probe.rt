@@ -27,7 +27,8 @@ impl Probe {
 
     /// Takes one more byte.
     pub fn take(&mut self, byte: u8)
-        ensures { (bytes : List ℕ) → HasProbed bytes self.old → HasProbed (bytes ++ byte ∷ []) self.new }
+        ensures { (bytes : List ℕ) → HasProbed bytes self.old →
+            HasProbed (bytes ++ byte ∷ []) self.new }
     {
         if let Some(spot) = self.spot {
             self.spot = spot.step(&mut self.nesting, byte);

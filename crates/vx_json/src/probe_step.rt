@@ -16,7 +16,8 @@ use crate::word_place::WordPlace;
 
 /// Where a byte leads that opens a level, if one more may be open.
 fn open(nesting: &mut Nesting, is_object: bool, next: Spot) -> Option<Spot>
-    ensures { place_view result nesting.new.kinds ≡ open_spot (spot_view next) is_object nesting.old.kinds }
+    ensures { place_view result nesting.new.kinds
+        ≡ open_spot (spot_view next) is_object nesting.old.kinds }
 {
     if nesting.is_full() {
         return None;
@@ -27,7 +28,8 @@ fn open(nesting: &mut Nesting, is_object: bool, next: Spot) -> Option<Spot>
 
 /// Where a byte leads that closes a level.
 fn close(nesting: &mut Nesting, is_object: bool) -> Option<Spot>
-    ensures { place_view result nesting.new.kinds ≡ spots.stands (spots.Behind is_object) (nesting.old.kinds / 2) }
+    ensures { place_view result nesting.new.kinds
+        ≡ spots.stands (spots.Behind is_object) (nesting.old.kinds / 2) }
 {
     nesting.close();
     Some(Spot::Behind(is_object))
@@ -53,7 +55,8 @@ fn begin(nesting: &mut Nesting, byte: u8) -> Option<Spot>
 
 /// Where a byte leads behind a bracket that opens an array.
 fn first_item(nesting: &mut Nesting, byte: u8) -> Option<Spot>
-    ensures { place_view result nesting.new.kinds ≡ spot_step spots.FirstItem nesting.old.kinds byte }
+    ensures { place_view result nesting.new.kinds
+        ≡ spot_step spots.FirstItem nesting.old.kinds byte }
 {
     if is_blank(byte) {
         return Some(Spot::FirstItem);
@@ -66,7 +69,8 @@ fn first_item(nesting: &mut Nesting, byte: u8) -> Option<Spot>
 
 /// Where a byte leads behind a brace that opens an object.
 fn first_name(nesting: &mut Nesting, byte: u8) -> Option<Spot>
-    ensures { place_view result nesting.new.kinds ≡ spot_step spots.FirstName nesting.old.kinds byte }
+    ensures { place_view result nesting.new.kinds
+        ≡ spot_step spots.FirstName nesting.old.kinds byte }
 {
     if is_blank(byte) {
         return Some(Spot::FirstName);
@@ -134,7 +138,8 @@ fn in_text(place: TextPlace, byte: u8) -> Option<Spot>
 
 /// Where a byte leads inside a word.
 fn in_word(word: WordPlace, byte: u8) -> Option<Spot>
-    ensures { (n : ℕ) → place_view result n ≡ spot_step (spots.InWord (word_rest word) false) n byte }
+    ensures { (n : ℕ) →
+        place_view result n ≡ spot_step (spots.InWord (word_rest word) false) n byte }
 {
     if byte != word.expected() {
         return None;
@@ -177,7 +182,8 @@ fn behind(nesting: &mut Nesting, is_object: bool, byte: u8) -> Option<Spot>
 
 /// Where a byte leads inside a number, or behind it.
 fn in_number(nesting: &mut Nesting, place: NumberPlace, byte: u8) -> Option<Spot>
-    ensures { place_view result nesting.new.kinds ≡ spot_step (spots.InNumber place) nesting.old.kinds byte }
+    ensures { place_view result nesting.new.kinds
+        ≡ spot_step (spots.InNumber place) nesting.old.kinds byte }
 {
     if let Some(next) = number_move(place, byte) {
         return Some(Spot::InNumber(next));
@@ -191,7 +197,8 @@ fn in_number(nesting: &mut Nesting, place: NumberPlace, byte: u8) -> Option<Spot
 impl Spot {
     /// Where a byte leads, and what is open then. `None` where no JSON text goes on so, or a level too many opens.
     pub fn step(self, nesting: &mut Nesting, byte: u8) -> Option<Spot>
-        ensures { place_view result nesting.new.kinds ≡ spot_step (spot_view self) nesting.old.kinds byte }
+        ensures { place_view result nesting.new.kinds
+            ≡ spot_step (spot_view self) nesting.old.kinds byte }
     {
         match self {
             Spot::Before => {

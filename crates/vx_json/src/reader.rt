@@ -36,7 +36,8 @@ fn level(mode: &Mode, stack: &Vec<Frame>) -> usize
 /// The event of a value that is an object.
 fn event_of(value: Value) -> Result<Event, JsonFault>
     ensures ok { IfOk result (λ event. datum_of value ≡ Fields (named_of event.fields)) }
-    ensures err { IfErr result (λ fault. (fault ≡ JsonFault.NotObject) × IsNoObject (datum_of value)) }
+    ensures err { IfErr result
+        (λ fault. (fault ≡ JsonFault.NotObject) × IsNoObject (datum_of value)) }
 {
     match value {
         Value::Fields(fields) => Ok(Event { fields }),
@@ -98,11 +99,13 @@ pub fn read(alloc: Global, bytes: &[u8]) -> Result<Event, JsonFault>
     ensures event { IfOk result (λ event. IsEvent bytes.now event.fields) }
     ensures fault { IfErr result (IsFault bytes.now) }
     // What was written is read again, but for want of memory.
-    ensures written { (fields : List NamedDatum) → IsWritable (Fields (named_of fields)) → fields_depth fields ≤ 32 →
-        bytes.now ≡ written (Fields (named_of fields)) → GivesFields fields result }
+    ensures written { (fields : List NamedDatum) → IsWritable (Fields (named_of fields)) →
+        fields_depth fields ≤ 32 → bytes.now ≡ written (Fields (named_of fields)) →
+        GivesFields fields result }
     // The answer as a function of the bytes.
     ensures object { IfOk result (λ event. object_of bytes.now ≡ Some event.fields) }
-    ensures no_object { IfErr result (λ fault. fault ≢ JsonFault.WantOfMemory → object_of bytes.now ≡ None) }
+    ensures no_object { IfErr result
+        (λ fault. fault ≢ JsonFault.WantOfMemory → object_of bytes.now ≡ None) }
 {
     event(alloc, bytes)
 }

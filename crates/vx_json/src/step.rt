@@ -40,7 +40,8 @@ fn begin_number(alloc: Global, b: u8, place: NumberPlace) -> Result<Option<Mode>
 /// Where a byte leads that begins a value.
 #[inline(always)]
 fn begin(alloc: Global, b: u8) -> Result<Option<Mode>, WantOfMemory>
-    ensures { IfOk result (λ next. (st : List machine.Frame) → state_view next st ≡ begin_move st b) }
+    ensures { IfOk result
+        (λ next. (st : List machine.Frame) → state_view next st ≡ begin_move st b) }
 {
     match b {
         b'"' => Ok(Some(Mode::InText(TextPlace::Plain, Vec::new(alloc)))),
@@ -59,8 +60,9 @@ fn begin(alloc: Global, b: u8) -> Result<Option<Mode>, WantOfMemory>
 /// Where a byte leads behind a bracket that opens an array.
 #[tactic(auto, using(crate::proofs::StackRules::stacks))]
 fn first_item(alloc: Global, stack: &mut Vec<Frame>, b: u8) -> Result<Option<Mode>, WantOfMemory>
-    ensures { IfOk result (λ next.
-        state_view next (stack_view stack.new.items) ≡ step machine.AtFirstItem (stack_view stack.old.items) b) }
+    ensures { IfOk result
+        (λ next. state_view next (stack_view stack.new.items)
+        ≡ step machine.AtFirstItem (stack_view stack.old.items) b) }
 {
     if is_blank(b) {
         return Ok(Some(Mode::FirstItem));
@@ -107,8 +109,9 @@ fn colon(
     stack: &mut Vec<Frame>,
     b: u8,
 ) -> Result<Option<Mode>, WantOfMemory>
-    ensures { IfOk result (λ next.
-        state_view next (stack_view stack.new.items) ≡ step (machine.AtColon fields name) (stack_view stack.old.items) b) }
+    ensures { IfOk result
+        (λ next. state_view next (stack_view stack.new.items)
+        ≡ step (machine.AtColon fields name) (stack_view stack.old.items) b) }
 {
     if is_blank(b) {
         return Ok(Some(Mode::Colon(fields, name)));
@@ -122,7 +125,8 @@ fn colon(
 
 /// Where a byte leads inside a word.
 fn in_word(word: WordPlace, b: u8) -> Option<Mode>
-    ensures { (st : List machine.Frame) → state_view result st ≡ step (machine.InWord (word_rest word) (word_datum word)) st b }
+    ensures { (st : List machine.Frame) →
+        state_view result st ≡ step (machine.InWord (word_rest word) (word_datum word)) st b }
 {
     if b != word.expected() {
         return None;

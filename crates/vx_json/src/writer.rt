@@ -63,7 +63,8 @@ fn push_value(value: &Value, out: &mut Bytes) -> Result<(), WantOfMemory>
 /// Adds values in order, in brackets.
 #[cycle(push_value)]
 fn push_items(items: &[Value], out: &mut Bytes) -> Result<(), WantOfMemory>
-    ensures ok { OnOk result (out.new ≡ out.old ++ written (Items (data_of (map datum_of items.now)))) }
+    ensures ok { OnOk result
+        (out.new ≡ out.old ++ written (Items (data_of (map datum_of items.now)))) }
     ensures err { OnErr result (Keeps out.old out.new) }
 {
     out.push_slice(b"[")?;
@@ -77,7 +78,8 @@ fn push_items(items: &[Value], out: &mut Bytes) -> Result<(), WantOfMemory>
 /// Adds a field: its name, a colon and its value.
 #[cycle(push_value)]
 fn push_field(field: &Field, out: &mut Bytes) -> Result<(), WantOfMemory>
-    ensures ok { OnOk result (out.new ≡ out.old ++ fields_written (named_of (named_datum field.now ∷ []))) }
+    ensures ok { OnOk result
+        (out.new ≡ out.old ++ fields_written (named_of (named_datum field.now ∷ []))) }
     ensures err { OnErr result (Keeps out.old out.new) }
 {
     push_quoted(field.name.as_str(), out)?;
@@ -88,7 +90,8 @@ fn push_field(field: &Field, out: &mut Bytes) -> Result<(), WantOfMemory>
 /// Adds fields in order, in braces.
 #[cycle(push_value)]
 fn push_fields(fields: &[Field], out: &mut Bytes) -> Result<(), WantOfMemory>
-    ensures ok { OnOk result (out.new ≡ out.old ++ written (Fields (named_of (map named_datum fields.now)))) }
+    ensures ok { OnOk result
+        (out.new ≡ out.old ++ written (Fields (named_of (map named_datum fields.now)))) }
     ensures err { OnErr result (Keeps out.old out.new) }
 {
     out.push_slice(b"{")?;
@@ -109,7 +112,8 @@ pub fn write_value(value: &Value, out: &mut Bytes) -> Result<(), WantOfMemory>
     ensures ok { OnOk result (out.new ≡ out.old ++ written (datum_of value.now)) }
     ensures err { OnErr result (out.new ≡ out.old) }
     // It is a JSON text of the value.
-    ensures text { IsWritable (datum_of value.now) → IsText (written (datum_of value.now)) (datum_of value.now) }
+    ensures text { IsWritable (datum_of value.now) →
+        IsText (written (datum_of value.now)) (datum_of value.now) }
 {
     let len = out.len();
     match push_value(value, out) {

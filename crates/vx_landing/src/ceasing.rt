@@ -60,7 +60,8 @@ pub(crate) fn note_home<P: Port>(books: &mut Books<P>, i: u32, task: Task<P>)
     ensures only { OnlyAdds (IsFor i) books.old.log books.new.log }
     ensures behind { OnlyAdds (ComesBehind i) books.old.log books.new.log }
     ensures home { is_out books.new.log i ≡ false }
-    ensures back { OneSeat (λ was is. is ≡ record was { task = Some task }) i books.old.seats books.new.seats }
+    ensures back { OneSeat (λ was is. is ≡ record was { task = Some task }) i books.old.seats
+        books.new.seats }
     ensures rooms { SameRooms books.old.places books.new.places }
     ensures run { books.new.run ≡ books.old.run }
 {
@@ -85,8 +86,10 @@ pub(crate) fn come_home<P: Port>(books: &mut Books<P>, i: u32, task: Task<P>)
     ensures flags { EachSeat SameFlags books.old.seats books.new.seats }
     ensures home { is_out books.new.log i ≡ false }
     ensures noted { abandoned books.old.log ≡ false → books.new.log ≡ Home i ∷ books.old.log }
-    ensures bare { abandoned books.old.log ≡ true → (p : Place) → owner p ≡ i → at books.new.log p ≡ [] }
-    ensures closed { abandoned books.old.log ≡ true → device_at books.new.log i ≡ true → is_closed books.new.log i ≡ true }
+    ensures bare { abandoned books.old.log ≡ true → (p : Place) → owner p ≡ i →
+        at books.new.log p ≡ [] }
+    ensures closed { abandoned books.old.log ≡ true → device_at books.new.log i ≡ true →
+        is_closed books.new.log i ≡ true }
     ensures task { is_some books.old.run.abandoned ≡ false → HasTask books.new.seats i task }
 {
     if books.run.abandoned.is_none() {
@@ -100,7 +103,8 @@ pub(crate) fn come_home<P: Port>(books: &mut Books<P>, i: u32, task: Task<P>)
 // Closes the port of a task.
 fn shut<P: Port>(task: Task<P>) -> Task<P>
     ensures shut { (P.told result.port).started ≡ false }
-    ensures back { (f : Facts) (h : Record) (i : ℕ) → IsBack P.told f h i task → IsBack P.told f h i result }
+    ensures back { (f : Facts) (h : Record) (i : ℕ) → IsBack P.told f h i task →
+        IsBack P.told f h i result }
 {
     let Task { mut port, role } = task;
     port.close();

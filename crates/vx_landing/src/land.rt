@@ -43,11 +43,14 @@ pub fn bring_home<P: Port>(
     requires done { HasDone P.told books.old.log landing }
     requires room { IsHandOf books.old.log landing.instance landing.held.room }
     ensures home { HasComeHome P.told landing.instance books.old books.new }
-    ensures noted { IsNotedSo (is_err result || abandoned books.old.log) landing books.old.log books.new.log }
+    ensures noted { IsNotedSo
+        (is_err result || abandoned books.old.log) landing books.old.log books.new.log }
     ensures marked { books.new.run.short ≡ (wants_memory landing.done || books.old.run.short) }
     ensures well { OnOk result (IsWell books.old → IsWell books.new) }
-    ensures reason { IfErr result (λ short. abandoned books.new.log ≡ false → LacksBirth books.new.log short) }
-    ensures task { is_some books.old.run.abandoned ≡ false → HasTask books.new.seats landing.instance landing.task }
+    ensures reason { IfErr result
+        (λ short. abandoned books.new.log ≡ false → LacksBirth books.new.log short) }
+    ensures task { is_some books.old.run.abandoned ≡ false →
+        HasTask books.new.seats landing.instance landing.task }
 {
     let Landing {
         instance,
@@ -92,7 +95,9 @@ fn note_done<P: Port>(
     requires within { i < length books.old.seats }
     requires back { IsBackWith P.told books.old i task.now done }
     ensures landed { HasLanded P.told i task.now books.old books.new }
-    ensures noted { OnlyAdds (ComesBehind i) (done_entries (is_err result || abandoned books.old.log) books.old.log i done ++ books.old.log) books.new.log }
+    ensures noted { OnlyAdds (ComesBehind i)
+        (done_entries (is_err result || abandoned books.old.log) books.old.log i done
+        ++ books.old.log) books.new.log }
     ensures marked { books.new.run.short ≡ (wants_memory done || books.old.run.short) }
     ensures well { OnOk result (IsWellLanded i books.old books.new) }
     ensures reason { IfErr result (LacksBirth books.new.log) }
@@ -132,7 +137,8 @@ fn note_turn<P: Port>(
     requires within { i < length books.old.seats }
     requires back { IsBackWith P.told books.old i task.now (Done.Read turned) }
     ensures landed { HasLanded P.told i task.now books.old books.new }
-    ensures noted { OnlyAdds (ComesBehind i) (turn_entry books.old.log i turned ∷ books.old.log) books.new.log }
+    ensures noted { OnlyAdds (ComesBehind i)
+        (turn_entry books.old.log i turned ∷ books.old.log) books.new.log }
     ensures marked { books.new.run.short ≡ (lacks_cut turned || books.old.run.short) }
     ensures well { OnOk result (IsWellLanded i books.old books.new) }
     ensures reason { IfErr result (LacksBirth books.new.log) }
@@ -164,7 +170,8 @@ fn land_read<P: Port>(
     requires back { IsBackWith P.told books.old i task.now (Done.Read turned) }
     requires reading { is_reading turned ≡ true }
     ensures landed { HasLanded P.told i task.now books.old books.new }
-    ensures noted { OnlyAdds (ComesBehind i) (turn_entry books.old.log i turned ∷ books.old.log) books.new.log }
+    ensures noted { OnlyAdds (ComesBehind i)
+        (turn_entry books.old.log i turned ∷ books.old.log) books.new.log }
     ensures marked { books.new.run.short ≡ (lacks_cut turned || books.old.run.short) }
     ensures well { OnOk result (IsWellLanded i books.old books.new) }
     ensures reason { IfErr result (LacksBirth books.new.log) }

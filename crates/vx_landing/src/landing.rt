@@ -51,7 +51,8 @@ pub(crate) fn note_confirm<P: Port>(books: &mut Books<P>, i: u32, confirmed: &Co
     requires out { is_out books.old.log i ≡ true }
     requires once { list_any (is_confirm_of i) (since_lease books.old.log i) ≡ false }
     requires due { AreDue books.old.log i (Some confirmed.now.positions) }
-    ensures { HasNoted P.told i (Confirm i confirmed.now.positions confirmed.now.made) books.old books.new }
+    ensures { HasNoted P.told i
+        (Confirm i confirmed.now.positions confirmed.now.made) books.old books.new }
 {
     books.confirm(i, confirmed);
 }
@@ -80,7 +81,8 @@ pub(crate) fn note_lost<P: Port>(books: &mut Books<P>, i: u32, failed: bool)
     requires may { MayReadNow books.old.log i }
     requires device { device_at books.old.log i ≡ true }
     requires many { failed ≡ true → 4 ≤ failed_starts books.old.log i }
-    ensures { HasNoted P.told i (SourceLost i (capped (bytes_taken books.old.log i)) failed) books.old books.new }
+    ensures { HasNoted P.told i
+        (SourceLost i (capped (bytes_taken books.old.log i)) failed) books.old books.new }
 {
     books.lose(i, failed);
 }
@@ -102,7 +104,9 @@ pub(crate) fn note_attempt<P: Port>(
     requires fits { sent ≤ length all.now.value }
     requires well { reply ≡ WellTaken → sent ≡ length all.now.value }
     requires swallowed { device_at books.old.log i ≡ false → reply ≡ WellTaken }
-    ensures { HasNoted P.told i (Attempt i (joined (held books.old.log i)) (take sent all.now.value) reply) books.old books.new }
+    ensures { HasNoted P.told i
+        (Attempt i (joined (held books.old.log i)) (take sent all.now.value) reply) books.old
+        books.new }
 {
     books.attempt(i, all, sent, reply);
 }
@@ -159,8 +163,12 @@ pub(crate) fn note_read<P: Port>(books: &mut Books<P>, i: u32, turned: &Turned)
     requires may { MayReadNow books.old.log i }
     requires readable { IsReadable books.old.log i turned.now }
     requires whole { IsInRoom turned.now }
-    requires lines { IsSomeAnd (reading_of turned.now) (λ reading. IfSome (cut_of turned.now) (λ cut. AreNew books.old.log i reading.stream reading.took cut.new)) }
-    ensures { IsSomeAnd (reading_of turned.now) (λ reading. HasNotedRead P.told (is_none (cut_of turned.now)) i (Read i reading.stream reading.took) books.old books.new) }
+    requires lines { IsSomeAnd (reading_of turned.now)
+        (λ reading. IfSome (cut_of turned.now)
+        (λ cut. AreNew books.old.log i reading.stream reading.took cut.new)) }
+    ensures { IsSomeAnd (reading_of turned.now)
+        (λ reading. HasNotedRead P.told (is_none (cut_of turned.now)) i
+        (Read i reading.stream reading.took) books.old books.new) }
 {
     books.read(i, turned);
 }
@@ -169,7 +177,9 @@ pub(crate) fn note_read<P: Port>(books: &mut Books<P>, i: u32, turned: &Turned)
 pub(crate) fn mark_short<P: Port>(books: &mut Books<P>, i: u32)
     requires stands { Stands P.told books.old }
     requires within { i < length books.old.seats }
-    ensures { IsMarked P.told (λ was is. is ≡ record was { facts = record was.facts { owing = true } }) i books.old books.new }
+    ensures { IsMarked P.told
+        (λ was is. is ≡ record was { facts = record was.facts { owing = true } }) i books.old
+        books.new }
 {
     books.seats.owed(i);
     books.run.short = true;
@@ -179,7 +189,9 @@ pub(crate) fn mark_short<P: Port>(books: &mut Books<P>, i: u32)
 pub(crate) fn mark_starved<P: Port>(books: &mut Books<P>, i: u32)
     requires stands { Stands P.told books.old }
     requires within { i < length books.old.seats }
-    ensures { IsMarked P.told (λ was is. is ≡ record was { facts = record was.facts { starved = true } }) i books.old books.new }
+    ensures { IsMarked P.told
+        (λ was is. is ≡ record was { facts = record was.facts { starved = true } }) i books.old
+        books.new }
 {
     books.seats.mark_starved(i);
     books.run.short = true;
@@ -239,7 +251,9 @@ pub(crate) fn land_attempt<P: Port>(
     requires fits { sent ≤ length all.now.value }
     requires well { reply ≡ WellTaken → sent ≡ length all.now.value }
     requires swallowed { device_at books.old.log i ≡ false → reply ≡ WellTaken }
-    ensures { HasSpentBy P.told i (Attempt i (joined (held books.old.log i)) (take sent all.now.value) reply) reply books.old books.new }
+    ensures { HasSpentBy P.told i
+        (Attempt i (joined (held books.old.log i)) (take sent all.now.value) reply) reply books.old
+        books.new }
 {
     let decided = decides(books, i, reply);
     note_attempt(books, i, all, sent, reply);
@@ -299,7 +313,9 @@ pub(crate) fn bear_cut<P: Port>(
 ) -> Result<(), Short>
     requires stands { Stands P.told books.old }
     requires within { i < length books.old.seats }
-    requires yields { 0 < length cut.events → yield books.old.log i ≡ Some (record { events = cut.events; stream = stream; end = cut.end }) }
+    requires yields { 0 < length cut.events →
+        yield books.old.log i
+        ≡ Some (record { events = cut.events; stream = stream; end = cut.end }) }
     requires few { length cut.events ≤ 65536 }
     ensures stands { Stands P.told books.new }
     ensures size { length books.new.seats ≡ length books.old.seats }
@@ -335,7 +351,9 @@ pub(crate) fn bear_cut<P: Port>(
 // What was cut of a turn, with its stream, if memory was found for it.
 pub(crate) fn into_cut(turned: Turned) -> Option<(u64, Cut)>
     ensures none { IfNone result (cut_of turned ≡ None) }
-    ensures some { IfSome result (λ r. (cut_of turned ≡ Some r.1) × IsSomeAnd (reading_of turned) (λ reading. reading.stream ≡ r.0)) }
+    ensures some { IfSome result
+        (λ r. (cut_of turned ≡ Some r.1)
+        × IsSomeAnd (reading_of turned) (λ reading. reading.stream ≡ r.0)) }
 {
     match turned {
         Turned::Lines { stream, cut, .. } => with_stream(stream, cut),

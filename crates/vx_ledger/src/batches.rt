@@ -87,9 +87,18 @@ impl Batches {
 
         // The copies have the next numbers, and their batch is the last of the open ones.
         ensures number { IfOk result (λ r. r.0 ≡ self.old.next) }
-        ensures copies { IfOk result (λ r. r.1 ≡ numbered n self.old.next self.old.next self.old.next) }
+        ensures copies { IfOk result
+            (λ r. r.1 ≡ numbered n self.old.next self.old.next self.old.next) }
         ensures next { OnOk result (self.new.next ≡ self.old.next + n) }
-        ensures rows { OnOk result (self.new.open_rows ≡ self.old.open_rows ++ record { number = self.old.next; place = self.old.next; instance = instance; count = n; status = BatchStatus.Delivered } ∷ []) }
+        ensures rows { OnOk result
+            (self.new.open_rows ≡ self.old.open_rows
+            ++ record {
+              number = self.old.next;
+              place = self.old.next;
+              instance = instance;
+              count = n;
+              status = BatchStatus.Delivered;
+            } ∷ []) }
         ensures exchange { IfOk result (λ r. Exchanges self.old [] self.new r.1) }
         ensures kept { IsKept self.new }
 
@@ -124,9 +133,18 @@ impl Batches {
 
         // The copies have the next numbers, and their batch is the last of the open ones.
         ensures number { IfOk result (λ r. r.0 ≡ self.old.next) }
-        ensures singly { IfOk result (λ r. r.1 ≡ each_alone (numbered n self.old.next self.old.next self.old.next)) }
+        ensures singly { IfOk result
+            (λ r. r.1 ≡ each_alone (numbered n self.old.next self.old.next self.old.next)) }
         ensures next { OnOk result (self.new.next ≡ self.old.next + n) }
-        ensures rows { OnOk result (self.new.open_rows ≡ self.old.open_rows ++ record { number = self.old.next; place = self.old.next; instance = instance; count = n; status = BatchStatus.Delivered } ∷ []) }
+        ensures rows { OnOk result
+            (self.new.open_rows ≡ self.old.open_rows
+            ++ record {
+              number = self.old.next;
+              place = self.old.next;
+              instance = instance;
+              count = n;
+              status = BatchStatus.Delivered;
+            } ∷ []) }
         ensures exchange { IfOk result (λ r. Exchanges self.old [] self.new (joined r.1)) }
         ensures kept { IsKept self.new }
 
@@ -172,8 +190,18 @@ impl Batches {
         requires some { 0 < n }
         requires fits { self.old.next + n ≤ 2 ^ 63 }
         ensures next { OnOk result (self.new.next ≡ self.old.next + n) }
-        ensures rows { OnOk result (self.new.open_rows ≡ self.old.open_rows ++ record { number = self.old.next; place = self.old.next; instance = instance; count = n; status = BatchStatus.Delivered } ∷ []) }
-        ensures exchange { OnOk result (Exchanges self.old [] self.new (numbered n self.old.next self.old.next self.old.next)) }
+        ensures rows { OnOk result
+            (self.new.open_rows ≡ self.old.open_rows
+            ++ record {
+              number = self.old.next;
+              place = self.old.next;
+              instance = instance;
+              count = n;
+              status = BatchStatus.Delivered;
+            } ∷ []) }
+        ensures exchange { OnOk result
+            (Exchanges self.old [] self.new
+            (numbered n self.old.next self.old.next self.old.next)) }
         ensures kept { IsKept self.new }
         ensures unchanged { OnErr result (self.new ≡ self.old) }
     {
@@ -206,14 +234,19 @@ impl Batches {
 
         // The children, as a whole, and for the target at t.
         ensures children { IfOk result (λ children. children ≡ children_of k self.old.next parent) }
-        ensures child { IfOk result (λ children. (t : ℕ) → t < k → slice_get children t ≡ Some (renumbered (self.old.next + t * length parent) parent)) }
+        ensures child { IfOk result
+            (λ children. (t : ℕ) → t < k →
+            slice_get children t ≡ Some (renumbered (self.old.next + t * length parent) parent)) }
         ensures next { OnOk result (self.new.next ≡ self.old.next + k * length parent) }
-        ensures rows { OnOk result (self.new.open_rows ≡ grown_rows (k - 1) parent self.old.open_rows) }
-        ensures exchange { IfOk result (λ children. Exchanges self.old parent self.new (joined children)) }
+        ensures rows { OnOk result
+            (self.new.open_rows ≡ grown_rows (k - 1) parent self.old.open_rows) }
+        ensures exchange { IfOk result
+            (λ children. Exchanges self.old parent self.new (joined children)) }
         ensures kept { IsKept self.new }
 
         ensures numbers { 2 ^ 63 < self.old.next + k * length parent → IsErr result }
-        ensures cause { IfErr result (λ refused. IsShort self.old.next (k * length parent) refused.cause) }
+        ensures cause { IfErr result
+            (λ refused. IsShort self.old.next (k * length parent) refused.cause) }
         ensures back { IfErr result (λ refused. refused.finalizers ≡ parent) }
         ensures unchanged { OnErr result (self.new ≡ self.old) }
     {
@@ -266,9 +299,12 @@ impl Batches {
         requires { AreLive self.old (finalizer ∷ []) }
         ensures exchange { Exchanges self.old (finalizer ∷ []) self.new [] }
         ensures next { self.new.next ≡ self.old.next }
-        ensures rows { self.new.open_rows ≡ spent_rows finalizer.batch finalizer.place outcome self.old.open_rows }
-        ensures last { IsSome result ↔ (live_count finalizer.batch finalizer.place self.new.open_rows ≡ 0) }
-        ensures notice { result ≡ notice_of finalizer.batch finalizer.place outcome self.old.open_rows }
+        ensures rows { self.new.open_rows
+            ≡ spent_rows finalizer.batch finalizer.place outcome self.old.open_rows }
+        ensures last { IsSome result
+            ↔ (live_count finalizer.batch finalizer.place self.new.open_rows ≡ 0) }
+        ensures notice { result ≡ notice_of finalizer.batch finalizer.place outcome
+            self.old.open_rows }
         ensures kept { IsKept self.new }
     {
         let (batch, place) = (finalizer.batch(), finalizer.place());

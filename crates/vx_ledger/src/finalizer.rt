@@ -52,7 +52,8 @@ impl Finalizer {
 
     // Gives the copy another number.
     pub(crate) fn set_number(&mut self, number: u64)
-        ensures { self.new ≡ record { batch = self.old.batch; number = number; place = self.old.place } }
+        ensures { self.new
+            ≡ record { batch = self.old.batch; number = number; place = self.old.place } }
     {
         self.number = number;
     }

@@ -75,18 +75,29 @@ impl Outlet {
     ) -> Result<Routed, RouteRefused>
         requires { AreLive batches.old parcel.finalizers }
 
-        ensures children { IfChildren result (λ children. children ≡ children_for (targets_of ports self.now) batches.old.next parcel) }
-        ensures next { IfChildren result (λ _. batches.new.next ≡ batches.old.next + length (targets_of ports self.now) * length parcel.finalizers) }
-        ensures rows { IfChildren result (λ _. batches.new.open_rows ≡ grown_rows (length (targets_of ports self.now) - 1) parcel.finalizers batches.old.open_rows) }
-        ensures exchange { IfChildren result (λ children. Exchanges batches.old parcel.finalizers batches.new (copies_in children)) }
+        ensures children { IfChildren result
+            (λ children. children
+            ≡ children_for (targets_of ports self.now) batches.old.next parcel) }
+        ensures next { IfChildren result
+            (λ _. batches.new.next
+            ≡ batches.old.next + length (targets_of ports self.now) * length parcel.finalizers) }
+        ensures rows { IfChildren result
+            (λ _. batches.new.open_rows
+            ≡ grown_rows
+            (length (targets_of ports self.now) - 1) parcel.finalizers batches.old.open_rows) }
+        ensures exchange { IfChildren result
+            (λ children. Exchanges batches.old parcel.finalizers batches.new (copies_in children)) }
         ensures kept { IsKept batches.new }
 
         ensures no_consumer { IsNoConsumer result ↔ (targets_of ports self.now ≡ []) }
         ensures whole { IfNoConsumer result (λ back. back ≡ parcel) }
         ensures unmoved { IfNoConsumer result (λ _. batches.new ≡ batches.old) }
 
-        ensures numbers { 2 ^ 63 < batches.old.next + length (targets_of ports self.now) * length parcel.finalizers → IsErr result }
-        ensures cause { IfErr result (λ refused. IsShort batches.old.next (length (targets_of ports self.now) * length parcel.finalizers) refused.cause) }
+        ensures numbers { 2 ^ 63 < batches.old.next + length
+            (targets_of ports self.now) * length parcel.finalizers → IsErr result }
+        ensures cause { IfErr result
+            (λ refused. IsShort batches.old.next
+            (length (targets_of ports self.now) * length parcel.finalizers) refused.cause) }
         ensures back { IfErr result (λ refused. refused.parcel ≡ parcel) }
         ensures unchanged { OnErr result (batches.new ≡ batches.old) }
     {
@@ -126,8 +137,13 @@ impl Outlet {
         first: u64,
     ) -> Result<(Vec<Child>, u32), WantOfMemory>
         requires some { 0 < length (targets_of ports self.now) }
-        requires fits { first + length (targets_of ports self.now) * length parcel.now.finalizers ≤ 2 ^ 63 }
-        ensures children { IfOk result (λ r. children_for (targets_of ports self.now) first parcel.now ≡ r.0.items ++ child_of r.1 (first + (length (targets_of ports self.now) - 1) * length parcel.now.finalizers) parcel.now ∷ []) }
+        requires fits { first + length (targets_of ports self.now) * length parcel.now.finalizers
+            ≤ 2 ^ 63 }
+        ensures children { IfOk result
+            (λ r. children_for (targets_of ports self.now) first parcel.now ≡ r.0.items
+            ++ child_of r.1
+            (first + (length (targets_of ports self.now) - 1) * length parcel.now.finalizers)
+            parcel.now ∷ []) }
         ensures room { IfOk result (λ r. length r.0.items < vec_capacity r.0) }
         ensures few { OnOk result (length (targets_of ports self.now) < 2 ^ 63) }
     {

@@ -44,7 +44,8 @@ pub(crate) fn children(
 ) -> Result<Vec<Child>, WantOfMemory>
     requires instances { All (λ t. t < 2 ^ 32) targets.now }
     requires fits { first + length targets.now * length parcel.now.finalizers ≤ 2 ^ 63 }
-    ensures children { IfOk result (λ children. children.items ≡ children_for targets.now first parcel.now) }
+    ensures children { IfOk result
+        (λ children. children.items ≡ children_for targets.now first parcel.now) }
     ensures room { IfOk result (λ children. length children.items < vec_capacity children) }
 {
     let mut children = Vec::with_capacity(alloc, targets.len() + 1)?;
@@ -72,7 +73,10 @@ pub(crate) fn others(
     requires some { 0 < length targets.now }
     requires instances { All (λ t. t < 2 ^ 32) targets.now }
     requires fits { first + length targets.now * length parcel.now.finalizers ≤ 2 ^ 63 }
-    ensures children { IfOk result (λ r. children_for targets.now first parcel.now ≡ r.0.items ++ child_of r.1 (first + (length targets.now - 1) * length parcel.now.finalizers) parcel.now ∷ []) }
+    ensures children { IfOk result
+        (λ r. children_for targets.now first parcel.now ≡ r.0.items
+        ++ child_of r.1 (first + (length targets.now - 1) * length parcel.now.finalizers) parcel.now
+        ∷ []) }
     ensures room { IfOk result (λ r. length r.0.items < vec_capacity r.0) }
     ensures few { length targets.now < 2 ^ 63 }
 {

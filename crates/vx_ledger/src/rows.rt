@@ -38,7 +38,8 @@ fn add_to(rows: &mut VecDeque<OpenBatch>, batch: u64, place: u64, more: u64)
 // Counts that many more live copies for each copy of the list.
 pub(crate) fn grow(rows: &mut VecDeque<OpenBatch>, copies: &Finalizers, more: u64)
     requires live { AreLiveIn rows.old.items copies.now }
-    requires kept { (next : ℕ) × AreKept next rows.old.items × (next + more * length copies.now < 2 ^ 64) }
+    requires kept { (next : ℕ) × AreKept next rows.old.items
+        × (next + more * length copies.now < 2 ^ 64) }
     ensures { rows.new.items ≡ grown_rows more copies.now rows.old.items }
 {
     for i in 0..copies.len() {

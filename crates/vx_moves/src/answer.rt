@@ -25,7 +25,8 @@ impl<P: Port> Books<P> {
         requires kept { IsSome (parcels_here self.old.places (Held i)) }
         requires may { MayAnswerNow self.old.log i ports.now }
         ensures stands { Stands P.told self.new }
-        ensures steps { OnOk result (Steps P.told (answer_by self.old.log i ports.now) self.old self.new) }
+        ensures steps { OnOk result
+            (Steps P.told (answer_by self.old.log i ports.now) self.old self.new) }
         ensures leaves { Leaves self.old self.new }
         ensures kept { IsSome (parcels_here self.new.places (Held i)) }
         ensures unchanged { OnErr result (self.new.log ≡ self.old.log) }

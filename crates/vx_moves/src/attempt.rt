@@ -18,9 +18,13 @@ impl<P: Port> Books<P> {
         requires stands { Stands P.told self.old }
         requires within { i < length self.old.seats }
         requires fits { sent ≤ length all.now.value }
-        requires may { MayAttempt self.old.log i (joined (held self.old.log i)) (take sent all.now.value) reply }
-        requires left { MayStillCome self.old.log (Attempt i (joined (held self.old.log i)) (take sent all.now.value) reply) }
-        ensures steps { Steps P.told (Attempt i (joined (held self.old.log i)) (take sent all.now.value) reply) self.old self.new }
+        requires may { MayAttempt self.old.log i (joined (held self.old.log i))
+            (take sent all.now.value) reply }
+        requires left { MayStillCome self.old.log
+            (Attempt i (joined (held self.old.log i)) (take sent all.now.value) reply) }
+        ensures steps { Steps P.told
+            (Attempt i (joined (held self.old.log i)) (take sent all.now.value) reply) self.old
+            self.new }
         ensures leaves { Leaves self.old self.new }
     {
         self.seats.attempted(i, sent, reply);

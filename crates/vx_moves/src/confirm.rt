@@ -15,8 +15,10 @@ impl<P: Port> Books<P> {
         requires stands { Stands P.told self.old }
         requires within { i < length self.old.seats }
         requires may { MayConfirm self.old.log i confirmed.now.positions }
-        requires left { MayStillCome self.old.log (Confirm i confirmed.now.positions confirmed.now.made) }
-        ensures steps { Steps P.told (Confirm i confirmed.now.positions confirmed.now.made) self.old self.new }
+        requires left { MayStillCome self.old.log
+            (Confirm i confirmed.now.positions confirmed.now.made) }
+        ensures steps { Steps P.told
+            (Confirm i confirmed.now.positions confirmed.now.made) self.old self.new }
         ensures leaves { Leaves self.old self.new }
     {
         self.seats

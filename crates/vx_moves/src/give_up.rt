@@ -46,7 +46,8 @@ impl<P: Port> Books<P> {
         requires within { i < length self.old.seats }
         requires over { abandoned self.old.log ≡ true }
         requires home { is_out self.old.log i ≡ false }
-        ensures spent { IsTrue result → (target : ℕ) × HasSpent P.told (Waiting i target) Abandoned self.old self.new }
+        ensures spent { IsTrue result →
+            (target : ℕ) × HasSpent P.told (Waiting i target) Abandoned self.old self.new }
         ensures none { result ≡ false → (target : ℕ) → at self.old.log (Waiting i target) ≡ [] }
         ensures unchanged { result ≡ false → self.new ≡ self.old }
     {
@@ -73,7 +74,8 @@ impl<P: Port> Books<P> {
         requires within { i < length self.old.seats }
         requires over { abandoned self.old.log ≡ true }
         requires home { is_out self.old.log i ≡ false }
-        ensures spent { IsTrue result → (stage : ℕ) × HasSpent P.told (Contents i stage) Abandoned self.old self.new }
+        ensures spent { IsTrue result →
+            (stage : ℕ) × HasSpent P.told (Contents i stage) Abandoned self.old self.new }
         ensures none { result ≡ false → (stage : ℕ) → at self.old.log (Contents i stage) ≡ [] }
         ensures unchanged { result ≡ false → self.new ≡ self.old }
     {

@@ -25,7 +25,8 @@ impl<P: Port> Books<P> {
         requires back { HasTaskBack P.told self.old.seats self.old.log i task }
         requires returned { self.old.run.short ≡ false → IsReturned self.old.log i }
         ensures steps { Steps P.told (Home i) self.old self.new }
-        ensures back { OneSeat (λ was is. is ≡ record was { task = Some task }) i self.old.seats self.new.seats }
+        ensures back { OneSeat (λ was is. is ≡ record was { task = Some task }) i self.old.seats
+            self.new.seats }
         ensures rooms { SameRooms self.old.places self.new.places }
         ensures run { self.new.run ≡ self.old.run }
     {

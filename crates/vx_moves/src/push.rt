@@ -24,7 +24,8 @@ impl<P: Port> Books<P> {
         requires home { is_out self.old.log i ≡ false }
         requires oldest { IsOldestFor self.old.places i target child }
         requires room { IsFirstRoom self.old.places target (Some stage) }
-        ensures steps { Steps P.told (Push i target stage (oldest (at self.old.log (Waiting i target)))) self.old self.new }
+        ensures steps { Steps P.told
+            (Push i target stage (oldest (at self.old.log (Waiting i target)))) self.old self.new }
         ensures leaves { Leaves self.old self.new }
     {
         self.places.push(i, child, target, stage);

@@ -23,8 +23,10 @@ impl<P: Port> Books<P> {
         requires stands { Stands P.told self.old }
         requires within { i < length self.old.seats }
         requires whole { IsInRoom turned.now }
-        requires may { IsSomeAnd (reading_of turned.now) (MayNoteRead self.old.log i (cut_of turned.now)) }
-        ensures steps { IsSomeAnd (reading_of turned.now) (λ reading. Steps P.told (Read i reading.stream reading.took) self.old self.new) }
+        requires may { IsSomeAnd (reading_of turned.now)
+            (MayNoteRead self.old.log i (cut_of turned.now)) }
+        ensures steps { IsSomeAnd (reading_of turned.now)
+            (λ reading. Steps P.told (Read i reading.stream reading.took) self.old self.new) }
         ensures leaves { LeavesUntold (is_none (cut_of turned.now)) i self.old self.new }
     {
         let bytes = bytes_in(turned);
@@ -53,8 +55,10 @@ impl<P: Port> Books<P> {
         requires within { i < length self.old.seats }
         requires fit { CountsAt self.old.seats i }
         requires may { MayBeLost self.old.log i (capped (bytes_taken self.old.log i)) failed }
-        requires left { MayStillCome self.old.log (SourceLost i (capped (bytes_taken self.old.log i)) failed) }
-        ensures steps { Steps P.told (SourceLost i (capped (bytes_taken self.old.log i)) failed) self.old self.new }
+        requires left { MayStillCome self.old.log
+            (SourceLost i (capped (bytes_taken self.old.log i)) failed) }
+        ensures steps { Steps P.told
+            (SourceLost i (capped (bytes_taken self.old.log i)) failed) self.old self.new }
         ensures leaves { Leaves self.old self.new }
     {
         let at = self.seats.lost(i);
@@ -65,7 +69,8 @@ impl<P: Port> Books<P> {
 /// How many bytes a turn took.
 fn bytes_in(turned: &Turned) -> u64
     requires { IsInRoom turned.now }
-    ensures { IfSome (reading_of turned.now) (λ reading. result ≡ capped (length (bytes_of reading.took))) }
+    ensures { IfSome (reading_of turned.now)
+        (λ reading. result ≡ capped (length (bytes_of reading.took))) }
 {
     match turned {
         Turned::Lines { n, .. } => u64::from(*n),

@@ -31,7 +31,8 @@ pub(crate) fn settle<P: Port>(
     requires legal { IsLegal (entry.Spent i copy.number outcome ∷ log.old) }
     requires balances { Balances balance.old log.old }
     requires knows { Knows P.told seats.old (entry.Spent i copy.number outcome ∷ log.old) }
-    ensures settled { IsSettled P.told (entry.Spent i copy.number outcome) log.old log.new balance.new seats.new }
+    ensures settled { IsSettled P.told
+        (entry.Spent i copy.number outcome) log.old log.new balance.new seats.new }
     ensures size { length seats.new ≡ length seats.old }
     ensures stays { EachSeat Stays seats.old seats.new }
 {

@@ -48,7 +48,8 @@ impl<P: Port> Books<P> {
         requires kept { IsSome (parcels_here self.old.places (Held i)) }
         requires may { MaySpendAll self.old.log (Held i) outcome }
         ensures spent { OnlySpends P.told i outcome self.old self.new }
-        ensures others { (q : Place) → same_place (Held i) q ≡ false → at self.new.log q ≡ at self.old.log q }
+        ensures others { (q : Place) → same_place (Held i) q ≡ false →
+            at self.new.log q ≡ at self.old.log q }
         ensures kept { IsSome (parcels_here self.new.places (Held i)) }
         ensures none { at self.new.log (Held i) ≡ [] }
     {

@@ -72,7 +72,8 @@ fn note_split(
     was: &Snapshot<Parcel>,
     children: &ChildList,
 )
-    ensures { log.new ≡ Split i ports (numbers_of was.now.value.finalizers) was.now.value.event (noted children.now) ∷ log.old }
+    ensures { log.new ≡ Split i ports (numbers_of was.now.value.finalizers) was.now.value.event
+        (noted children.now) ∷ log.old }
 {
     log.note(&(i, ports, was, children));
 }

@@ -24,7 +24,8 @@ impl<P: Port> Books<P> {
         requires room { HasHeldRoom self.old.places i }
         requires may { MayTakeNow self.old.log i }
         requires moment { now ≡ lease_now self.old.log i }
-        ensures steps { Steps P.told (Take i stage (oldest (at self.old.log (Contents i stage)))) self.old self.new }
+        ensures steps { Steps P.told
+            (Take i stage (oldest (at self.old.log (Contents i stage)))) self.old self.new }
         ensures leaves { Leaves self.old self.new }
         ensures kept { IsSome (parcels_here self.new.places (Held i)) }
     {

@@ -9,8 +9,11 @@ use vx_transform::{Back, Shelf};
 
 // Puts a parcel out on the ports whose bits are set, or discards it where none is.
 pub(crate) fn answer(shelf: &mut Shelf, ports: u128, parcel: Parcel) -> Result<(), Back>
-    ensures answered { OnOk result ((named : List ℕ) → ports ≡ port_bits named → shelf.new ≡ answered_on named shelf.old parcel) }
-    ensures moves { OnOk result ((count : ℕ) → ports < 2 ^ count → Moves count parcel.finalizers [] shelf.old shelf.new) }
+    ensures answered { OnOk result
+        ((named : List ℕ) → ports ≡ port_bits named →
+        shelf.new ≡ answered_on named shelf.old parcel) }
+    ensures moves { OnOk result
+        ((count : ℕ) → ports < 2 ^ count → Moves count parcel.finalizers [] shelf.old shelf.new) }
     ensures err { OnErr result (shelf.new ≡ shelf.old) }
     ensures back { IfErr result (λ refused. refused.parcel ≡ parcel) }
 {

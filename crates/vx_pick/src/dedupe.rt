@@ -69,10 +69,14 @@ impl Dedupe {
     /// The bits of the ports on which the next event is put out: none where its key is among those that are kept, and else
     /// that of port 0. Its key is the latest then. For want of memory all is as before.
     pub fn ports_for(&mut self, alloc: Global, event: &Event) -> Result<u128, WantOfMemory>
-        ensures ports { IfOk result (λ ports. (earlier : List Event) → HasSeen self.old earlier →
-            ports ≡ port_bits (passing (dedupe_passes self.old.most self.old.by) earlier event.now)) }
+        ensures ports { IfOk result
+            (λ ports. (earlier : List Event) → HasSeen self.old earlier →
+            ports ≡ port_bits
+            (passing (dedupe_passes self.old.most self.old.by) earlier event.now)) }
         ensures below { IfOk result (λ ports. ports < 2 ^ 1) }
-        ensures seen { OnOk result ((earlier : List Event) → HasSeen self.old earlier → HasSeen self.new (earlier ++ event.now ∷ [])) }
+        ensures seen { OnOk result
+            ((earlier : List Event) → HasSeen self.old earlier →
+            HasSeen self.new (earlier ++ event.now ∷ [])) }
         ensures by { self.new.by ≡ self.old.by }
         ensures most { self.new.most ≡ self.old.most }
         ensures same { OnErr result (self.new ≡ self.old) }
@@ -84,7 +88,8 @@ impl Dedupe {
 
     // Takes a key in as the latest, and says whether it was there. For want of memory all is as before.
     fn remember(&mut self, key: DedupeKey) -> Result<bool, WantOfMemory>
-        ensures repeats { IfOk result (λ repeats. repeats ≡ list_any (same_datum key) self.old.keys) }
+        ensures repeats { IfOk result
+            (λ repeats. repeats ≡ list_any (same_datum key) self.old.keys) }
         ensures keys { OnOk result (self.new.keys ≡ remembering self.old.most key self.old.keys) }
         ensures by { self.new.by ≡ self.old.by }
         ensures most { self.new.most ≡ self.old.most }
@@ -174,9 +179,15 @@ impl Transform for Dedupe {
         _now: u64,
         shelf: &mut Shelf,
     ) -> Result<(), Back>
-        ensures answered { OnOk result ((earlier : List Event) → HasSeen self.old earlier →
-            shelf.new ≡ answered_on (passing (dedupe_passes self.old.most self.old.by) earlier parcel.event) shelf.old parcel) }
-        ensures seen { OnOk result ((earlier : List Event) → HasSeen self.old earlier → HasSeen self.new (earlier ++ parcel.event ∷ [])) }
+        ensures answered { OnOk result
+            ((earlier : List Event) → HasSeen self.old earlier →
+            shelf.new
+            ≡ answered_on
+            (passing (dedupe_passes self.old.most self.old.by) earlier parcel.event) shelf.old
+            parcel) }
+        ensures seen { OnOk result
+            ((earlier : List Event) → HasSeen self.old earlier →
+            HasSeen self.new (earlier ++ parcel.event ∷ [])) }
         ensures moves { OnOk result (Moves 1 parcel.finalizers [] shelf.old shelf.new) }
         ensures by { self.new.by ≡ self.old.by }
         ensures most { self.new.most ≡ self.old.most }

@@ -59,7 +59,8 @@ impl DedupeKey {
 
 // What stands in a key for the values at some paths.
 fn items_at(alloc: Global, paths: &PathList, event: &Event) -> Result<ValueList, WantOfMemory>
-    ensures { IfOk result (λ items. items ≡ map (λ path. key_item (value_at event.now.fields path)) paths.now) }
+    ensures { IfOk result
+        (λ items. items ≡ map (λ path. key_item (value_at event.now.fields path)) paths.now) }
 {
     let mut items = ValueList::new(alloc);
     for path in paths.as_slice() {
@@ -87,7 +88,9 @@ fn item_at(alloc: Global, event: &Event, path: &Path) -> Result<Value, WantOfMem
 
 // The fields of an event but those with some names.
 fn fields_but(alloc: Global, names: &TextList, event: &Event) -> Result<FieldList, WantOfMemory>
-    ensures { IfOk result (λ kept. kept ≡ filter (λ f. not (list_any (same_text f.name) names.now)) event.now.fields) }
+    ensures { IfOk result
+        (λ kept. kept
+        ≡ filter (λ f. not (list_any (same_text f.name) names.now)) event.now.fields) }
 {
     let mut kept = FieldList::new(alloc);
     for field in event.fields.as_slice() {

@@ -55,7 +55,8 @@ fn feed_items<H: Hasher>(items: &[Value], state: &mut H)
 // Feeds fields in order, each with its name.
 #[cycle(feed)]
 fn feed_fields<H: Hasher>(fields: &[Field], state: &mut H)
-    ensures { state.new ≡ fold H.write state.old (named_fed (named_of (map named_datum fields.now))) }
+    ensures { state.new
+        ≡ fold H.write state.old (named_fed (named_of (map named_datum fields.now))) }
 {
     for field in fields {
         field.name.as_str().hash(state);

@@ -42,7 +42,8 @@ impl Filter {
 
     /// The bits of the ports on which an event is put out: that of port 0 where the condition holds of it, and elsewhere none.
     pub fn ports_for(&mut self, alloc: Global, event: &Event) -> Result<u128, WantOfMemory>
-        ensures ports { IfOk result (λ ports. (test : Test) (earlier : List Event) → Means self.old test →
+        ensures ports { IfOk result
+            (λ ports. (test : Test) (earlier : List Event) → Means self.old test →
             ports ≡ port_bits (passing (filter_passes test) earlier event.now)) }
         ensures below { IfOk result (λ ports. ports < 2 ^ 1) }
         ensures meant { OnOk result (AreMeant (self.old ∷ [])) }
@@ -75,8 +76,10 @@ impl Transform for Filter {
         _now: u64,
         shelf: &mut Shelf,
     ) -> Result<(), Back>
-        ensures answered { OnOk result ((test : Test) (earlier : List Event) → Means self.old test →
-            shelf.new ≡ answered_on (passing (filter_passes test) earlier parcel.event) shelf.old parcel) }
+        ensures answered { OnOk result
+            ((test : Test) (earlier : List Event) → Means self.old test →
+            shelf.new
+            ≡ answered_on (passing (filter_passes test) earlier parcel.event) shelf.old parcel) }
         ensures moves { OnOk result (Moves 1 parcel.finalizers [] shelf.old shelf.new) }
         ensures same { self.new ≡ self.old }
         ensures back { IfErr result (λ refused. refused.parcel ≡ parcel) }

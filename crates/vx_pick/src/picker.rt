@@ -26,9 +26,14 @@ impl Picker {
     /// it saw this event too then. For want of memory all is as before. A filter and a route, and a sample, need memory only for a
     /// condition with `match` in it, and a dedupe for each key.
     pub fn ports_for(&mut self, alloc: Global, event: &Event) -> Result<u128, WantOfMemory>
-        ensures ports { IfOk result (λ ports. (settings : Settings) (earlier : List Event) → Picks settings self.old → StandsFor self.old earlier → ArePicked settings earlier event.now ports) }
-        ensures meant { OnOk result ((settings : Settings) → Picks settings self.old → AreMeant (conditions_of settings)) }
-        ensures stands { OnOk result ((earlier : List Event) → StandsFor self.old earlier → StandsFor self.new (earlier ++ event.now ∷ [])) }
+        ensures ports { IfOk result
+            (λ ports. (settings : Settings) (earlier : List Event) → Picks settings self.old →
+            StandsFor self.old earlier → ArePicked settings earlier event.now ports) }
+        ensures meant { OnOk result
+            ((settings : Settings) → Picks settings self.old → AreMeant (conditions_of settings)) }
+        ensures stands { OnOk result
+            ((earlier : List Event) → StandsFor self.old earlier →
+            StandsFor self.new (earlier ++ event.now ∷ [])) }
         ensures picks { (settings : Settings) → Picks settings self.old → Picks settings self.new }
         ensures same { OnErr result (self.new ≡ self.old) }
     {

@@ -54,7 +54,8 @@ impl Route {
     /// The bits of the ports on which an event is put out: those whose conditions hold of it. Where none holds, that of the last
     /// port, or none, as the route was made.
     pub fn ports_for(&mut self, alloc: Global, event: &Event) -> Result<u128, WantOfMemory>
-        ensures ports { IfOk result (λ ports. (tests : List Test) → AllMean self.old.conditions tests →
+        ensures ports { IfOk result
+            (λ ports. (tests : List Test) → AllMean self.old.conditions tests →
             ports ≡ port_bits (route_ports tests self.old.reroute event.now)) }
         ensures below { IfOk result (λ ports. ports < 2 ^ ways_ports self.old) }
         ensures meant { OnOk result (AreMeant self.old.conditions) }
@@ -86,9 +87,12 @@ impl Transform for Route {
         _now: u64,
         shelf: &mut Shelf,
     ) -> Result<(), Back>
-        ensures answered { OnOk result ((tests : List Test) → AllMean self.old.conditions tests →
-            shelf.new ≡ answered_on (route_ports tests self.old.reroute parcel.event) shelf.old parcel) }
-        ensures moves { OnOk result (Moves (ways_ports self.old) parcel.finalizers [] shelf.old shelf.new) }
+        ensures answered { OnOk result
+            ((tests : List Test) → AllMean self.old.conditions tests →
+            shelf.new
+            ≡ answered_on (route_ports tests self.old.reroute parcel.event) shelf.old parcel) }
+        ensures moves { OnOk result
+            (Moves (ways_ports self.old) parcel.finalizers [] shelf.old shelf.new) }
         ensures same { self.new ≡ self.old }
         ensures back { IfErr result (λ refused. refused.parcel ≡ parcel) }
         ensures shelf { OnErr result (shelf.new ≡ shelf.old) }
@@ -160,7 +164,8 @@ fn accepting(
     event: &Event,
 ) -> Result<(u128, u128), WantOfMemory>
     requires { length conditions.old.items ≤ 64 }
-    ensures accepting { IfOk result (λ bits. (tests : List Test) → AllMean conditions.old.items tests →
+    ensures accepting { IfOk result
+        (λ bits. (tests : List Test) → AllMean conditions.old.items tests →
         bits.0 ≡ port_bits (accepting_ports 0 tests event.now)) }
     ensures behind { IfOk result (λ bits. bits.1 ≡ 2 ^ length conditions.old.items) }
     ensures below { IfOk result (λ bits. bits.0 < bits.1) }

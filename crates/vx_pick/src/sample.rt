@@ -61,11 +61,17 @@ impl Sample {
     /// number of events so far of which it doesn't hold is a multiple of the rate, and elsewhere none. For want of memory the
     /// event isn't counted.
     pub fn ports_for(&mut self, alloc: Global, event: &Event) -> Result<u128, WantOfMemory>
-        ensures ports { IfOk result (λ ports. (tests : List Test) (earlier : List Event) → AllMean (if_any self.old.exclude) tests → HasCounted self.old earlier →
-            ports ≡ port_bits (passing (sample_passes self.old.rate (test_of self.old.exclude tests)) earlier event.now)) }
+        ensures ports { IfOk result
+            (λ ports. (tests : List Test) (earlier : List Event) →
+            AllMean (if_any self.old.exclude) tests → HasCounted self.old earlier →
+            ports ≡ port_bits
+            (passing
+            (sample_passes self.old.rate (test_of self.old.exclude tests)) earlier event.now)) }
         ensures below { IfOk result (λ ports. ports < 2 ^ 1) }
         ensures meant { OnOk result (AreMeant (if_any self.old.exclude)) }
-        ensures seen { OnOk result ((earlier : List Event) → HasCounted self.old earlier → HasCounted self.new (earlier ++ event.now ∷ [])) }
+        ensures seen { OnOk result
+            ((earlier : List Event) → HasCounted self.old earlier →
+            HasCounted self.new (earlier ++ event.now ∷ [])) }
         ensures rate { self.new.rate ≡ self.old.rate }
         ensures exclude { self.new.exclude ≡ self.old.exclude }
         ensures same { OnErr result (self.new ≡ self.old) }
@@ -78,7 +84,9 @@ impl Sample {
 
     // Whether the condition holds of an event. Without one it never does.
     fn is_excluded(&mut self, alloc: Global, event: &Event) -> Result<bool, WantOfMemory>
-        ensures says { IfOk result (λ excluded. (tests : List Test) → AllMean (if_any self.old.exclude) tests → excluded ≡ test_of self.old.exclude tests event.now) }
+        ensures says { IfOk result
+            (λ excluded. (tests : List Test) → AllMean (if_any self.old.exclude) tests →
+            excluded ≡ test_of self.old.exclude tests event.now) }
         ensures meant { OnOk result (AreMeant (if_any self.old.exclude)) }
         ensures same { self.new ≡ self.old }
     {
@@ -101,7 +109,8 @@ impl Sample {
 
     // Counts an event, if it isn't excluded.
     fn count(&mut self, excluded: bool)
-        ensures counted { self.new.counted ≡ (if excluded then self.old.counted else count_held (self.old.counted + 1)) }
+        ensures counted { self.new.counted
+            ≡ (if excluded then self.old.counted else count_held (self.old.counted + 1)) }
         ensures rate { self.new.rate ≡ self.old.rate }
         ensures exclude { self.new.exclude ≡ self.old.exclude }
     {
@@ -131,9 +140,17 @@ impl Transform for Sample {
         _now: u64,
         shelf: &mut Shelf,
     ) -> Result<(), Back>
-        ensures answered { OnOk result ((tests : List Test) (earlier : List Event) → AllMean (if_any self.old.exclude) tests → HasCounted self.old earlier →
-            shelf.new ≡ answered_on (passing (sample_passes self.old.rate (test_of self.old.exclude tests)) earlier parcel.event) shelf.old parcel) }
-        ensures seen { OnOk result ((earlier : List Event) → HasCounted self.old earlier → HasCounted self.new (earlier ++ parcel.event ∷ [])) }
+        ensures answered { OnOk result
+            ((tests : List Test) (earlier : List Event) → AllMean (if_any self.old.exclude) tests →
+            HasCounted self.old earlier →
+            shelf.new
+            ≡ answered_on
+            (passing
+            (sample_passes self.old.rate (test_of self.old.exclude tests)) earlier parcel.event)
+            shelf.old parcel) }
+        ensures seen { OnOk result
+            ((earlier : List Event) → HasCounted self.old earlier →
+            HasCounted self.new (earlier ++ parcel.event ∷ [])) }
         ensures moves { OnOk result (Moves 1 parcel.finalizers [] shelf.old shelf.new) }
         ensures rate { self.new.rate ≡ self.old.rate }
         ensures exclude { self.new.exclude ≡ self.old.exclude }

@@ -161,7 +161,8 @@ fn is_none_held(held: &Option<Line<Parcel>>) -> bool
 // Whether no stage of an instance's buffer has a parcel, and nothing is held, nor lent.
 pub(crate) fn is_unfilled(rows: &[Row], i: usize) -> bool
     requires { i < length rows.now }
-    ensures { IsTrue result ↔ (HasEmptyBuffer rows.now i × (parcels_here rows.now (Held i) ≡ Some [])) }
+    ensures { IsTrue result
+        ↔ (HasEmptyBuffer rows.now i × (parcels_here rows.now (Held i) ≡ Some [])) }
 {
     is_empty_buffer(rows, i) && is_none_held(&rows[i].held)
 }

@@ -213,7 +213,8 @@ impl Places {
     pub fn oldest_at(&self, instance: u32, child: usize) -> Option<u32>
         requires { IsThere self.now instance }
         ensures oldest { IfSome result (λ target. IsOldestFor self.now instance target child) }
-        ensures none { IfNone result ((target : ℕ) → IsOldestFor self.now instance target child → ⊥) }
+        ensures none { IfNone result
+            ((target : ℕ) → IsOldestFor self.now instance target child → ⊥) }
     {
         looks::oldest_at(&self.rows, instance as usize, child)
     }
@@ -222,7 +223,8 @@ impl Places {
     pub fn next_unsent(&self, from: usize) -> Option<usize>
         requires { from ≤ length self.now }
         ensures some { IfSome result (λ i. (from ≤ i) × (i < length self.now)) }
-        ensures sent { (i : ℕ) → from ≤ i → i < length self.now → IsBefore i result → HasSent self.now i }
+        ensures sent { (i : ℕ) → from ≤ i → i < length self.now → IsBefore i result →
+            HasSent self.now i }
     {
         marks::next_marked(&self.marks.unsent, from)
     }
@@ -231,7 +233,8 @@ impl Places {
     pub fn next_filled(&self, from: usize) -> Option<usize>
         requires { from ≤ length self.now }
         ensures some { IfSome result (λ i. (from ≤ i) × (i < length self.now)) }
-        ensures unfilled { (i : ℕ) → from ≤ i → i < length self.now → IsBefore i result → IsUnfilled self.now i }
+        ensures unfilled { (i : ℕ) → from ≤ i → i < length self.now → IsBefore i result →
+            IsUnfilled self.now i }
     {
         marks::next_marked(&self.marks.filled, from)
     }
@@ -263,7 +266,8 @@ impl Places {
     /// Takes the oldest output of an instance, to split it. `None` where there is none.
     pub fn take_output(&mut self, instance: u32) -> Option<Output>
         requires { IsThere self.old instance }
-        ensures takes { IfSome result (λ output. Takes (Outputs instance) output.parcel self.old self.new) }
+        ensures takes { IfSome result
+            (λ output. Takes (Outputs instance) output.parcel self.old self.new) }
         ensures output { IfSome result (λ output. TakesOutput instance output self.old self.new) }
         ensures room { IfSome result (λ _. HasOutputRoom self.new instance) }
         ensures size { length self.new ≡ length self.old }
@@ -307,7 +311,8 @@ impl Places {
         requires target { IsThere self.old target }
         requires oldest { IsOldestFor self.old instance target child }
         requires room { HasRoom self.old target stage }
-        ensures moves { Moves (Push instance target stage) (Waiting instance target) (Contents target stage) self.old self.new }
+        ensures moves { Moves (Push instance target stage) (Waiting instance target)
+            (Contents target stage) self.old self.new }
         ensures size { length self.new ≡ length self.old }
         ensures rooms { SameRooms self.old self.new }
     {
@@ -323,7 +328,8 @@ impl Places {
         requires there { IsThere self.old instance }
         requires some { HasSome self.old instance stage }
         requires room { HasHeldRoom self.old instance }
-        ensures moves { Moves (Take instance stage) (Contents instance stage) (Held instance) self.old self.new }
+        ensures moves { Moves (Take instance stage) (Contents instance stage)
+            (Held instance) self.old self.new }
         ensures size { length self.new ≡ length self.old }
         ensures rooms { SameRooms self.old self.new }
     {
@@ -395,7 +401,8 @@ impl Places {
     /// no parcel, or the oldest has no copy. It takes no memory.
     pub fn spend_buffered(&mut self, instance: u32, stage: usize) -> Option<Finalizer>
         requires { IsThere self.old instance }
-        ensures loses { IfSome result (λ copy. Loses (Contents instance stage) copy self.old self.new) }
+        ensures loses { IfSome result
+            (λ copy. Loses (Contents instance stage) copy self.old self.new) }
         ensures size { length self.new ≡ length self.old }
         ensures rooms { SameRooms self.old self.new }
         ensures none { IfNone result (self.new ≡ self.old) }
@@ -411,7 +418,8 @@ impl Places {
     pub fn spend_waiting(&mut self, instance: u32, child: usize, target: u32) -> Option<Finalizer>
         requires there { IsThere self.old instance }
         requires oldest { IsOldestFor self.old instance target child }
-        ensures loses { IfSome result (λ copy. Loses (Waiting instance target) copy self.old self.new) }
+        ensures loses { IfSome result
+            (λ copy. Loses (Waiting instance target) copy self.old self.new) }
         ensures size { length self.new ≡ length self.old }
         ensures rooms { SameRooms self.old self.new }
         ensures none { IfNone result (self.new ≡ self.old) }

@@ -125,7 +125,8 @@ pub(crate) fn take_copy(line: &mut Line<Parcel>) -> Option<Finalizer>
 
 // The same of the oldest output. What is left of it stays on its ports.
 pub(crate) fn take_output_copy(line: &mut Line<Output>) -> Option<Finalizer>
-    ensures loses { IfSome result (λ copy. LosesCopy copy (parcels_out line.old.items) (parcels_out line.new.items)) }
+    ensures loses { IfSome result
+        (λ copy. LosesCopy copy (parcels_out line.old.items) (parcels_out line.new.items)) }
     ensures on { KeepsOn line.old.items line.new.items }
     ensures room { line.new.room ≡ line.old.room }
     ensures none { IfNone result (line.new ≡ line.old) }
@@ -150,7 +151,8 @@ pub(crate) fn take_output_copy(line: &mut Line<Output>) -> Option<Finalizer>
 // Ends the waiting child at a place, of which no copy is left.
 fn end_child(waiting: &mut VecDeque<Child>, k: usize)
     requires within { k < length waiting.old.items }
-    requires bare { (child : Child) → child ≡ slice_index_or waiting.old.items k child → child.parcel.finalizers ≡ [] }
+    requires bare { (child : Child) → child ≡ slice_index_or waiting.old.items k child →
+        child.parcel.finalizers ≡ [] }
     ensures { waiting.new.items ≡ remove waiting.old.items k }
 {
     match waiting.remove(k) {
@@ -173,8 +175,11 @@ pub(crate) fn take_child_copy(
     target: u32,
 ) -> Option<Finalizer>
     requires { NoneBefore target k waiting.old.items }
-    ensures loses { IfSome result (λ copy. LosesCopy copy (for_target target waiting.old.items) (for_target target waiting.new.items)) }
-    ensures others { (t : ℕ) → (target == t) ≡ false → for_target t waiting.new.items ≡ for_target t waiting.old.items }
+    ensures loses { IfSome result
+        (λ copy. LosesCopy copy (for_target target waiting.old.items)
+        (for_target target waiting.new.items)) }
+    ensures others { (t : ℕ) → (target == t) ≡ false →
+        for_target t waiting.new.items ≡ for_target t waiting.old.items }
     ensures none { IfNone result (waiting.new ≡ waiting.old) }
     ensures empty { IfNone result (NothingToLose (for_target target waiting.old.items)) }
 {

@@ -41,7 +41,8 @@ pub(crate) fn append_outputs(rows: &mut Vec<Row>, i: usize, more: ItemList<Outpu
 // Takes the oldest output of an instance.
 pub(crate) fn pop_output(rows: &mut Vec<Row>, i: usize) -> Option<Output>
     requires { i < length rows.old.items }
-    ensures takes { IfSome result (λ output. Takes (Outputs i) output.parcel rows.old.items rows.new.items) }
+    ensures takes { IfSome result
+        (λ output. Takes (Outputs i) output.parcel rows.old.items rows.new.items) }
     ensures output { IfSome result (λ output. TakesOutput i output rows.old.items rows.new.items) }
     ensures room { IfSome result (λ _. HasOutputRoom rows.new.items i) }
     ensures size { length rows.new.items ≡ length rows.old.items }
@@ -195,7 +196,8 @@ pub(crate) fn spend_held(rows: &mut Vec<Row>, i: usize) -> Option<Finalizer>
 // Takes the last copy of the oldest parcel in a stage of an instance's buffer.
 pub(crate) fn spend_stage(rows: &mut Vec<Row>, i: usize, s: usize) -> Option<Finalizer>
     requires { i < length rows.old.items }
-    ensures loses { IfSome result (λ copy. Loses (Contents i s) copy rows.old.items rows.new.items) }
+    ensures loses { IfSome result
+        (λ copy. Loses (Contents i s) copy rows.old.items rows.new.items) }
     ensures size { length rows.new.items ≡ length rows.old.items }
     ensures rooms { SameRooms rows.old.items rows.new.items }
     ensures none { IfNone result (rows.new.items ≡ rows.old.items) }
@@ -212,7 +214,8 @@ pub(crate) fn spend_stage(rows: &mut Vec<Row>, i: usize, s: usize) -> Option<Fin
 pub(crate) fn spend_child(rows: &mut Vec<Row>, i: usize, k: usize, target: u32) -> Option<Finalizer>
     requires within { i < length rows.old.items }
     requires oldest { IsOldestFor rows.old.items i target k }
-    ensures loses { IfSome result (λ copy. Loses (Waiting i target) copy rows.old.items rows.new.items) }
+    ensures loses { IfSome result
+        (λ copy. Loses (Waiting i target) copy rows.old.items rows.new.items) }
     ensures size { length rows.new.items ≡ length rows.old.items }
     ensures rooms { SameRooms rows.old.items rows.new.items }
     ensures none { IfNone result (rows.new.items ≡ rows.old.items) }

@@ -28,7 +28,8 @@ pub(crate) fn text_le(a: &[u8], b: &[u8]) -> bool
 
 /// The first component of a name.
 pub(crate) fn named<'a>(components: &'a [Component], name: &str) -> Option<&'a Component>
-    ensures { option_copied result ≡ find (λ (c : Component). same_text c.name name.now) components.now }
+    ensures { option_copied result
+        ≡ find (λ (c : Component). same_text c.name name.now) components.now }
 {
     match components {
         [] => None,
@@ -44,7 +45,8 @@ pub(crate) fn named<'a>(components: &'a [Component], name: &str) -> Option<&'a C
 
 /// The place of the first component of a name, or the number of components.
 pub(crate) fn place_named(components: &[Component], name: &str) -> usize
-    ensures { result ≡ position_or_len (λ (c : Component). same_text c.name name.now) components.now }
+    ensures { result ≡ position_or_len
+        (λ (c : Component). same_text c.name name.now) components.now }
 {
     for (i, component) in components.iter().enumerate() {
         if same_text(component.name.as_str(), name) {

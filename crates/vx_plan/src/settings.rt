@@ -16,8 +16,8 @@ use crate::route::RouteList;
 use crate::sink_settings::SinkSettings;
 use std::alloc::Global;
 use vx_condition::{DedupeFields, PathList, StrategyList};
-use vx_ends::Form;
 use vx_demo::DemoSettings;
+use vx_ends::Form;
 use vx_json::{Codec, Decoding};
 use vx_value::{Text, WantOfMemory};
 
@@ -193,7 +193,8 @@ impl Settings {
         folder: &str,
         name: &str,
     ) -> Result<Option<Form>, WantOfMemory>
-        ensures { IfOk result (λ form. form ≡ form_of once (checkpoint_path folder.now name.now) self.now) }
+        ensures { IfOk result
+            (λ form. form ≡ form_of once (checkpoint_path folder.now name.now) self.now) }
     {
         match self {
             Settings::Stdin { .. } => Ok(Some(Form::Stdin)),

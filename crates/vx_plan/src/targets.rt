@@ -44,7 +44,8 @@ fn readers(
     name: &str,
     port: &str,
 ) -> Result<TextList, WantOfMemory>
-    ensures { IfOk result (λ names. names ≡ in_order (names_reading name.now port.now components.now)) }
+    ensures { IfOk result
+        (λ names. names ≡ in_order (names_reading name.now port.now components.now)) }
 {
     match components {
         [] => Ok(TextList::new(alloc)),

@@ -71,7 +71,8 @@ fn paths_of(alloc: Global, values: &[Value]) -> Result<PathList, WantOfMemory>
 
 /// The list under a name of a table that stands under another name.
 fn list_within<'a>(group: &str, name: &str, table: &'a Value) -> Option<&'a [Value]>
-    ensures { option_map (λ items. items_view items.now) result ≡ list_within group.now name.now (view table.now) }
+    ensures { option_map (λ items. items_view items.now) result
+        ≡ list_within group.now name.now (view table.now) }
 {
     let inner = table.get(group)?;
     let value = inner.get(name)?;
@@ -83,7 +84,8 @@ fn list_within<'a>(group: &str, name: &str, table: &'a Value) -> Option<&'a [Val
 
 /// The values at some paths, where a list says which, and else at those of a transform that doesn't say.
 fn matched(alloc: Global, values: Option<&[Value]>) -> Result<DedupeFields, WantOfMemory>
-    ensures { IfOk result (λ fields. fields ≡ matched (option_map (λ items. items_view items.now) values.entry)) }
+    ensures { IfOk result
+        (λ fields. fields ≡ matched (option_map (λ items. items_view items.now) values.entry)) }
 {
     match values {
         Some(values) => Ok(DedupeFields::Match(paths_of(alloc, values)?)),

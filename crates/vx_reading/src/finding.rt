@@ -29,7 +29,8 @@ pub(crate) fn push(
     path: Text,
     trouble: Trouble,
 ) -> Result<(), WantOfMemory>
-    ensures { OnOk result (findings.new ≡ findings.old ++ found (owner_view owner.entry) path trouble ∷ []) }
+    ensures { OnOk result
+        (findings.new ≡ findings.old ++ found (owner_view owner.entry) path trouble ∷ []) }
 {
     let name = Text::copy_of(alloc, owner.name)?;
     let finding = Finding {

@@ -24,8 +24,10 @@ fn push_judged(
     rows: &[Row],
     given: Given<'_>,
 ) -> Result<(), WantOfMemory>
-    ensures { OnOk result (findings.new
-        ≡ findings.old ++ found_if (owner_view owner.entry) (lead.now ++ place_path (given_view given.entry).place) (judged (rows_view rows.now) (given_view given.entry))) }
+    ensures { OnOk result
+        (findings.new ≡ findings.old
+        ++ found_if (owner_view owner.entry) (lead.now ++ place_path (given_view given.entry).place)
+        (judged (rows_view rows.now) (given_view given.entry))) }
 {
     match judged(alloc, rows, given)? {
         None => Ok(()),
@@ -45,7 +47,10 @@ fn push_given(
     rows: &[Row],
     all: &[Given<'_>],
 ) -> Result<(), WantOfMemory>
-    ensures { OnOk result (findings.new ≡ findings.old ++ given_findings (owner_view owner.entry) lead.now (rows_view rows.now) (givens_view all.now)) }
+    ensures { OnOk result
+        (findings.new ≡ findings.old
+        ++ given_findings (owner_view owner.entry) lead.now (rows_view rows.now)
+        (givens_view all.now)) }
 {
     for given in all {
         push_judged(alloc, findings, owner, lead, rows, *given)?;
@@ -62,7 +67,9 @@ fn push_lacking(
     all: &[Given<'_>],
     row: Row,
 ) -> Result<(), WantOfMemory>
-    ensures { OnOk result (findings.new ≡ findings.old ++ lacking (owner_view owner.entry) lead.now (givens_view all.now) (row_view row)) }
+    ensures { OnOk result
+        (findings.new ≡ findings.old
+        ++ lacking (owner_view owner.entry) lead.now (givens_view all.now) (row_view row)) }
 {
     if row.required && !is_given(row.place, all) {
         let path = option_path(alloc, lead, row.place)?;
@@ -81,7 +88,9 @@ fn push_crowded(
     all: &[Given<'_>],
     row: Row,
 ) -> Result<(), WantOfMemory>
-    ensures { OnOk result (findings.new ≡ findings.old ++ crowded (owner_view owner.entry) lead.now (givens_view all.now) (row_view row)) }
+    ensures { OnOk result
+        (findings.new ≡ findings.old
+        ++ crowded (owner_view owner.entry) lead.now (givens_view all.now) (row_view row)) }
 {
     let Some(most) = most_at(row.place) else {
         return Ok(());
@@ -107,7 +116,9 @@ fn push_row(
     all: &[Given<'_>],
     row: Row,
 ) -> Result<(), WantOfMemory>
-    ensures { OnOk result (findings.new ≡ findings.old ++ row_findings (owner_view owner.entry) lead.now (givens_view all.now) (row_view row)) }
+    ensures { OnOk result
+        (findings.new ≡ findings.old
+        ++ row_findings (owner_view owner.entry) lead.now (givens_view all.now) (row_view row)) }
 {
     push_lacking(alloc, findings, owner, lead, all, row)?;
     push_crowded(alloc, findings, owner, lead, all, row)
@@ -122,7 +133,10 @@ pub(crate) fn push_options(
     rows: &[Row],
     all: &[Given<'_>],
 ) -> Result<(), WantOfMemory>
-    ensures { OnOk result (findings.new ≡ findings.old ++ option_findings (owner_view owner.entry) lead.now (rows_view rows.now) (givens_view all.now)) }
+    ensures { OnOk result
+        (findings.new ≡ findings.old
+        ++ option_findings (owner_view owner.entry) lead.now (rows_view rows.now)
+        (givens_view all.now)) }
 {
     push_given(alloc, findings, owner, lead, rows, all)?;
     for row in rows {
@@ -140,7 +154,10 @@ pub(crate) fn push_excluded(
     all: &[Given<'_>],
     exclusion: Exclusion,
 ) -> Result<(), WantOfMemory>
-    ensures { OnOk result (findings.new ≡ findings.old ++ excluded (owner_view owner.entry) lead.now (givens_view all.now) (Some (exclusion_view exclusion))) }
+    ensures { OnOk result
+        (findings.new ≡ findings.old
+        ++ excluded (owner_view owner.entry) lead.now (givens_view all.now)
+        (Some (exclusion_view exclusion))) }
 {
     if is_given(exclusion.earlier, all) && is_given(exclusion.later, all) {
         let path = option_path(alloc, lead, exclusion.later)?;

@@ -42,7 +42,8 @@ fn push_part_itself(
     root: &Value,
     part: Part<'_>,
 ) -> Result<(), WantOfMemory>
-    ensures { OnOk result (findings.new ≡ findings.old ++ part_finding (view root.now) (part_view part.entry)) }
+    ensures { OnOk result
+        (findings.new ≡ findings.old ++ part_finding (view root.now) (part_view part.entry)) }
 {
     if is_table(part.value) && is_name(part.name) && !is_taken(root, part.class, part.name) {
         return Ok(());
@@ -58,7 +59,9 @@ fn push_later(
     first: Option<&str>,
     part: Part<'_>,
 ) -> Result<(), WantOfMemory>
-    ensures { OnOk result (findings.new ≡ findings.old ++ later_findings (option_map (λ name. name.now) first.entry) (part_view part.entry)) }
+    ensures { OnOk result
+        (findings.new ≡ findings.old
+        ++ later_findings (option_map (λ name. name.now) first.entry) (part_view part.entry)) }
 {
     if is_later_stdin(first, part) {
         let path = type_path(alloc, part)?;
@@ -75,8 +78,10 @@ fn push_own(
     part: Part<'_>,
     kind: Kind,
 ) -> Result<(), WantOfMemory>
-    ensures { OnOk result (findings.new
-        ≡ findings.old ++ own_findings (part_view part.entry) kind (given (rows_for kind) (pairs_in_view (part_view part.entry).value))) }
+    ensures { OnOk result
+        (findings.new ≡ findings.old
+        ++ own_findings (part_view part.entry) kind
+        (given (rows_for kind) (pairs_in_view (part_view part.entry).value))) }
 {
     let rows = rows_of(kind);
     let pairs = pairs_in(alloc, part.value)?;
@@ -110,8 +115,10 @@ fn push_buffer(
     part: Part<'_>,
     kind: Kind,
 ) -> Result<(), WantOfMemory>
-    ensures { OnOk result (findings.new
-        ≡ findings.old ++ buffer_findings (owner_of (part_view part.entry)) (buffer_lead_of (part_view part.entry)) (stages_given kind (part_view part.entry).value)) }
+    ensures { OnOk result
+        (findings.new ≡ findings.old
+        ++ buffer_findings (owner_of (part_view part.entry)) (buffer_lead_of (part_view part.entry))
+        (stages_given kind (part_view part.entry).value)) }
 {
     let lead = buffer_lead(alloc, part)?;
     push_stages(
@@ -131,7 +138,9 @@ fn push_kind(
     part: Part<'_>,
     kind: Kind,
 ) -> Result<(), WantOfMemory>
-    ensures { OnOk result (findings.new ≡ findings.old ++ kind_findings (option_map (λ name. name.now) first.entry) (part_view part.entry) kind) }
+    ensures { OnOk result
+        (findings.new ≡ findings.old
+        ++ kind_findings (option_map (λ name. name.now) first.entry) (part_view part.entry) kind) }
 {
     push_later(alloc, findings, first, part)?;
     push_own(alloc, findings, part, kind)?;
@@ -146,7 +155,10 @@ fn push_named(
     part: Part<'_>,
     text: &str,
 ) -> Result<(), WantOfMemory>
-    ensures { OnOk result (findings.new ≡ findings.old ++ text_findings (option_map (λ name. name.now) first.entry) (part_view part.entry) (Some text.now)) }
+    ensures { OnOk result
+        (findings.new ≡ findings.old
+        ++ text_findings (option_map (λ name. name.now) first.entry) (part_view part.entry)
+        (Some text.now)) }
 {
     match kind_named(part.class, text) {
         Some(kind) => push_kind(alloc, findings, first, part, kind),
@@ -164,7 +176,10 @@ fn push_typed(
     first: Option<&str>,
     part: Part<'_>,
 ) -> Result<(), WantOfMemory>
-    ensures { OnOk result (findings.new ≡ findings.old ++ type_findings (option_map (λ name. name.now) first.entry) (part_view part.entry) (type_in (part_view part.entry).value)) }
+    ensures { OnOk result
+        (findings.new ≡ findings.old
+        ++ type_findings (option_map (λ name. name.now) first.entry) (part_view part.entry)
+        (type_in (part_view part.entry).value)) }
 {
     let Some(value) = part.value.get("type") else {
         let path = type_path(alloc, part)?;
@@ -193,7 +208,10 @@ pub(crate) fn push_part(
     first: Option<&str>,
     part: Part<'_>,
 ) -> Result<(), WantOfMemory>
-    ensures { OnOk result (findings.new ≡ findings.old ++ part_findings (view root.now) (option_map (λ name. name.now) first.entry) (part_view part.entry)) }
+    ensures { OnOk result
+        (findings.new ≡ findings.old
+        ++ part_findings (view root.now) (option_map (λ name. name.now) first.entry)
+        (part_view part.entry)) }
 {
     push_part_itself(alloc, findings, root, part)?;
     if is_table(part.value) {

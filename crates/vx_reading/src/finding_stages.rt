@@ -28,7 +28,9 @@ fn push_misplaced(
     last: bool,
     stage: &Value,
 ) -> Result<(), WantOfMemory>
-    ensures { OnOk result (findings.new ≡ findings.old ++ misplaced (owner_view owner.entry) lead.now last (view stage.now)) }
+    ensures { OnOk result
+        (findings.new ≡ findings.old
+        ++ misplaced (owner_view owner.entry) lead.now last (view stage.now)) }
 {
     if is_misplaced(last, when_full_of(stage)) {
         let path = option_path(alloc, lead, Place::Alone("when_full"))?;
@@ -47,7 +49,9 @@ fn push_stage(
     last: bool,
     stage: &Value,
 ) -> Result<(), WantOfMemory>
-    ensures { OnOk result (findings.new ≡ findings.old ++ stage_findings (owner_view owner.entry) lead.now last (view stage.now)) }
+    ensures { OnOk result
+        (findings.new ≡ findings.old
+        ++ stage_findings (owner_view owner.entry) lead.now last (view stage.now)) }
 {
     let rows = stage_rows();
     let pairs = pairs_in(alloc, stage)?;
@@ -64,7 +68,9 @@ pub(crate) fn push_stages(
     lead: &str,
     stages: &[Value],
 ) -> Result<(), WantOfMemory>
-    ensures { OnOk result (findings.new ≡ findings.old ++ buffer_findings (owner_view owner.entry) lead.now (items_in (items_view stages.now))) }
+    ensures { OnOk result
+        (findings.new ≡ findings.old
+        ++ buffer_findings (owner_view owner.entry) lead.now (items_in (items_view stages.now))) }
 {
     for (i, stage) in stages.iter().enumerate() {
         let last = i + 1 == stages.len();

@@ -27,7 +27,9 @@ const MOST_PARTS: usize = 256;
 
 /// The members of a document but the three tables of components.
 fn global_pairs<'a>(alloc: Global, pairs: &[Pair<'a>]) -> Result<Vec<Pair<'a>>, WantOfMemory>
-    ensures { IfOk result (λ kept. pairs_view kept.items ≡ filter (λ (p : SpecPair). not (is_section p.name)) (pairs_view pairs.now)) }
+    ensures { IfOk result
+        (λ kept. pairs_view kept.items
+        ≡ filter (λ (p : SpecPair). not (is_section p.name)) (pairs_view pairs.now)) }
 {
     let mut kept = Vec::new(alloc);
     for pair in pairs {
@@ -161,8 +163,10 @@ fn push_parts(
     all: &[Part<'_>],
 ) -> Result<(), WantOfMemory>
     requires { parts_view all.now ≡ parts (view root.now) }
-    ensures { OnOk result (findings.new
-        ≡ findings.old ++ flat_map (part_findings (view root.now) (first_stdin (view root.now))) (parts (view root.now))) }
+    ensures { OnOk result
+        (findings.new ≡ findings.old
+        ++ flat_map (part_findings (view root.now) (first_stdin (view root.now)))
+        (parts (view root.now))) }
 {
     let first = first_stdin(all);
     for part in all {

@@ -40,7 +40,8 @@ fn precedes(a: &Finding, b: &Finding) -> bool
 fn first_place(findings: &[Finding]) -> usize
     requires { 0 < length findings.now }
     ensures within { result < length findings.now }
-    ensures first { (best : SpecFinding) → slice_index_or findings.now result best ≡ best → IsFirst findings.now best }
+    ensures first { (best : SpecFinding) → slice_index_or findings.now result best ≡ best →
+        IsFirst findings.now best }
 {
     let mut best = 0;
     for (i, finding) in findings.iter().enumerate() {

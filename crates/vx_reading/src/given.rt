@@ -118,7 +118,9 @@ fn push_given<'a>(
     rows: &[Row],
     pair: Pair<'a>,
 ) -> Result<(), WantOfMemory>
-    ensures { OnOk result (givens_view all.new.items ≡ givens_view all.old.items ++ given_by (rows_view rows.now) (pair_view pair.entry)) }
+    ensures { OnOk result
+        (givens_view all.new.items ≡ givens_view all.old.items
+        ++ given_by (rows_view rows.now) (pair_view pair.entry)) }
 {
     if is_group(rows, pair.name) && is_table(pair.value) {
         let inner = pairs_in(alloc, pair.value)?;
@@ -141,7 +143,9 @@ fn push_within<'a>(
     group: &'a str,
     pairs: &[Pair<'a>],
 ) -> Result<(), WantOfMemory>
-    ensures { OnOk result (givens_view all.new.items ≡ givens_view all.old.items ++ map (within group.now) (pairs_view pairs.now)) }
+    ensures { OnOk result
+        (givens_view all.new.items ≡ givens_view all.old.items
+        ++ map (within group.now) (pairs_view pairs.now)) }
 {
     for pair in pairs {
         let place = Place::Within(group, pair.name);
@@ -162,7 +166,8 @@ pub(crate) fn given_in<'a>(
     rows: &[Row],
     pairs: &[Pair<'a>],
 ) -> Result<Vec<Given<'a>>, WantOfMemory>
-    ensures { IfOk result (λ all. givens_view all.items ≡ given (rows_view rows.now) (pairs_view pairs.now)) }
+    ensures { IfOk result
+        (λ all. givens_view all.items ≡ given (rows_view rows.now) (pairs_view pairs.now)) }
 {
     let mut all = Vec::new(alloc);
     for pair in pairs {

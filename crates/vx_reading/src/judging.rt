@@ -318,7 +318,8 @@ fn is_names(value: &Value) -> bool
 
 /// What is wrong with a value that should be a list of paths.
 fn fits_paths(alloc: Global, value: &Value) -> Result<Option<Trouble>, WantOfMemory>
-    ensures { IfOk result (λ trouble. trouble ≡ (if is_paths (view value.now) then None else Some BadValue)) }
+    ensures { IfOk result
+        (λ trouble. trouble ≡ (if is_paths (view value.now) then None else Some BadValue)) }
 {
     if is_paths(alloc, value)? {
         Ok(None)
@@ -356,7 +357,8 @@ fn fits(alloc: Global, shape: Shape, value: &Value) -> Result<Option<Trouble>, W
 
 /// The row of what is given at a place.
 fn row_at<'a>(rows: &'a [Row], place: Place<'_>) -> Option<&'a Row>
-    ensures { option_map (λ r. row_view r.now) result ≡ row_at (rows_view rows.now) (place_view place.entry) }
+    ensures { option_map (λ r. row_view r.now) result
+        ≡ row_at (rows_view rows.now) (place_view place.entry) }
 {
     for row in rows {
         if covers(row.place, place) {
@@ -368,7 +370,8 @@ fn row_at<'a>(rows: &'a [Row], place: Place<'_>) -> Option<&'a Row>
 
 /// What is wrong with an option that is given, by its row.
 fn judged_by(alloc: Global, row: &Row, given: Given<'_>) -> Result<Option<Trouble>, WantOfMemory>
-    ensures { IfOk result (λ trouble. trouble ≡ judged_by (row_view row.now) (given_view given.entry)) }
+    ensures { IfOk result
+        (λ trouble. trouble ≡ judged_by (row_view row.now) (given_view given.entry)) }
 {
     if fits_place(row.place, given.place) {
         fits(alloc, row.shape, given.value)
@@ -383,7 +386,8 @@ pub(crate) fn judged(
     rows: &[Row],
     given: Given<'_>,
 ) -> Result<Option<Trouble>, WantOfMemory>
-    ensures { IfOk result (λ trouble. trouble ≡ judged (rows_view rows.now) (given_view given.entry)) }
+    ensures { IfOk result
+        (λ trouble. trouble ≡ judged (rows_view rows.now) (given_view given.entry)) }
 {
     match row_at(rows, given.place) {
         Some(row) => judged_by(alloc, row, given),

@@ -13,23 +13,31 @@ ghost use Rattle.vx_reading.specs.declared.plan_fault.PlanFault.TheVariants.{Wan
 /// A text has one answer: what has a plan has no other, and is refused for want of memory alone, where the same conditions are
 /// refused, or none could be. Two faults of which none is tried before the other are of one kind, in one part of the document, and at one path.
 pub fn one_answer()
-    ensures plan { (environment : List Variable) (bytes : Word) (p q : Plan) → IsReading environment bytes (Ok p) → IsReading environment bytes (Ok q) → p ≡ q }
-    ensures apart { (refuses : Word → Bool) (environment : List Variable) (bytes : Word) (plan : Plan) (fault : PlanFault)
-        → IsReadingBy refuses environment bytes (Ok plan) → IsReadingBy refuses environment bytes (Err fault) → fault ≡ WantOfMemory }
-    ensures sure { (environment : List Variable) (bytes : Word) (plan : Plan) (fault : PlanFault)
-        → NoneRefusable plan.components → IsReading environment bytes (Ok plan) → IsReading environment bytes (Err fault) → fault ≡ WantOfMemory }
-    ensures first { (all : List Finding) (f g : Finding) → IsFirst all f → IsFirst all g → AreAlike f g }
+    ensures plan { (environment : List Variable) (bytes : Word) (p q : Plan) →
+        IsReading environment bytes (Ok p) → IsReading environment bytes (Ok q) → p ≡ q }
+    ensures apart { (refuses : Word → Bool) (environment : List Variable) (bytes : Word)
+        (plan : Plan) (fault : PlanFault) → IsReadingBy refuses environment bytes (Ok plan) →
+        IsReadingBy refuses environment bytes (Err fault) → fault ≡ WantOfMemory }
+    ensures sure { (environment : List Variable) (bytes : Word) (plan : Plan) (fault : PlanFault) →
+        NoneRefusable plan.components → IsReading environment bytes (Ok plan) →
+        IsReading environment bytes (Err fault) → fault ≡ WantOfMemory }
+    ensures first { (all : List Finding) (f g : Finding) → IsFirst all f → IsFirst all g →
+        AreAlike f g }
 {}
 
 /// The text of standard input to standard output is read, whatever the environment: it has its plan, and is refused for
 /// want of memory alone.
 pub fn first_configuration()
-    ensures read { (environment : List Variable) → IsReading environment first_configuration (Ok first_plan) }
-    ensures plan { (environment : List Variable) (plan : Plan) → IsReading environment first_configuration (Ok plan) → plan ≡ first_plan }
-    ensures taken { (environment : List Variable) (fault : PlanFault) → IsReading environment first_configuration (Err fault) → fault ≡ WantOfMemory }
+    ensures read { (environment : List Variable) →
+        IsReading environment first_configuration (Ok first_plan) }
+    ensures plan { (environment : List Variable) (plan : Plan) →
+        IsReading environment first_configuration (Ok plan) → plan ≡ first_plan }
+    ensures taken { (environment : List Variable) (fault : PlanFault) →
+        IsReading environment first_configuration (Err fault) → fault ≡ WantOfMemory }
 {}
 
 /// A configuration that has a plan has few components: at most 256.
 pub fn few_components()
-    ensures { (environment : List Variable) (bytes : Word) (plan : Plan) → IsReading environment bytes (Ok plan) → length plan.components ≤ 256 }
+    ensures { (environment : List Variable) (bytes : Word) (plan : Plan) →
+        IsReading environment bytes (Ok plan) → length plan.components ≤ 256 }
 {}

@@ -29,7 +29,9 @@ fn push_parts<'a>(
     root: &'a Value,
     class: Class,
 ) -> Result<(), WantOfMemory>
-    ensures all { OnOk result (parts_view parts.new.items ≡ parts_view parts.old.items ++ parts_in (view root.now) class) }
+    ensures all { OnOk result
+        (parts_view parts.new.items ≡ parts_view parts.old.items
+        ++ parts_in (view root.now) class) }
     ensures apart { OnOk result (AreApart (part_names (parts_in (view root.now) class))) }
 {
     let Some(table) = root.get(section_name(class)) else {
@@ -110,7 +112,8 @@ fn reads_stdin(part: Part<'_>) -> bool
 
 /// The name of the first component that reads standard input.
 pub(crate) fn first_stdin<'a>(parts: &[Part<'a>]) -> Option<&'a str>
-    ensures { option_map (λ name. name.now) result ≡ option_map (λ (p : SpecPart). p.name) (find reads_stdin (parts_view parts.now)) }
+    ensures { option_map (λ name. name.now) result
+        ≡ option_map (λ (p : SpecPart). p.name) (find reads_stdin (parts_view parts.now)) }
 {
     for part in parts {
         if reads_stdin(*part) {
@@ -122,7 +125,8 @@ pub(crate) fn first_stdin<'a>(parts: &[Part<'a>]) -> Option<&'a str>
 
 /// Whether a component reads standard input after the first that does.
 pub(crate) fn is_later_stdin(first: Option<&str>, part: Part<'_>) -> bool
-    ensures { result ≡ is_later_stdin (option_map (λ name. name.now) first.entry) (part_view part.entry) }
+    ensures { result ≡ is_later_stdin (option_map (λ name. name.now) first.entry)
+        (part_view part.entry) }
 {
     match first {
         Some(name) => reads_stdin(part) && !same_text(name, part.name),

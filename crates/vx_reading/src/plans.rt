@@ -543,7 +543,8 @@ fn push_component(
     global: &Global,
     part: Part<'_>,
 ) -> Result<(), WantOfMemory>
-    ensures { OnOk result (components.new ≡ components.old ++ component_of global.now (part_view part.entry)) }
+    ensures { OnOk result
+        (components.new ≡ components.old ++ component_of global.now (part_view part.entry)) }
 {
     let Some(kind) = kind_of(part) else {
         return Ok(());
@@ -560,7 +561,8 @@ pub(crate) fn components_of(
     global: &Global,
     all: &[Part<'_>],
 ) -> Result<ComponentList, WantOfMemory>
-    ensures { IfOk result (λ components. components ≡ flat_map (component_of global.now) (parts_view all.now)) }
+    ensures { IfOk result
+        (λ components. components ≡ flat_map (component_of global.now) (parts_view all.now)) }
 {
     let mut components = ComponentList::new(alloc);
     for part in all {

@@ -33,7 +33,8 @@ pub struct ReadPlan {
 
 /// The plan of a document.
 fn read_root(alloc: Global, root: &Value) -> Result<ReadPlan, PlanFault>
-    ensures judged { (refuses : Word → Bool) × IsRightlyJudged refuses (view root.now) (plan_in result) }
+    ensures judged { (refuses : Word → Bool)
+        × IsRightlyJudged refuses (view root.now) (plan_in result) }
     ensures conditions { IfOk result HasConditions }
     ensures apart { IfOk result (λ read. AreApart (names_of read.plan.components)) }
     ensures accepted { IfOk result (λ read. IsPlan read.plan) }
@@ -45,7 +46,8 @@ fn read_root(alloc: Global, root: &Value) -> Result<ReadPlan, PlanFault>
 /// The plan of a document that has these components.
 fn read_parts(alloc: Global, root: &Value, all: &[Part<'_>]) -> Result<ReadPlan, PlanFault>
     requires { parts_view all.now ≡ parts (view root.now) }
-    ensures judged { (refuses : Word → Bool) × IsRightlyJudged refuses (view root.now) (plan_in result) }
+    ensures judged { (refuses : Word → Bool)
+        × IsRightlyJudged refuses (view root.now) (plan_in result) }
     ensures conditions { IfOk result HasConditions }
 {
     let global = global_of(alloc, root)?;
@@ -71,7 +73,8 @@ fn read_parts(alloc: Global, root: &Value, all: &[Part<'_>]) -> Result<ReadPlan,
 
 /// The plan of a text.
 fn read_text(alloc: Global, text: &str, environment: &VariableList) -> Result<ReadPlan, PlanFault>
-    ensures read { (refuses : Word → Bool) × IsTextRead refuses environment.now text.now (plan_in result) }
+    ensures read { (refuses : Word → Bool)
+        × IsTextRead refuses environment.now text.now (plan_in result) }
     ensures conditions { IfOk result HasConditions }
     ensures apart { IfOk result (λ read. AreApart (names_of read.plan.components)) }
     ensures accepted { IfOk result (λ read. IsPlan read.plan) }

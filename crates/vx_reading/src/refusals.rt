@@ -22,7 +22,8 @@ type Refused<'a> = BTreeSet<&'a str, Global>;
 
 /// Some texts, each once.
 fn by_bytes<'a>(alloc: Global, texts: &'a TextList) -> Result<Refused<'a>, WantOfMemory>
-    ensures { IfOk result (λ refused. (text : Word) → is_kept refused text ≡ is_one texts.now text) }
+    ensures { IfOk result
+        (λ refused. (text : Word) → is_kept refused text ≡ is_one texts.now text) }
 {
     let mut refused = BTreeSet::new(alloc);
     for text in texts.as_slice() {
@@ -60,7 +61,10 @@ fn push_refusal(
     place: Place<'_>,
     text: &Text,
 ) -> Result<(), WantOfMemory>
-    ensures { OnOk result (findings.new ≡ findings.old ++ refusal (is_kept refused.now) component.now (record { place = place_view place.entry; text = text.now })) }
+    ensures { OnOk result
+        (findings.new ≡ findings.old
+        ++ refusal (is_kept refused.now) component.now
+        (record { place = place_view place.entry; text = text.now })) }
 {
     if !is_kept(refused, text.as_str()) {
         return Ok(());
@@ -85,7 +89,9 @@ fn push_any(
     name: &str,
     text: &Option<Text>,
 ) -> Result<(), WantOfMemory>
-    ensures { OnOk result (findings.new ≡ findings.old ++ flat_map (refusal (is_kept refused.now) component.now) (placed_any name.now text.now)) }
+    ensures { OnOk result
+        (findings.new ≡ findings.old
+        ++ flat_map (refusal (is_kept refused.now) component.now) (placed_any name.now text.now)) }
 {
     match text {
         Some(text) => push_refusal(
@@ -108,7 +114,9 @@ fn push_ways(
     component: &Component,
     ways: &RouteList,
 ) -> Result<(), WantOfMemory>
-    ensures { OnOk result (findings.new ≡ findings.old ++ flat_map (refusal (is_kept refused.now) component.now) (map placed_way ways.now)) }
+    ensures { OnOk result
+        (findings.new ≡ findings.old
+        ++ flat_map (refusal (is_kept refused.now) component.now) (map placed_way ways.now)) }
 {
     for way in ways.as_slice() {
         let place = Place::Within("route", way.name.as_str());
@@ -124,7 +132,8 @@ fn push_component(
     refused: &Refused<'_>,
     component: &Component,
 ) -> Result<(), WantOfMemory>
-    ensures { OnOk result (findings.new ≡ findings.old ++ refusals_of (is_kept refused.now) component.now) }
+    ensures { OnOk result
+        (findings.new ≡ findings.old ++ refusals_of (is_kept refused.now) component.now) }
 {
     match &component.settings {
         Settings::Filter { condition } => {
@@ -161,7 +170,8 @@ fn push_components(
     refused: &Refused<'_>,
     components: &ComponentList,
 ) -> Result<(), WantOfMemory>
-    ensures { OnOk result (findings.new ≡ findings.old ++ refusals (is_kept refused.now) components.now) }
+    ensures { OnOk result
+        (findings.new ≡ findings.old ++ refusals (is_kept refused.now) components.now) }
 {
     for component in components.as_slice() {
         push_component(alloc, findings, refused, component)?;
@@ -176,7 +186,8 @@ pub(crate) fn push_refusals(
     refused: &TextList,
     components: &ComponentList,
 ) -> Result<(), WantOfMemory>
-    ensures { OnOk result (findings.new ≡ findings.old ++ refusals (is_one refused.now) components.now) }
+    ensures { OnOk result
+        (findings.new ≡ findings.old ++ refusals (is_one refused.now) components.now) }
 {
     let refused = by_bytes(alloc, refused)?;
     push_components(alloc, findings, &refused, components)

@@ -61,7 +61,9 @@ fn try_one(
     refused: &mut TextList,
     conditions: &mut ConditionList,
 ) -> Result<(), WantOfMemory>
-    ensures { OnOk result (Tries (text.now ∷ []) (text.now ∷ []) refused.old refused.new conditions.old conditions.new) }
+    ensures { OnOk result
+        (Tries (text.now ∷ [])
+        (text.now ∷ []) refused.old refused.new conditions.old conditions.new) }
 {
     match parse(alloc, text.as_str()) {
         Ok(condition) => keep(conditions, condition),
@@ -81,7 +83,9 @@ fn try_any(
     refused: &mut TextList,
     conditions: &mut ConditionList,
 ) -> Result<(), WantOfMemory>
-    ensures { OnOk result (Tries (if_any text.now) (if_any text.now) refused.old refused.new conditions.old conditions.new) }
+    ensures { OnOk result
+        (Tries (if_any text.now)
+        (if_any text.now) refused.old refused.new conditions.old conditions.new) }
 {
     match text {
         Some(text) => try_one(alloc, text, refused, conditions),
@@ -96,7 +100,10 @@ fn try_ways(
     refused: &mut TextList,
     conditions: &mut ConditionList,
 ) -> Result<(), WantOfMemory>
-    ensures { OnOk result (Tries (map (λ (way : SpecWay). way.condition) ways.now) (map (λ (way : SpecWay). way.condition) ways.now) refused.old refused.new conditions.old conditions.new) }
+    ensures { OnOk result
+        (Tries (map (λ (way : SpecWay). way.condition) ways.now)
+        (map (λ (way : SpecWay). way.condition) ways.now) refused.old refused.new conditions.old
+        conditions.new) }
 {
     for way in ways.as_slice() {
         try_one(alloc, &way.condition, refused, conditions)?;
@@ -111,7 +118,9 @@ fn try_settings(
     refused: &mut TextList,
     conditions: &mut ConditionList,
 ) -> Result<(), WantOfMemory>
-    ensures { OnOk result (Tries (conditions_of settings.now) (conditions_of settings.now) refused.old refused.new conditions.old conditions.new) }
+    ensures { OnOk result
+        (Tries (conditions_of settings.now)
+        (conditions_of settings.now) refused.old refused.new conditions.old conditions.new) }
 {
     match settings {
         Settings::Filter { condition } => try_one(alloc, condition, refused, conditions),
@@ -136,7 +145,9 @@ fn try_component(
     refused: &mut TextList,
     lists: &mut ConditionLists,
 ) -> Result<(), WantOfMemory>
-    ensures { OnOk result (Tries (conditions_by component.now) (conditions_by component.now ∷ []) refused.old refused.new lists.old lists.new) }
+    ensures { OnOk result
+        (Tries (conditions_by component.now)
+        (conditions_by component.now ∷ []) refused.old refused.new lists.old lists.new) }
 {
     let mut conditions = ConditionList::new(alloc);
     try_settings(alloc, &component.settings, refused, &mut conditions)?;
@@ -148,7 +159,9 @@ fn try_component(
 
 /// Reads the conditions of some components.
 pub(crate) fn try_all(alloc: Global, components: &ComponentList) -> Result<Tried, WantOfMemory>
-    ensures { IfOk result (λ tried. Tries (all_conditions components.now) (map conditions_by components.now) [] tried.refused [] tried.conditions) }
+    ensures { IfOk result
+        (λ tried. Tries (all_conditions components.now)
+        (map conditions_by components.now) [] tried.refused [] tried.conditions) }
 {
     let mut refused = TextList::new(alloc);
     let mut conditions = ConditionLists::new(alloc);

@@ -63,7 +63,8 @@ fn schedule_of(batching: Option<Batching>) -> Schedule
 /// The moment from which on what failed so often may be attempted again, in milliseconds, if it may be: any, where it never failed, and
 /// else a wait after the last failure.
 fn retry_moment(schedule: Schedule, failures: u64, failed_at: u64) -> u64
-    ensures { (n : ℕ) → failures ≡ capped n → n ≤ schedule.attempts → result ≡ retry_moment_by schedule n failed_at }
+    ensures { (n : ℕ) → failures ≡ capped n → n ≤ schedule.attempts →
+        result ≡ retry_moment_by schedule n failed_at }
 {
     if failures == 0 {
         return 0;

@@ -57,7 +57,9 @@ fn is_vacant<P: Port>(books: &Books<P>, i: u32) -> bool
     requires stands { Stands P.told books.now }
     requires within { i < length books.now.seats }
     requires settled { IsSettled books.now i }
-    ensures { result ≡ (is_empty (buffered books.now.log i) && is_sent_at books.now.log i && is_empty (held books.now.log i)) }
+    ensures { result
+        ≡ (is_empty (buffered books.now.log i) && is_sent_at books.now.log i
+        && is_empty (held books.now.log i)) }
 {
     let sent = both(is_unbuffered(books, i), is_sent(books, i));
     let none = count_held(books, i) == 0;

@@ -29,7 +29,8 @@ pub fn first_job<P: Port>(books: &Books<P>, i: u32, now: u64) -> Option<Job>
     ensures some { IfSome result (λ job. IsJob books.now.log i now job) }
     ensures leasable { IfSome result (λ job. IsLeasable books.now i now) }
     ensures settled { IfSome result (λ job. IsSettled books.now i) }
-    ensures none { IsSettled books.now i → IsOpen books.now i → IfNone result (is_ready books.now.log i now ≡ false) }
+    ensures none { IsSettled books.now i → IsOpen books.now i →
+        IfNone result (is_ready books.now.log i now ≡ false) }
 {
     if !is_settled(books, i) {
         return None;

@@ -22,7 +22,8 @@ pub fn waits_until<P: Port>(books: &Books<P>, i: u32) -> Option<u64>
     requires stands { Stands P.told books.now }
     requires within { i < length books.now.seats }
     requires served { IsServed books.now }
-    ensures waits { IsSettled books.now i → IsOpen books.now i → result ≡ waits_until_at books.now.log i }
+    ensures waits { IsSettled books.now i → IsOpen books.now i →
+        result ≡ waits_until_at books.now.log i }
     ensures settled { IfSome result (λ moment. IsSettled books.now i) }
     ensures open { IfSome result (λ moment. IsOpen books.now i) }
 {

@@ -12,7 +12,9 @@ use vx_transform::{Back, Shelf};
 
 // Puts an event out with its copies. For want of memory the copies come back, and the shelf is as before.
 fn pass(event: SharedEvent, copies: Finalizers, shelf: &mut Shelf) -> Result<(), Finalizers>
-    ensures ok { OnOk result (shelf.new ≡ put_all shelf.old (passed (record { event = event; finalizers = copies }) ∷ [])) }
+    ensures ok { OnOk result
+        (shelf.new
+        ≡ put_all shelf.old (passed (record { event = event; finalizers = copies }) ∷ [])) }
     ensures err { OnErr result (shelf.new ≡ shelf.old) }
     ensures back { IfErr result (λ refused. refused ≡ copies) }
 {
@@ -40,8 +42,13 @@ pub(crate) fn answer(
     shelf: &mut Shelf,
 ) -> Result<(), Finalizers>
     requires { plan.found ≡ is_some (group_of plan.key groups.old) }
-    ensures groups { OnOk result (groups.new ≡ groups_after plan.found plan.starts plan.ends plan.key plan.event copies now groups.old) }
-    ensures outputs { OnOk result (shelf.new ≡ put_all shelf.old (outputs_after plan.found plan.starts plan.ends plan.key plan.event copies groups.old)) }
+    ensures groups { OnOk result
+        (groups.new
+        ≡ groups_after plan.found plan.starts plan.ends plan.key plan.event copies now groups.old) }
+    ensures outputs { OnOk result
+        (shelf.new
+        ≡ put_all shelf.old
+        (outputs_after plan.found plan.starts plan.ends plan.key plan.event copies groups.old)) }
     ensures err { OnErr result (groups.new ≡ groups.old) }
     ensures back { IfErr result (λ refused. refused ≡ copies) }
     ensures shelf { OnErr result (shelf.new ≡ shelf.old) }

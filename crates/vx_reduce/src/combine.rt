@@ -24,8 +24,12 @@ struct Texts<'a> {
 
 // The numbers that two values are, if both are whole ones.
 fn as_wholes(so_far: &Value, comes: &Value) -> Option<Wholes>
-    ensures some { IfSome result (λ both. (datum_of so_far.now ≡ Whole both.so_far) × (datum_of comes.now ≡ Whole both.comes)) }
-    ensures none { IfNone result ((f : ℤ → ℤ → ℤ) → of_wholes f (datum_of so_far.now) (datum_of comes.now) ≡ datum_of so_far.now) }
+    ensures some { IfSome result
+        (λ both. (datum_of so_far.now ≡ Whole both.so_far)
+        × (datum_of comes.now ≡ Whole both.comes)) }
+    ensures none { IfNone result
+        ((f : ℤ → ℤ → ℤ) →
+        of_wholes f (datum_of so_far.now) (datum_of comes.now) ≡ datum_of so_far.now) }
 {
     match so_far {
         Value::Whole(so_far) => match comes {
@@ -41,8 +45,12 @@ fn as_wholes(so_far: &Value, comes: &Value) -> Option<Wholes>
 
 // The texts that two values are, if both are.
 fn as_texts<'a>(so_far: &'a Value, comes: &'a Value) -> Option<Texts<'a>>
-    ensures some { IfSome result (λ both. (datum_of so_far.now ≡ Words both.so_far.now) × (datum_of comes.now ≡ Words both.comes.now)) }
-    ensures none { IfNone result ((between : List ℕ) → of_texts between (datum_of so_far.now) (datum_of comes.now) ≡ datum_of so_far.now) }
+    ensures some { IfSome result
+        (λ both. (datum_of so_far.now ≡ Words both.so_far.now)
+        × (datum_of comes.now ≡ Words both.comes.now)) }
+    ensures none { IfNone result
+        ((between : List ℕ) →
+        of_texts between (datum_of so_far.now) (datum_of comes.now) ≡ datum_of so_far.now) }
 {
     match so_far {
         Value::Words(so_far) => match comes {
@@ -55,7 +63,9 @@ fn as_texts<'a>(so_far: &'a Value, comes: &'a Value) -> Option<Texts<'a>>
 
 // The sum of two whole numbers, and else the first value.
 fn sum(alloc: Global, so_far: &Value, comes: &Value) -> Result<Value, WantOfMemory>
-    ensures { IfOk result (λ value. datum_of value ≡ combined (Some How.Sum) (datum_of so_far.now) (datum_of comes.now)) }
+    ensures { IfOk result
+        (λ value. datum_of value
+        ≡ combined (Some How.Sum) (datum_of so_far.now) (datum_of comes.now)) }
 {
     match as_wholes(so_far, comes) {
         Some(both) => Ok(Value::Whole(both.so_far.saturating_add(both.comes))),
@@ -65,7 +75,9 @@ fn sum(alloc: Global, so_far: &Value, comes: &Value) -> Result<Value, WantOfMemo
 
 // The greater of two whole numbers, and else the first value.
 fn greater(alloc: Global, so_far: &Value, comes: &Value) -> Result<Value, WantOfMemory>
-    ensures { IfOk result (λ value. datum_of value ≡ combined (Some How.Max) (datum_of so_far.now) (datum_of comes.now)) }
+    ensures { IfOk result
+        (λ value. datum_of value
+        ≡ combined (Some How.Max) (datum_of so_far.now) (datum_of comes.now)) }
 {
     match as_wholes(so_far, comes) {
         Some(both) => {
@@ -81,7 +93,9 @@ fn greater(alloc: Global, so_far: &Value, comes: &Value) -> Result<Value, WantOf
 
 // The lesser of two whole numbers, and else the first value.
 fn lesser(alloc: Global, so_far: &Value, comes: &Value) -> Result<Value, WantOfMemory>
-    ensures { IfOk result (λ value. datum_of value ≡ combined (Some How.Min) (datum_of so_far.now) (datum_of comes.now)) }
+    ensures { IfOk result
+        (λ value. datum_of value
+        ≡ combined (Some How.Min) (datum_of so_far.now) (datum_of comes.now)) }
 {
     match as_wholes(so_far, comes) {
         Some(both) => {
@@ -112,7 +126,9 @@ fn concatenated(
     so_far: &Value,
     comes: &Value,
 ) -> Result<Value, WantOfMemory>
-    ensures { IfOk result (λ value. datum_of value ≡ of_texts between.now (datum_of so_far.now) (datum_of comes.now)) }
+    ensures { IfOk result
+        (λ value. datum_of value
+        ≡ of_texts between.now (datum_of so_far.now) (datum_of comes.now)) }
 {
     match as_texts(so_far, comes) {
         Some(both) => {
@@ -147,7 +163,8 @@ fn added(alloc: Global, items: ValueList, value: &Value) -> Result<ValueList, Wa
 
 // A list with a value more, and else the first value.
 fn appended(alloc: Global, so_far: &Value, comes: &Value) -> Result<Value, WantOfMemory>
-    ensures { IfOk result (λ value. datum_of value ≡ with_item (datum_of so_far.now) (datum_of comes.now)) }
+    ensures { IfOk result
+        (λ value. datum_of value ≡ with_item (datum_of so_far.now) (datum_of comes.now)) }
 {
     match so_far {
         Value::Items(items) => Ok(Value::Items(added(alloc, items.copy(alloc)?, comes)?)),
@@ -172,7 +189,8 @@ pub(crate) fn combined(
     so_far: &Value,
     comes: &Value,
 ) -> Result<Value, WantOfMemory>
-    ensures { IfOk result (λ value. datum_of value ≡ combined how (datum_of so_far.now) (datum_of comes.now)) }
+    ensures { IfOk result
+        (λ value. datum_of value ≡ combined how (datum_of so_far.now) (datum_of comes.now)) }
 {
     match how {
         None => sum(alloc, so_far, comes),
@@ -187,7 +205,8 @@ fn combined_by(
     so_far: &Value,
     comes: &Value,
 ) -> Result<Value, WantOfMemory>
-    ensures { IfOk result (λ value. datum_of value ≡ combined (Some how) (datum_of so_far.now) (datum_of comes.now)) }
+    ensures { IfOk result
+        (λ value. datum_of value ≡ combined (Some how) (datum_of so_far.now) (datum_of comes.now)) }
 {
     match how {
         How::Discard => so_far.copy(alloc),

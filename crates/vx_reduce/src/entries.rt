@@ -23,8 +23,11 @@ pub(crate) fn join_at(
     moment: u64,
 ) -> Result<(), Finalizers>
     requires { IsSome (lookup (is_at (nat_cmp number)) entries.old.entries) }
-    ensures ok { OnOk result ((g : Group) → lookup (is_at (nat_cmp number)) entries.old.entries ≡ Some g →
-        entries.new.entries ≡ set_value (is_at (nat_cmp number)) entries.old.entries (joined_group event copies moment g)) }
+    ensures ok { OnOk result
+        ((g : Group) → lookup (is_at (nat_cmp number)) entries.old.entries ≡ Some g →
+        entries.new.entries
+        ≡ set_value (is_at (nat_cmp number)) entries.old.entries
+        (joined_group event copies moment g)) }
     ensures err { OnErr result (entries.new.entries ≡ entries.old.entries) }
     ensures back { IfErr result (λ refused. refused ≡ copies) }
 {
@@ -37,8 +40,10 @@ pub(crate) fn join_at(
 // Takes a group out whose parcel is gone, and says its key.
 fn remove_hollow(entries: &mut BTreeMap<u64, Group>, number: u64) -> GroupKey
     requires { IsHollow (lookup (is_at (nat_cmp number)) entries.old.entries) }
-    ensures entries { entries.new.entries ≡ remove_entry (is_at (nat_cmp number)) entries.old.entries }
-    ensures key { IfSome (lookup (is_at (nat_cmp number)) entries.old.entries) (λ g. result ≡ g.key) }
+    ensures entries { entries.new.entries
+        ≡ remove_entry (is_at (nat_cmp number)) entries.old.entries }
+    ensures key { IfSome (lookup (is_at (nat_cmp number)) entries.old.entries)
+        (λ g. result ≡ g.key) }
 {
     match entries.remove(&number) {
         Some(group) => group.end(),
@@ -53,9 +58,13 @@ pub(crate) fn put_out_at(
     shelf: &mut Shelf,
 ) -> Result<GroupKey, WantOfMemory>
     requires { IsSome (lookup (is_at (nat_cmp number)) entries.old.entries) }
-    ensures entries { OnOk result (entries.new.entries ≡ remove_entry (is_at (nat_cmp number)) entries.old.entries) }
-    ensures put_out { OnOk result (shelf.new ≡ put_all shelf.old (output_found (lookup (is_at (nat_cmp number)) entries.old.entries))) }
-    ensures key { IfOk result (λ key. IfSome (lookup (is_at (nat_cmp number)) entries.old.entries) (λ g. key ≡ g.key)) }
+    ensures entries { OnOk result
+        (entries.new.entries ≡ remove_entry (is_at (nat_cmp number)) entries.old.entries) }
+    ensures put_out { OnOk result
+        (shelf.new
+        ≡ put_all shelf.old (output_found (lookup (is_at (nat_cmp number)) entries.old.entries))) }
+    ensures key { IfOk result
+        (λ key. IfSome (lookup (is_at (nat_cmp number)) entries.old.entries) (λ g. key ≡ g.key)) }
     ensures err { OnErr result (entries.new.entries ≡ entries.old.entries) }
     ensures shelf { OnErr result (shelf.new ≡ shelf.old) }
 {
@@ -75,9 +84,14 @@ pub(crate) fn put_out_before_at(
     shelf: &mut Shelf,
 ) -> Result<GroupKey, Back>
     requires { IsSome (lookup (is_at (nat_cmp number)) entries.old.entries) }
-    ensures entries { OnOk result (entries.new.entries ≡ remove_entry (is_at (nat_cmp number)) entries.old.entries) }
-    ensures put_out { OnOk result (shelf.new ≡ put_all shelf.old (output_found (lookup (is_at (nat_cmp number)) entries.old.entries) ++ passed last ∷ [])) }
-    ensures key { IfOk result (λ key. IfSome (lookup (is_at (nat_cmp number)) entries.old.entries) (λ g. key ≡ g.key)) }
+    ensures entries { OnOk result
+        (entries.new.entries ≡ remove_entry (is_at (nat_cmp number)) entries.old.entries) }
+    ensures put_out { OnOk result
+        (shelf.new
+        ≡ put_all shelf.old
+        (output_found (lookup (is_at (nat_cmp number)) entries.old.entries) ++ passed last ∷ [])) }
+    ensures key { IfOk result
+        (λ key. IfSome (lookup (is_at (nat_cmp number)) entries.old.entries) (λ g. key ≡ g.key)) }
     ensures err { OnErr result (entries.new.entries ≡ entries.old.entries) }
     ensures back { IfErr result (λ refused. refused.parcel ≡ last) }
     ensures shelf { OnErr result (shelf.new ≡ shelf.old) }
@@ -102,9 +116,19 @@ pub(crate) fn put_out_with_at(
     shelf: &mut Shelf,
 ) -> Result<GroupKey, Finalizers>
     requires { IsSome (lookup (is_at (nat_cmp number)) entries.old.entries) }
-    ensures entries { OnOk result (entries.new.entries ≡ remove_entry (is_at (nat_cmp number)) entries.old.entries) }
-    ensures put_out { OnOk result (shelf.new ≡ put_all shelf.old (passed (record { event = event; finalizers = copies_found (lookup (is_at (nat_cmp number)) entries.old.entries) ++ copies }) ∷ [])) }
-    ensures key { IfOk result (λ key. IfSome (lookup (is_at (nat_cmp number)) entries.old.entries) (λ g. key ≡ g.key)) }
+    ensures entries { OnOk result
+        (entries.new.entries ≡ remove_entry (is_at (nat_cmp number)) entries.old.entries) }
+    ensures put_out { OnOk result
+        (shelf.new
+        ≡ put_all shelf.old
+        (passed
+        (record {
+          event = event;
+          finalizers = copies_found (lookup (is_at (nat_cmp number)) entries.old.entries) ++ copies;
+        })
+        ∷ [])) }
+    ensures key { IfOk result
+        (λ key. IfSome (lookup (is_at (nat_cmp number)) entries.old.entries) (λ g. key ≡ g.key)) }
     ensures err { OnErr result (entries.new.entries ≡ entries.old.entries) }
     ensures back { IfErr result (λ refused. refused ≡ copies) }
     ensures shelf { OnErr result (shelf.new ≡ shelf.old) }
@@ -128,7 +152,10 @@ pub(crate) fn place_at(
     parcel: Parcel,
 ) -> Result<(), Refused>
     requires { lookup (is_at (nat_cmp number)) entries.old.entries ≡ None }
-    ensures ok { OnOk result (entries.new.entries ≡ insert_entry nat_cmp entries.old.entries number (record { key = key; moment = moment; parcel = Some parcel })) }
+    ensures ok { OnOk result
+        (entries.new.entries
+        ≡ insert_entry nat_cmp entries.old.entries number
+        (record { key = key; moment = moment; parcel = Some parcel })) }
     ensures err { OnErr result (entries.new.entries ≡ entries.old.entries) }
     ensures key { IfErr result (λ refused. refused.key ≡ key) }
     ensures parcel { IfErr result (λ refused. refused.parcel ≡ parcel) }
@@ -153,8 +180,10 @@ pub(crate) fn place_at(
 // Takes back the parcel of a group.
 pub(crate) fn take_back_at(entries: &mut BTreeMap<u64, Group>, number: u64) -> Parcel
     requires { IsFull (lookup (is_at (nat_cmp number)) entries.old.entries) }
-    ensures entries { entries.new.entries ≡ remove_entry (is_at (nat_cmp number)) entries.old.entries }
-    ensures parcel { IfSome (lookup (is_at (nat_cmp number)) entries.old.entries) (λ g. g.parcel ≡ Some result) }
+    ensures entries { entries.new.entries
+        ≡ remove_entry (is_at (nat_cmp number)) entries.old.entries }
+    ensures parcel { IfSome (lookup (is_at (nat_cmp number)) entries.old.entries)
+        (λ g. g.parcel ≡ Some result) }
 {
     match entries.remove(&number) {
         Some(group) => {

@@ -26,7 +26,8 @@ pub(crate) fn old_numbers(
     expire_after: u64,
     now: u64,
 ) -> Result<Vec<u64>, WantOfMemory>
-    ensures { IfOk result (λ numbers. numbers.items ≡ old_numbers expire_after now entries.now.entries) }
+    ensures { IfOk result
+        (λ numbers. numbers.items ≡ old_numbers expire_after now entries.now.entries) }
 {
     let mut numbers = Vec::new(alloc);
     for (number, group) in entries {
@@ -44,9 +45,14 @@ fn put_out_number(
     number: u64,
     shelf: &mut Shelf,
 ) -> Result<(), WantOfMemory>
-    ensures indexed { (next : ℕ) → IsIndexed index.old.entries entries.old.entries next → IsIndexed index.new.entries entries.new.entries next }
-    ensures entries { OnOk result ((g : Group) → lookup (is_at (nat_cmp number)) entries.old.entries ≡ Some g → entries.new.entries ≡ remove_entry (is_at (nat_cmp number)) entries.old.entries) }
-    ensures put_out { OnOk result ((g : Group) → lookup (is_at (nat_cmp number)) entries.old.entries ≡ Some g → shelf.new ≡ put_all shelf.old (output_in g.parcel)) }
+    ensures indexed { (next : ℕ) → IsIndexed index.old.entries entries.old.entries next →
+        IsIndexed index.new.entries entries.new.entries next }
+    ensures entries { OnOk result
+        ((g : Group) → lookup (is_at (nat_cmp number)) entries.old.entries ≡ Some g →
+        entries.new.entries ≡ remove_entry (is_at (nat_cmp number)) entries.old.entries) }
+    ensures put_out { OnOk result
+        ((g : Group) → lookup (is_at (nat_cmp number)) entries.old.entries ≡ Some g →
+        shelf.new ≡ put_all shelf.old (output_in g.parcel)) }
     ensures err { OnErr result (entries.new.entries ≡ entries.old.entries) }
     ensures shelf { OnErr result (shelf.new ≡ shelf.old) }
 {
@@ -65,10 +71,16 @@ pub(crate) fn put_out_numbers(
     numbers: Vec<u64>,
     shelf: &mut Shelf,
 ) -> Result<(), WantOfMemory>
-    ensures indexed { (next : ℕ) → IsIndexed index.old.entries entries.old.entries next → IsIndexed index.new.entries entries.new.entries next }
-    ensures put_out { (p : Group → Bool) (next : ℕ) → IsIndexed index.old.entries entries.old.entries next → keys_of (filter (λ (e : ℕ × Group). p e.1) entries.old.entries) ≡ numbers.items →
-        HasPutOut p (values_of entries.old.entries) (values_of entries.new.entries) shelf.old shelf.new }
-    ensures all { OnOk result ((p : Group → Bool) (next : ℕ) → IsIndexed index.old.entries entries.old.entries next → keys_of (filter (λ (e : ℕ × Group). p e.1) entries.old.entries) ≡ numbers.items →
+    ensures indexed { (next : ℕ) → IsIndexed index.old.entries entries.old.entries next →
+        IsIndexed index.new.entries entries.new.entries next }
+    ensures put_out { (p : Group → Bool) (next : ℕ) →
+        IsIndexed index.old.entries entries.old.entries next →
+        keys_of (filter (λ (e : ℕ × Group). p e.1) entries.old.entries) ≡ numbers.items →
+        HasPutOut p (values_of entries.old.entries)
+        (values_of entries.new.entries) shelf.old shelf.new }
+    ensures all { OnOk result
+        ((p : Group → Bool) (next : ℕ) → IsIndexed index.old.entries entries.old.entries next →
+        keys_of (filter (λ (e : ℕ × Group). p e.1) entries.old.entries) ≡ numbers.items →
         filter p (values_of entries.new.entries) ≡ []) }
 {
     for number in numbers.as_slice() {
@@ -104,7 +116,8 @@ fn take_copy_at(entries: &mut BTreeMap<u64, Group>, number: u64) -> Option<Final
 fn end_first(index: &mut BTreeMap<GroupKey, u64>, entries: &mut BTreeMap<u64, Group>)
     requires { BeginsBare entries.old.entries }
     ensures entries { entries.new.entries ≡ drop 1 entries.old.entries }
-    ensures indexed { (next : ℕ) → IsIndexed index.old.entries entries.old.entries next → IsIndexed index.new.entries entries.new.entries next }
+    ensures indexed { (next : ℕ) → IsIndexed index.old.entries entries.old.entries next →
+        IsIndexed index.new.entries entries.new.entries next }
 {
     match entries.pop_first() {
         Some((_number, group)) => forget(index, group.end_bare()),
@@ -117,8 +130,11 @@ pub(crate) fn take_copy_from(
     index: &mut BTreeMap<GroupKey, u64>,
     entries: &mut BTreeMap<u64, Group>,
 ) -> Option<Finalizer>
-    ensures indexed { (next : ℕ) → IsIndexed index.old.entries entries.old.entries next → IsIndexed index.new.entries entries.new.entries next }
-    ensures some { IfSome result (λ copy. IsPermutation (copies_held (values_of entries.old.entries)) (copy ∷ copies_held (values_of entries.new.entries))) }
+    ensures indexed { (next : ℕ) → IsIndexed index.old.entries entries.old.entries next →
+        IsIndexed index.new.entries entries.new.entries next }
+    ensures some { IfSome result
+        (λ copy. IsPermutation (copies_held (values_of entries.old.entries))
+        (copy ∷ copies_held (values_of entries.new.entries))) }
     ensures none { IfNone result (copies_held (values_of entries.old.entries) ≡ []) }
     ensures empty { IfNone result (entries.new.entries ≡ []) }
 {

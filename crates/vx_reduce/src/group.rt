@@ -56,7 +56,9 @@ impl Group {
     // Puts a parcel in place of the one that is gone.
     fn fill(&mut self, event: SharedEvent, finalizers: Finalizers)
         requires { self.old.parcel ≡ None }
-        ensures { self.new ≡ record self.old { parcel = Some (record { event = event; finalizers = finalizers }) } }
+        ensures { self.new
+            ≡ record
+            self.old { parcel = Some (record { event = event; finalizers = finalizers }) } }
     {
         match self.parcel.replace(Parcel { event, finalizers }) {
             None => {}
@@ -89,7 +91,8 @@ impl Group {
     // Puts its parcel out, and another one behind it. For want of memory that one comes back, and group and shelf are as
     // before.
     pub(crate) fn put_out_before(&mut self, last: Parcel, shelf: &mut Shelf) -> Result<(), Back>
-        ensures ok { OnOk result (shelf.new ≡ put_all shelf.old (output_in self.old.parcel ++ passed last ∷ [])) }
+        ensures ok { OnOk result
+            (shelf.new ≡ put_all shelf.old (output_in self.old.parcel ++ passed last ∷ [])) }
         ensures hollow { OnOk result (self.new.parcel ≡ None) }
         ensures key { self.new.key ≡ self.old.key }
         ensures err { OnErr result (self.new ≡ self.old) }
@@ -118,7 +121,11 @@ impl Group {
         copies: Finalizers,
         shelf: &mut Shelf,
     ) -> Result<(), Finalizers>
-        ensures ok { OnOk result (shelf.new ≡ put_all shelf.old (passed (record { event = event; finalizers = copies_in self.old.parcel ++ copies }) ∷ [])) }
+        ensures ok { OnOk result
+            (shelf.new
+            ≡ put_all shelf.old
+            (passed (record { event = event; finalizers = copies_in self.old.parcel ++ copies })
+            ∷ [])) }
         ensures hollow { OnOk result (self.new.parcel ≡ None) }
         ensures key { self.new.key ≡ self.old.key }
         ensures err { OnErr result (self.new ≡ self.old) }
@@ -188,7 +195,8 @@ impl Group {
 
     // Takes its last copy. `None` exactly where it has none.
     pub(crate) fn take_copy(&mut self) -> Option<Finalizer>
-        ensures some { IfSome result (λ copy. copies_in self.old.parcel ≡ copies_in self.new.parcel ++ copy ∷ []) }
+        ensures some { IfSome result
+            (λ copy. copies_in self.old.parcel ≡ copies_in self.new.parcel ++ copy ∷ []) }
         ensures none { IfNone result (copies_in self.old.parcel ≡ []) }
         ensures same { IfNone result (self.new ≡ self.old) }
         ensures key { self.new.key ≡ self.old.key }

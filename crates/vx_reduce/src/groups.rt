@@ -59,7 +59,10 @@ fn number_in(index: &BTreeMap<GroupKey, u64>, key: &GroupKey) -> Option<u64>
 
 // Takes a key out.
 pub(crate) fn forget(index: &mut BTreeMap<GroupKey, u64>, key: GroupKey)
-    ensures { (q : Datum) → lookup (is_at (datum_cmp q)) index.new.entries ≡ (if is_at (datum_cmp key) q then None else lookup (is_at (datum_cmp q)) index.old.entries) }
+    ensures { (q : Datum) →
+        lookup (is_at (datum_cmp q)) index.new.entries
+        ≡ (if is_at (datum_cmp key) q then None else lookup
+        (is_at (datum_cmp q)) index.old.entries) }
 {
     index.remove(&key);
 }
@@ -67,7 +70,10 @@ pub(crate) fn forget(index: &mut BTreeMap<GroupKey, u64>, key: GroupKey)
 // Takes a key in with a number.
 fn renumber(index: &mut BTreeMap<GroupKey, u64>, key: GroupKey, number: u64)
     requires { IsSome (lookup (is_at (datum_cmp key)) index.old.entries) }
-    ensures { (q : Datum) → lookup (is_at (datum_cmp q)) index.new.entries ≡ (if is_at (datum_cmp key) q then Some number else lookup (is_at (datum_cmp q)) index.old.entries) }
+    ensures { (q : Datum) →
+        lookup (is_at (datum_cmp q)) index.new.entries
+        ≡ (if is_at (datum_cmp key) q then Some number else lookup
+        (is_at (datum_cmp q)) index.old.entries) }
 {
     match index.insert(key, number) {
         Ok(_) => {}
@@ -88,10 +94,20 @@ fn enter(
     requires number { lookup (is_at (nat_cmp number)) entries.old.entries ≡ None }
     requires key { lookup (is_at (datum_cmp key)) index.old.entries ≡ None }
     requires alike { own ≡ key }
-    ensures entries { OnOk result (entries.new.entries ≡ insert_entry nat_cmp entries.old.entries number (record { key = key; moment = moment; parcel = Some parcel })) }
-    ensures index { OnOk result ((q : Datum) → lookup (is_at (datum_cmp q)) index.new.entries ≡ (if is_at (datum_cmp key) q then Some number else lookup (is_at (datum_cmp q)) index.old.entries)) }
+    ensures entries { OnOk result
+        (entries.new.entries
+        ≡ insert_entry nat_cmp entries.old.entries number
+        (record { key = key; moment = moment; parcel = Some parcel })) }
+    ensures index { OnOk result
+        ((q : Datum) →
+        lookup (is_at (datum_cmp q)) index.new.entries
+        ≡ (if is_at (datum_cmp key) q then Some number else lookup
+        (is_at (datum_cmp q)) index.old.entries)) }
     ensures err_entries { OnErr result (entries.new.entries ≡ entries.old.entries) }
-    ensures err_index { OnErr result ((q : Datum) → lookup (is_at (datum_cmp q)) index.new.entries ≡ lookup (is_at (datum_cmp q)) index.old.entries) }
+    ensures err_index { OnErr result
+        ((q : Datum) →
+        lookup (is_at (datum_cmp q)) index.new.entries
+        ≡ lookup (is_at (datum_cmp q)) index.old.entries) }
     ensures back { IfErr result (λ refused. refused ≡ parcel) }
 {
     match index.insert(key, number) {
@@ -121,9 +137,14 @@ fn exchange(
 ) -> Result<GroupKey, Parcel>
     requires there { IsSome (lookup (is_at (nat_cmp number)) entries.old.entries) }
     requires last { IsTrue (all_below next (keys_under entries.old.entries)) }
-    ensures entries { OnOk result (entries.new.entries ≡ remove_entry (is_at (nat_cmp number)) entries.old.entries ++ (next, record { key = key; moment = moment; parcel = Some parcel }) ∷ []) }
-    ensures put_out { OnOk result (shelf.new ≡ put_all shelf.old (output_found (lookup (is_at (nat_cmp number)) entries.old.entries))) }
-    ensures key { IfOk result (λ key. IfSome (lookup (is_at (nat_cmp number)) entries.old.entries) (λ g. key ≡ g.key)) }
+    ensures entries { OnOk result
+        (entries.new.entries ≡ remove_entry (is_at (nat_cmp number)) entries.old.entries
+        ++ (next, record { key = key; moment = moment; parcel = Some parcel }) ∷ []) }
+    ensures put_out { OnOk result
+        (shelf.new
+        ≡ put_all shelf.old (output_found (lookup (is_at (nat_cmp number)) entries.old.entries))) }
+    ensures key { IfOk result
+        (λ key. IfSome (lookup (is_at (nat_cmp number)) entries.old.entries) (λ g. key ≡ g.key)) }
     ensures err { OnErr result (entries.new.entries ≡ entries.old.entries) }
     ensures back { IfErr result (λ refused. refused ≡ parcel) }
     ensures shelf { OnErr result (shelf.new ≡ shelf.old) }
@@ -195,7 +216,8 @@ impl Groups {
         moment: u64,
     ) -> Result<(), Finalizers>
         requires { IsSome (group_of key.now self.old) }
-        ensures ok { OnOk result (self.new ≡ changed key.now (joined_group event copies moment) self.old) }
+        ensures ok { OnOk result
+            (self.new ≡ changed key.now (joined_group event copies moment) self.old) }
         ensures err { OnErr result (self.new ≡ self.old) }
         ensures back { IfErr result (λ refused. refused ≡ copies) }
     {
@@ -257,8 +279,10 @@ impl Groups {
         shelf: &mut Shelf,
     ) -> Result<(), Finalizers>
         requires { IsSome (group_of key self.old) }
-        ensures ok { OnOk result (self.new ≡ without key self.old ++ new_group key event copies moment ∷ []) }
-        ensures put_out { OnOk result (shelf.new ≡ put_all shelf.old (output_found (group_of key self.old))) }
+        ensures ok { OnOk result
+            (self.new ≡ without key self.old ++ new_group key event copies moment ∷ []) }
+        ensures put_out { OnOk result
+            (shelf.new ≡ put_all shelf.old (output_found (group_of key self.old))) }
         ensures err { OnErr result (self.new ≡ self.old) }
         ensures back { IfErr result (λ refused. refused ≡ copies) }
         ensures shelf { OnErr result (shelf.new ≡ shelf.old) }
@@ -300,7 +324,11 @@ impl Groups {
     ) -> Result<(), Finalizers>
         requires { IsSome (group_of key.now self.old) }
         ensures ok { OnOk result (self.new ≡ without key.now self.old) }
-        ensures put_out { OnOk result (shelf.new ≡ put_all shelf.old (output_found (group_of key.now self.old) ++ passed (record { event = event; finalizers = copies }) ∷ [])) }
+        ensures put_out { OnOk result
+            (shelf.new
+            ≡ put_all shelf.old
+            (output_found (group_of key.now self.old)
+            ++ passed (record { event = event; finalizers = copies }) ∷ [])) }
         ensures err { OnErr result (self.new ≡ self.old) }
         ensures back { IfErr result (λ refused. refused ≡ copies) }
         ensures shelf { OnErr result (shelf.new ≡ shelf.old) }
@@ -333,7 +361,14 @@ impl Groups {
     ) -> Result<(), Finalizers>
         requires { IsSome (group_of key.now self.old) }
         ensures ok { OnOk result (self.new ≡ without key.now self.old) }
-        ensures put_out { OnOk result (shelf.new ≡ put_all shelf.old (passed (record { event = event; finalizers = copies_found (group_of key.now self.old) ++ copies }) ∷ [])) }
+        ensures put_out { OnOk result
+            (shelf.new
+            ≡ put_all shelf.old
+            (passed
+            (record {
+              event = event;
+              finalizers = copies_found (group_of key.now self.old) ++ copies;
+            }) ∷ [])) }
         ensures err { OnErr result (self.new ≡ self.old) }
         ensures back { IfErr result (λ refused. refused ≡ copies) }
         ensures shelf { OnErr result (shelf.new ≡ shelf.old) }
@@ -366,7 +401,8 @@ impl Groups {
         now: u64,
         shelf: &mut Shelf,
     ) -> Result<(), WantOfMemory>
-        ensures put_out { HasPutOut (is_old expire_after now) self.old self.new shelf.old shelf.new }
+        ensures put_out { HasPutOut
+            (is_old expire_after now) self.old self.new shelf.old shelf.new }
         ensures all { OnOk result (filter (is_old expire_after now) self.new ≡ []) }
     {
         let numbers = old_numbers(alloc, &self.entries, expire_after, now)?;
@@ -376,7 +412,8 @@ impl Groups {
     // Takes a copy of the first group that has one, and lets those before it go. `None` exactly where there is no copy; then
     // there is no group any more. It takes no memory.
     pub(crate) fn take_copy(&mut self) -> Option<Finalizer>
-        ensures some { IfSome result (λ copy. IsPermutation (copies_held self.old) (copy ∷ copies_held self.new)) }
+        ensures some { IfSome result
+            (λ copy. IsPermutation (copies_held self.old) (copy ∷ copies_held self.new)) }
         ensures none { IfNone result (copies_held self.old ≡ []) }
         ensures empty { IfNone result (self.new ≡ []) }
     {

@@ -53,7 +53,10 @@ impl MergeRules {
         field: &Field,
         so_far: Option<&Value>,
     ) -> Result<Value, WantOfMemory>
-        ensures { IfOk result (λ value. datum_of value ≡ merged_value self.now.group_by self.now.strategies (named_datum field.now) (option_map datum_of (option_copied so_far.entry))) }
+        ensures { IfOk result
+            (λ value. datum_of value
+            ≡ merged_value self.now.group_by self.now.strategies (named_datum field.now)
+            (option_map datum_of (option_copied so_far.entry))) }
     {
         match so_far {
             None => self.first_value(alloc, field),
@@ -63,7 +66,9 @@ impl MergeRules {
 
     // The value of a field that a group has not.
     fn first_value(&self, alloc: Global, field: &Field) -> Result<Value, WantOfMemory>
-        ensures { IfOk result (λ value. datum_of value ≡ merged_value self.now.group_by self.now.strategies (named_datum field.now) None) }
+        ensures { IfOk result
+            (λ value. datum_of value
+            ≡ merged_value self.now.group_by self.now.strategies (named_datum field.now) None) }
     {
         if self.is_grouping(field.name.as_str()) {
             field.value.copy(alloc)
@@ -79,7 +84,10 @@ impl MergeRules {
         field: &Field,
         so_far: &Value,
     ) -> Result<Value, WantOfMemory>
-        ensures { IfOk result (λ value. datum_of value ≡ merged_value self.now.group_by self.now.strategies (named_datum field.now) (Some (datum_of so_far.now))) }
+        ensures { IfOk result
+            (λ value. datum_of value
+            ≡ merged_value self.now.group_by self.now.strategies (named_datum field.now)
+            (Some (datum_of so_far.now))) }
     {
         if self.is_grouping(field.name.as_str()) {
             so_far.copy(alloc)
@@ -101,7 +109,10 @@ impl MergeRules {
         so_far: Option<&Value>,
     ) -> Result<Field, WantOfMemory>
         ensures name { IfOk result (λ merged. merged.name ≡ field.now.name) }
-        ensures value { IfOk result (λ merged. datum_of merged.value ≡ merged_value self.now.group_by self.now.strategies (named_datum field.now) (option_map datum_of (option_copied so_far.entry))) }
+        ensures value { IfOk result
+            (λ merged. datum_of merged.value
+            ≡ merged_value self.now.group_by self.now.strategies (named_datum field.now)
+            (option_map datum_of (option_copied so_far.entry))) }
     {
         let name = field.name.copy(alloc)?;
         let value = self.value_of(alloc, field, so_far)?;
@@ -117,12 +128,24 @@ impl MergeRules {
     ) -> Result<Option<MergeStep<'a>>, WantOfMemory>
         requires group { IsTrue (names_rise (map named_datum group.now)) }
         requires event { IsTrue (names_rise (map named_datum event.now)) }
-        ensures some { IfOk result (λ step. IfSome step (λ step. merged_with self.now.group_by self.now.strategies (map named_datum group.now) (map named_datum event.now)
-            ≡ named_datum step.field ∷ merged_with self.now.group_by self.now.strategies (map named_datum step.group.now) (map named_datum step.event.now))) }
-        ensures none { IfOk result (λ step. IfNone step (merged_with self.now.group_by self.now.strategies (map named_datum group.now) (map named_datum event.now) ≡ [])) }
-        ensures group { IfOk result (λ step. IfSome step (λ step. IsTrue (names_rise (map named_datum step.group.now)))) }
-        ensures event { IfOk result (λ step. IfSome step (λ step. IsTrue (names_rise (map named_datum step.event.now)))) }
-        ensures less { IfOk result (λ step. IfSome step (λ step. length step.group.now + length step.event.now < length group.now + length event.now)) }
+        ensures some { IfOk result
+            (λ step. IfSome step
+            (λ step. merged_with self.now.group_by self.now.strategies (map named_datum group.now)
+            (map named_datum event.now) ≡ named_datum step.field
+            ∷ merged_with self.now.group_by self.now.strategies (map named_datum step.group.now)
+            (map named_datum step.event.now))) }
+        ensures none { IfOk result
+            (λ step. IfNone step
+            (merged_with self.now.group_by self.now.strategies (map named_datum group.now)
+            (map named_datum event.now) ≡ [])) }
+        ensures group { IfOk result
+            (λ step. IfSome step (λ step. IsTrue (names_rise (map named_datum step.group.now)))) }
+        ensures event { IfOk result
+            (λ step. IfSome step (λ step. IsTrue (names_rise (map named_datum step.event.now)))) }
+        ensures less { IfOk result
+            (λ step. IfSome step
+            (λ step. length step.group.now + length step.event.now
+            < length group.now + length event.now)) }
     {
         let Some((comes, later)) = event.split_first() else {
             return keep(alloc, group, event);
@@ -163,7 +186,9 @@ impl MergeRules {
         group: &FieldList,
         event: &FieldList,
     ) -> Result<FieldList, WantOfMemory>
-        ensures { IfOk result (λ fields. fields ≡ merged_with self.now.group_by self.now.strategies group.now event.now) }
+        ensures { IfOk result
+            (λ fields. fields
+            ≡ merged_with self.now.group_by self.now.strategies group.now event.now) }
     {
         let mut fields = FieldList::new(alloc);
         let mut group = group.as_slice();
@@ -186,7 +211,10 @@ impl MergeRules {
         group: &Group,
         event: &Event,
     ) -> Result<FieldList, WantOfMemory>
-        ensures { IfOk result (λ fields. fields ≡ merged_with self.now.group_by self.now.strategies (fields_in group.now.parcel) event.now.fields) }
+        ensures { IfOk result
+            (λ fields. fields
+            ≡ merged_with self.now.group_by self.now.strategies
+            (fields_in group.now.parcel) event.now.fields) }
     {
         match &group.parcel {
             Some(parcel) => self.merged(alloc, &parcel.event.get().fields, &event.fields),
@@ -201,7 +229,10 @@ impl MergeRules {
         group: Option<&Group>,
         event: &Event,
     ) -> Result<SharedEvent, WantOfMemory>
-        ensures { IfOk result (λ merged. merged ≡ merged_event self.now.group_by self.now.strategies (fields_found (option_copied group.entry)) event.now) }
+        ensures { IfOk result
+            (λ merged. merged
+            ≡ merged_event self.now.group_by self.now.strategies
+            (fields_found (option_copied group.entry)) event.now) }
     {
         let fields = match group {
             Some(group) => self.merged_in(alloc, group, event)?,

@@ -18,7 +18,10 @@ pub(crate) fn keep<'a>(
     group: &'a [Field],
     event: &'a [Field],
 ) -> Result<Option<MergeStep<'a>>, WantOfMemory>
-    ensures some { IfOk result (λ step. IfSome step (λ step. map named_datum group.now ≡ named_datum step.field ∷ map named_datum step.group.now)) }
+    ensures some { IfOk result
+        (λ step. IfSome step
+        (λ step. map named_datum group.now ≡ named_datum step.field
+        ∷ map named_datum step.group.now)) }
     ensures event { IfOk result (λ step. IfSome step (λ step. step.event.now ≡ event.now)) }
     ensures none { IfOk result (λ step. IfNone step (group.now ≡ [])) }
 {

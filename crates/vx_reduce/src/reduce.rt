@@ -46,14 +46,17 @@ impl Reduce {
     /// A reduce that holds nothing. It takes no memory.
     pub fn new(settings: ReduceSettings) -> Result<Self, WantOfMemory>
         ensures ok { IsOk result }
-        ensures rules { IfOk result (λ reduce. reduce.rules ≡ record { group_by = settings.group_by; strategies = settings.strategies }) }
+        ensures rules { IfOk result
+            (λ reduce. reduce.rules
+            ≡ record { group_by = settings.group_by; strategies = settings.strategies }) }
         ensures starts { IfOk result (λ reduce. reduce.starts_when ≡ settings.starts_when) }
         ensures ends { IfOk result (λ reduce. reduce.ends_when ≡ settings.ends_when) }
         ensures expire { IfOk result (λ reduce. reduce.expire_after_ms ≡ settings.expire_after_ms) }
         ensures period { IfOk result (λ reduce. reduce.flush_period_ms ≡ settings.flush_period_ms) }
         ensures groups { IfOk result (λ reduce. reduce.groups ≡ []) }
         ensures since { IfOk result (λ reduce. reduce.since ≡ 0) }
-        ensures stands { IfOk result (λ reduce. (s : Settings) → AreMeant s settings → IsAt s [] reduce) }
+        ensures stands { IfOk result
+            (λ reduce. (s : Settings) → AreMeant s settings → IsAt s [] reduce) }
     {
         let ReduceSettings {
             group_by,
@@ -98,7 +101,9 @@ impl Reduce {
 
     // What is to become of an event.
     fn plan(&mut self, alloc: Global, event: &Event) -> Result<Plan, WantOfMemory>
-        ensures planned { IfOk result (λ plan. IsPlanned self.old event.now plan.found plan.starts plan.ends plan.key plan.event) }
+        ensures planned { IfOk result
+            (λ plan. IsPlanned self.old event.now plan.found plan.starts plan.ends plan.key
+            plan.event) }
         ensures same { self.new ≡ self.old }
     {
         let starts = holds_of(&mut self.starts_when, alloc, event)?;
@@ -119,7 +124,8 @@ impl Reduce {
 
     // The group into which an event is merged, if there is one: that of its key, unless it begins one.
     fn so_far(&self, starts: bool, key: &GroupKey) -> Option<&Group>
-        ensures { option_copied result ≡ (if starts then None else group_of key.now self.now.groups) }
+        ensures { option_copied result
+            ≡ (if starts then None else group_of key.now self.now.groups) }
     {
         if starts { None } else { self.groups.get(key) }
     }
@@ -133,9 +139,13 @@ impl Reduce {
         now: u64,
         shelf: &mut Shelf,
     ) -> Result<(), Back>
-        requires { IsPlanned self.old parcel.event plan.found plan.starts plan.ends plan.key plan.event }
-        ensures answered { OnOk result (HasAnswered self.old self.new parcel now shelf.old shelf.new) }
-        ensures moves { OnOk result (Moves 1 (copies_held self.old.groups ++ parcel.finalizers) (copies_held self.new.groups) shelf.old shelf.new) }
+        requires { IsPlanned self.old parcel.event plan.found plan.starts plan.ends plan.key
+            plan.event }
+        ensures answered { OnOk result
+            (HasAnswered self.old self.new parcel now shelf.old shelf.new) }
+        ensures moves { OnOk result
+            (Moves 1 (copies_held self.old.groups ++ parcel.finalizers)
+            (copies_held self.new.groups) shelf.old shelf.new) }
         ensures back { IfErr result (λ refused. refused.parcel ≡ parcel) }
         ensures unchanged { OnErr result (self.new ≡ self.old) }
         ensures shelf { OnErr result (shelf.new ≡ shelf.old) }
@@ -157,9 +167,13 @@ impl Reduce {
     // Puts each group out, in order, whose last event came so long ago. For want of memory it may have put out some first
     // ones.
     fn check(&mut self, alloc: Global, now: u64, shelf: &mut Shelf) -> Result<(), WantOfMemory>
-        ensures put_out { HasPutOut (is_old self.old.expire_after_ms now) self.old.groups self.new.groups shelf.old shelf.new }
-        ensures all { OnOk result (filter (is_old self.old.expire_after_ms now) self.new.groups ≡ []) }
-        ensures state { OnOk result (self.new ≡ record self.old { groups = self.new.groups; since = now }) }
+        ensures put_out { HasPutOut
+            (is_old self.old.expire_after_ms now) self.old.groups self.new.groups shelf.old
+            shelf.new }
+        ensures all { OnOk result
+            (filter (is_old self.old.expire_after_ms now) self.new.groups ≡ []) }
+        ensures state { OnOk result
+            (self.new ≡ record self.old { groups = self.new.groups; since = now }) }
     {
         self.groups
             .put_out_old(alloc, self.expire_after_ms, now, shelf)?;
@@ -237,8 +251,11 @@ impl Transform for Reduce {
         ensures goes_on { OnOk result (GoesOn self.old self.new (arrived parcel now)) }
         ensures puts_out { OnOk result (PutsOut self.old (arrived parcel now) shelf.old shelf.new) }
         ensures meant { OnOk result (IsMeant self.old) }
-        ensures answered { OnOk result (HasAnswered self.old self.new parcel now shelf.old shelf.new) }
-        ensures moves { OnOk result (Moves 1 (copies_held self.old.groups ++ parcel.finalizers) (copies_held self.new.groups) shelf.old shelf.new) }
+        ensures answered { OnOk result
+            (HasAnswered self.old self.new parcel now shelf.old shelf.new) }
+        ensures moves { OnOk result
+            (Moves 1 (copies_held self.old.groups ++ parcel.finalizers)
+            (copies_held self.new.groups) shelf.old shelf.new) }
         ensures back { IfErr result (λ refused. refused.parcel ≡ parcel) }
         ensures unchanged { OnErr result (self.new ≡ self.old) }
         ensures shelf { OnErr result (shelf.new ≡ shelf.old) }
@@ -254,7 +271,8 @@ impl Transform for Reduce {
         ensures goes_on { OnOk result (GoesOn self.old self.new (ticked now)) }
         ensures puts_out { OnOk result (PutsOut self.old (ticked now) shelf.old shelf.new) }
         ensures checked { OnOk result (HasChecked self.old self.new now shelf.old shelf.new) }
-        ensures moves { Moves 1 (copies_held self.old.groups) (copies_held self.new.groups) shelf.old shelf.new }
+        ensures moves { Moves 1 (copies_held self.old.groups)
+            (copies_held self.new.groups) shelf.old shelf.new }
     {
         if self.is_due(now) {
             self.check(alloc, now, shelf)
@@ -269,7 +287,8 @@ impl Transform for Reduce {
         ensures puts_out { OnOk result (PutsOut self.old at_end shelf.old shelf.new) }
         ensures flushed { OnOk result (shelf.new ≡ put_all shelf.old (outputs_of self.old.groups)) }
         ensures groups { OnOk result (self.new ≡ record self.old { groups = [] }) }
-        ensures moves { Moves 1 (copies_held self.old.groups) (copies_held self.new.groups) shelf.old shelf.new }
+        ensures moves { Moves 1 (copies_held self.old.groups)
+            (copies_held self.new.groups) shelf.old shelf.new }
         ensures emptied { OnOk result (copies_held self.new.groups ≡ []) }
     {
         self.groups.put_out_old(alloc, 0, 0, shelf)
@@ -284,7 +303,9 @@ impl Transform for Reduce {
     }
 
     fn surrender(&mut self) -> Option<Finalizer>
-        ensures some { IfSome result (λ copy. IsPermutation (copies_held self.old.groups) (copy ∷ copies_held self.new.groups)) }
+        ensures some { IfSome result
+            (λ copy. IsPermutation (copies_held self.old.groups)
+            (copy ∷ copies_held self.new.groups)) }
         ensures none { IsNone result ↔ (copies_held self.old.groups ≡ []) }
         ensures empty { IfNone result (copies_held self.new.groups ≡ []) }
         ensures groups { IfNone result (self.new.groups ≡ []) }

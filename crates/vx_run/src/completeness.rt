@@ -26,18 +26,23 @@ use vx_reading::one_answer;
 
 /// A failed print is told only where the printer's count of failed prints rose.
 pub fn failed_prints<P: Printer>()
-    ensures { (words : List Word) (environment : List Variable) (texts : Option (List Config)) (h : Record) (old new : P) (fault : Option Fault)
-        → IsShown words environment texts h (new ≡ old) (P.printed old) (P.printed new) (P.faults old) (P.faults new) fault → PrintBlames (P.faults old) (P.faults new) fault }
+    ensures { (words : List Word) (environment : List Variable) (texts : Option (List Config))
+        (h : Record) (old new : P) (fault : Option Fault) →
+        IsShown words environment texts h (new ≡ old) (P.printed old) (P.printed new) (P.faults old)
+        (P.faults new) fault → PrintBlames (P.faults old) (P.faults new) fault }
 {}
 
 /// A run in which nothing failed and nothing was refused ends well, or for want of memory; or its text was refused, though it stands
 /// for a plan, since a condition of that has a pattern.
 pub fn faultless_answers<P: Port>()
-    ensures { (words : List Word) (environment : List Variable) (configs : List Config) (before now was is : ℕ) (h : Record) (ports : List (Numbered P)) (fault : Option Fault)
-        → (faultless : IsFaultless P.told words environment configs before now was is h ports) → IsLegal h → IsAnswer words environment (Some configs) before now h fault
-        → PrintBlames was is fault
-        → AreToldButGiven P.told h ports → AreNumbered 0 ports → NoneMissing words environment (Some configs) h ports fault
-        → (fault ≡ None) ⊎ ((fault ≡ Some WantOfMemory) ⊎ IsRefusedAnew faultless.plan.components fault) }
+    ensures { (words : List Word) (environment : List Variable) (configs : List Config)
+        (before now was is : ℕ) (h : Record) (ports : List (Numbered P)) (fault : Option Fault) →
+        (faultless : IsFaultless P.told words environment configs before now was is h ports) →
+        IsLegal h → IsAnswer words environment (Some configs) before now h fault →
+        PrintBlames was is fault → AreToldButGiven P.told h ports → AreNumbered 0 ports →
+        NoneMissing words environment (Some configs) h ports fault →
+        (fault ≡ None)
+        ⊎ ((fault ≡ Some WantOfMemory) ⊎ IsRefusedAnew faultless.plan.components fault) }
 {
     one_command();
     one_answer();
@@ -45,9 +50,13 @@ pub fn faultless_answers<P: Port>()
 
 /// A run that ended well wasn't given up, each source was told its end, and no last confirm failed.
 pub fn well_ended()
-    ensures going { (words : List Word) (environment : List Variable) (texts : Option (List Config)) (before now : ℕ) (h : Record) → IsAnswer words environment texts before now h None → WentOn h }
+    ensures going { (words : List Word) (environment : List Variable) (texts : Option (List Config))
+        (before now : ℕ) (h : Record) → IsAnswer words environment texts before now h None →
+        WentOn h }
     ensures read { (h : Record) → IsReadOut h None → AllRead h }
-    ensures confirmed { (words : List Word) (environment : List Variable) (texts : Option (List Config)) (before now : ℕ) (h : Record) → IsAnswer words environment texts before now h None → AllConfirmed h }
+    ensures confirmed { (words : List Word) (environment : List Variable)
+        (texts : Option (List Config)) (before now : ℕ) (h : Record) →
+        IsAnswer words environment texts before now h None → AllConfirmed h }
 {}
 
 /// Where a source ended in a run that wasn't given up, no confirm was due to it.
@@ -63,18 +72,22 @@ pub fn blamed_notices()
 
 /// Where nothing failed and nothing was refused, each confirm of a run that ended well was made.
 pub fn faultless_confirms<P: Port>()
-    ensures { (words : List Word) (environment : List Variable) (configs : List Config) (before now was is : ℕ) (h : Record) (ports : List (Numbered P))
-        → HasEndedWell P.told words environment configs before now was is h ports
-        → (later earlier : Record) (i : ℕ) (positions : List Position) (made : Bool) → later ++ Confirm i positions made ∷ earlier ≡ h → made ≡ true }
+    ensures { (words : List Word) (environment : List Variable) (configs : List Config)
+        (before now was is : ℕ) (h : Record) (ports : List (Numbered P)) →
+        HasEndedWell P.told words environment configs before now was is h ports →
+        (later earlier : Record) (i : ℕ) (positions : List Position) (made : Bool) →
+        later ++ Confirm i positions made ∷ earlier ≡ h → made ≡ true }
 {
     one_command();
 }
 
 /// Where nothing failed and nothing was refused, each notice of a run that ended well says Delivered.
 pub fn faultless_notices<P: Port>()
-    ensures { (words : List Word) (environment : List Variable) (configs : List Config) (before now was is : ℕ) (h : Record) (ports : List (Numbered P))
-        → HasEndedWell P.told words environment configs before now was is h ports
-        → (later earlier : Record) (b : ℕ) (status : BatchStatus) → later ++ Notice b status ∷ earlier ≡ h → status ≡ Delivered }
+    ensures { (words : List Word) (environment : List Variable) (configs : List Config)
+        (before now was is : ℕ) (h : Record) (ports : List (Numbered P)) →
+        HasEndedWell P.told words environment configs before now was is h ports →
+        (later earlier : Record) (b : ℕ) (status : BatchStatus) →
+        later ++ Notice b status ∷ earlier ≡ h → status ≡ Delivered }
 {
     one_command();
 }

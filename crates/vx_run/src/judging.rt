@@ -92,8 +92,11 @@ fn first_unconfirmed<P: Port>(hub: &Hub<P>) -> Option<u32>
     requires { IsHub P.told hub.now }
     ensures within { IfSome result (λ i. i < length (started hub.now.books.log)) }
     ensures failed { IfSome result (λ i. is_unconfirmed hub.now.books.log i ≡ true) }
-    ensures least { IfSome result (λ i. (j : ℕ) → j < i → is_unconfirmed hub.now.books.log j ≡ false) }
-    ensures none { IfNone result ((j : ℕ) → j < length (started hub.now.books.log) → is_unconfirmed hub.now.books.log j ≡ false) }
+    ensures least { IfSome result
+        (λ i. (j : ℕ) → j < i → is_unconfirmed hub.now.books.log j ≡ false) }
+    ensures none { IfNone result
+        ((j : ℕ) → j < length (started hub.now.books.log) →
+        is_unconfirmed hub.now.books.log j ≡ false) }
 {
     for instance in 0..hub.instances() {
         if hub.unconfirmed(instance) {
@@ -121,8 +124,10 @@ fn first_lost<P: Port>(hub: &Hub<P>) -> Option<Lost>
     requires { IsHub P.told hub.now }
     ensures within { IfSome result (λ lost. lost.instance < length (started hub.now.books.log)) }
     ensures lost { IfSome result (λ lost. lost_at hub.now.books.log lost.instance ≡ Some lost.at) }
-    ensures least { IfSome result (λ lost. (i : ℕ) → i < lost.instance → lost_at hub.now.books.log i ≡ None) }
-    ensures none { IfNone result ((i : ℕ) → i < length (started hub.now.books.log) → lost_at hub.now.books.log i ≡ None) }
+    ensures least { IfSome result
+        (λ lost. (i : ℕ) → i < lost.instance → lost_at hub.now.books.log i ≡ None) }
+    ensures none { IfNone result
+        ((i : ℕ) → i < length (started hub.now.books.log) → lost_at hub.now.books.log i ≡ None) }
 {
     for instance in 0..hub.instances() {
         if let Some(at) = hub.lost(instance) {

@@ -35,17 +35,26 @@ pub fn prepare<W: World>(
     environment: &VariableList,
     world: &mut W,
 ) -> Result<Parts<Option<W::Port>>, Fault>
-    ensures stands { IfOk result (λ parts. IsPlanAt environment.now (W.texts world.old) file.now parts.plan) }
+    ensures stands { IfOk result
+        (λ parts. IsPlanAt environment.now (W.texts world.old) file.now parts.plan) }
     ensures once { IfOk result (λ parts. parts.once ≡ once) }
     ensures few { IfOk result (λ parts. length parts.plan.components < 2 ^ 32) }
     ensures accepted { IfOk result (λ parts. IsPlan parts.plan) }
     ensures served { IfOk result (λ parts. all_served parts.plan.components ≡ true) }
     ensures pickers { IfOk result (λ parts. ArePickers parts.plan.components parts.pickers) }
     ensures ports { IfOk result (λ parts. length parts.ports ≡ length parts.plan.components) }
-    ensures untouched { IfOk result (λ parts. AreUntouched (told_if W.Port.told) (port_of parts.once parts.plan.global.data_dir) parts.plan.components parts.ports) }
-    ensures unready { IfErr result (IsUnready environment.now (W.texts world.old) file.now (W.faults world.old) (W.faults world.new)) }
-    ensures called { IfOk result (λ parts. Grows (W.calls world.old) (W.calls world.new) (run_calls once file.now parts.plan)) }
-    ensures begun { IfErr result (HasCalledFor environment.now (W.texts world.old) once file.now (W.calls world.old) (W.calls world.new)) }
+    ensures untouched { IfOk result
+        (λ parts. AreUntouched (told_if W.Port.told)
+        (port_of parts.once parts.plan.global.data_dir) parts.plan.components parts.ports) }
+    ensures unready { IfErr result
+        (IsUnready environment.now (W.texts world.old) file.now (W.faults world.old)
+        (W.faults world.new)) }
+    ensures called { IfOk result
+        (λ parts. Grows (W.calls world.old) (W.calls world.new)
+        (run_calls once file.now parts.plan)) }
+    ensures begun { IfErr result
+        (HasCalledFor environment.now (W.texts world.old) once file.now (W.calls world.old)
+        (W.calls world.new)) }
     ensures texts { W.texts world.new ≡ W.texts world.old }
 {
     let ReadPlan { plan, conditions } = plan_at(alloc, file, environment, world)?;
@@ -70,12 +79,15 @@ pub(crate) fn plan_at<W: World>(
     environment: &VariableList,
     world: &mut W,
 ) -> Result<ReadPlan, Fault>
-    ensures stands { IfOk result (λ read. IsPlanAt environment.now (W.texts world.old) file.now read.plan) }
+    ensures stands { IfOk result
+        (λ read. IsPlanAt environment.now (W.texts world.old) file.now read.plan) }
     ensures conditions { IfOk result HasConditions }
     ensures few { IfOk result (λ read. length read.plan.components < 2 ^ 32) }
     ensures accepted { IfOk result (λ read. IsPlan read.plan) }
     ensures made { IfOk result (λ read. list_all is_made read.plan.components ≡ true) }
-    ensures unready { IfErr result (IsUnready environment.now (W.texts world.old) file.now (W.faults world.old) (W.faults world.new)) }
+    ensures unready { IfErr result
+        (IsUnready environment.now (W.texts world.old) file.now (W.faults world.old)
+        (W.faults world.new)) }
     ensures called { Grows (W.calls world.old) (W.calls world.new) (call.Config file.now ∷ []) }
     ensures texts { W.texts world.new ≡ W.texts world.old }
 {
@@ -201,9 +213,15 @@ fn ports<W: World>(
     world: &mut W,
 ) -> Result<NamedList<Option<W::Port>>, WantOfMemory>
     ensures count { IfOk result (λ ports. length ports ≡ length plan.now.components) }
-    ensures untouched { IfOk result (λ ports. AreUntouched (told_if W.Port.told) (port_of once plan.now.global.data_dir) plan.now.components ports) }
-    ensures called { OnOk result (Grows (W.calls world.old) (W.calls world.new) (port_calls (port_of once plan.now.global.data_dir) plan.now.components)) }
-    ensures begun { OnErr result (HasBegun (W.calls world.old) (W.calls world.new) (port_calls (port_of once plan.now.global.data_dir) plan.now.components)) }
+    ensures untouched { IfOk result
+        (λ ports. AreUntouched (told_if W.Port.told)
+        (port_of once plan.now.global.data_dir) plan.now.components ports) }
+    ensures called { OnOk result
+        (Grows (W.calls world.old) (W.calls world.new)
+        (port_calls (port_of once plan.now.global.data_dir) plan.now.components)) }
+    ensures begun { OnErr result
+        (HasBegun (W.calls world.old) (W.calls world.new)
+        (port_calls (port_of once plan.now.global.data_dir) plan.now.components)) }
     ensures texts { W.texts world.new ≡ W.texts world.old }
     ensures faults { W.faults world.new ≡ W.faults world.old }
 {
@@ -226,9 +244,15 @@ fn port<W: World>(
     once: bool,
     world: &mut W,
 ) -> Result<Named<Option<W::Port>>, WantOfMemory>
-    ensures untouched { IfOk result (λ named. IsUntouched (port_of once plan.now.global.data_dir component.now) (told_if W.Port.told named.port)) }
-    ensures called { OnOk result (Grows (W.calls world.old) (W.calls world.new) (call_of (port_of once plan.now.global.data_dir component.now))) }
-    ensures begun { OnErr result (HasBegun (W.calls world.old) (W.calls world.new) (call_of (port_of once plan.now.global.data_dir component.now))) }
+    ensures untouched { IfOk result
+        (λ named. IsUntouched (port_of once plan.now.global.data_dir component.now)
+        (told_if W.Port.told named.port)) }
+    ensures called { OnOk result
+        (Grows (W.calls world.old) (W.calls world.new)
+        (call_of (port_of once plan.now.global.data_dir component.now))) }
+    ensures begun { OnErr result
+        (HasBegun (W.calls world.old) (W.calls world.new)
+        (call_of (port_of once plan.now.global.data_dir component.now))) }
     ensures texts { W.texts world.new ≡ W.texts world.old }
     ensures faults { W.faults world.new ≡ W.faults world.old }
 {

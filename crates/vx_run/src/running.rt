@@ -49,20 +49,25 @@ pub(crate) fn perform<R: Wait, W: World, C: Clock, P: Printer>(
     clock: &C,
     out: &mut P,
 ) -> Outcome<Option<W::Port>>
-    ensures answer { IsAnswer words.now environment.now (W.texts world.old) (W.faults world.old) (W.faults world.new) result.history result.fault }
+    ensures answer { IsAnswer words.now environment.now (W.texts world.old) (W.faults world.old)
+        (W.faults world.new) result.history result.fault }
     ensures summary { IsSummary words.now result.history result.fault result.summary }
-    ensures shown { IsShownFirst words.now environment.now (W.texts world.old) (out.new ≡ out.old) (P.printed out.old) (P.printed out.new) (P.faults out.old) (P.faults out.new) result.fault }
+    ensures shown { IsShownFirst words.now environment.now (W.texts world.old) (out.new ≡ out.old)
+        (P.printed out.old) (P.printed out.new) (P.faults out.old) (P.faults out.new) result.fault }
     ensures told { IsTrueTo (told_if W.Port.told) result.history result.ports result.fault }
     ensures returned { AllReturned result.history result.fault }
-    ensures installed { HasInstalled words.now environment.now (W.texts world.old) result.history result.fault }
+    ensures installed { HasInstalled words.now environment.now
+        (W.texts world.old) result.history result.fault }
     ensures ended { HasEnded (length result.ports) result.history }
     ensures read { IsReadOut result.history result.fault }
     ensures counted { IsCounted result.history (length result.ports) result.tallies result.fault }
     ensures closed { AreClosed (told_if W.Port.told) result.ports }
     ensures numbers { AreNumbered 0 result.ports }
-    ensures none_missing { NoneMissing words.now environment.now (W.texts world.old) result.history result.ports result.fault }
+    ensures none_missing { NoneMissing words.now environment.now
+        (W.texts world.old) result.history result.ports result.fault }
     ensures moments { AreTimely (C.gave clock.now) result.history }
-    ensures called { HasCalled words.now environment.now (W.texts world.old) (W.calls world.old) (W.calls world.new) result.history result.fault }
+    ensures called { HasCalled words.now environment.now (W.texts world.old) (W.calls world.old)
+        (W.calls world.new) result.history result.fault }
     ensures texts { W.texts world.new ≡ W.texts world.old }
 {
     match read_words(alloc, words) {
@@ -93,20 +98,27 @@ fn run<R: Wait, W: World, C: Clock>(
     world: &mut W,
     clock: &C,
 ) -> Outcome<Option<W::Port>>
-    ensures answer { (words : List Word) → IsRun words file.now → IsAnswer words environment.now (W.texts world.old) (W.faults world.old) (W.faults world.new) result.history result.fault }
+    ensures answer { (words : List Word) → IsRun words file.now →
+        IsAnswer words environment.now (W.texts world.old) (W.faults world.old)
+        (W.faults world.new) result.history result.fault }
     ensures told { IsTrueTo (told_if W.Port.told) result.history result.ports result.fault }
     ensures returned { AllReturned result.history result.fault }
-    ensures installed { (words : List Word) → IsRun words file.now → has_once words ≡ once → HasInstalled words environment.now (W.texts world.old) result.history result.fault }
+    ensures installed { (words : List Word) → IsRun words file.now → has_once words ≡ once →
+        HasInstalled words environment.now (W.texts world.old) result.history result.fault }
     ensures ended { HasEnded (length result.ports) result.history }
     ensures read { IsReadOut result.history result.fault }
     ensures counted { IsCounted result.history (length result.ports) result.tallies result.fault }
     ensures closed { AreClosed (told_if W.Port.told) result.ports }
     ensures numbers { AreNumbered 0 result.ports }
-    ensures none_missing { (words : List Word) → IsRun words file.now → NoneMissing words environment.now (W.texts world.old) result.history result.ports result.fault }
+    ensures none_missing { (words : List Word) → IsRun words file.now →
+        NoneMissing words environment.now
+        (W.texts world.old) result.history result.ports result.fault }
     ensures summary { result.summary ≡ summary_for stats result.history result.fault }
     ensures unprinted { result.fault ≢ Some Fault.PrintFailed }
     ensures moments { AreTimely (C.gave clock.now) result.history }
-    ensures called { (words : List Word) → IsRun words file.now → has_once words ≡ once → HasCalled words environment.now (W.texts world.old) (W.calls world.old) (W.calls world.new) result.history result.fault }
+    ensures called { (words : List Word) → IsRun words file.now → has_once words ≡ once →
+        HasCalled words environment.now (W.texts world.old) (W.calls world.old)
+        (W.calls world.new) result.history result.fault }
     ensures texts { W.texts world.new ≡ W.texts world.old }
 {
     match prepare(alloc, file, once, environment, world) {
@@ -146,7 +158,8 @@ fn begin<R: Wait, P: Port, C: Clock>(
 ) -> Outcome<P>
     requires few { length parts.plan.components < 2 ^ 32 }
     requires ports { length parts.ports ≡ length parts.plan.components }
-    requires untouched { AreUntouched P.told (port_of parts.once parts.plan.global.data_dir) parts.plan.components parts.ports }
+    requires untouched { AreUntouched P.told
+        (port_of parts.once parts.plan.global.data_dir) parts.plan.components parts.ports }
     requires accepted { IsPlan parts.plan }
     requires served { all_served parts.plan.components ≡ true }
     requires pickers { ArePickers parts.plan.components parts.pickers }
@@ -224,7 +237,8 @@ struct Counted {
 /// nothing is counted, and that is the run's fault.
 fn count<P: Port>(alloc: Global, hub: &Hub<P>, stats: bool, fault: Option<Fault>) -> Counted
     requires { IsHub P.told hub.now }
-    ensures counted { IsCounted hub.now.books.log (length (started hub.now.books.log)) result.tallies result.fault }
+    ensures counted { IsCounted hub.now.books.log
+        (length (started hub.now.books.log)) result.tallies result.fault }
     ensures summary { result.summary ≡ summary_for stats hub.now.books.log result.fault }
     ensures kept { (result.fault ≡ fault) ⊎ (result.fault ≡ Some Fault.WantOfMemory) }
 {
@@ -283,7 +297,8 @@ fn summary<P: Port>(
 ) -> Result<Option<Bytes>, WantOfMemory>
     requires hub { IsHub P.told hub.now }
     requires fed { hub.now.books.run.short ≡ false }
-    ensures { IfOk result (λ text. text ≡ if wanted then Some (summary_of hub.now.books.log) else None) }
+    ensures { IfOk result
+        (λ text. text ≡ if wanted then Some (summary_of hub.now.books.log) else None) }
 {
     if !wanted {
         return Ok(None);
@@ -301,7 +316,8 @@ fn summary<P: Port>(
 fn tallies<P: Port>(alloc: Global, hub: &Hub<P>) -> Result<TallyList, WantOfMemory>
     requires hub { IsHub P.told hub.now }
     requires fed { hub.now.books.run.short ≡ false }
-    ensures { IfOk result (λ list. list ≡ tallies_of hub.now.books.log (length (started hub.now.books.log))) }
+    ensures { IfOk result
+        (λ list. list ≡ tallies_of hub.now.books.log (length (started hub.now.books.log))) }
 {
     let mut list = TallyList::new(alloc);
     for instance in 0..hub.instances() {

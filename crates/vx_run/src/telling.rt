@@ -12,7 +12,8 @@ use vx_value::{Bytes, WantOfMemory};
 /// nothing is printed.
 pub(crate) fn tell<L: Printer>(alloc: Global, fault: Option<Fault>, err: &mut L) -> Option<Fault>
     ensures kept { IsKept fault result }
-    ensures said { IsSaid (err.new ≡ err.old) (L.printed err.old) (L.printed err.new) (L.faults err.old) (L.faults err.new) result }
+    ensures said { IsSaid (err.new ≡ err.old) (L.printed err.old) (L.printed err.new)
+        (L.faults err.old) (L.faults err.new) result }
 {
     let fault = fault?;
     let mut text = Bytes::new(alloc);
@@ -27,7 +28,8 @@ pub(crate) fn tell<L: Printer>(alloc: Global, fault: Option<Fault>, err: &mut L)
 
 /// Prints a text, if there is one.
 fn print<L: Printer>(text: &Bytes, err: &mut L)
-    ensures { IsPrinted (err.new ≡ err.old) (L.printed err.old) (L.printed err.new) (L.faults err.old) (L.faults err.new) text.now }
+    ensures { IsPrinted (err.new ≡ err.old) (L.printed err.old) (L.printed err.new)
+        (L.faults err.old) (L.faults err.new) text.now }
 {
     if !text.is_empty() {
         let _ = err.print(text.as_slice());
@@ -41,7 +43,8 @@ pub(crate) fn sum_up<P: Printer>(
     fault: Option<Fault>,
     out: &mut P,
 ) -> Option<Fault>
-    ensures { IsFollowed (out.new ≡ out.old) (P.printed out.old) (P.printed out.new) (P.faults out.old) (P.faults out.new) summary fault result }
+    ensures { IsFollowed (out.new ≡ out.old) (P.printed out.old) (P.printed out.new)
+        (P.faults out.old) (P.faults out.new) summary fault result }
 {
     let Some(lines) = summary else {
         return fault;

@@ -36,7 +36,8 @@ pub fn vector<R: Wait, W: World, C: Clock, P: Printer, L: Printer>(
 ) -> Ended<W>
     ensures told { IsTrueTo (told_if W.Port.told) result.history result.ports result.fault }
     ensures returned { AllReturned result.history result.fault }
-    ensures installed { HasInstalled words.now environment.now (W.texts world) result.history result.fault }
+    ensures installed { HasInstalled words.now environment.now
+        (W.texts world) result.history result.fault }
     ensures copies { HasOnePlace result.history }
     ensures spent { AllSpent result.history }
     ensures notices { HasNotices result.history }
@@ -49,13 +50,19 @@ pub fn vector<R: Wait, W: World, C: Clock, P: Printer, L: Printer>(
     ensures counted { IsCounted result.history (length result.ports) result.tallies result.fault }
     ensures closed { AreClosed (told_if W.Port.told) result.ports }
     ensures numbers { AreNumbered 0 result.ports }
-    ensures none_missing { NoneMissing words.now environment.now (W.texts world) result.history result.ports result.fault }
-    ensures answer { IsAnswer words.now environment.now (W.texts world) (W.faults world) (W.faults result.world) result.history result.fault }
+    ensures none_missing { NoneMissing words.now environment.now
+        (W.texts world) result.history result.ports result.fault }
+    ensures answer { IsAnswer words.now environment.now (W.texts world) (W.faults world)
+        (W.faults result.world) result.history result.fault }
     ensures status { result.status ≡ ended_status result.fault }
-    ensures said { IsSaid (err.new ≡ err.old) (L.printed err.old) (L.printed err.new) (L.faults err.old) (L.faults err.new) result.fault }
-    ensures shown { IsShown words.now environment.now (W.texts world) result.history (out.new ≡ out.old) (P.printed out.old) (P.printed out.new) (P.faults out.old) (P.faults out.new) result.fault }
+    ensures said { IsSaid (err.new ≡ err.old) (L.printed err.old) (L.printed err.new)
+        (L.faults err.old) (L.faults err.new) result.fault }
+    ensures shown { IsShown words.now environment.now (W.texts world) result.history
+        (out.new ≡ out.old) (P.printed out.old) (P.printed out.new) (P.faults out.old)
+        (P.faults out.new) result.fault }
     ensures moments { AreTimely (C.gave clock.now) result.history }
-    ensures called { HasCalled words.now environment.now (W.texts world) (W.calls world) (W.calls result.world) result.history result.fault }
+    ensures called { HasCalled words.now environment.now (W.texts world) (W.calls world)
+        (W.calls result.world) result.history result.fault }
     ensures texts { W.texts result.world ≡ W.texts world }
 {
     let mut world = world;
@@ -90,19 +97,25 @@ fn perform_and_tell<R: Wait, W: World, C: Clock, P: Printer, L: Printer>(
 ) -> Outcome<Option<W::Port>>
     ensures told { IsTrueTo (told_if W.Port.told) result.history result.ports result.fault }
     ensures returned { AllReturned result.history result.fault }
-    ensures installed { HasInstalled words.now environment.now (W.texts world.old) result.history result.fault }
+    ensures installed { HasInstalled words.now environment.now
+        (W.texts world.old) result.history result.fault }
     ensures ended { HasEnded (length result.ports) result.history }
     ensures read { IsReadOut result.history result.fault }
     ensures counted { IsCounted result.history (length result.ports) result.tallies result.fault }
     ensures closed { AreClosed (told_if W.Port.told) result.ports }
     ensures numbers { AreNumbered 0 result.ports }
-    ensures none_missing { NoneMissing words.now environment.now (W.texts world.old) result.history result.ports result.fault }
-    ensures answer { IsAnswer words.now environment.now (W.texts world.old) (W.faults world.old) (W.faults world.new) result.history result.fault }
-    ensures said { IsSaid (err.new ≡ err.old) (L.printed err.old) (L.printed err.new) (L.faults err.old) (L.faults err.new) result.fault }
+    ensures none_missing { NoneMissing words.now environment.now
+        (W.texts world.old) result.history result.ports result.fault }
+    ensures answer { IsAnswer words.now environment.now (W.texts world.old) (W.faults world.old)
+        (W.faults world.new) result.history result.fault }
+    ensures said { IsSaid (err.new ≡ err.old) (L.printed err.old) (L.printed err.new)
+        (L.faults err.old) (L.faults err.new) result.fault }
     ensures summary { IsSummary words.now result.history result.fault result.summary }
-    ensures shown { IsShownFirst words.now environment.now (W.texts world.old) (out.new ≡ out.old) (P.printed out.old) (P.printed out.new) (P.faults out.old) (P.faults out.new) result.fault }
+    ensures shown { IsShownFirst words.now environment.now (W.texts world.old) (out.new ≡ out.old)
+        (P.printed out.old) (P.printed out.new) (P.faults out.old) (P.faults out.new) result.fault }
     ensures moments { AreTimely (C.gave clock.now) result.history }
-    ensures called { HasCalled words.now environment.now (W.texts world.old) (W.calls world.old) (W.calls world.new) result.history result.fault }
+    ensures called { HasCalled words.now environment.now (W.texts world.old) (W.calls world.old)
+        (W.calls world.new) result.history result.fault }
     ensures texts { W.texts world.new ≡ W.texts world.old }
 {
     let outcome = perform(rt, alloc, words, environment, world, clock, out);

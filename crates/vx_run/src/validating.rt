@@ -19,7 +19,9 @@ pub(crate) fn validate<W: World, P: Printer>(
     world: &mut W,
     out: &mut P,
 ) -> Option<Fault>
-    ensures judged { IsJudgedSo environment.now (W.texts world.old) file.now (W.faults world.old) (W.faults world.new) (out.new ≡ out.old) (P.printed out.old) (P.printed out.new) (P.faults out.old) (P.faults out.new) result }
+    ensures judged { IsJudgedSo environment.now (W.texts world.old) file.now (W.faults world.old)
+        (W.faults world.new) (out.new ≡ out.old) (P.printed out.old) (P.printed out.new)
+        (P.faults out.old) (P.faults out.new) result }
     ensures called { Grows (W.calls world.old) (W.calls world.new) (call.Config file.now ∷ []) }
     ensures texts { W.texts world.new ≡ W.texts world.old }
 {

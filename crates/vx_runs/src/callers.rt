@@ -10,8 +10,10 @@ pub fn give_all<P: Port>(port: &mut P, bytes: &[u8]) -> (usize, bool)
     requires { IsTrue (P.told port.old).started }
     ensures started { (P.told port.new).started ≡ (P.told port.old).started }
     ensures within { result.0 ≤ length bytes.now }
-    ensures given { Grows (P.told port.old).given (P.told port.new).given (take result.0 bytes.now) }
-    ensures rest { SameBytes (record (P.told port.old) { given = (P.told port.new).given }) (P.told port.new) }
+    ensures given { Grows (P.told port.old).given (P.told port.new).given
+        (take result.0 bytes.now) }
+    ensures rest { SameBytes (record (P.told port.old) { given = (P.told port.new).given })
+        (P.told port.new) }
     ensures all { IsTrue result.1 → result.0 ≡ length bytes.now }
     ensures faults { (P.told port.old).faults ≤ (P.told port.new).faults }
     ensures refusals { (P.told port.old).refusals ≤ (P.told port.new).refusals }
@@ -35,9 +37,18 @@ pub fn take_once<P: Port>(
 ) -> Result<Option<u64>, Trouble>
     requires room { 0 < length buffer.old }
     requires started { IsTrue (P.told port.old).started }
-    ensures some { IfOk result (λ came. IfSome came (λ from. (more : List ℕ) × Grows ((P.told port.old).taken from) ((P.told port.new).taken from) more × (out.new ≡ out.old ++ more))) }
-    ensures none { IfOk result (λ came. IfNone came ((out.new ≡ out.old) × ((stream : ℕ) → Grows ((P.told port.old).taken stream) ((P.told port.new).taken stream) []))) }
-    ensures failed { IsErrOf result Trouble.Failed → Rose (P.told port.old).faults (P.told port.new).faults }
+    ensures some { IfOk result
+        (λ came. IfSome came
+        (λ from. (more : List ℕ)
+        × Grows ((P.told port.old).taken from) ((P.told port.new).taken from) more
+        × (out.new ≡ out.old ++ more))) }
+    ensures none { IfOk result
+        (λ came. IfNone came
+        ((out.new ≡ out.old)
+        × ((stream : ℕ) →
+        Grows ((P.told port.old).taken stream) ((P.told port.new).taken stream) []))) }
+    ensures failed { IsErrOf result Trouble.Failed →
+        Rose (P.told port.old).faults (P.told port.new).faults }
     ensures given { (P.told port.new).given ≡ (P.told port.old).given }
 {
     match port.take(buffer)? {

@@ -70,7 +70,8 @@ impl<P: Port> Seats<P> {
     pub fn new(seats: Vec<Seat<P>>) -> Self
         ensures size { length result ≡ length seats.items }
         ensures same { result ≡ seats.items }
-        ensures knows { (plan : Plan) → (once : Bool) → (now : ℕ) → IsPlan plan → AreFresh P.told plan once seats.items → Knows P.told result (begun plan once now) }
+        ensures knows { (plan : Plan) → (once : Bool) → (now : ℕ) → IsPlan plan →
+            AreFresh P.told plan once seats.items → Knows P.told result (begun plan once now) }
     {
         Seats { seats }
     }
@@ -96,10 +97,15 @@ impl<P: Port> Seats<P> {
         requires { i < length self.old }
         ensures size { length self.new ≡ length self.old }
         ensures left { IfSome result (λ r. OneSeat (IsLeft r.0) i self.old self.new) }
-        ensures home { IfSome result (λ r. (h : Record) → Knows P.told self.old h → HadHome P.told self.old h i r.0) }
-        ensures due { IfSome result (λ r. (h : Record) → (worker polls : ℕ) → IsSettledAt self.old i → Knows P.told self.old h →
-            IsLegal (Lease i worker now polls ∷ h) → AreDue (Lease i worker now polls ∷ h) i r.1) }
-        ensures knows { IfSome result (λ r. (h : Record) → (worker polls : ℕ) → Knows P.told self.old h → IsLegal (Lease i worker now polls ∷ h) →
+        ensures home { IfSome result
+            (λ r. (h : Record) → Knows P.told self.old h → HadHome P.told self.old h i r.0) }
+        ensures due { IfSome result
+            (λ r. (h : Record) → (worker polls : ℕ) → IsSettledAt self.old i →
+            Knows P.told self.old h → IsLegal (Lease i worker now polls ∷ h) →
+            AreDue (Lease i worker now polls ∷ h) i r.1) }
+        ensures knows { IfSome result
+            (λ r. (h : Record) → (worker polls : ℕ) → Knows P.told self.old h →
+            IsLegal (Lease i worker now polls ∷ h) →
             Knows P.told self.new (Lease i worker now polls ∷ h)) }
         ensures nobody { IfNone result (HadNobody self.old i) }
         ensures same { IfNone result (self.new ≡ self.old) }
@@ -111,8 +117,10 @@ impl<P: Port> Seats<P> {
     pub fn arrive(&mut self, i: u32, task: Task<P>)
         requires { i < length self.old }
         ensures size { length self.new ≡ length self.old }
-        ensures back { OneSeat (λ was is. is ≡ record was { task = Some task }) i self.old self.new }
-        ensures knows { (h : Record) → HasTaskBack P.told self.old h i task → Knows P.told self.old h → IsLegal (Home i ∷ h) → Knows P.told self.new (Home i ∷ h) }
+        ensures back { OneSeat (λ was is. is ≡ record was { task = Some task }) i self.old
+            self.new }
+        ensures knows { (h : Record) → HasTaskBack P.told self.old h i task →
+            Knows P.told self.old h → IsLegal (Home i ∷ h) → Knows P.told self.new (Home i ∷ h) }
     {
         self.seats[i as usize].task = Some(task);
     }
@@ -123,8 +131,10 @@ impl<P: Port> Seats<P> {
         requires { i < length self.old }
         ensures size { length self.new ≡ length self.old }
         ensures stays { OneSeat (HasRead (not (is_some new))) i self.old self.new }
-        ensures knows { (h : Record) → (stream : ℕ) → (took : Taken) → bytes ≡ capped (length (bytes_of took)) → all ≡ is_end took → IfSome new (AreNew h i stream took) →
-            Knows P.told self.old h → IsLegal (Read i stream took ∷ h) → Knows P.told self.new (Read i stream took ∷ h) }
+        ensures knows { (h : Record) → (stream : ℕ) → (took : Taken) →
+            bytes ≡ capped (length (bytes_of took)) → all ≡ is_end took →
+            IfSome new (AreNew h i stream took) → Knows P.told self.old h →
+            IsLegal (Read i stream took ∷ h) → Knows P.told self.new (Read i stream took ∷ h) }
     {
         let seat = &mut self.seats[i as usize];
         let counted = count_read(&mut seat.counts, bytes, new);
@@ -159,9 +169,12 @@ impl<P: Port> Seats<P> {
         requires ready { (position : Position) × HasPlaceFor self.old i position ends }
         ensures size { length self.new ≡ length self.old }
         ensures stays { EachSeat Stays self.old self.new }
-        ensures knows { (h : Record) → (place stream end : ℕ) → (copies : List ℕ) → (made : List Event) → (waits : Bool) →
-            HasPlaceFor self.old i (record { stream = stream; end = end }) ends → events ≡ capped (length made) →
-            Knows P.told self.old h → IsLegal (Born i batch place copies made waits stream end ∷ h) → Knows P.told self.new (Born i batch place copies made waits stream end ∷ h) }
+        ensures knows { (h : Record) → (place stream end : ℕ) → (copies : List ℕ) →
+            (made : List Event) → (waits : Bool) →
+            HasPlaceFor self.old i (record { stream = stream; end = end }) ends →
+            events ≡ capped (length made) → Knows P.told self.old h →
+            IsLegal (Born i batch place copies made waits stream end ∷ h) →
+            Knows P.told self.new (Born i batch place copies made waits stream end ∷ h) }
     {
         let seat = &mut self.seats[i as usize];
         seat.counts.bore(events);
@@ -174,7 +187,8 @@ impl<P: Port> Seats<P> {
         requires { notice.instance < length self.old }
         ensures size { length self.new ≡ length self.old }
         ensures stays { EachSeat Stays self.old self.new }
-        ensures knows { (h : Record) → is_batch_of h notice.instance notice.batch ≡ true → Knows P.told self.old h → IsLegal (Entry.Notice notice.batch notice.status ∷ h) →
+        ensures knows { (h : Record) → is_batch_of h notice.instance notice.batch ≡ true →
+            Knows P.told self.old h → IsLegal (Entry.Notice notice.batch notice.status ∷ h) →
             Knows P.told self.new (Entry.Notice notice.batch notice.status ∷ h) }
     {
         let seat = &mut self.seats[notice.instance as usize];
@@ -188,7 +202,8 @@ impl<P: Port> Seats<P> {
         requires { i < length self.old }
         ensures size { length self.new ≡ length self.old }
         ensures stays { EachSeat Stays self.old self.new }
-        ensures knows { (h : Record) → IsShutAt P.told self.old i → Knows P.told self.old h → IsLegal (Closed i ∷ h) → Knows P.told self.new (Closed i ∷ h) }
+        ensures knows { (h : Record) → IsShutAt P.told self.old i → Knows P.told self.old h →
+            IsLegal (Closed i ∷ h) → Knows P.told self.new (Closed i ∷ h) }
     {
         self.seats[i as usize].facts.closed = true;
     }
@@ -209,7 +224,8 @@ impl<P: Port> Seats<P> {
         requires { i < length self.old }
         ensures size { length self.new ≡ length self.old }
         ensures stays { EachSeat Stays self.old self.new }
-        ensures knows { (h : Record) → Knows P.told self.old h → IsLegal (Retired i ∷ h) → Knows P.told self.new (Retired i ∷ h) }
+        ensures knows { (h : Record) → Knows P.told self.old h → IsLegal (Retired i ∷ h) →
+            Knows P.told self.new (Retired i ∷ h) }
     {
         self.seats[i as usize].facts.retired = true;
     }
@@ -219,7 +235,8 @@ impl<P: Port> Seats<P> {
         requires { i < length self.old }
         ensures size { length self.new ≡ length self.old }
         ensures stays { EachSeat Stays self.old self.new }
-        ensures knows { (h : Record) → Knows P.told self.old h → IsLegal (Idle i failed ∷ h) → Knows P.told self.new (Idle i failed ∷ h) }
+        ensures knows { (h : Record) → Knows P.told self.old h → IsLegal (Idle i failed ∷ h) →
+            Knows P.told self.new (Idle i failed ∷ h) }
     {
         let facts = &mut self.seats[i as usize].facts;
         facts.failed_starts = starts_after(facts.failed_starts, failed);
@@ -231,8 +248,11 @@ impl<P: Port> Seats<P> {
         requires { i < length self.old }
         ensures size { length self.new ≡ length self.old }
         ensures stays { EachSeat Stays self.old self.new }
-        ensures after { (h : Record) → CountsAt self.old i → source_at h i ≡ true → Knows P.told self.old h → result ≡ capped (bytes_taken h i) }
-        ensures knows { (h : Record) → (failed : Bool) → Knows P.told self.old h → IsLegal (SourceLost i result failed ∷ h) → Knows P.told self.new (SourceLost i result failed ∷ h) }
+        ensures after { (h : Record) → CountsAt self.old i → source_at h i ≡ true →
+            Knows P.told self.old h → result ≡ capped (bytes_taken h i) }
+        ensures knows { (h : Record) → (failed : Bool) → Knows P.told self.old h →
+            IsLegal (SourceLost i result failed ∷ h) →
+            Knows P.told self.new (SourceLost i result failed ∷ h) }
     {
         let seat = &mut self.seats[i as usize];
         let after = seat.counts.tally.read;
@@ -245,7 +265,8 @@ impl<P: Port> Seats<P> {
         requires { i < length self.old }
         ensures size { length self.new ≡ length self.old }
         ensures stays { EachSeat Stays self.old self.new }
-        ensures knows { (h : Record) → (s : ℕ) → (copies : List ℕ) → first ≡ is_empty (at h (Held i)) → now ≡ lease_now h i → Knows P.told self.old h →
+        ensures knows { (h : Record) → (s : ℕ) → (copies : List ℕ) →
+            first ≡ is_empty (at h (Held i)) → now ≡ lease_now h i → Knows P.told self.old h →
             IsLegal (Take i s copies ∷ h) → Knows P.told self.new (Take i s copies ∷ h) }
     {
         let seat = &mut self.seats[i as usize];
@@ -260,8 +281,10 @@ impl<P: Port> Seats<P> {
         requires { i < length self.old }
         ensures size { length self.new ≡ length self.old }
         ensures stays { EachSeat Stays self.old self.new }
-        ensures knows { (h : Record) → (outputs : List Output) → (discarded kept : List ℕ) → sent ≡ capped (length outputs) → dropped ≡ capped (count_by (is_first h i) discarded) →
-            Knows P.told self.old h → IsLegal (Answer i outputs discarded kept ∷ h) → Knows P.told self.new (Answer i outputs discarded kept ∷ h) }
+        ensures knows { (h : Record) → (outputs : List Output) → (discarded kept : List ℕ) →
+            sent ≡ capped (length outputs) → dropped ≡ capped (count_by (is_first h i) discarded) →
+            Knows P.told self.old h → IsLegal (Answer i outputs discarded kept ∷ h) →
+            Knows P.told self.new (Answer i outputs discarded kept ∷ h) }
     {
         self.seats[i as usize].counts.answered(sent, dropped);
     }
@@ -272,7 +295,8 @@ impl<P: Port> Seats<P> {
         requires { i < length self.old }
         ensures size { length self.new ≡ length self.old }
         ensures stays { EachSeat Stays self.old self.new }
-        ensures knows { (h : Record) → (c : ℕ) → is_newest outcome ≡ false → is_unread outcome ≡ false → first ≡ is_first h i c → Knows P.told self.old h →
+        ensures knows { (h : Record) → (c : ℕ) → is_newest outcome ≡ false →
+            is_unread outcome ≡ false → first ≡ is_first h i c → Knows P.told self.old h →
             IsLegal (Spent i c outcome ∷ h) → Knows P.told self.new (Spent i c outcome ∷ h) }
     {
         let seat = &mut self.seats[i as usize];
@@ -286,8 +310,10 @@ impl<P: Port> Seats<P> {
         requires { i < length self.old }
         ensures size { length self.new ≡ length self.old }
         ensures stays { EachSeat Stays self.old self.new }
-        ensures knows { (h : Record) → (c : ℕ) → (copies : List ℕ) → WasPutIn h (Outputs i) copies c → first ≡ not (any_copy is_unread h copies) → Knows P.told self.old h →
-            IsLegal (Spent i c NoConsumer ∷ h) → Knows P.told self.new (Spent i c NoConsumer ∷ h) }
+        ensures knows { (h : Record) → (c : ℕ) → (copies : List ℕ) →
+            WasPutIn h (Outputs i) copies c → first ≡ not (any_copy is_unread h copies) →
+            Knows P.told self.old h → IsLegal (Spent i c NoConsumer ∷ h) →
+            Knows P.told self.new (Spent i c NoConsumer ∷ h) }
     {
         let seat = &mut self.seats[i as usize];
         let sink = is_sink(seat.class);
@@ -299,8 +325,10 @@ impl<P: Port> Seats<P> {
         requires { target < length self.old }
         ensures size { length self.new ≡ length self.old }
         ensures stays { EachSeat Stays self.old self.new }
-        ensures knows { (h : Record) → (i c : ℕ) → (copies : List ℕ) → WasPutIn h (Waiting i target) copies c → first ≡ not (any_copy is_newest h copies) → Knows P.told self.old h →
-            IsLegal (Spent i c NewestDropped ∷ h) → Knows P.told self.new (Spent i c NewestDropped ∷ h) }
+        ensures knows { (h : Record) → (i c : ℕ) → (copies : List ℕ) →
+            WasPutIn h (Waiting i target) copies c → first ≡ not (any_copy is_newest h copies) →
+            Knows P.told self.old h → IsLegal (Spent i c NewestDropped ∷ h) →
+            Knows P.told self.new (Spent i c NewestDropped ∷ h) }
     {
         let seat = &mut self.seats[target as usize];
         let sink = is_sink(seat.class);
@@ -312,7 +340,9 @@ impl<P: Port> Seats<P> {
     pub fn owed(&mut self, i: u32)
         requires { i < length self.old }
         ensures size { length self.new ≡ length self.old }
-        ensures owing { OneSeat (λ was is. is ≡ record was { facts = record was.facts { owing = true } }) i self.old self.new }
+        ensures owing { OneSeat
+            (λ was is. is ≡ record was { facts = record was.facts { owing = true } }) i self.old
+            self.new }
         ensures knows { (h : Record) → Knows P.told self.old h → Knows P.told self.new h }
     {
         self.seats[i as usize].facts.owing = true;
@@ -322,7 +352,9 @@ impl<P: Port> Seats<P> {
     pub fn mark_starved(&mut self, i: u32)
         requires { i < length self.old }
         ensures size { length self.new ≡ length self.old }
-        ensures starved { OneSeat (λ was is. is ≡ record was { facts = record was.facts { starved = true } }) i self.old self.new }
+        ensures starved { OneSeat
+            (λ was is. is ≡ record was { facts = record was.facts { starved = true } }) i self.old
+            self.new }
         ensures knows { (h : Record) → Knows P.told self.old h → Knows P.told self.new h }
     {
         self.seats[i as usize].facts.starved = true;
@@ -333,8 +365,10 @@ impl<P: Port> Seats<P> {
         requires { i < length self.old }
         ensures size { length self.new ≡ length self.old }
         ensures stays { EachSeat Stays self.old self.new }
-        ensures knows { (h : Record) → (copies : List ℕ) → (gave : Word) → bytes ≡ capped (length gave) → Knows P.told self.old h →
-            IsLegal (Attempt i copies gave reply ∷ h) → Knows P.told self.new (Attempt i copies gave reply ∷ h) }
+        ensures knows { (h : Record) → (copies : List ℕ) → (gave : Word) →
+            bytes ≡ capped (length gave) → Knows P.told self.old h →
+            IsLegal (Attempt i copies gave reply ∷ h) →
+            Knows P.told self.new (Attempt i copies gave reply ∷ h) }
     {
         let seat = &mut self.seats[i as usize];
         let failed = is_failed(reply);
@@ -348,7 +382,9 @@ impl<P: Port> Seats<P> {
         requires { i < length self.old }
         ensures size { length self.new ≡ length self.old }
         ensures stays { EachSeat Stays self.old self.new }
-        ensures knows { (h : Record) → Knows P.told self.old h → IsLegal (Confirm i positions.now made ∷ h) → Knows P.told self.new (Confirm i positions.now made ∷ h) }
+        ensures knows { (h : Record) → Knows P.told self.old h →
+            IsLegal (Confirm i positions.now made ∷ h) →
+            Knows P.told self.new (Confirm i positions.now made ∷ h) }
     {
         let seat = &mut self.seats[i as usize];
         seat.facts.confirm_failed = !made;
@@ -419,8 +455,9 @@ fn number_after(before: u64, now: u64, set: bool) -> u64
 
 /// Counts a spend of a copy that was held, if it is that of a sink's first copy.
 fn count_spent(counts: &mut Counts, sink: bool, first: bool, outcome: Outcome)
-    ensures { (h : Record) → (i c : ℕ) → is_newest outcome ≡ false → is_unread outcome ≡ false → IsLegal (Spent i c outcome ∷ h) →
-        (sink ≡ true → class_at h i ≡ Some Sink) → (sink ≡ false → class_at h i ≡ Some Sink → ⊥) → first ≡ is_first h i c →
+    ensures { (h : Record) → (i c : ℕ) → is_newest outcome ≡ false → is_unread outcome ≡ false →
+        IsLegal (Spent i c outcome ∷ h) → (sink ≡ true → class_at h i ≡ Some Sink) →
+        (sink ≡ false → class_at h i ≡ Some Sink → ⊥) → first ≡ is_first h i c →
         Meets i h counts.old.tally → Meets i (Spent i c outcome ∷ h) counts.new.tally }
 {
     if both(sink, first) {
@@ -431,7 +468,8 @@ fn count_spent(counts: &mut Counts, sink: bool, first: bool, outcome: Outcome)
 /// Counts a spend for want of a reader, if it is the first of its parcel.
 fn count_unread(counts: &mut Counts, sink: bool, first: bool)
     ensures { (h : Record) → (i c : ℕ) → (copies : List ℕ) → IsLegal (Spent i c NoConsumer ∷ h) →
-        (sink ≡ true → class_at h i ≡ Some Sink) → (sink ≡ false → IsGiver (class_at h i)) → WasPutIn h (Outputs i) copies c → first ≡ not (any_copy is_unread h copies) →
+        (sink ≡ true → class_at h i ≡ Some Sink) → (sink ≡ false → IsGiver (class_at h i)) →
+        WasPutIn h (Outputs i) copies c → first ≡ not (any_copy is_unread h copies) →
         Meets i h counts.old.tally → Meets i (Spent i c NoConsumer ∷ h) counts.new.tally }
 {
     if both(!sink, first) {
@@ -441,9 +479,11 @@ fn count_unread(counts: &mut Counts, sink: bool, first: bool)
 
 /// Counts a drop of the newest for a sink, if it is the first of its parcel.
 fn count_dropped(counts: &mut Counts, sink: bool, first: bool)
-    ensures { (h : Record) → (i j c : ℕ) → (copies : List ℕ) → IsLegal (Spent i c NewestDropped ∷ h) →
-        (sink ≡ true → class_at h j ≡ Some Sink) → (sink ≡ false → class_at h j ≡ Some Sink → ⊥) → WasPutIn h (Waiting i j) copies c → first ≡ not (any_copy is_newest h copies) →
-        Meets j h counts.old.tally → Meets j (Spent i c NewestDropped ∷ h) counts.new.tally }
+    ensures { (h : Record) → (i j c : ℕ) → (copies : List ℕ) →
+        IsLegal (Spent i c NewestDropped ∷ h) → (sink ≡ true → class_at h j ≡ Some Sink) →
+        (sink ≡ false → class_at h j ≡ Some Sink → ⊥) → WasPutIn h (Waiting i j) copies c →
+        first ≡ not (any_copy is_newest h copies) → Meets j h counts.old.tally →
+        Meets j (Spent i c NewestDropped ∷ h) counts.new.tally }
 {
     if both(sink, first) {
         counts.dropped_newest();
@@ -453,8 +493,10 @@ fn count_dropped(counts: &mut Counts, sink: bool, first: bool)
 /// Counts a read, if its lines were counted. Answers whether they were.
 fn count_read(counts: &mut Counts, bytes: u64, new: Option<NewLines>) -> bool
     ensures told { result ≡ is_some new }
-    ensures counts { result ≡ true → (h : Record) → (i stream : ℕ) → (took : Taken) → IsLegal (Read i stream took ∷ h) → bytes ≡ capped (length (bytes_of took)) →
-        IfSome new (AreNew h i stream took) → Meets i h counts.old.tally → Meets i (Read i stream took ∷ h) counts.new.tally }
+    ensures counts { result ≡ true → (h : Record) → (i stream : ℕ) → (took : Taken) →
+        IsLegal (Read i stream took ∷ h) → bytes ≡ capped (length (bytes_of took)) →
+        IfSome new (AreNew h i stream took) → Meets i h counts.old.tally →
+        Meets i (Read i stream took ∷ h) counts.new.tally }
 {
     match new {
         Some(new) => {
@@ -467,7 +509,8 @@ fn count_read(counts: &mut Counts, bytes: u64, new: Option<NewLines>) -> bool
 
 /// Counts a confirm, if it was made.
 fn count_confirm(counts: &mut Counts, positions: &PositionList, made: bool)
-    ensures { (h : Record) → (i : ℕ) → IsLegal (Confirm i positions.now made ∷ h) → Meets i h counts.old.tally → Meets i (Confirm i positions.now made ∷ h) counts.new.tally }
+    ensures { (h : Record) → (i : ℕ) → IsLegal (Confirm i positions.now made ∷ h) →
+        Meets i h counts.old.tally → Meets i (Confirm i positions.now made ∷ h) counts.new.tally }
 {
     if made {
         counts.confirmed(positions.as_slice());

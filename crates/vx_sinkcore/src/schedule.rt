@@ -17,7 +17,11 @@ pub struct Schedule {
 impl Schedule {
     /// A schedule of such waits.
     pub fn new(initial_secs: u32, max_secs: u32, attempts: u64) -> Self
-        ensures { result ≡ record { initial_secs = initial_secs; max_secs = max_secs; attempts = attempts } }
+        ensures { result ≡ record {
+          initial_secs = initial_secs;
+          max_secs = max_secs;
+          attempts = attempts;
+        } }
     {
         Schedule {
             initial_secs,
@@ -47,7 +51,8 @@ impl Schedule {
     /// It takes no memory.
     pub fn wait(&self, k: u64) -> Option<u64>
         ensures given_up { IsNone result ↔ (self.now.attempts < k) }
-        ensures milliseconds { IfSome result (λ wait. wait ≡ wait_after self.now.initial_secs self.now.max_secs k * 1000) }
+        ensures milliseconds { IfSome result
+            (λ wait. wait ≡ wait_after self.now.initial_secs self.now.max_secs k * 1000) }
     {
         if k > self.attempts {
             return None;

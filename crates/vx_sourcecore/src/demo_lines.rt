@@ -57,8 +57,10 @@ impl Lines {
     /// Answers `Err` where no memory is found: then no byte was added, and no line was given.
     pub fn next(&mut self, most: u32, out: &mut Bytes) -> Result<u32, WantOfMemory>
         ensures number { IfOk result (λ n. n ≡ min most (left_of self.old)) }
-        ensures lines { IfOk result (λ n. out.new ≡ out.old ++ lines_from self.old.settings self.old.given n) }
-        ensures given { IfOk result (λ n. self.new ≡ record self.old { given = self.old.given + n }) }
+        ensures lines { IfOk result
+            (λ n. out.new ≡ out.old ++ lines_from self.old.settings self.old.given n) }
+        ensures given { IfOk result
+            (λ n. self.new ≡ record self.old { given = self.old.given + n }) }
         ensures none { OnErr result (out.new ≡ out.old) }
         ensures same { OnErr result (self.new ≡ self.old) }
     {

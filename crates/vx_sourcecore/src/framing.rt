@@ -13,7 +13,8 @@ pub(crate) fn framed(
 ) -> Option<(LineList, u64)>
     requires { framer.old.overlong ≡ 0 }
     ensures told { framer.new.overlong ≡ 0 }
-    ensures framed { IfSome result (λ lines. HasFramed framer.old stream bytes.now lines.0 lines.1 framer.new) }
+    ensures framed { IfSome result
+        (λ lines. HasFramed framer.old stream bytes.now lines.0 lines.1 framer.new) }
 {
     let mut lines = LineList::new(alloc);
     let fed = framer.feed(stream, bytes, &mut lines);

@@ -49,11 +49,17 @@ impl Generator {
     /// Where no memory is found to cut them, the answer tells that without a `Cut`.
     pub fn turn(&mut self) -> Result<Turned, WantOfMemory>
         ensures whole { IfOk result IsInRoom }
-        ensures few { IfOk result (λ turned. IfSome (cut_of turned) (λ cut. length cut.events ≤ 65536)) }
+        ensures few { IfOk result
+            (λ turned. IfSome (cut_of turned) (λ cut. length cut.events ≤ 65536)) }
         ensures reads { IfOk result IsMade }
-        ensures next { IfOk result (λ turned. (h : Record) → (i : ℕ) → all_ended h i ≡ false → IsGenerating h i self.old → IsNext h i turned) }
-        ensures made { IfOk result (λ turned. (h : Record) → (i : ℕ) → all_ended h i ≡ false → IsGenerating h i self.old → HasMade h i self.new turned) }
-        ensures stays { OnErr result ((h : Record) → (i : ℕ) → IsGenerating h i self.old → IsGenerating h i self.new) }
+        ensures next { IfOk result
+            (λ turned. (h : Record) → (i : ℕ) → all_ended h i ≡ false → IsGenerating h i self.old →
+            IsNext h i turned) }
+        ensures made { IfOk result
+            (λ turned. (h : Record) → (i : ℕ) → all_ended h i ≡ false → IsGenerating h i self.old →
+            HasMade h i self.new turned) }
+        ensures stays { OnErr result
+            ((h : Record) → (i : ℕ) → IsGenerating h i self.old → IsGenerating h i self.new) }
     {
         let left = self.lines.left();
         if left == 0 {
@@ -75,9 +81,11 @@ impl Generator {
     ///
     /// Answers `Err` where no memory is found for them, or where they have more than 4,294,967,295 bytes: then it is as it was.
     fn next_lines(&mut self) -> Result<(Vec<u8>, u32), WantOfMemory>
-        ensures lines { IfOk result (λ made. made.0.items ≡ next_lines self.old.lines self.old.most) }
+        ensures lines { IfOk result
+            (λ made. made.0.items ≡ next_lines self.old.lines self.old.most) }
         ensures bytes { IfOk result (λ made. made.1 ≡ length made.0.items) }
-        ensures given { OnOk result (self.new ≡ record self.old { lines = behind self.old.lines self.old.most }) }
+        ensures given { OnOk result
+            (self.new ≡ record self.old { lines = behind self.old.lines self.old.most }) }
         ensures same { OnErr result (self.new ≡ self.old) }
     {
         let mut bytes = Bytes::new(self.core.alloc());

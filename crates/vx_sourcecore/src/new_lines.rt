@@ -29,7 +29,8 @@ impl NewLines {
 
     /// Tells one line that was not too long: whether it is empty, and whether it gives an event.
     pub fn line(&mut self, empty: bool, gives: bool)
-        ensures { (d : Decoding) → (given : List Frame) → (frame : Frame) → (over : ℕ) → IsToldOf d frame empty gives → AreTold d given over self.old →
+        ensures { (d : Decoding) → (given : List Frame) → (frame : Frame) → (over : ℕ) →
+            IsToldOf d frame empty gives → AreTold d given over self.old →
             AreTold d (given ++ frame ∷ []) over self.new }
     {
         self.lines = self.lines.saturating_add(1);
@@ -40,7 +41,8 @@ impl NewLines {
 
     /// Tells how many lines were too long.
     pub fn too_long(&mut self, over: u64)
-        ensures { (d : Decoding) → (given : List Frame) → (n : ℕ) → over ≡ capped n → AreTold d given 0 self.old → AreTold d given n self.new }
+        ensures { (d : Decoding) → (given : List Frame) → (n : ℕ) → over ≡ capped n →
+            AreTold d given 0 self.old → AreTold d given n self.new }
     {
         self.overlong = over;
     }

@@ -85,7 +85,12 @@ impl Prefix {
     pub fn born(&mut self, batch: u64, ends: Ends)
         requires ready { (position : Position) × IsReadyFor self.old position ends }
         ensures waits { self.new.waits ≡ self.old.waits }
-        ensures born { (position : Position) → (judged : Judgement) → (births : List Birth) → (asked : List Position) → IsReadyFor self.old position ends → judged.may (birth_at self.old.waits batch position) ≡ not self.old.waits → IsPrefixOf self.old judged births asked → IsPrefixOf self.new judged (births ++ birth_at self.old.waits batch position ∷ []) asked }
+        ensures born { (position : Position) → (judged : Judgement) → (births : List Birth) →
+            (asked : List Position) → IsReadyFor self.old position ends →
+            judged.may (birth_at self.old.waits batch position) ≡ not self.old.waits →
+            IsPrefixOf self.old judged births asked →
+            IsPrefixOf self.new judged
+            (births ++ birth_at self.old.waits batch position ∷ []) asked }
     {
         let Ends {
             kept,
@@ -107,7 +112,10 @@ impl Prefix {
     /// Takes the notice of a batch. It takes no memory.
     pub fn notice(&mut self, notice: Notice)
         ensures waits { self.new.waits ≡ self.old.waits }
-        ensures noticed { (judged : Judgement) → (next : Judgement) → (births : List Birth) → (asked : List Position) → Tells notice.batch (is_delivered notice.status) judged next → AreApart births → IsPrefixOf self.old judged births asked → IsPrefixOf self.new next births asked }
+        ensures noticed { (judged : Judgement) → (next : Judgement) → (births : List Birth) →
+            (asked : List Position) → Tells notice.batch (is_delivered notice.status) judged next →
+            AreApart births → IsPrefixOf self.old judged births asked →
+            IsPrefixOf self.new next births asked }
     {
         if delivers(notice.status) {
             self.pass(notice.batch);
@@ -119,7 +127,9 @@ impl Prefix {
 
     /// What is to be confirmed. `None` exactly where the batches that may be confirmed end where it was asked for last.
     pub fn due(&self) -> Option<&PositionList>
-        ensures { (judged : Judgement) → (births : List Birth) → (asked : List Position) → IsPrefixOf self.now judged births asked → IsAskFor (option_copied result) (ends_of (take_while judged.may births)) asked }
+        ensures { (judged : Judgement) → (births : List Birth) → (asked : List Position) →
+            IsPrefixOf self.now judged births asked →
+            IsAskFor (option_copied result) (ends_of (take_while judged.may births)) asked }
     {
         match &self.due {
             Some(due) => Some(&due.positions),
@@ -137,8 +147,12 @@ impl Prefix {
     /// Takes what is to be confirmed, and remembers that it was asked for. It takes no memory.
     pub fn take_due(&mut self) -> Option<PositionList>
         ensures waits { self.new.waits ≡ self.old.waits }
-        ensures asked { (judged : Judgement) → (births : List Birth) → (asked : List Position) → IsPrefixOf self.old judged births asked → IsPrefixOf self.new judged births (ends_of (take_while judged.may births)) }
-        ensures due { (judged : Judgement) → (births : List Birth) → (asked : List Position) → IsPrefixOf self.old judged births asked → IsAskFor result (ends_of (take_while judged.may births)) asked }
+        ensures asked { (judged : Judgement) → (births : List Birth) → (asked : List Position) →
+            IsPrefixOf self.old judged births asked →
+            IsPrefixOf self.new judged births (ends_of (take_while judged.may births)) }
+        ensures due { (judged : Judgement) → (births : List Birth) → (asked : List Position) →
+            IsPrefixOf self.old judged births asked →
+            IsAskFor result (ends_of (take_while judged.may births)) asked }
         ensures none { self.old.due ≡ None → result ≡ None }
     {
         match self.due.take() {
@@ -166,8 +180,10 @@ impl Prefix {
     /// Lets go of the batch of a number and of all behind it, since none of them will be confirmed.
     fn block(&mut self, batch: u64)
         ensures kept { self.new.behind.items ≡ kept_before batch self.old.behind.items }
-        ensures blocked { self.new.blocked ≡ (self.old.blocked || has_failed batch self.old.behind.items) }
-        ensures rest { self.new ≡ record self.old { behind = self.new.behind; blocked = self.new.blocked } }
+        ensures blocked { self.new.blocked
+            ≡ (self.old.blocked || has_failed batch self.old.behind.items) }
+        ensures rest { self.new
+            ≡ record self.old { behind = self.new.behind; blocked = self.new.blocked } }
     {
         for i in 0..self.behind.len() {
             if fails(&self.behind[i], batch) {
@@ -181,7 +197,8 @@ impl Prefix {
     /// Moves past the batches at the front that may be confirmed.
     fn advance(&mut self)
         ensures waits { self.new.waits ≡ self.old.waits }
-        ensures advanced { (judged : Judgement) → (births : List Birth) → (asked : List Position) → IsCutOf self.old judged births asked → IsPrefixOf self.new judged births asked }
+        ensures advanced { (judged : Judgement) → (births : List Birth) → (asked : List Position) →
+            IsCutOf self.old judged births asked → IsPrefixOf self.new judged births asked }
     {
         while let Some(due) = self.pop_passed() {
             self.reach(due);

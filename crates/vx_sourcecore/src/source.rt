@@ -107,13 +107,19 @@ impl SourceCore {
     /// what was taken, the answer tells that without a `Cut`.
     pub fn turn<P: Port>(&mut self, port: &mut P) -> Result<Turned, WantOfMemory>
         ensures did { IfOk result (λ turned. DidTake (P.told port.old) turned (P.told port.new)) }
-        ensures counts { IfOk result (λ turned. CountsBy (turn_counts (P.told port.old).started turned) (P.told port.old) (P.told port.new)) }
+        ensures counts { IfOk result
+            (λ turned. CountsBy (turn_counts (P.told port.old).started turned) (P.told port.old)
+            (P.told port.new)) }
         ensures unmoved { OnErr result (IsUnmoved (P.told port.old) (P.told port.new)) }
         ensures uncounted { OnErr result (StartsAtMost (P.told port.old) (P.told port.new)) }
         ensures whole { IfOk result IsInRoom }
-        ensures few { IfOk result (λ turned. IfSome (cut_of turned) (λ cut. length cut.events ≤ 65536)) }
-        ensures turned { IfOk result (λ turned. (h : Record) → (i : ℕ) → MayTurnOn h i (P.told port.old).ended → IsAbreast h i self.old → HasTurned h i self.new turned) }
-        ensures stays { OnErr result ((h : Record) → (i : ℕ) → IsAbreast h i self.old → IsAbreast h i self.new) }
+        ensures few { IfOk result
+            (λ turned. IfSome (cut_of turned) (λ cut. length cut.events ≤ 65536)) }
+        ensures turned { IfOk result
+            (λ turned. (h : Record) → (i : ℕ) → MayTurnOn h i (P.told port.old).ended →
+            IsAbreast h i self.old → HasTurned h i self.new turned) }
+        ensures stays { OnErr result
+            ((h : Record) → (i : ℕ) → IsAbreast h i self.old → IsAbreast h i self.new) }
     {
         match port.start() {
             Ok(()) => self.take(port),
@@ -126,7 +132,8 @@ impl SourceCore {
     fn take<P: Port>(&mut self, port: &mut P) -> Result<Turned, WantOfMemory>
         requires { IsTrue (P.told port.old).started }
         ensures did { IfOk result (λ turned. DidTake (P.told port.old) turned (P.told port.new)) }
-        ensures counts { IfOk result (λ turned. CountsBy (turn_counts true turned) (P.told port.old) (P.told port.new)) }
+        ensures counts { IfOk result
+            (λ turned. CountsBy (turn_counts true turned) (P.told port.old) (P.told port.new)) }
         ensures unmoved { OnErr result (IsUnmoved (P.told port.old) (P.told port.new)) }
         ensures uncounted { OnErr result (CountsBy nothing (P.told port.old) (P.told port.new)) }
         ensures whole { IfOk result IsInRoom }
@@ -163,7 +170,8 @@ impl SourceCore {
     /// The lines that the first `n` bytes of the room complete, which are of a stream; `None` where no memory is found.
     fn cut(&mut self, stream: u64, n: u32) -> Option<Cut>
         requires { n ≤ 65536 }
-        ensures { IfSome result (λ cut. HasFed self.old stream (take n self.old.room.items) cut self.new) }
+        ensures { IfSome result
+            (λ cut. HasFed self.old stream (take n self.old.room.items) cut self.new) }
     {
         let bytes = &self.room[..n as usize];
         let framed = framed(self.alloc, &mut self.framer, stream, bytes);
@@ -180,7 +188,8 @@ impl SourceCore {
 
     /// What the lines give that the framer made of a stream's bytes; `None` where no memory is found, be it for them or for what they give.
     fn cut_framed(&mut self, stream: u64, framed: Option<(LineList, u64)>) -> Option<Cut>
-        ensures { (old : SourceCore) → (bytes : List ℕ) → IfSome framed (λ lines. HasGathered old stream bytes lines.0 lines.1 self.old) →
+        ensures { (old : SourceCore) → (bytes : List ℕ) →
+            IfSome framed (λ lines. HasGathered old stream bytes lines.0 lines.1 self.old) →
             IfSome result (λ cut. HasFed old stream bytes cut self.new) }
     {
         let (lines, overlong) = framed?;
@@ -221,7 +230,9 @@ impl SourceCore {
 
     /// What some lines give, beside so many that were too long.
     fn lines(&self, lines: LineList, overlong: u64) -> Result<Cut, WantOfMemory>
-        ensures { IfOk result (λ cut. (over : ℕ) → overlong ≡ capped over → IsOf self.now.decoding self.now.source_type self.now.file lines over cut) }
+        ensures { IfOk result
+            (λ cut. (over : ℕ) → overlong ≡ capped over →
+            IsOf self.now.decoding self.now.source_type self.now.file lines over cut) }
     {
         let mut cut = Cut {
             events: SharedEventList::new(self.alloc),

@@ -57,17 +57,20 @@ fn split_name(text: &str) -> (&str, &str)
 /// What follows a first character.
 fn behind_first(text: &str, first: char) -> Option<&str>
     requires { first < 128 }
-    ensures { MatchOption result (begins_with first text.now ≡ false) (λ rest. text.now ≡ first ∷ rest.now) }
+    ensures { MatchOption result (begins_with first text.now ≡ false)
+        (λ rest. text.now ≡ first ∷ rest.now) }
 {
     text.strip_prefix(first)
 }
 
 /// What stands before the first `}`, and what follows it.
 fn split_brace(text: &str) -> Option<(&str, &str)>
-    ensures none { MatchOption result (nat_lt (position_or_len is_end_brace text.now) (length text.now) ≡ false)
+    ensures none { MatchOption result
+        (nat_lt (position_or_len is_end_brace text.now) (length text.now) ≡ false)
         (λ _. nat_lt (position_or_len is_end_brace text.now) (length text.now) ≡ true) }
     ensures some { MatchOption result (Unit {0})
-        (λ parts. (parts.0.now ≡ before_first is_end_brace text.now) × (text.now ≡ parts.0.now ++ 125 ∷ parts.1.now)) }
+        (λ parts. (parts.0.now ≡ before_first is_end_brace text.now)
+        × (text.now ≡ parts.0.now ++ 125 ∷ parts.1.now)) }
 {
     text.split_once('}')
 }
@@ -76,7 +79,8 @@ fn split_brace(text: &str) -> Option<(&str, &str)>
 pub fn unclosed_len(text: &str) -> usize
     ensures within { result ≤ length text.now }
     ensures unclosed { IsUnclosed result text.now }
-    ensures closed { result < length text.now → slice_index text.now (length text.now - result - 1) ≡ end_brace }
+    ensures closed { result < length text.now →
+        slice_index text.now (length text.now - result - 1) ≡ end_brace }
 {
     match text.rfind('}') {
         Some(at) => text.len() - at - 1,
@@ -108,7 +112,8 @@ pub fn form_of(text: &str, unclosed: usize) -> Found<'_>
 /// The form `$NAME`, by what follows the `$`.
 #[tactic(auto, using(crate::proofs::Drops::drops), unfolding(crate::specs::Pieces::bare, crate::specs::Pieces::behind))]
 fn bare(text: &str) -> Found<'_>
-    ensures form { piece_view result.form ≡ bare (take (prefix_len is_name_byte text.now) text.now) }
+    ensures form { piece_view result.form
+        ≡ bare (take (prefix_len is_name_byte text.now) text.now) }
     ensures rest { result.rest.now ≡ drop (behind (piece_view result.form)) text.now }
 {
     let (name, rest) = split_name(text);
@@ -128,7 +133,8 @@ fn braced<'a>(text: &'a str, inner: &'a str, unclosed: usize) -> Found<'a>
     requires whole { text.now ≡ 123 ∷ inner.now }
     requires unclosed { IsUnclosed unclosed inner.now }
     ensures form { piece_view result.form
-        ≡ braced (take (prefix_len is_name_byte inner.now) inner.now) (drop (prefix_len is_name_byte inner.now) inner.now) }
+        ≡ braced (take (prefix_len is_name_byte inner.now) inner.now)
+        (drop (prefix_len is_name_byte inner.now) inner.now) }
     ensures rest { result.rest.now ≡ drop (behind (piece_view result.form)) text.now }
 {
     let (name, after) = split_name(inner);

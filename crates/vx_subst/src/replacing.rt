@@ -71,9 +71,12 @@ fn push_value(
     name: &str,
     at: u64,
 ) -> Result<(), SubstFault>
-    ensures ok { OnOk result (string_bytes out.new ≡ string_bytes out.old ++ unwrap_or (value_of environment.now name.now) []) }
+    ensures ok { OnOk result
+        (string_bytes out.new ≡ string_bytes out.old
+        ++ unwrap_or (value_of environment.now name.now) []) }
     ensures whole { OnOk result (is_none (value_of environment.now name.now) ≡ false) }
-    ensures missing { IfErr result (TellsLack (is_none (value_of environment.now name.now)) name.now at) }
+    ensures missing { IfErr result
+        (TellsLack (is_none (value_of environment.now name.now)) name.now at) }
 {
     match value_of(environment, name) {
         Some(value) => push(out, value),
@@ -113,10 +116,13 @@ fn push_form(
     environment: &[Variable],
     at: u64,
 ) -> Result<(), SubstFault>
-    ensures ok { OnOk result (string_bytes out.new ≡ string_bytes out.old ++ becomes environment.now (piece_view form.entry)) }
+    ensures ok { OnOk result
+        (string_bytes out.new ≡ string_bytes out.old
+        ++ becomes environment.now (piece_view form.entry)) }
     ensures whole { OnOk result (lacks environment.now (piece_view form.entry) ≡ false) }
     ensures missing { IfErr result
-        (TellsLack (lacks environment.now (piece_view form.entry)) (name_in (piece_view form.entry)) at) }
+        (TellsLack (lacks environment.now (piece_view form.entry))
+        (name_in (piece_view form.entry)) at) }
 {
     match form {
         Form::Escaped => push(out, "$"),

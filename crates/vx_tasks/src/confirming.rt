@@ -20,13 +20,18 @@ pub(crate) fn confirm<P: Port>(
     port: &mut P,
     positions: Option<PositionList>,
 ) -> Result<Option<Confirmed>, WantOfMemory>
-    ensures told { IfOk result (λ confirmed. (h : Record) (i : ℕ) → IsTold (P.told port.old) h i → IsTold (P.told port.new) (confirm_entries i confirmed ++ h) i) }
-    ensures short { OnErr result ((h : Record) (i : ℕ) → IsTold (P.told port.old) h i → IsTold (P.told port.new) h i) }
+    ensures told { IfOk result
+        (λ confirmed. (h : Record) (i : ℕ) → IsTold (P.told port.old) h i →
+        IsTold (P.told port.new) (confirm_entries i confirmed ++ h) i) }
+    ensures short { OnErr result
+        ((h : Record) (i : ℕ) → IsTold (P.told port.old) h i → IsTold (P.told port.new) h i) }
     ensures counts { NoneFell (P.told port.old) (P.told port.new) }
     ensures starts { StartsNone (P.told port.old) (P.told port.new) }
     ensures started { (P.told port.new).started ≡ (P.told port.old).started }
     ensures asked { OnErr result (IsSome positions) }
-    ensures due { IfOk result (λ confirmed. (h : Record) (i : ℕ) (done : Done) → AreDue h i positions → IsConfirmedSo h i done confirmed) }
+    ensures due { IfOk result
+        (λ confirmed. (h : Record) (i : ℕ) (done : Done) → AreDue h i positions →
+        IsConfirmedSo h i done confirmed) }
 {
     let Some(positions) = positions else {
         return Ok(None);

@@ -21,13 +21,17 @@ pub(crate) struct CutShort {
 /// Starts the port if it isn't started, gives it the bytes, and finishes. After a failure or want of memory the port is closed.
 pub(crate) fn attempt<P: Port>(port: &mut P, bytes: &[u8]) -> Result<Attempted, CutShort>
     ensures within { IfOk result (λ attempted. attempted.sent ≤ length bytes.now) }
-    ensures given { IfOk result (λ attempted. Grows (P.told port.old).given (P.told port.new).given (take attempted.sent bytes.now)) }
+    ensures given { IfOk result
+        (λ attempted. Grows (P.told port.old).given (P.told port.new).given
+        (take attempted.sent bytes.now)) }
     ensures whole { IfOk result (IsWhole (length bytes.now)) }
     ensures cause { IfOk result (IsCaused (P.told port.old) (P.told port.new)) }
     ensures others { OnlyGives (P.told port.old) (P.told port.new) }
     ensures counts { IfOk result (CountsReply (P.told port.old) (P.told port.new)) }
     ensures uncounted { OnErr result (StartsAtMost (P.told port.old) (P.told port.new)) }
-    ensures short { IfErr result (λ short. Grows (P.told port.old).given (P.told port.new).given (take short.sent bytes.now)) }
+    ensures short { IfErr result
+        (λ short. Grows (P.told port.old).given (P.told port.new).given
+        (take short.sent bytes.now)) }
     ensures part { IfErr result (λ short. short.sent ≤ length bytes.now) }
     ensures closed { OnErr result ((P.told port.new).started ≡ false) }
 {
@@ -67,7 +71,8 @@ pub(crate) fn attempt<P: Port>(port: &mut P, bytes: &[u8]) -> Result<Attempted, 
 fn give_and_finish<P: Port>(port: &mut P, bytes: &[u8]) -> (u64, Result<(), Trouble>)
     requires { IsTrue (P.told port.old).started }
     ensures within { result.0 ≤ length bytes.now }
-    ensures given { Grows (P.told port.old).given (P.told port.new).given (take result.0 bytes.now) }
+    ensures given { Grows (P.told port.old).given (P.told port.new).given
+        (take result.0 bytes.now) }
     ensures whole { OnOk result.1 (result.0 ≡ length bytes.now) }
     ensures counts { CountsBy (sent_counts result.1) (P.told port.old) (P.told port.new) }
     ensures others { OnlyGives (P.told port.old) (P.told port.new) }
@@ -84,7 +89,8 @@ fn give_and_finish<P: Port>(port: &mut P, bytes: &[u8]) -> (u64, Result<(), Trou
 fn give_all<P: Port>(port: &mut P, bytes: &[u8]) -> (usize, Option<Trouble>)
     requires { IsTrue (P.told port.old).started }
     ensures within { result.0 ≤ length bytes.now }
-    ensures given { Grows (P.told port.old).given (P.told port.new).given (take result.0 bytes.now) }
+    ensures given { Grows (P.told port.old).given (P.told port.new).given
+        (take result.0 bytes.now) }
     ensures whole { IsNone result.1 → result.0 ≡ length bytes.now }
     ensures counts { CountsBy (trouble_counts result.1) (P.told port.old) (P.told port.new) }
     ensures others { OnlyGives (P.told port.old) (P.told port.new) }

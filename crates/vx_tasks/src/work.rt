@@ -69,11 +69,13 @@ impl<P: Port> Work<P> {
         ensures instance { result.instance ≡ self.instance }
         ensures worker { result.worker ≡ self.worker }
         ensures held { result.held ≡ self.held }
-        ensures does { DoesJob self.job self.task.role result.done ⊎ LacksConfirm self.positions result.confirmed result.done }
+        ensures does { DoesJob self.job self.task.role result.done
+            ⊎ LacksConfirm self.positions result.confirmed result.done }
         ensures role { KeepsRole self.task.role result.task.role result.done }
         ensures counts { NoneFell (P.told self.task.port) (P.told result.task.port) }
         ensures starts { StartsOnce (P.told self.task.port) (P.told result.task.port) }
-        ensures shows { ShowsWork self.task.role (P.told self.task.port) (P.told result.task.port) result.done }
+        ensures shows { ShowsWork self.task.role (P.told self.task.port)
+            (P.told result.task.port) result.done }
         ensures done { (h : Record) → IsLegal h → HasLeft P.told h self → HasDone P.told h result }
     {
         let Work {
@@ -118,8 +120,10 @@ struct Deed {
 
 /// Does a job with a port.
 fn act<P: Port>(alloc: Global, job: Job, port: &mut P, role: Role, held: &Line<Parcel>) -> Deed
-    ensures told { (h : Record) (i : ℕ) → IsPortedAs (device_at h i) role → IsTold (P.told port.old) h i → TellsDone (P.told port.new) h i held.now.items result.done }
-    ensures acted { (h : Record) (i : ℕ) → MayAct (P.told port.old) h i role held.now.items job → HasActed (P.told port.new) h i result.role result.done }
+    ensures told { (h : Record) (i : ℕ) → IsPortedAs (device_at h i) role →
+        IsTold (P.told port.old) h i → TellsDone (P.told port.new) h i held.now.items result.done }
+    ensures acted { (h : Record) (i : ℕ) → MayAct (P.told port.old) h i role held.now.items job →
+        HasActed (P.told port.new) h i result.role result.done }
     ensures does { DoesJob job role result.done }
     ensures keeps { KeepsRole role result.role result.done }
     ensures counts { NoneFell (P.told port.old) (P.told port.new) }
@@ -151,8 +155,11 @@ fn act<P: Port>(alloc: Global, job: Job, port: &mut P, role: Role, held: &Line<P
 
 /// Judges what a transform holds. Where no memory was found nothing is put out, though what it keeps may stand for some of that.
 fn judge(alloc: Global, picker: Picker, held: &Line<Parcel>) -> Deed
-    ensures told { (told : Told) (h : Record) (i : ℕ) → IsTold told h i → TellsDone told h i held.now.items result.done }
-    ensures acted { (told : Told) (h : Record) (i : ℕ) → MayAct told h i (Role.Transform picker) held.now.items Job.Judge → HasActed told h i result.role result.done }
+    ensures told { (told : Told) (h : Record) (i : ℕ) → IsTold told h i →
+        TellsDone told h i held.now.items result.done }
+    ensures acted { (told : Told) (h : Record) (i : ℕ) →
+        MayAct told h i (Role.Transform picker) held.now.items Job.Judge →
+        HasActed told h i result.role result.done }
     ensures does { DoesJob Job.Judge (Role.Transform picker) result.done }
     ensures keeps { KeepsRole (Role.Transform picker) result.role result.done }
     ensures shows { (told : Told) → ShowsDone told told result.done }
@@ -174,9 +181,16 @@ fn judge_all(
     picker: &mut Picker,
     parcels: &Line<Parcel>,
 ) -> Result<PortsList, WantOfMemory>
-    ensures ports { IfOk result (λ ports. (settings : Settings) (earlier : List Event) → Picks settings picker.old → StandsFor picker.old earlier → AllPicked settings earlier (events_in parcels.now.items) ports) }
-    ensures meant { OnOk result ((settings : Settings) → Picks settings picker.old → 0 < length parcels.now.items → AreMeant (conditions_of settings)) }
-    ensures stands { OnOk result ((earlier : List Event) → StandsFor picker.old earlier → StandsFor picker.new (earlier ++ events_in parcels.now.items)) }
+    ensures ports { IfOk result
+        (λ ports. (settings : Settings) (earlier : List Event) → Picks settings picker.old →
+        StandsFor picker.old earlier →
+        AllPicked settings earlier (events_in parcels.now.items) ports) }
+    ensures meant { OnOk result
+        ((settings : Settings) → Picks settings picker.old → 0 < length parcels.now.items →
+        AreMeant (conditions_of settings)) }
+    ensures stands { OnOk result
+        ((earlier : List Event) → StandsFor picker.old earlier →
+        StandsFor picker.new (earlier ++ events_in parcels.now.items)) }
     ensures picks { (settings : Settings) → Picks settings picker.old → Picks settings picker.new }
 {
     let mut ports = PortsList::new(alloc);
@@ -193,8 +207,11 @@ fn judge_all(
 
 /// Takes from a source's port. Where no memory was found to cut what was taken, the source is of no use any more.
 fn read<P: Port>(port: &mut P, core: SourceCore) -> Deed
-    ensures told { (h : Record) (i : ℕ) (parcels : List Parcel) → device_at h i ≡ true → IsTold (P.told port.old) h i → TellsDone (P.told port.new) h i parcels result.done }
-    ensures acted { (h : Record) (i : ℕ) (parcels : List Parcel) → MayAct (P.told port.old) h i (Role.Source core) parcels Job.Read → HasActed (P.told port.new) h i result.role result.done }
+    ensures told { (h : Record) (i : ℕ) (parcels : List Parcel) → device_at h i ≡ true →
+        IsTold (P.told port.old) h i → TellsDone (P.told port.new) h i parcels result.done }
+    ensures acted { (h : Record) (i : ℕ) (parcels : List Parcel) →
+        MayAct (P.told port.old) h i (Role.Source core) parcels Job.Read →
+        HasActed (P.told port.new) h i result.role result.done }
     ensures does { DoesJob Job.Read (Role.Source core) result.done }
     ensures keeps { KeepsRole (Role.Source core) result.role result.done }
     ensures counts { NoneFell (P.told port.old) (P.told port.new) }
@@ -217,8 +234,11 @@ fn read<P: Port>(port: &mut P, core: SourceCore) -> Deed
 /// Makes the next lines of a source that needs no port. Where no memory was found to cut what was made, the source is of no use any
 /// more.
 fn make(generator: Generator) -> Deed
-    ensures told { (told : Told) (h : Record) (i : ℕ) (parcels : List Parcel) → device_at h i ≡ false → IsTold told h i → TellsDone told h i parcels result.done }
-    ensures acted { (told : Told) (h : Record) (i : ℕ) (parcels : List Parcel) → MayAct told h i (Role.Generator generator) parcels Job.Read → HasActed told h i result.role result.done }
+    ensures told { (told : Told) (h : Record) (i : ℕ) (parcels : List Parcel) →
+        device_at h i ≡ false → IsTold told h i → TellsDone told h i parcels result.done }
+    ensures acted { (told : Told) (h : Record) (i : ℕ) (parcels : List Parcel) →
+        MayAct told h i (Role.Generator generator) parcels Job.Read →
+        HasActed told h i result.role result.done }
     ensures does { DoesJob Job.Read (Role.Generator generator) result.done }
     ensures keeps { KeepsRole (Role.Generator generator) result.role result.done }
     ensures shows { (told : Told) → ShowsAlone told told result.done }
@@ -238,8 +258,10 @@ fn make(generator: Generator) -> Deed
 
 /// What a source does that made these lines.
 fn role_of_made(generator: Generator, turned: &Turned) -> Role
-    ensures made { (h : Record) (i : ℕ) → device_at h i ≡ false → HasMade h i generator turned.now → HasRoleTurned h i result turned.now }
-    ensures keeps { (old : Generator) → KeepsRole (Role.Generator old) result (Done.Read turned.now) }
+    ensures made { (h : Record) (i : ℕ) → device_at h i ≡ false → HasMade h i generator turned.now →
+        HasRoleTurned h i result turned.now }
+    ensures keeps { (old : Generator) →
+        KeepsRole (Role.Generator old) result (Done.Read turned.now) }
     ensures fit { is_unfit result ≡ lacks_cut turned.now }
 {
     if is_uncut(turned) {
@@ -251,8 +273,11 @@ fn role_of_made(generator: Generator, turned: &Turned) -> Role
 
 /// Takes what a black hole holds: nothing of it is written.
 fn swallow(alloc: Global) -> Done
-    ensures told { (told : Told) (h : Record) (i : ℕ) (parcels : List Parcel) → device_at h i ≡ false → IsTold told h i → TellsDone told h i parcels result }
-    ensures acted { (told : Told) (h : Record) (i : ℕ) (parcels : List Parcel) → MayAct told h i Role.Blackhole parcels Job.Attempt → HasActed told h i Role.Blackhole result }
+    ensures told { (told : Told) (h : Record) (i : ℕ) (parcels : List Parcel) →
+        device_at h i ≡ false → IsTold told h i → TellsDone told h i parcels result }
+    ensures acted { (told : Told) (h : Record) (i : ℕ) (parcels : List Parcel) →
+        MayAct told h i Role.Blackhole parcels Job.Attempt →
+        HasActed told h i Role.Blackhole result }
     ensures does { DoesJob Job.Attempt Role.Blackhole result }
     ensures shows { (told : Told) → ShowsAlone told told result }
 {
@@ -266,7 +291,8 @@ fn swallow(alloc: Global) -> Done
 
 /// What an instance does that took this turn.
 fn role_behind(core: SourceCore, turned: &Turned) -> Role
-    ensures turned { (h : Record) (i : ℕ) → device_at h i ≡ true → HasTurned h i core turned.now → HasRoleTurned h i result turned.now }
+    ensures turned { (h : Record) (i : ℕ) → device_at h i ≡ true → HasTurned h i core turned.now →
+        HasRoleTurned h i result turned.now }
     ensures keeps { (old : SourceCore) → KeepsRole (Role.Source old) result (Done.Read turned.now) }
     ensures fit { is_unfit result ≡ lacks_cut turned.now }
 {
@@ -292,7 +318,8 @@ fn is_uncut(turned: &Turned) -> bool
 /// Closes a port.
 fn close<P: Port>(port: &mut P) -> Done
     ensures closed { result ≡ Done.Closed }
-    ensures told { (h : Record) (i : ℕ) → IsTold (P.told port.old) h i → IsTold (P.told port.new) h i }
+    ensures told { (h : Record) (i : ℕ) → IsTold (P.told port.old) h i →
+        IsTold (P.told port.new) h i }
     ensures shut { (P.told port.new).started ≡ false }
     ensures counts { NoneFell (P.told port.old) (P.told port.new) }
     ensures starts { StartsNone (P.told port.old) (P.told port.new) }
@@ -303,8 +330,11 @@ fn close<P: Port>(port: &mut P) -> Done
 
 /// Writes a sink batch.
 fn send<P: Port>(alloc: Global, port: &mut P, codec: Codec, held: &Line<Parcel>) -> Done
-    ensures told { (h : Record) (i : ℕ) → device_at h i ≡ true → IsTold (P.told port.old) h i → TellsDone (P.told port.new) h i held.now.items result }
-    ensures acted { (h : Record) (i : ℕ) → MayAct (P.told port.old) h i (Role.Sink codec) held.now.items Job.Attempt → HasActed (P.told port.new) h i (Role.Sink codec) result }
+    ensures told { (h : Record) (i : ℕ) → device_at h i ≡ true → IsTold (P.told port.old) h i →
+        TellsDone (P.told port.new) h i held.now.items result }
+    ensures acted { (h : Record) (i : ℕ) →
+        MayAct (P.told port.old) h i (Role.Sink codec) held.now.items Job.Attempt →
+        HasActed (P.told port.new) h i (Role.Sink codec) result }
     ensures does { DoesJob Job.Attempt (Role.Sink codec) result }
     ensures counts { NoneFell (P.told port.old) (P.told port.new) }
     ensures starts { StartsOnce (P.told port.old) (P.told port.new) }

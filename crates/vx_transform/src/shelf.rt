@@ -44,7 +44,8 @@ impl Shelf {
     /// Puts a parcel out on some ports, whose bits are set. For want of memory it comes back, and the shelf is as
     /// before.
     pub fn put(&mut self, ports: u128, parcel: Parcel) -> Result<(), Back>
-        ensures ok { OnOk result (self.new ≡ put self.old (record { ports = ports; parcel = parcel })) }
+        ensures ok { OnOk result
+            (self.new ≡ put self.old (record { ports = ports; parcel = parcel })) }
         ensures err { OnErr result (self.new ≡ self.old) }
         ensures back { IfErr result (λ refused. refused.parcel ≡ parcel) }
     {
@@ -60,7 +61,10 @@ impl Shelf {
     /// Puts two parcels out on some ports, one behind the other. For want of memory both come back, and the shelf is as
     /// before.
     pub fn put_both(&mut self, ports: u128, first: Parcel, second: Parcel) -> Result<(), BothBack>
-        ensures ok { OnOk result (self.new ≡ put (put self.old (record { ports = ports; parcel = first })) (record { ports = ports; parcel = second })) }
+        ensures ok { OnOk result
+            (self.new
+            ≡ put (put self.old (record { ports = ports; parcel = first }))
+            (record { ports = ports; parcel = second })) }
         ensures err { OnErr result (self.new ≡ self.old) }
         ensures first { IfErr result (λ refused. refused.first ≡ first) }
         ensures second { IfErr result (λ refused. refused.second ≡ second) }
@@ -90,7 +94,13 @@ impl Shelf {
         first: Finalizers,
         second: Finalizers,
     ) -> Result<(), MergeRefused>
-        ensures ok { OnOk result (self.new ≡ put self.old (record { ports = ports; parcel = record { event = event; finalizers = first ++ second } })) }
+        ensures ok { OnOk result
+            (self.new
+            ≡ put self.old
+            (record {
+              ports = ports;
+              parcel = record { event = event; finalizers = first ++ second };
+            })) }
         ensures err { OnErr result (self.new ≡ self.old) }
         ensures first { IfErr result (λ refused. refused.first ≡ first) }
         ensures second { IfErr result (λ refused. refused.second ≡ second) }

@@ -39,7 +39,9 @@ pub trait Transform {
         now: u64,
         shelf: &mut Shelf,
     ) -> Result<(), Back>
-        ensures moves { OnOk result (Moves (port_count self.old) (held self.old ++ parcel.finalizers) (held self.new) shelf.old shelf.new) }
+        ensures moves { OnOk result
+            (Moves (port_count self.old) (held self.old ++ parcel.finalizers)
+            (held self.new) shelf.old shelf.new) }
         ensures ports { port_count self.new ≡ port_count self.old }
         ensures back { IfErr result (λ refused. refused.parcel ≡ parcel) }
         ensures unchanged { OnErr result (self.new ≡ self.old) }
@@ -47,13 +49,15 @@ pub trait Transform {
 
     /// Lets it act by itself at a moment. For want of memory it may have done a part, which stays on the shelf.
     fn tick(&mut self, alloc: Global, now: u64, shelf: &mut Shelf) -> Result<(), WantOfMemory>
-        ensures moves { Moves (port_count self.old) (held self.old) (held self.new) shelf.old shelf.new }
+        ensures moves { Moves (port_count self.old) (held self.old)
+            (held self.new) shelf.old shelf.new }
         ensures ports { port_count self.new ≡ port_count self.old };
 
     /// Has it give all that it holds, since nothing comes any more. For want of memory it may have given a part, which
     /// stays on the shelf.
     fn flush(&mut self, alloc: Global, shelf: &mut Shelf) -> Result<(), WantOfMemory>
-        ensures moves { Moves (port_count self.old) (held self.old) (held self.new) shelf.old shelf.new }
+        ensures moves { Moves (port_count self.old) (held self.old)
+            (held self.new) shelf.old shelf.new }
         ensures emptied { OnOk result (held self.new ≡ []) }
         ensures ports { port_count self.new ≡ port_count self.old };
 
@@ -64,7 +68,8 @@ pub trait Transform {
     /// Takes a copy that it holds, where what it holds is given up. `None` exactly where it holds none. It takes no
     /// memory.
     fn surrender(&mut self) -> Option<Finalizer>
-        ensures some { IfSome result (λ copy. IsPermutation (held self.old) (copy ∷ held self.new)) }
+        ensures some { IfSome result
+            (λ copy. IsPermutation (held self.old) (copy ∷ held self.new)) }
         ensures none { IsNone result ↔ (held self.old ≡ []) }
         ensures empty { IfNone result (held self.new ≡ []) }
         ensures ports { port_count self.new ≡ port_count self.old };

@@ -50,12 +50,14 @@ impl Event {
     /// through a value of another kind than Fields, `TooDeep` exactly where it doesn't and the event would be
     /// deeper than 32, and `WantOfMemory` where no memory is found.
     pub fn put(&mut self, path: &Path, value: Value) -> Result<(), PutFault>
-        ensures ok { OnOk result (self.new.fields ≡ put_at self.old.fields path.now (datum_of value)) }
+        ensures ok { OnOk result
+            (self.new.fields ≡ put_at self.old.fields path.now (datum_of value)) }
         ensures there { OnOk result (value_at self.new.fields path.now ≡ Some (datum_of value)) }
         ensures kept { OnOk result ((q : List Word) → IsTrue (parts path.now q) →
             value_at self.new.fields q ≡ value_at self.old.fields q) }
         ensures fits { OnOk result (fields_depth self.new.fields ≤ 32) }
-        ensures blocked { (n : ℕ) → (result ≡ Err (PutFault.Blocked n)) ↔ IsBlocked self.old.fields path.now n }
+        ensures blocked { (n : ℕ) →
+            (result ≡ Err (PutFault.Blocked n)) ↔ IsBlocked self.old.fields path.now n }
         ensures deep { (result ≡ Err PutFault.TooDeep) ↔ (IsOpen self.old.fields path.now
             × (32 < fields_depth (put_at self.old.fields path.now (datum_of value)))) }
         ensures err { OnErr result (self.new ≡ self.old) }

@@ -164,7 +164,8 @@ impl FieldList {
 
     // The fields of the value under a name, where it is of kind Fields.
     fn fields_under(&self, name: &str) -> Option<&FieldList>
-        ensures some { IfSome result (λ inner. value_under self.now name.now ≡ Some (Fields (named_of inner.now))) }
+        ensures some { IfSome result
+            (λ inner. value_under self.now name.now ≡ Some (Fields (named_of inner.now))) }
         ensures none { IfNone result (fields_in (value_under self.now name.now) ≡ []) }
     {
         match self.find(name) {
@@ -214,7 +215,8 @@ impl FieldList {
     #[cycle(fits_with)]
     pub(crate) fn fits_with(&self, names: &[Text], value: &Value, levels: u32) -> bool
         requires { 0 < length names.now }
-        ensures { IsTrue result ↔ (fields_depth (put_at self.now names.now (datum_of value.now)) ≤ levels) }
+        ensures { IsTrue result
+            ↔ (fields_depth (put_at self.now names.now (datum_of value.now)) ≤ levels) }
     {
         let _ = &self.fields;
         let [name, rest @ ..] = names else {
@@ -232,7 +234,9 @@ impl FieldList {
     // Whether the value under a name is at most that deep once a value is put at the rest of a path.
     #[cycle(fits_with)]
     fn under_fits(&self, name: &str, rest: &[Text], value: &Value, levels: u32) -> bool
-        ensures { IsTrue result ↔ (depth (put_in (value_under self.now name.now) rest.now (datum_of value.now)) ≤ levels) }
+        ensures { IsTrue result
+            ↔ (depth (put_in (value_under self.now name.now) rest.now (datum_of value.now))
+            ≤ levels) }
     {
         if rest.is_empty() {
             return value.fits(levels);
@@ -247,7 +251,8 @@ impl FieldList {
     // For want of memory the field comes back, and the fields are as before.
     fn insert(&mut self, i: usize, field: Field) -> Result<(), Field>
         requires { IsGap self.old field.name i }
-        ensures ok { OnOk result (self.new ≡ with_field self.old field.name (datum_of field.value)) }
+        ensures ok { OnOk result
+            (self.new ≡ with_field self.old field.name (datum_of field.value)) }
         ensures err { OnErr result (self.new ≡ self.old) }
     {
         match self.fields.insert(i, field) {

@@ -40,7 +40,8 @@ impl PathReader {
     /// Ends the name that has begun.
     pub fn end_name(&mut self, alloc: Global) -> Result<(), WantOfMemory>
         requires { IsUtf8 self.old.name.items }
-        ensures names { IfOk result (λ _. self.new.names ≡ self.old.names ++ self.old.name.items ∷ []) }
+        ensures names { IfOk result
+            (λ _. self.new.names ≡ self.old.names ++ self.old.name.items ∷ []) }
         ensures name { self.new.name.items ≡ [] }
         ensures mode { self.new.mode ≡ self.old.mode }
     {
@@ -53,7 +54,8 @@ impl PathReader {
 
     /// Takes a byte, and tells whether some path goes on so.
     pub fn take(&mut self, alloc: Global, byte: u8) -> Result<bool, WantOfMemory>
-        requires { move_of self.old.mode (is_empty self.old.name.items) byte ≡ PathMove.Ends → IsUtf8 self.old.name.items }
+        requires { move_of self.old.mode (is_empty self.old.name.items) byte ≡ PathMove.Ends →
+            IsUtf8 self.old.name.items }
         ensures { IfOk result (Takes self.old self.new byte) }
     {
         match self.mode.takes(self.name.is_empty(), byte) {

@@ -62,7 +62,8 @@ impl Text {
     pub fn lossy(alloc: Global, bytes: &[u8]) -> Result<Self, WantOfMemory>
         ensures lossy { IfOk result (λ text. text ≡ utf8_lossy bytes.now) }
         ensures stands { IfOk result (λ text. StandsFor bytes.now text) }
-        ensures only { (text : List ℕ) → StandsFor bytes.now text → IfOk result (λ made. made ≡ text) }
+        ensures only { (text : List ℕ) → StandsFor bytes.now text →
+            IfOk result (λ made. made ≡ text) }
     {
         let text = Text::decoded(alloc, bytes)?;
         Ok(text)
