@@ -10,8 +10,8 @@ ghost use Rattle.vx_balance.specs.Promises.{Bears, Splits, Routes, LeavesOpen, C
 use std::alloc::Global;
 use std::marker::Model;
 use vx_ledger::{
-    Batches, Finalizer, Finalizers, FinalizersList, Notice, Outlet, Parcel, RouteRefused, Routed,
-    Short, SplitRefused,
+    Batches, Child, Finalizer, Finalizers, FinalizersList, Notice, Outlet, Parcel, RouteRefused,
+    Routed, Short, SplitRefused,
 };
 use vx_status::Outcome;
 use vx_value::WantOfMemory;
@@ -89,7 +89,8 @@ impl Balance {
     }
 
     /// Splits a parcel in hand to all targets of some ports of an outlet. Gives one child for each target of each port, in
-    /// port order, or the parcel where none of the ports has a target.
+    /// port order, or the parcel where none of the ports has a target. The list of the children lies in the memory of an empty list,
+    /// as far as that has room.
     ///
     /// Each child has the parcel's event. `Numbers` comes exactly where the numbers would pass 2^63, and before memory is
     /// asked for. A refusal hands the parcel back, and nothing has changed.
@@ -98,8 +99,10 @@ impl Balance {
         outlet: &Outlet,
         ports: u128,
         parcel: Parcel,
+        room: Vec<Child>,
     ) -> Result<Routed, RouteRefused>
-        requires { HasHeld self.old parcel.finalizers }
+        requires held { HasHeld self.old parcel.finalizers }
+        requires empty { room.items ≡ [] }
         ensures routes { IfChildren result
             (λ children. Routes (targets_of ports outlet.now) parcel children self.old self.new) }
         ensures no_consumer { IsNoConsumer result ↔ (targets_of ports outlet.now ≡ []) }
@@ -113,7 +116,7 @@ impl Balance {
         ensures back { IfErr result (λ refused. refused.parcel ≡ parcel) }
         ensures unchanged { OnErr result (self.new ≡ self.old) }
     {
-        outlet.route(ports, parcel, &mut self.batches)
+        outlet.route(ports, parcel, &mut self.batches, room)
     }
 
     /// Spends a copy in hand. Tells the notice of its batch exactly where it was the batch's last live copy. It takes no

@@ -63,6 +63,7 @@ impl Outlet {
 
     /// Splits a parcel to all targets of a set of ports, which has the bit of each port that it names. Gives one
     /// child for each target of each port, in port order, or the parcel where none of the ports has a target.
+    /// The list of the children lies in the memory of an empty list, as far as that has room.
     ///
     /// The copies of the children are numbered as `Batches::split` numbers them. Each child has the parcel's
     /// event. `Numbers` comes exactly where the numbers would pass 2^63, and before memory is asked for. A
@@ -72,8 +73,10 @@ impl Outlet {
         ports: u128,
         parcel: Parcel,
         batches: &mut Batches,
+        room: Vec<Child>,
     ) -> Result<Routed, RouteRefused>
-        requires { AreLive batches.old parcel.finalizers }
+        requires live { AreLive batches.old parcel.finalizers }
+        requires empty { room.items ≡ [] }
 
         ensures children { IfChildren result
             (λ children. children
@@ -104,16 +107,18 @@ impl Outlet {
         let count = self.count(ports);
         let next = batches.next();
         if count == 0 {
+            room.destroy_empty();
             return Ok(Routed::NoConsumer(parcel));
         }
         let wanted = parcel.finalizers.len().saturating_mul(count);
         if wanted > numbers_left(next) {
+            room.destroy_empty();
             return Err(RouteRefused {
                 cause: Short::Numbers { next, wanted },
                 parcel,
             });
         }
-        let Ok((others, target)) = self.others(ports, count, &parcel, next) else {
+        let Ok((others, target)) = self.others(ports, count, &parcel, next, room) else {
             return Err(RouteRefused {
                 cause: Short::WantOfMemory,
                 parcel,
@@ -135,7 +140,9 @@ impl Outlet {
         count: u64,
         parcel: &Parcel,
         first: u64,
+        room: Vec<Child>,
     ) -> Result<(Vec<Child>, u32), WantOfMemory>
+        requires empty { room.items ≡ [] }
         requires some { 0 < length (targets_of ports self.now) }
         requires fits { first + length (targets_of ports self.now) * length parcel.now.finalizers
             ≤ 2 ^ 63 }
@@ -149,10 +156,15 @@ impl Outlet {
     {
         let alloc = *self.ports.allocator();
         if let Some(targets) = self.only_targets(ports) {
-            return route::others(alloc, targets.as_slice(), parcel, first);
+            return route::others(alloc, targets.as_slice(), parcel, first, room);
         }
-        let targets = self.targets(ports, count)?;
-        route::others(alloc, targets.as_slice(), parcel, first)
+        match self.targets(ports, count) {
+            Ok(targets) => route::others(alloc, targets.as_slice(), parcel, first, room),
+            Err(WantOfMemory) => {
+                room.destroy_empty();
+                Err(WantOfMemory)
+            }
+        }
     }
 
     // The targets of the ports, where the outlet has a single port and that is one of them.

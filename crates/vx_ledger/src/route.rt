@@ -35,20 +35,22 @@ fn unmake_all(children: Vec<Child>) {
     rest.destroy_empty();
 }
 
-// The children for the targets, with room for one child more.
+// The children for the targets in an empty list, with room for one child more.
 pub(crate) fn children(
     alloc: Global,
     targets: &[u64],
     parcel: &Parcel,
     first: u64,
+    room: Vec<Child>,
 ) -> Result<Vec<Child>, WantOfMemory>
+    requires empty { room.items ≡ [] }
     requires instances { All (λ t. t < 2 ^ 32) targets.now }
     requires fits { first + length targets.now * length parcel.now.finalizers ≤ 2 ^ 63 }
     ensures children { IfOk result
         (λ children. children.items ≡ children_for targets.now first parcel.now) }
     ensures room { IfOk result (λ children. length children.items < vec_capacity children) }
 {
-    let mut children = Vec::with_capacity(alloc, targets.len() + 1)?;
+    let mut children = with_room(room, targets.len() + 1)?;
     let mut number = first;
     for target in targets {
         match child(alloc, *target, parcel, number) {
@@ -63,13 +65,31 @@ pub(crate) fn children(
     Ok(children)
 }
 
-// The children for all targets but the last, with room for one child more, and the last target.
+// An empty list with room for so many.
+fn with_room(list: Vec<Child>, n: usize) -> Result<Vec<Child>, WantOfMemory>
+    requires { list.items ≡ [] }
+    ensures empty { IfOk result (λ list. list.items ≡ []) }
+    ensures room { IfOk result (λ list. n ≤ vec_capacity list) }
+{
+    let mut list = list;
+    match list.reserve(n) {
+        Ok(()) => Ok(list),
+        Err(_) => {
+            list.destroy_empty();
+            Err(WantOfMemory)
+        }
+    }
+}
+
+// The children for all targets but the last in an empty list, with room for one child more, and the last target.
 pub(crate) fn others(
     alloc: Global,
     targets: &[u64],
     parcel: &Parcel,
     first: u64,
+    room: Vec<Child>,
 ) -> Result<(Vec<Child>, u32), WantOfMemory>
+    requires empty { room.items ≡ [] }
     requires some { 0 < length targets.now }
     requires instances { All (λ t. t < 2 ^ 32) targets.now }
     requires fits { first + length targets.now * length parcel.now.finalizers ≤ 2 ^ 63 }
@@ -81,7 +101,7 @@ pub(crate) fn others(
     ensures few { length targets.now < 2 ^ 63 }
 {
     let last = targets.len() - 1;
-    let others = children(alloc, &targets[..last], parcel, first)?;
+    let others = children(alloc, &targets[..last], parcel, first, room)?;
     Ok((others, targets[last] as u32))
 }
 

@@ -6,9 +6,9 @@ use Rattle.vx_balance.proofs.Owning.{live_enough}
 use Rattle.vx_balance.proofs.Routing.{routes_of}
 use Rattle.vx_balance.proofs.balance.Balance.route.Goals as goal
 
-pub route-requires : goal.route-requires
-route-requires c =
-    let held = c.requires in
+pub route-requires-clause-live : goal.route-requires-clause-live
+route-requires-clause-live c =
+    let held = c.requires.held in
     subst (λ account. AreLive account c.args.parcel.finalizers) (sym c.self.view_is) (live_enough c.args.self.now held.known c.args.parcel.finalizers held.balances held.held)
 
 pub returns-clause-routes : goal.returns-clause-routes

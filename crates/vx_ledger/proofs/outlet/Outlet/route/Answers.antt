@@ -10,4 +10,4 @@ returns-clause-exchange c = λ batch place.
     let children : c.with_last.result ≡ children_for all c.args.batches.now.next c.args.parcel
     = cc (c.with_last.ensures, c.replace-finalizers.ensures.last, count, c.next-next.ensures.next, c.in-Ok.ensures.children) in
     rw (c.replace-finalizers.ensures.rows, children, count)
-    (exchange_route all c.args.batches.now.next batch place c.args.parcel c.args.batches.now.open_rows (omega (arith, count)) c.requires)
+    (exchange_route all c.args.batches.now.next batch place c.args.parcel c.args.batches.now.open_rows (omega (arith, count)) c.requires.live)
