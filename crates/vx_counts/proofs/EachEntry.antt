@@ -1,5 +1,5 @@
 -- Each entry counts for an instance, or leaves it.
-use Rattle.std.proofs.Common.{◌≡◌, ℕ, Bool, true, false, not, ◌&&◌, ◌⊎◌, Option, Some, None, List, sym, refl, subst, inl, inr}
+use Rattle.std.proofs.Common.{◌≡◌, ℕ, Bool, true, false, ◌&&◌, ◌⊎◌, Option, Some, None, List, sym, refl, subst, inl, inr}
 use Rattle.std.specs.Prelude.{◌==◌}
 use Rattle.std.proofs.lemmas.Bool.{eqb-true}
 use Rattle.vx_status.specs.declared.outcome.Outcome.TheVariants.{Delivered, Filtered, NewestDropped, NoConsumer, Attempts, Abandoned, Refusal}
@@ -8,7 +8,8 @@ use Rattle.vx_plan.specs.declared.class.Class.TheVariants.{Source, Transform, Si
 use Rattle.vx_record.specs.declared.entry.Entry.TheVariants.{Read, Born, Take, Answer, Attempt, Spent, Notice, Confirm}
 use Rattle.vx_record.specs.Records.{Record}
 use Rattle.vx_record.specs.Places.Place.{Outputs, Waiting}
-use Rattle.vx_record.specs.Tallies.{any_copy, is_unread, is_newest, is_first, is_batch_of}
+use Rattle.vx_record.specs.Parcels.{first_copy}
+use Rattle.vx_record.specs.Tallies.{is_first, is_batch_of}
 use Rattle.vx_counts.specs.Classes.{class_at, IsGiver}
 use Rattle.vx_counts.specs.Spends.{WasPutIn, BeginsOne, BeginsNone, SpendsElsewhere, SpendsHere}
 use Rattle.vx_counts.specs.Laws.{EachCounted}
@@ -32,19 +33,19 @@ begins h i c = go (class_at h i) refl (is_first h i c) refl
     go (Some Transform) class true is = inr (λ sink. absurd (cc))
     go (Some Sink) class true is = inl (class, is)
 
-parts : (a b : Bool) → ((a ≡ true) × (b ≡ false)) ⊎ ((a && not b) ≡ false)
-parts true true = inr refl
-parts true false = inl (refl, refl)
+parts : (a b : Bool) → ((a ≡ true) × (b ≡ true)) ⊎ ((a && b) ≡ false)
+parts true true = inl (refl, refl)
+parts true false = inr refl
 parts false b = inr refl
 
 -- a parcel without a reader is counted by who put it out
 unread : (h : Record) (i j c : ℕ) (copies : List ℕ) → WasPutIn h (Outputs j) copies c → SpendsHere h i c NoConsumer ⊎ SpendsElsewhere h i c NoConsumer
-unread h i j c copies was = elim (parts (j == i) (any_copy is_unread h copies)) [
-  | inl own ↦ go (class_at h i) refl (subst (λ (k : ℕ). WasPutIn h (Outputs k) copies c) (eqb-true j i own.0) was) own.1
+unread h i j c copies was = elim (parts (j == i) (c == first_copy copies)) [
+  | inl own ↦ go (class_at h i) refl (subst (λ (k : ℕ). WasPutIn h (Outputs k) copies c) (eqb-true j i own.0) was) (eqb-true c (first_copy copies) own.1)
   | inr apart ↦ inr (λ giver. record { giver = j; copies = copies; put = was; apart = apart })
 ]
   where
-    go : (o : Option Class) → class_at h i ≡ o → WasPutIn h (Outputs i) copies c → any_copy is_unread h copies ≡ false → SpendsHere h i c NoConsumer ⊎ SpendsElsewhere h i c NoConsumer
+    go : (o : Option Class) → class_at h i ≡ o → WasPutIn h (Outputs i) copies c → c ≡ first_copy copies → SpendsHere h i c NoConsumer ⊎ SpendsElsewhere h i c NoConsumer
     go None class was first = inr (λ giver. absurd (subst IsGiver class giver))
     go (Some Source) class was first = inl (subst IsGiver (sym class) tt, record { copies = copies; put = was; first = first })
     go (Some Transform) class was first = inl (subst IsGiver (sym class) tt, record { copies = copies; put = was; first = first })
@@ -52,12 +53,12 @@ unread h i j c copies was = elim (parts (j == i) (any_copy is_unread h copies)) 
 
 -- and one that a full buffer drops by its target, where that is a sink
 newest : (h : Record) (i j t c : ℕ) (copies : List ℕ) → WasPutIn h (Waiting j t) copies c → SpendsHere h i c NewestDropped ⊎ SpendsElsewhere h i c NewestDropped
-newest h i j t c copies was = elim (parts (t == i) (any_copy is_newest h copies)) [
-  | inl own ↦ go (class_at h i) refl (subst (λ (k : ℕ). WasPutIn h (Waiting j k) copies c) (eqb-true t i own.0) was) own.1
+newest h i j t c copies was = elim (parts (t == i) (c == first_copy copies)) [
+  | inl own ↦ go (class_at h i) refl (subst (λ (k : ℕ). WasPutIn h (Waiting j k) copies c) (eqb-true t i own.0) was) (eqb-true c (first_copy copies) own.1)
   | inr apart ↦ inr (λ sink. record { giver = j; target = t; copies = copies; put = was; apart = apart })
 ]
   where
-    go : (o : Option Class) → class_at h i ≡ o → WasPutIn h (Waiting j i) copies c → any_copy is_newest h copies ≡ false → SpendsHere h i c NewestDropped ⊎ SpendsElsewhere h i c NewestDropped
+    go : (o : Option Class) → class_at h i ≡ o → WasPutIn h (Waiting j i) copies c → c ≡ first_copy copies → SpendsHere h i c NewestDropped ⊎ SpendsElsewhere h i c NewestDropped
     go None class was first = inr (λ sink. absurd (cc))
     go (Some Source) class was first = inr (λ sink. absurd (cc))
     go (Some Transform) class was first = inr (λ sink. absurd (cc))

@@ -10,8 +10,7 @@ pub mod Totals
 pub mod Numbering
 pub mod SpentFrom
 pub mod Dropping
-pub mod Singles
-pub mod Judges
+pub mod Begun
 pub mod EachMet
 pub mod Putting
 pub mod EachEntry

@@ -1,15 +1,15 @@
 -- A live copy was put once into the places of each kind, so that its spend counts once.
-use Rattle.std.proofs.Common.{◌≡◌, ℕ, ◌+◌, ◌<◌, ◌≤◌, Bool, true, false, ◌||◌, List, [], ◌∷◌, sym, refl, ap, ◌∙◌, arith, inl, inr}
+use Rattle.std.proofs.Common.{◌≡◌, ℕ, ◌+◌, ◌<◌, ◌≤◌, Bool, true, false, List, [], ◌∷◌, refl, ap, ◌∙◌, arith, inl, inr}
 use Rattle.std.specs.Prelude.{◌==◌}
 use Rattle.std.proofs.lemmas.Bool.Decides.{nat_tests}
-use Rattle.std.proofs.lemmas.Bool.{cases_eq, cases_lt}
+use Rattle.std.proofs.lemmas.Bool.{cases_lt}
 use Rattle.vx_record.specs.Records.{Record}
 use Rattle.vx_record.specs.Copies.{count, next_copy}
 use Rattle.vx_record.specs.Places.{Place, Put, Kind, kind, all_puts}
 use Rattle.vx_record.specs.Places.Kind.{AnOutput, AChild, AStage, AHold}
 use Rattle.vx_record.specs.Moving.{IsConserved}
 use Rattle.vx_record.specs.Tallies.{one_if, count_puts}
-use Rattle.vx_record.specs.Growth.{has_copy}
+use Rattle.vx_record.specs.Growth.{begins_with}
 use Rattle.vx_record.proofs.Counts.{only, put_count, put_count-append}
 use Rattle.vx_record.proofs.Changes.{only-self}
 use Rattle.vx_record.proofs.OnePlace.{tracked}
@@ -20,28 +20,10 @@ use Rattle.vx_counts.specs.Spends.{WasPutIn}
 pub itself : (i : ℕ) → (i == i) ≡ true
 itself i = grind (arith, nat_tests)
 
--- COPIES OF A PARCEL
-pub has_counted : (c : ℕ) (cs : List ℕ) → 0 < count c cs → has_copy c cs ≡ true
-has_counted c [] some = absurd (omega arith)
-has_counted c (d ∷ ds) some = elim (cases_eq c d) [
-  | inl same ↦
-      let yes : (c == d) ≡ true = grind (arith, nat_tests) in
-      ap (λ b. b || has_copy c ds) yes
-  | inr other ↦
-      let no : (c == d) ≡ false = grind (arith, nat_tests) in
-      let rest : 0 < count c ds = grind (arith, nat_tests) in
-      ap (λ b. b || has_copy c ds) no ∙ has_counted c ds rest
-]
-
-pub counted_has : (c : ℕ) (cs : List ℕ) → has_copy c cs ≡ true → 0 < count c cs
-counted_has c [] has = absurd (cc)
-counted_has c (d ∷ ds) has = elim (cases_eq d c) [
-  | inl same ↦ grind (arith, nat_tests)
-  | inr other ↦
-      let no : (c == d) ≡ false = grind (arith, nat_tests) in
-      let rest = counted_has c ds (sym (ap (λ b. b || has_copy c ds) no) ∙ has) in
-      omega arith
-]
+-- a parcel that begins with a copy has it
+pub begun_has : (c : ℕ) (cs : List ℕ) → begins_with c cs ≡ true → 0 < count c cs
+begun_has c [] has = absurd (cc)
+begun_has c (d ∷ ds) has = grind (arith, nat_tests)
 
 -- PUTS THAT PASS A TEST
 only-same : (k l : Kind) (n : ℕ) → l ≡ k → only k l n ≡ n
@@ -49,7 +31,7 @@ only-same k l n same = ap (λ m. only k m n) same ∙ only-self k n
 
 -- a test that passes only parcels with a copy, at places of a kind, passes none where the copy was put into none
 pub none_pass : (f : Place → List ℕ → Bool) (k : Kind) (c : ℕ) (xs : List Put) →
-    ((p : Place) (cs : List ℕ) → f p cs ≡ true → (kind p ≡ k) × (has_copy c cs ≡ true)) → put_count k xs c ≡ 0 →
+    ((p : Place) (cs : List ℕ) → f p cs ≡ true → (kind p ≡ k) × (0 < count c cs)) → put_count k xs c ≡ 0 →
     count_puts (λ (put : Put). f put.place put.copies) xs ≡ 0
 none_pass f k c [] of none = refl
 none_pass f k c (put ∷ rest) of none =
@@ -60,7 +42,7 @@ none_pass f k c (put ∷ rest) of none =
     go : (b : Bool) → f put.place put.copies ≡ b → one_if b ≡ 0
     go true passes =
         let meant = of put.place put.copies passes in
-        let some = counted_has c put.copies meant.1 in
+        let some = meant.1 in
         let own = only-same k (kind put.place) (count c put.copies) meant.0 in
         absurd (omega arith)
     go false passes = refl
@@ -85,7 +67,7 @@ put_once k h c kept = go k
 
 -- so a test that passes only parcels with the copy, at places of the kind, passes the one in which it was put, or none
 pub alone : (f : Place → List ℕ → Bool) (h : Record) (p : Place) (copies : List ℕ) (c : ℕ) → IsConserved h → WasPutIn h p copies c →
-    ((q : Place) (cs : List ℕ) → f q cs ≡ true → (kind q ≡ kind p) × (has_copy c cs ≡ true)) →
+    ((q : Place) (cs : List ℕ) → f q cs ≡ true → (kind q ≡ kind p) × (0 < count c cs)) →
     count_puts (λ (put : Put). f put.place put.copies) (all_puts h) ≡ one_if (f p copies)
 alone f h p copies c kept was of =
     let all = ap (count_puts (λ (put : Put). f put.place put.copies)) was.put.2 in

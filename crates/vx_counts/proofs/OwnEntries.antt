@@ -1,5 +1,5 @@
 -- What others may count for an instance.
-use Rattle.std.proofs.Common.{◌≡◌, ℕ, ◌+◌, ◌<◌, ◌≤◌, Bool, true, false, not, ◌&&◌, ◌||◌, List, [], ◌∷◌, length, ap, arith}
+use Rattle.std.proofs.Common.{◌≡◌, ℕ, ◌+◌, ◌<◌, ◌≤◌, Bool, true, false, ◌&&◌, ◌||◌, List, [], ◌∷◌, length, ap, arith}
 use Rattle.std.specs.Prelude.{if◌then◌else◌, ◌==◌}
 use Rattle.std.specs.List.{list_any}
 use Rattle.std.proofs.lemmas.Bool.Decides.{nat_tests}
@@ -12,7 +12,7 @@ use Rattle.vx_record.specs.Places.Place.{Outputs, Contents}
 use Rattle.vx_record.specs.Parcels.{first_copy}
 use Rattle.vx_record.specs.Moving.{IsConserved}
 use Rattle.vx_record.specs.Legal.{IsLegal}
-use Rattle.vx_record.specs.Tallies.{any_copy, is_unread, is_first, firsts_in, one_if}
+use Rattle.vx_record.specs.Tallies.{is_first, firsts_in, one_if}
 use Rattle.vx_record.specs.TaskLaws.{took_in}
 use Rattle.vx_record.proofs.Counts.{count-append}
 use Rattle.vx_record.proofs.OnePlace.{conserved}
@@ -21,7 +21,7 @@ use Rattle.vx_record.proofs.Spenders.{spent_by_taker}
 use Rattle.vx_counts.specs.Spends.{BeginsUnread}
 use Rattle.vx_counts.specs.Laws.{CountedByOwn}
 use Rattle.vx_counts.proofs.Beginnings.{oldest_some}
-use Rattle.vx_counts.proofs.Passing.{unread_by}
+use Rattle.vx_counts.proofs.Passing.{own_first, unread_by}
 use Rattle.vx_counts.proofs.SpentFrom.{legal_place, stands_put}
 
 -- WHAT COMES FIRST WAS TAKEN
@@ -71,11 +71,10 @@ first_own h i j c outcome legal other first =
 unread_own : (h : Record) (i j c : ℕ) → IsLegal (Spent j c NoConsumer ∷ h) → (j == i) ≡ false → BeginsUnread h i c → ⊥
 unread_own h i j c legal other begins =
     let put = stands_put h (Outputs j) c (legal_place h j c NoConsumer legal) in
-    let none = unread_by h i j j c put.0 (conserved h legal.1) put.1 in
-    let one = unread_by h i i j c begins.copies (conserved h legal.1) begins.put in
-    let own : (i == i) ≡ true = grind (arith, nat_tests) in
-    let a : one_if ((j == i) && not (any_copy is_unread h put.0)) ≡ 0 = ap (λ b. one_if (b && not (any_copy is_unread h put.0))) other in
-    let b : one_if ((i == i) && not (any_copy is_unread h begins.copies)) ≡ 1 = λ t. one_if (own t && not (begins.first t)) in
+    let none = unread_by h i j j c put.0 (conserved h legal.1) legal.0.row.live.2 put.1 in
+    let one = unread_by h i i j c begins.copies (conserved h legal.1) legal.0.row.live.2 begins.put in
+    let a : one_if ((j == i) && (c == first_copy put.0)) ≡ 0 = ap (λ b. one_if (b && (c == first_copy put.0))) other in
+    let b = own_first i c (first_copy begins.copies) begins.first in
     absurd (omega arith)
 
 apart : (i j : ℕ) → (j == i) ≡ false → j ≡ i → ⊥

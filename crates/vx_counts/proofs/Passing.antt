@@ -1,5 +1,5 @@
 -- What a Spent adds to the counts of parcels, by the parcel in which its copy was put.
-use Rattle.std.proofs.Common.{◌≡◌, ℕ, ◌+◌, ◌≤◌, Bool, true, false, not, ◌&&◌, ◌||◌, List, [], ◌∷◌, sym, refl, ap, ◌∙◌, arith, inl, inr}
+use Rattle.std.proofs.Common.{◌≡◌, ℕ, ◌+◌, ◌<◌, ◌≤◌, Bool, true, false, not, ◌&&◌, ◌||◌, List, [], ◌∷◌, sym, refl, ap, ◌∙◌, arith, inl, inr}
 use Rattle.std.specs.Prelude.{◌==◌, if◌then◌else◌}
 use Rattle.std.specs.List.{list_any}
 use Rattle.std.proofs.lemmas.Bool.Decides.{nat_tests}
@@ -16,12 +16,11 @@ use Rattle.vx_record.specs.Places.Place.{Outputs, Waiting}
 use Rattle.vx_record.specs.Places.Kind.{AnOutput, AChild, AHold}
 use Rattle.vx_record.specs.Parcels.{first_copy}
 use Rattle.vx_record.specs.Moving.{IsConserved}
-use Rattle.vx_record.specs.Tallies.{one_if, count_puts, was_spent, any_copy, is_unread, is_newest, is_output, is_child_for, is_held_by, same_status, spent_as, firsts_in, is_first}
-use Rattle.vx_record.specs.Growth.{has_copy, unread_in, newest_in, spent_in}
-use Rattle.vx_record.proofs.SpentParcels.{and_false, none_passes, not_spent}
+use Rattle.vx_record.specs.Tallies.{one_if, count_puts, was_spent, first_spent, is_unread, is_newest, is_output, is_child_for, is_held_by, same_status, spent_as, firsts_in, is_first}
+use Rattle.vx_record.specs.Growth.{begins_with, unread_in, newest_in, spent_in}
+use Rattle.vx_record.proofs.SpentParcels.{and_false, not_spent}
 use Rattle.vx_counts.specs.Spends.{WasPutIn}
-use Rattle.vx_counts.specs.Laws.{UnspentNone}
-use Rattle.vx_counts.proofs.Once.{has_counted, put_once, alone}
+use Rattle.vx_counts.proofs.Once.{begun_has, put_once, alone}
 use Rattle.vx_counts.proofs.Beginnings.{begun, parts_few}
 
 pub both : (a b : Bool) → (a && b) ≡ true → (a ≡ true) × (b ≡ true)
@@ -53,50 +52,6 @@ pub child_kind : (i : ℕ) (q : Place) → is_child_for i q ≡ true → kind q 
 child_kind i (Waiting j t) e = refl
 child_kind i q e = absurd (cc)
 
--- WITHOUT A CONSUMER
-pub unread_by : (h : Record) (i j k c : ℕ) (copies : List ℕ) → IsConserved h → WasPutIn h (Outputs j) copies c →
-    unread_in h i (Spent k c NoConsumer) ≡ one_if ((j == i) && not (any_copy is_unread h copies))
-unread_by h i j k c copies kept was =
-    alone (λ p cs. is_output i p && ((true && has_copy c cs) && not (any_copy is_unread h cs))) h (Outputs j) copies c kept was
-    (λ q cs passes. let x = both (is_output i q) ((true && has_copy c cs) && not (any_copy is_unread h cs)) passes in
-    (output_kind i q x.0, (both (has_copy c cs) (not (any_copy is_unread h cs)) x.1).0))
-    ∙ ap (λ b. one_if ((j == i) && (b && not (any_copy is_unread h copies)))) (has_counted c copies was.has)
-
-pub unread_none : (h : Record) (i k c : ℕ) (o : Outcome) → is_unread o ≡ false → unread_in h i (Spent k c o) ≡ 0
-unread_none h i k c o fails =
-    no_counts (λ p cs. is_output i p && ((is_unread o && has_copy c cs) && not (any_copy is_unread h cs)))
-    (λ p cs. (λ t. is_output i p && ((fails t && has_copy c cs) && not (any_copy is_unread h cs))) ∙ and_false (is_output i p)) (all_puts h)
-
--- AS THE NEWEST
-pub newest_by : (h : Record) (i j t k c : ℕ) (copies : List ℕ) → IsConserved h → WasPutIn h (Waiting j t) copies c →
-    newest_in h i (Spent k c NewestDropped) ≡ one_if ((t == i) && not (any_copy is_newest h copies))
-newest_by h i j t k c copies kept was =
-    alone (λ p cs. is_child_for i p && ((true && has_copy c cs) && not (any_copy is_newest h cs))) h (Waiting j t) copies c kept was
-    (λ q cs passes. let x = both (is_child_for i q) ((true && has_copy c cs) && not (any_copy is_newest h cs)) passes in
-    (child_kind i q x.0, (both (has_copy c cs) (not (any_copy is_newest h cs)) x.1).0))
-    ∙ ap (λ b. one_if ((t == i) && (b && not (any_copy is_newest h copies)))) (has_counted c copies was.has)
-
-pub newest_none : (h : Record) (i k c : ℕ) (o : Outcome) → is_newest o ≡ false → newest_in h i (Spent k c o) ≡ 0
-newest_none h i k c o fails =
-    no_counts (λ p cs. is_child_for i p && ((is_newest o && has_copy c cs) && not (any_copy is_newest h cs)))
-    (λ p cs. (λ t. is_child_for i p && ((fails t && has_copy c cs) && not (any_copy is_newest h cs))) ∙ and_false (is_child_for i p)) (all_puts h)
-
--- HELD BY A SINK
-any_few : (c : ℕ) (xs : List ℕ) → count c xs ≤ 1 → count c xs ≡ one_if (list_any (λ d. d == c) xs)
-any_few c [] few = refl
-any_few c (x ∷ xs) few = go (x == c) few (any_few c xs)
-  where
-    none : (xs : List ℕ) → count c xs ≤ 0 → count c xs ≡ 0
-    none xs few = omega arith
-
-    go : (b : Bool) → (if b then 1 else 0) + count c xs ≤ 1 → (count c xs ≤ 1 → count c xs ≡ one_if (list_any (λ d. d == c) xs)) →
-        (if b then 1 else 0) + count c xs ≡ one_if (b || list_any (λ d. d == c) xs)
-    go true few rest = omega arith
-    go false few rest = let x = rest (omega arith) in omega arith
-
-pub unspent_none : UnspentNone
-unspent_none h test copies each = none_passes test h copies (λ c l. not_spent test h c (each c l))
-
 -- a parcel passes now where this copy comes first in it
 begins_now : (at : Bool) (was : ℕ → Bool) (c d : ℕ) → was c ≡ false → (at && ((true && (c == d)) && not (was d))) ≡ (at && (c == d))
 begins_now at was c d before = elim (cases_eq c d) [
@@ -111,6 +66,57 @@ begins_now at was c d before = elim (cases_eq c d) [
     and_true : (b : Bool) → (b && true) ≡ b
     and_true true = refl
     and_true false = refl
+
+-- so it is of a parcel that has the copy
+first_passes : (at : Bool) (test : Outcome → Bool) (h : Record) (c : ℕ) (copies : List ℕ) → times_spent h c ≡ 0 → 0 < count c copies →
+    (at && ((true && begins_with c copies) && not (first_spent test h copies))) ≡ (at && (c == first_copy copies))
+first_passes at test h c [] unspent some = absurd (omega arith)
+first_passes at test h c (d ∷ ds) unspent some = begins_now at (was_spent test h) c d (not_spent test h c unspent)
+
+-- a parcel of the instance that begins with the copy
+pub own_first : (i c d : ℕ) → c ≡ d → one_if ((i == i) && (c == d)) ≡ 1
+own_first i c d same = grind (arith, nat_tests)
+
+-- WITHOUT A CONSUMER
+pub unread_by : (h : Record) (i j k c : ℕ) (copies : List ℕ) → IsConserved h → times_spent h c ≡ 0 → WasPutIn h (Outputs j) copies c →
+    unread_in h i (Spent k c NoConsumer) ≡ one_if ((j == i) && (c == first_copy copies))
+unread_by h i j k c copies kept unspent was =
+    alone (λ p cs. is_output i p && ((true && begins_with c cs) && not (first_spent is_unread h cs))) h (Outputs j) copies c kept was
+    (λ q cs passes. let x = both (is_output i q) ((true && begins_with c cs) && not (first_spent is_unread h cs)) passes in
+    (output_kind i q x.0, begun_has c cs (both (begins_with c cs) (not (first_spent is_unread h cs)) x.1).0))
+    ∙ ap one_if (first_passes (j == i) is_unread h c copies unspent was.has)
+
+pub unread_none : (h : Record) (i k c : ℕ) (o : Outcome) → is_unread o ≡ false → unread_in h i (Spent k c o) ≡ 0
+unread_none h i k c o fails =
+    no_counts (λ p cs. is_output i p && ((is_unread o && begins_with c cs) && not (first_spent is_unread h cs)))
+    (λ p cs. (λ t. is_output i p && ((fails t && begins_with c cs) && not (first_spent is_unread h cs))) ∙ and_false (is_output i p)) (all_puts h)
+
+-- AS THE NEWEST
+pub newest_by : (h : Record) (i j t k c : ℕ) (copies : List ℕ) → IsConserved h → times_spent h c ≡ 0 → WasPutIn h (Waiting j t) copies c →
+    newest_in h i (Spent k c NewestDropped) ≡ one_if ((t == i) && (c == first_copy copies))
+newest_by h i j t k c copies kept unspent was =
+    alone (λ p cs. is_child_for i p && ((true && begins_with c cs) && not (first_spent is_newest h cs))) h (Waiting j t) copies c kept was
+    (λ q cs passes. let x = both (is_child_for i q) ((true && begins_with c cs) && not (first_spent is_newest h cs)) passes in
+    (child_kind i q x.0, begun_has c cs (both (begins_with c cs) (not (first_spent is_newest h cs)) x.1).0))
+    ∙ ap one_if (first_passes (t == i) is_newest h c copies unspent was.has)
+
+pub newest_none : (h : Record) (i k c : ℕ) (o : Outcome) → is_newest o ≡ false → newest_in h i (Spent k c o) ≡ 0
+newest_none h i k c o fails =
+    no_counts (λ p cs. is_child_for i p && ((is_newest o && begins_with c cs) && not (first_spent is_newest h cs)))
+    (λ p cs. (λ t. is_child_for i p && ((fails t && begins_with c cs) && not (first_spent is_newest h cs))) ∙ and_false (is_child_for i p)) (all_puts h)
+
+-- HELD BY A SINK
+any_few : (c : ℕ) (xs : List ℕ) → count c xs ≤ 1 → count c xs ≡ one_if (list_any (λ d. d == c) xs)
+any_few c [] few = refl
+any_few c (x ∷ xs) few = go (x == c) few (any_few c xs)
+  where
+    none : (xs : List ℕ) → count c xs ≤ 0 → count c xs ≡ 0
+    none xs few = omega arith
+
+    go : (b : Bool) → (if b then 1 else 0) + count c xs ≤ 1 → (count c xs ≤ 1 → count c xs ≡ one_if (list_any (λ d. d == c) xs)) →
+        (if b then 1 else 0) + count c xs ≡ one_if (b || list_any (λ d. d == c) xs)
+    go true few rest = omega arith
+    go false few rest = let x = rest (omega arith) in omega arith
 
 pub held_none : (status : EventStatus) (h : Record) (i j c : ℕ) (o : Outcome) → same_status (status_of o) status ≡ false → spent_in status h i (Spent j c o) ≡ 0
 held_none status h i j c o fails =

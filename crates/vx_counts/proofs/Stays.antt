@@ -94,13 +94,13 @@ no_sent (Attempt j copies bytes reply) h i be = ap (λ b. if b then length bytes
 no_sent e h i be = refl
 
 no_unread : (e : Entry) (h : Record) (i : ℕ) → IsLegal (e ∷ h) → LeavesBe h i e → IsGiver (class_at h i) → unread_in h i e ≡ 0
-no_unread (Spent j c NoConsumer) h i legal be giver = let x = be giver in unread_by h i x.giver j c x.copies (conserved h legal.1) x.put ∙ ap one_if x.apart
+no_unread (Spent j c NoConsumer) h i legal be giver = let x = be giver in unread_by h i x.giver j c x.copies (conserved h legal.1) legal.0.row.live.2 x.put ∙ ap one_if x.apart
 no_unread (Spent j c outcome) h i legal be giver = unread_none h i j c outcome refl
 no_unread e h i legal be giver = refl
 
 no_newest : (e : Entry) (h : Record) (i : ℕ) → IsLegal (e ∷ h) → LeavesBe h i e → class_at h i ≡ Some Sink → newest_in h i e ≡ 0
 no_newest (Spent j c NewestDropped) h i legal be sink =
-    let x = be sink in newest_by h i x.giver x.target j c x.copies (conserved h legal.1) x.put ∙ ap one_if x.apart
+    let x = be sink in newest_by h i x.giver x.target j c x.copies (conserved h legal.1) legal.0.row.live.2 x.put ∙ ap one_if x.apart
 no_newest (Spent j c outcome) h i legal be sink = newest_none h i j c outcome refl
 no_newest e h i legal be sink = refl
 

@@ -1,5 +1,5 @@
 -- Each call adds what its entry adds.
-use Rattle.std.proofs.Common.{◌≡◌, ℕ, zero, suc, ◌+◌, Bool, true, false, not, ◌&&◌, Option, Some, None, List, [], ◌∷◌, length, sum, map, sym, refl, ap, ◌∙◌, arith, inl, inr}
+use Rattle.std.proofs.Common.{◌≡◌, ℕ, zero, suc, ◌+◌, Bool, true, false, ◌&&◌, Option, Some, None, List, [], ◌∷◌, length, sum, map, sym, refl, ap, ◌∙◌, arith, inl, inr}
 use Rattle.std.specs.Prelude.{if◌then◌else◌, ◌==◌, count_by}
 use Rattle.std.proofs.lemmas.Bool.Decides.{nat_tests}
 use Rattle.vx_ends.specs.declared.position.Position.{Position}
@@ -20,7 +20,9 @@ use Rattle.vx_record.specs.declared.tally.Tally.{Tally}
 use Rattle.vx_record.specs.declared.entry.Entry.{Entry}
 use Rattle.vx_record.specs.declared.entry.Entry.TheVariants.{Read, Born, Take, Answer, Attempt, Spent, Notice, Confirm}
 use Rattle.vx_record.specs.Records.{Record, capped}
+use Rattle.vx_record.specs.Copies.{times_spent}
 use Rattle.vx_record.specs.Moving.{IsConserved}
+use Rattle.vx_record.specs.Parcels.{first_copy}
 use Rattle.vx_record.specs.Legal.{IsLegal}
 use Rattle.vx_record.specs.Growth.{unread_in, newest_in, spent_in}
 use Rattle.vx_record.specs.declared.output.Output.{Output}
@@ -34,7 +36,7 @@ use Rattle.vx_counts.specs.Classes.{class_at, IsGiver}
 use Rattle.vx_sourcecore.specs.NewLines.{AreNew}
 use Rattle.vx_counts.specs.Meets.{Meets}
 use Rattle.vx_counts.proofs.Once.{itself}
-use Rattle.vx_counts.proofs.Passing.{unread_by, newest_by, newest_none, held_by, held_none}
+use Rattle.vx_counts.proofs.Passing.{own_first, unread_by, newest_by, newest_none, held_by, held_none}
 use Rattle.vx_counts.proofs.Classes.{by_class, source_is, transform_is, sink_is, taker_is, tally_is}
 use Rattle.vx_counts.proofs.Numbering.{bearer_is, owner_is}
 use Rattle.vx_record.proofs.OnePlace.{conserved}
@@ -175,20 +177,20 @@ attempt_kept h i copies gave reply old bytes n k kept is_bytes is_n is_k =
     class = sink_is h i kept.0.row.sink
 
 -- WHERE A COPY COUNTS
-unread_here : (h : Record) (i j c : ℕ) → IsConserved h → BeginsUnread h i c → unread_in h i (Spent j c NoConsumer) ≡ 1
-unread_here h i j c kept begins =
-    unread_by h i i j c begins.copies kept begins.put ∙ ap (λ b. one_if ((i == i) && not b)) begins.first ∙ ap (λ b. one_if (b && true)) (itself i)
+unread_here : (h : Record) (i j c : ℕ) → IsConserved h → times_spent h c ≡ 0 → BeginsUnread h i c → unread_in h i (Spent j c NoConsumer) ≡ 1
+unread_here h i j c kept unspent begins =
+    unread_by h i i j c begins.copies kept unspent begins.put ∙ own_first i c (first_copy begins.copies) begins.first
 
-newest_here : (h : Record) (i j c : ℕ) → IsConserved h → BeginsNewest h i c → newest_in h i (Spent j c NewestDropped) ≡ 1
-newest_here h i j c kept begins =
-    newest_by h i begins.giver i j c begins.copies kept begins.put ∙ ap (λ b. one_if ((i == i) && not b)) begins.first ∙ ap (λ b. one_if (b && true)) (itself i)
+newest_here : (h : Record) (i j c : ℕ) → IsConserved h → times_spent h c ≡ 0 → BeginsNewest h i c → newest_in h i (Spent j c NewestDropped) ≡ 1
+newest_here h i j c kept unspent begins =
+    newest_by h i begins.giver i j c begins.copies kept unspent begins.put ∙ own_first i c (first_copy begins.copies) begins.first
 
 pub unread_kept : (h : Record) (i j c : ℕ) (old : Tally) (n : ℕ) → IsLegal (Spent j c NoConsumer ∷ h) → IsGiver (class_at h i) → BeginsUnread h i c → n ≡ capped (old.unread + 1) →
     Meets i h old → Meets i (Spent j c NoConsumer ∷ h) (record old { unread = n })
 unread_kept h i j c old n kept giver begins is_n meets = go (class_at h i) refl giver
   where
     adds : n ≡ grown old.unread (unread_in h i (Spent j c NoConsumer))
-    adds = one_more n old.unread (unread_in h i (Spent j c NoConsumer)) is_n (unread_here h i j c (conserved h kept.1) begins)
+    adds = one_more n old.unread (unread_in h i (Spent j c NoConsumer)) is_n (unread_here h i j c (conserved h kept.1) kept.0.row.live.2 begins)
 
     go : (k : Option Class) → class_at h i ≡ k → IsGiver k → Meets i (Spent j c NoConsumer ∷ h) (record old { unread = n })
     go None class bad = absurd bad
@@ -203,7 +205,7 @@ newest_kept h i j c old n kept class begins is_n =
       delivered = none event.Delivered old.delivered refl t;
       errored = none event.Errored old.errored refl t;
       rejected = none event.Rejected old.rejected refl t;
-      newest = one_more n old.newest (newest_in h i (Spent j c NewestDropped)) is_n (newest_here h i j c (conserved h kept.1) begins) t;
+      newest = one_more n old.newest (newest_in h i (Spent j c NewestDropped)) is_n (newest_here h i j c (conserved h kept.1) kept.0.row.live.2 begins) t;
     })
   where
     none : (s : EventStatus) (n : ℕ) → same_status event.Dropped s ≡ false → n ≡ grown n (spent_in s h i (Spent j c NewestDropped))

@@ -1,29 +1,27 @@
 -- The laws by which kept counts stay those of the record.
-use Rattle.std.specs.Prelude.{ℕ, ◌<◌, ◌≡◌, Bool, true, false, Some, List, [], ◌∷◌, ◌++◌, length, count_by, ◌⊎◌}
+use Rattle.std.specs.Prelude.{Bool, ℕ, ◌<◌, ◌≡◌, true, false, Some, List, [], ◌∷◌, ◌++◌, length, count_by, ◌⊎◌}
+use Rattle.vx_value.specs.Texts.{is_empty}
 use Rattle.vx_ends.specs.declared.position.Position.{Position}
 use Rattle.vx_status.specs.declared.outcome.Outcome.{Outcome}
 use Rattle.vx_plan.specs.declared.class.Class.TheVariants.{Source, Transform, Sink}
 use Rattle.vx_record.specs.declared.tally.Tally.{Tally}
-use Rattle.vx_record.specs.declared.output.Output.{Output}
 use Rattle.vx_record.specs.declared.entry.Entry.{Entry}
 use Rattle.vx_record.specs.declared.entry.Entry.TheVariants.{Spent, Confirm}
 use Rattle.vx_record.specs.Records.{Record}
-use Rattle.vx_record.specs.Copies.{count, joined, times_spent}
-use Rattle.vx_record.specs.Places.{Place, Put, all_puts, puts}
+use Rattle.vx_record.specs.Copies.{count, joined}
+use Rattle.vx_record.specs.Places.{Place, Put, puts}
 use Rattle.vx_record.specs.Places.Place.{Held}
 use Rattle.vx_record.specs.Legal.{IsLegal}
-use Rattle.vx_record.specs.Answering.{MayAnswer}
-use Rattle.vx_record.specs.Ceasing.{no_answer}
-use Rattle.vx_record.specs.Judges.{OnlyJudges}
 use Rattle.vx_record.specs.Installs.{source_at, transform_at, sink_at}
 use Rattle.vx_record.specs.Confirms.{confirmed, last_of_each}
-use Rattle.vx_record.specs.Tallies.{tally, is_batch_of, is_first, any_copy}
+use Rattle.vx_record.specs.Tallies.{tally, is_batch_of, is_first}
 use Rattle.vx_record.specs.Tasks.{is_of}
 use Rattle.vx_record.specs.TallyLists.{tallies_of}
 use Rattle.vx_counts.specs.Classes.{class_at}
 use Rattle.vx_counts.specs.Meets.{LeavesBe, CountsFor, ComesFromOthers, EachMeets}
-use Rattle.vx_counts.specs.Spends.{StandsAt, WasPut, WasPutIn, HasPlace, AllOnes}
+use Rattle.vx_counts.specs.Spends.{StandsAt, WasPut, WasPutIn, HasPlace}
 use Rattle.vx_counts.specs.Answers.{WereTaken}
+use Rattle.vx_counts.specs.Begun.{IsBegun, AreBegun, EachBegun, LeavesBegun, WasPutAs}
 
 -- an entry that counts for others alone leaves an instance's tally
 abbrev pub OthersStay : Type 0
@@ -81,30 +79,35 @@ FirstOfTaken =
     (h : Record) (i c : ℕ) (rest : List ℕ) → IsLegal h → WasPut h (Held i) (c ∷ rest) →
     (is_first h i c ≡ true) × ((d : ℕ) → 0 < count d rest → is_first h i d ≡ false)
 
--- of a parcel of which no copy is spent, none was spent so or so
-abbrev pub UnspentNone : Type 0
-UnspentNone =
-    (h : Record) (test : Outcome → Bool) (copies : List ℕ) → ((c : ℕ) → 0 < count c copies → times_spent h c ≡ 0) → any_copy test h copies ≡ false
+-- in the empty record each parcel that stands is a first part of one that was put there
+abbrev pub BegunFirst : Type 0
+BegunFirst = (some : ℕ → Bool) → EachBegun some []
+
+-- and behind each entry that leaves first parts
+abbrev pub BegunStays : Type 0
+BegunStays =
+    (some : ℕ → Bool) (e : Entry) (h : Record) → IsLegal (e ∷ h) → LeavesBegun some h e → EachBegun some h → EachBegun some (e ∷ h)
+
+-- so the last copy of what is left of a parcel came first in it exactly where no other is left
+abbrev pub LastIsFirst : Type 0
+LastIsFirst =
+    (h : Record) (p : Place) (left : List ℕ) (c : ℕ) → IsLegal h → IsBegun h p (left ++ c ∷ []) → WasPutAs h p c (is_empty left)
+
+-- so it is of what an instance took
+abbrev pub LastTakenFirst : Type 0
+LastTakenFirst =
+    (h : Record) (i : ℕ) (left : List ℕ) (c : ℕ) → IsLegal h → IsBegun h (Held i) (left ++ c ∷ []) → is_empty left ≡ is_first h i c
 
 -- where what is discarded is parcels that the instance took, each whole, it counts once for each
 abbrev pub DroppedWhole : Type 0
 DroppedWhole =
     (h : Record) (i : ℕ) (parcels : List (List ℕ)) → IsLegal h → WereTaken h i parcels → count_by (is_first h i) (joined parcels) ≡ length parcels
 
+-- and where it is first parts of them
+abbrev pub DroppedBegun : Type 0
+DroppedBegun =
+    (h : Record) (i : ℕ) (parcels : List (List ℕ)) → IsLegal h → AreBegun h (Held i) parcels → count_by (is_first h i) (joined parcels) ≡ length parcels
+
 -- counts that are kept for each instance are the tallies of all
 abbrev pub AllMet : Type 0
 AllMet = (h : Record) (kept : List Tally) → EachMeets h 0 kept → kept ≡ tallies_of h (length kept)
-
--- each parcel has one copy, where nothing joins parcels
-abbrev pub OneCopyEach : Type 0
-OneCopyEach = (h : Record) → IsLegal h → no_answer h ≡ true → AllOnes (all_puts h)
-
--- nor do transforms that judge event by event
-abbrev pub JudgesOneCopyEach : Type 0
-JudgesOneCopyEach = (h : Record) → IsLegal h → OnlyJudges h → AllOnes (all_puts h)
-
--- so what one of them discards counts once for each copy
-abbrev pub JudgeDrops : Type 0
-JudgeDrops =
-    (h : Record) (i : ℕ) (outputs : List Output) (discarded kept : List ℕ) → IsLegal h → OnlyJudges h →
-    MayAnswer h i outputs discarded kept → count_by (is_first h i) discarded ≡ length discarded

@@ -1,5 +1,5 @@
 -- Which parcel a copy was put in decides whose count rises where it is spent.
-use Rattle.std.specs.Prelude.{ℕ, ◌<◌, ◌≡◌, ◌==◌, ◌&&◌, not, true, false, Some, List, [], ◌∷◌, ◌++◌}
+use Rattle.std.specs.Prelude.{ℕ, ◌<◌, ◌≡◌, ◌==◌, ◌&&◌, true, false, Some, List, ◌∷◌, ◌++◌}
 use Rattle.vx_plan.specs.declared.class.Class.TheVariants.{Sink}
 use Rattle.vx_status.specs.declared.outcome.Outcome.{Outcome}
 use Rattle.vx_status.specs.declared.outcome.Outcome.TheVariants.{Delivered, Filtered, NewestDropped, NoConsumer, Attempts, Abandoned, Refusal}
@@ -8,7 +8,8 @@ use Rattle.vx_record.specs.Copies.{count, joined}
 use Rattle.vx_record.specs.Places.{Place, Put, all_puts}
 use Rattle.vx_record.specs.Places.Place.{Outputs, Waiting, Held}
 use Rattle.vx_record.specs.Lists.{stands, parcels_at}
-use Rattle.vx_record.specs.Tallies.{any_copy, is_unread, is_newest, is_first}
+use Rattle.vx_record.specs.Parcels.{first_copy}
+use Rattle.vx_record.specs.Tallies.{is_first}
 use Rattle.vx_counts.specs.Classes.{class_at, IsGiver}
 
 -- a copy stands at a place
@@ -24,45 +25,33 @@ pub record WasPutIn (h : Record) (p : Place) (copies : List ℕ) (c : ℕ) : Typ
   pub put : WasPut h p copies
   pub has : 0 < count c copies
 
--- one copy alone
-abbrev pub IsOne : List ℕ → Type 0
-IsOne [] = ⊥
-IsOne (c ∷ []) = Unit {0}
-IsOne (c ∷ d ∷ rest) = ⊥
-
--- each parcel that was put anywhere has one copy
-abbrev pub AllOnes : List Put → Type 0
-AllOnes [] = Unit {0}
-AllOnes (put ∷ rest) = IsOne put.copies × AllOnes rest
-
--- a copy for want of a reader counts elsewhere, or not at all: another instance put it out, or a copy of its parcel was spent so
--- before
+-- a copy for want of a reader counts elsewhere, or not at all: another instance put it out, or it isn't the first of its parcel
 pub record IsReadElsewhere (h : Record) (i c : ℕ) : Type 0 where
   pub giver : ℕ
   pub copies : List ℕ
   pub put : WasPutIn h (Outputs giver) copies c
-  pub apart : ((giver == i) && not (any_copy is_unread h copies)) ≡ false
+  pub apart : ((giver == i) && (c == first_copy copies)) ≡ false
 
--- so does a copy that is dropped as the newest: it waits for another target, or one of its parcel was dropped before
+-- so does a copy that is dropped as the newest: it waits for another target, or it isn't the first of its parcel
 pub record IsNewElsewhere (h : Record) (i c : ℕ) : Type 0 where
   pub giver : ℕ
   pub target : ℕ
   pub copies : List ℕ
   pub put : WasPutIn h (Waiting giver target) copies c
-  pub apart : ((target == i) && not (any_copy is_newest h copies)) ≡ false
+  pub apart : ((target == i) && (c == first_copy copies)) ≡ false
 
--- the copy is the first of a parcel that the instance put out to be spent for want of a reader
+-- the copy is the first of a parcel that the instance put out
 pub record BeginsUnread (h : Record) (i c : ℕ) : Type 0 where
   pub copies : List ℕ
   pub put : WasPutIn h (Outputs i) copies c
-  pub first : any_copy is_unread h copies ≡ false
+  pub first : c ≡ first_copy copies
 
--- the copy is the first of a parcel that waits for the instance to be dropped as the newest
+-- the copy is the first of a parcel that waits for the instance
 pub record BeginsNewest (h : Record) (i c : ℕ) : Type 0 where
   pub giver : ℕ
   pub copies : List ℕ
   pub put : WasPutIn h (Waiting giver i) copies c
-  pub first : any_copy is_newest h copies ≡ false
+  pub first : c ≡ first_copy copies
 
 -- no parcel that a sink took begins with the copy
 abbrev pub BeginsNone : Record → ℕ → ℕ → Type 0

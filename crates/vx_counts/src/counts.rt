@@ -120,7 +120,7 @@ impl Counts {
         tally.bytes = tally.bytes.saturating_add(bytes);
     }
 
-    /// The first copy of a parcel that a source or a transform put out was spent for want of a reader. Its other copies count no more.
+    /// The first copy of a parcel that a source or a transform put out was spent for want of a reader. Its other copies don't count.
     pub fn unread(&mut self)
         ensures { (h : Record) → (i j c : ℕ) → IsLegal (Spent j c NoConsumer ∷ h) →
             IsGiver (class_at h i) → BeginsUnread h i c → Meets i h self.old.tally →
@@ -130,7 +130,7 @@ impl Counts {
     }
 
     /// The first copy of a parcel for a sink was dropped as the newest, since its buffer was full. The sender `j` spends it.
-    /// Its other copies count no more.
+    /// Its other copies don't count.
     pub fn dropped_newest(&mut self)
         ensures { (h : Record) → (i j c : ℕ) → IsLegal (Spent j c NewestDropped ∷ h) →
             class_at h i ≡ Some Sink → BeginsNewest h i c → Meets i h self.old.tally →

@@ -1,6 +1,6 @@
 //! The laws of kept counts. A law's function does nothing: what it ensures is proved.
 
-ghost use Rattle.vx_counts.specs.Laws.{OthersStay, EachCounted, CountedByOwn, LegalPlace, StandsPut, PutNow, PutStays, FirstOfTaken, UnspentNone, DroppedWhole, OneCopyEach, JudgesOneCopyEach, JudgeDrops, ConfirmsAll, OneOwner, SourceIs, TransformIs, SinkIs, AllMet};
+ghost use Rattle.vx_counts.specs.Laws.{OthersStay, EachCounted, CountedByOwn, LegalPlace, StandsPut, PutNow, PutStays, FirstOfTaken, BegunFirst, BegunStays, LastIsFirst, LastTakenFirst, DroppedWhole, DroppedBegun, ConfirmsAll, OneOwner, SourceIs, TransformIs, SinkIs, AllMet};
 
 /// An entry leaves the counts of each instance that it doesn't count for; and it counts for an instance or leaves it be. One of
 /// another task counts only as a notice, or as a copy that was dropped as the newest.
@@ -18,20 +18,24 @@ pub fn places()
     ensures stays { PutStays }
 {}
 
-/// Of a parcel that was taken the first copy comes first, and no other; of one of which no copy is spent, none was spent in any way.
-/// Where no transform answered, or each judges event by event, each parcel has one copy.
+/// Of a parcel that was taken the first copy comes first, and no other.
 pub fn firsts()
-    ensures taken { FirstOfTaken }
-    ensures unspent { UnspentNone }
-    ensures ones { OneCopyEach }
-    ensures judged { JudgesOneCopyEach }
+    ensures { FirstOfTaken }
 {}
 
-/// What a transform discards counts once for each parcel that it took, where it discards whole parcels. Where each transform judges
-/// event by event, it counts once for each copy.
+/// What stands anywhere are first parts of the parcels that were put there, as long as what is spent is the last copy of what is left
+/// of a parcel, and an Answer leaves first parts too. That last copy came first in its parcel exactly where no other is left.
+pub fn parts()
+    ensures none { BegunFirst }
+    ensures stays { BegunStays }
+    ensures last { LastIsFirst }
+    ensures taken { LastTakenFirst }
+{}
+
+/// What a transform discards counts once for each parcel that it took, where it discards whole parcels, or what is left of them.
 pub fn discards()
     ensures whole { DroppedWhole }
-    ensures judged { JudgeDrops }
+    ensures begun { DroppedBegun }
 {}
 
 /// A confirm names each stream that was confirmed before it.

@@ -5,4 +5,4 @@ mod counts;
 mod laws;
 
 pub use counts::Counts;
-pub use laws::{all, confirms, discards, firsts, others, owners, places, roles};
+pub use laws::{all, confirms, discards, firsts, others, owners, parts, places, roles};

@@ -1,6 +1,6 @@
 -- What is said of an instance's places, by its row: of the children that wait, and the oldest for a target, and of all of them.
 use Rattle.std.proofs.Common.{◌≡◌, ℕ, zero, suc, ◌+◌, ◌<◌, Bool, true, false, List, [], ◌∷◌, ◌++◌, length, get_or, refl, sym, ap, ◌∙◌, arith, Option, inl, inr, Some, None}
-use Rattle.std.specs.Prelude.{◌≢◌, ◌==◌, if◌then◌else◌, slice_set, remove, IsSomeAnd, ◌↔◌}
+use Rattle.std.specs.Prelude.{◌≢◌, ◌==◌, if◌then◌else◌, slice_set, remove, IsSomeAnd, IfSome, ◌↔◌}
 use Rattle.std.specs.List.{slice_get}
 use Rattle.std.specs.declared.collections.VecDeque.{VecDeque}
 use Rattle.std.specs.VecDeque.{deque_with_item}
@@ -10,16 +10,19 @@ use Rattle.std.proofs.lemmas.List.{set-get_or}
 use Rattle.std.proofs.lemmas.Option.{slice_get-get_or}
 use native.Mathlib.Nat.{ℕ_set}
 use native.Mathlib.Bridge.{le_prop}
+use Rattle.vx_value.specs.Texts.{is_empty}
 use Rattle.vx_value.specs.declared.event.Event.{Event}
 use Rattle.vx_ledger.specs.Copies.{Copy}
 use Rattle.vx_ledger.specs.declared.parcel.Parcel.{Parcel}
 use Rattle.vx_ledger.specs.declared.child.Child.{Child}
+use Rattle.vx_record.specs.Places.{Place, owner, same_place}
 use Rattle.vx_record.specs.Places.Place.{Outputs, Waiting, Contents, Held}
 use Rattle.vx_places.specs.Numbers.{for_target}
-use Rattle.vx_places.specs.Calls.{LosesCopy, NothingToLose, NoneBefore, left_of, NoneWaits, IsOldestFor, waiting_target}
+use Rattle.vx_places.specs.Calls.{LosesCopy, NothingToLose, NoneBefore, left_of, NoneWaits, IsOldestFor, IsLent, waiting_target}
 use Rattle.vx_places.specs.declared.row.Row.{Row}
-use Rattle.vx_places.specs.Views.{row_at, here_if, parcels_here}
-use Rattle.vx_places.specs.Looks.{HasSent, HasEmptyBuffer, ManyWait, IsBare}
+use Rattle.vx_places.specs.Views.{row_at, held_items, here_if, parcels_here}
+use Rattle.vx_places.specs.Looks.{HasSent, HasEmptyBuffer, ManyWait, IsBare, AreBare, IsClear, AreEnded}
+use Rattle.vx_places.specs.Laws.{EndedWhere}
 use Rattle.vx_places.proofs.Written.{same_but_ok, has, is_there, one_some}
 
 -- THE OLDEST FOR A TARGET
@@ -106,6 +109,12 @@ pub left_filled : (event : Event) (left : List Copy) (rest : List Parcel) → le
 left_filled event [] rest filled = absurd (filled refl)
 left_filled event (c ∷ cs) rest filled = refl
 
+-- a test for none tells whether there is none
+told_empty : (b : Bool) (xs : List Copy) → (b ≡ true) ↔ (xs ≡ []) → b ≡ is_empty xs
+told_empty b [] is = is.1 refl
+told_empty true (x ∷ xs) is = let none = is.0 refl in absurd (cc)
+told_empty false (x ∷ xs) is = refl
+
 module _ (t k : ℕ) (cs : List Child) (c : Child) (first : NoneBefore t k cs) (at : c ≡ get_or cs k c) where
   is_for : c.target ≡ t
   is_for = has (λ (d : Child). d.target ≡ t) cs k c (child_there t k cs first) at (oldest_for t k cs first)
@@ -120,14 +129,15 @@ module _ (t k : ℕ) (cs : List Child) (c : Child) (first : NoneBefore t k cs) (
   others_stay u other = sym (ap (for_target u) still ∙ other_written t u k cs c (child_there t k cs first) is_for other)
 
   -- it has fewer copies, or is gone with its only one
-  pub child_lost : (left : List Copy) (copy : Copy) (new : List Parcel) → c.parcel.finalizers ≡ left ++ copy ∷ [] → new ≡ left_of c.parcel.event left (for_target t (remove cs k)) →
-      LosesCopy copy (for_target t cs) new
-  child_lost left copy new are now = record {
+  pub child_lost : (left : List Copy) (copy : Copy) (last : Bool) (new : List Parcel) → c.parcel.finalizers ≡ left ++ copy ∷ [] → (last ≡ true) ↔ (left ≡ []) →
+      new ≡ left_of c.parcel.event left (for_target t (remove cs k)) → LosesCopy copy last (for_target t cs) new
+  child_lost left copy last new are none now = record {
     event = c.parcel.event;
     left = left;
     rest = for_target t (remove cs k);
     was = oldest_is ∙ ap (λ (copies : List Copy). record { event = c.parcel.event; finalizers = copies } ∷ for_target t (remove cs k)) are;
     now = now;
+    alone = told_empty last left none;
   }
 
   module _ (left : List Copy) where
@@ -215,3 +225,39 @@ bare_is rows i sent buffer held (Outputs j) own = rw own sent.0
 bare_is rows i sent buffer held (Waiting j t) own = rw own (sent.1 t)
 bare_is rows i sent buffer held (Contents j s) own = rw own (buffer s)
 bare_is rows i sent buffer held (Held j) own = rw own held
+
+-- A CLEAR INSTANCE
+pub clear_is : (rows : List Row) (i : ℕ) → HasSent rows i → HasEmptyBuffer rows i → IsClear rows i
+clear_is rows i sent buffer (Outputs j) own other = rw own sent.0
+clear_is rows i sent buffer (Waiting j t) own other = rw own (sent.1 t)
+clear_is rows i sent buffer (Contents j s) own other = rw own (buffer s)
+clear_is rows i sent buffer (Held j) own other = absurd (grind (arith, nat_tests, own, other))
+
+pub clear_sent : (rows : List Row) (i : ℕ) → IsClear rows i → HasSent rows i
+clear_sent rows i clear = (clear (Outputs i) refl refl, λ t. clear (Waiting i t) refl refl)
+
+pub clear_buffer : (rows : List Row) (i : ℕ) → IsClear rows i → HasEmptyBuffer rows i
+clear_buffer rows i clear s = clear (Contents i s) refl refl
+
+-- AN INSTANCE THAT MAY BE ENDED
+none_of : (o : Option (List Parcel)) → o ≡ Some [] → IfSome o (λ ps. ps ≡ [])
+none_of None none = cc
+none_of (Some ps) none = one_some ps [] none
+
+-- what is lent can't be seen
+pub lent_unseen : (rows : List Row) (i : ℕ) → IsLent rows i → parcels_here rows (Held i) ≡ None
+lent_unseen rows i = go (row_at rows i)
+  where
+    go : (o : Option Row) → IsSomeAnd o (λ row. row.held ≡ None) → here_if (Held i) o ≡ None
+    go None lent = absurd lent
+    go (Some row) lent = ap held_items lent
+
+pub ended_where : EndedWhere
+ended_where rows i = (λ bare p own. none_of (parcels_here rows p) (bare p own), clear_ended)
+  where
+    clear_ended : IsClear rows i → IsLent rows i → (p : Place) → owner p ≡ i → IfSome (parcels_here rows p) (λ ps. ps ≡ [])
+    clear_ended clear lent (Held j) own = rw (own, lent_unseen rows i lent) tt
+    clear_ended clear lent p own = none_of (parcels_here rows p) (clear p own refl)
+
+pub bare_ended : (rows : List Row) → AreBare rows → AreEnded rows
+bare_ended rows bare i there = (ended_where rows i).0 (bare i there)

@@ -1,5 +1,7 @@
 -- What is left of a parcel that loses its last copy.
 use Rattle.std.proofs.Common.{◌≡◌, ℕ, List, [], ◌∷◌, ◌++◌, refl, sym, ap, ◌∙◌, Option, Some, None, inl, inr, subst}
+use Rattle.std.specs.Prelude.{is_some, not}
+use Rattle.vx_value.specs.Texts.{is_empty}
 use Rattle.vx_value.specs.declared.event.Event.{Event}
 use Rattle.vx_ledger.specs.Copies.{Copy}
 use Rattle.vx_ledger.specs.declared.parcel.Parcel.{Parcel}
@@ -29,13 +31,20 @@ left_is : (event : Event) (cs : List Copy) (rest : List Parcel) → and_left (un
 left_is event [] rest = refl
 left_is event (c ∷ cs) rest = refl
 
-pub loses_first : (copy : Copy) (parcel : Parcel) (left : Option Parcel) (rest : List Parcel) → LosesLast copy parcel left → LosesCopy copy (parcel ∷ rest) (and_left left rest)
+-- nothing is left of it where no copy is
+none_left : (event : Event) (cs : List Copy) → not (is_some (unless_bare event cs)) ≡ is_empty cs
+none_left event [] = refl
+none_left event (c ∷ cs) = refl
+
+pub loses_first : (copy : Copy) (parcel : Parcel) (left : Option Parcel) (rest : List Parcel) → LosesLast copy parcel left →
+    LosesCopy copy (not (is_some left)) (parcel ∷ rest) (and_left left rest)
 loses_first copy parcel left rest less = record {
   event = parcel.event;
   left = less.left;
   rest = rest;
   was = ap (λ (cs : List Copy). record { event = parcel.event; finalizers = cs } ∷ rest) less.was;
   now = ap (λ (o : Option Parcel). and_left o rest) less.now ∙ left_is parcel.event less.left rest;
+  alone = ap (λ (o : Option Parcel). not (is_some o)) less.now ∙ none_left parcel.event less.left;
 }
 
 -- and what is left of an output

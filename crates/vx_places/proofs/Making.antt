@@ -1,21 +1,22 @@
 -- Rows that are made, and rows at which nothing stands.
 use Rattle.std.proofs.Common.{◌≡◌, ℕ, zero, suc, ◌+◌, ◌<◌, List, [], ◌∷◌, ◌++◌, length, take, get_or, refl, sym, ap, ◌∙◌, arith, Option, Some, None}
-use Rattle.std.specs.Prelude.{slice_index, IsSomeAnd, IsSome}
+use Rattle.std.specs.Prelude.{◌==◌, false, slice_index, IsSomeAnd, IfSome, IsSome}
+use Rattle.std.proofs.lemmas.Bool.Decides.{nat_tests}
 use Rattle.std.proofs.lemmas.List.Elements.{recursion_from_All}
 use Rattle.std.proofs.lemmas.Option.{slice_get-get_or}
 use Rattle.vx_value.specs.Filled.{Filled}
 use Rattle.vx_ledger.specs.declared.parcel.Parcel.{Parcel}
-use Rattle.vx_record.specs.Places.{Place, owner}
+use Rattle.vx_record.specs.Places.{Place, owner, same_place}
 use Rattle.vx_record.specs.Places.Place.{Outputs, Waiting, Contents, Held}
 use Rattle.vx_places.specs.declared.row.Row.{Row}
 use Rattle.vx_places.specs.Numbers.{parcels_out, for_target}
-use Rattle.vx_places.specs.Views.{row_at, stage_at, stage_items, held_items, here, here_if, outputs_if, Same}
-use Rattle.vx_places.specs.Rooms.{stage_rooms, line_room, rooms_if, held_room_if, AddsRooms}
+use Rattle.vx_places.specs.Views.{row_at, stage_at, stage_items, held_items, here, here_if, outputs_if, parcels_here, Others, Same, AddsKeeper}
+use Rattle.vx_places.specs.Rooms.{stage_rooms, line_room, rooms_if, held_room_if, AddsRooms, AddsKeeperRooms}
 use Rattle.vx_places.specs.Laws.{HeldSays}
-use Rattle.vx_places.specs.Looks.{AreBare}
-use Rattle.vx_places.specs.Calls.{AreEmpty, IsNew, IsRow, IsVacant, EachVacant, empty_stages}
-use Rattle.vx_places.proofs.Written.{one_some, no_outputs}
-use Rattle.vx_places.proofs.Looking.{none_for}
+use Rattle.vx_places.specs.Looks.{AreEnded}
+use Rattle.vx_places.specs.Calls.{AreEmpty, IsNew, IsNewKeeper, IsRow, IsThere, IsLent, IsVacant, EachVacant, empty_stages}
+use Rattle.vx_places.proofs.Written.{no_outputs}
+use Rattle.vx_places.proofs.Looking.{none_for, lent_unseen}
 
 -- STAGES THAT ARE MADE
 pub made_empty : (rooms : List ℕ) → AreEmpty (empty_stages rooms)
@@ -81,6 +82,38 @@ module _ (rooms : List ℕ) (room : ℕ) (rows : List Row) (row : Row) (is : IsN
     others = λ i l. (ap rooms_if (first_rows rows row i l), ap held_room_if (first_rows rows row i l));
   }
 
+-- AN INSTANCE MORE, which has a keeper
+module _ (rooms : List ℕ) (rows : List Row) (row : Row) (is : IsNewKeeper rooms row) where
+  -- what is so of the new row as of none is so of each place as before
+  with_more : {X : Type 0} (F : Option Row → X) (rs : List Row) (k : ℕ) → (k ≡ length rs → F (Some row) ≡ F None) → F (row_at (rs ++ row ∷ []) k) ≡ F (row_at rs k)
+  with_more F [] zero same = same refl
+  with_more F [] (suc k) same = refl
+  with_more F (r ∷ rs) zero same = refl
+  with_more F (r ∷ rs) (suc k) same = with_more F rs k (λ e. same (ap suc e))
+
+  others : Others (Held (length rows)) rows (rows ++ row ∷ [])
+  others (Outputs i) other = with_more (here_if (Outputs i)) rows i (λ _. ap (λ os. Some (parcels_out os)) is.outputs)
+  others (Waiting i t) other = with_more (here_if (Waiting i t)) rows i (λ _. ap (λ cs. Some (for_target t cs)) is.waiting)
+  others (Contents i s) other = with_more (here_if (Contents i s)) rows i (λ _. ap (λ ss. Some (stage_items (stage_at ss s))) is.stages ∙ ap Some (no_items rooms s))
+  others (Held i) other = with_more (here_if (Held i)) rows i (λ same. absurd (grind (arith, nat_tests, other, same)))
+
+  pub keeper_added : AddsKeeper rows (rows ++ row ∷ [])
+  keeper_added = record {
+    held = ap (here_if (Held (length rows))) (last_row rows row) ∙ ap held_items is.held;
+    others = others;
+    outputs = λ i. with_more outputs_if rows i (λ _. is.outputs);
+  }
+
+  pub keeper_row : IsRow (IsNewKeeper rooms) (rows ++ row ∷ []) (length rows)
+  keeper_row = rw (last_row rows row) is
+
+  pub keeper_rooms : AddsKeeperRooms rooms rows (rows ++ row ∷ [])
+  keeper_rooms = record {
+    stages = ap rooms_if (last_row rows row) ∙ ap stage_rooms is.stages ∙ rooms_made rooms;
+    held = ap held_room_if (last_row rows row) ∙ ap line_room is.held;
+    others = λ i l. (ap rooms_if (first_rows rows row i l), ap held_room_if (first_rows rows row i l));
+  }
+
 -- WHAT IS LENT
 kept_or_lent : (held : Option (Filled Parcel)) → ((ps : List Parcel) → held_items held ≡ Some ps → IsSome held) × (held_items held ≡ None → held ≡ None)
 kept_or_lent None = (λ ps there. absurd cc, λ none. refl)
@@ -89,6 +122,10 @@ kept_or_lent (Some h) = (λ ps there. refl, λ none. absurd cc)
 pub held_says : HeldSays
 held_says [] i l = absurd (omega arith)
 held_says (r ∷ rs) i l = rw (slice_get-get_or (r ∷ rs) i r l) (kept_or_lent (get_or (r ∷ rs) i r).held)
+
+-- and stays so where the place has what it had
+pub lent_still : (old new : List Row) (i : ℕ) → IsThere new i → parcels_here new (Held i) ≡ parcels_here old (Held i) → IsLent old i → IsLent new i
+lent_still old new i there same lent = (held_says new i there).1 (same ∙ lent_unseen old i lent)
 
 -- ROWS AT WHICH NOTHING STANDS
 -- the last of some, and the others
@@ -100,19 +137,19 @@ pub last_vacant : (rows : List Row) (row : Row) → EachVacant (rows ++ row ∷ 
 last_vacant [] row are = (tt, are.0)
 last_vacant (r ∷ rows) row are = let rest = last_vacant rows row are.1 in ((are.0, rest.0), rest.1)
 
-empty_held : (held : Option (Filled Parcel)) → held_items held ≡ Some [] → IsSomeAnd held (λ h. h.items ≡ [])
-empty_held None none = absurd cc
-empty_held (Some h) none = one_some h.items [] none
+empty_held : (held : Option (Filled Parcel)) → IfSome (held_items held) (λ ps. ps ≡ []) → IfSome held (λ h. h.items ≡ [])
+empty_held None none = tt
+empty_held (Some h) none = none
 
-vacant : (i : ℕ) (row : Row) → ((p : Place) → owner p ≡ i → here p row ≡ Some []) → IsVacant row
+vacant : (i : ℕ) (row : Row) → ((p : Place) → owner p ≡ i → IfSome (here p row) (λ ps. ps ≡ [])) → IsVacant row
 vacant i row none = record {
-  outputs = no_outputs row.outputs.items (one_some _ _ (none (Outputs i) refl));
-  waiting = none_for row.waiting.items (λ t. one_some _ _ (none (Waiting i t) refl));
+  outputs = no_outputs row.outputs.items (none (Outputs i) refl);
+  waiting = none_for row.waiting.items (λ t. none (Waiting i t) refl);
   stages = recursion_from_All (λ (stage : Filled Parcel). stage.items ≡ []) row.stages.items
-      (λ s d l. one_some _ _ (rw (slice_get-get_or row.stages.items s d l) at (none (Contents i s) refl)));
+      (λ s d l. rw (slice_get-get_or row.stages.items s d l) at (none (Contents i s) refl));
   held = empty_held row.held (none (Held i) refl);
 }
 
-pub are_vacant : (rows : List Row) → AreBare rows → EachVacant rows
-are_vacant rows bare = recursion_from_All IsVacant rows
-    (λ i d l. vacant i (get_or rows i d) (λ p own. rw (own, slice_get-get_or rows i d l) at (bare i l p own)))
+pub are_vacant : (rows : List Row) → AreEnded rows → EachVacant rows
+are_vacant rows ended = recursion_from_All IsVacant rows
+    (λ i d l. vacant i (get_or rows i d) (λ p own. rw (own, slice_get-get_or rows i d l) at (ended i l p own)))

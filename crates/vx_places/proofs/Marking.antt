@@ -148,6 +148,29 @@ marked_more {old} {new} unsent filled {was} {now} size same was_unsent was_fille
           (λ j l. let none = past_end old j (let same_size = ap length was_filled in omega (arith, same_size, others, l)) in (λ s. same (Contents j s) ∙ ap (here_if (Contents j s)) none, same (Held j) ∙ ap (here_if (Held j)) none)));
     }
 
+-- which has a keeper, and is marked as one that may hold something
+last_marked : (F : ℕ → Type 0) (ms : List ℕ) (i : ℕ) → ((j : ℕ) → j < length ms → UnlessMarked F ms j) → UnlessMarked F (ms ++ 1 ∷ []) i
+last_marked F [] zero all = λ other. absurd (other refl)
+last_marked F [] (suc i) all = tt
+last_marked F (m ∷ ms) zero all = all zero (omega arith)
+last_marked F (m ∷ ms) (suc i) all = last_marked (λ j. F (suc j)) ms i (λ j l. all (suc j) (omega (arith, l)))
+
+pub keeper_marked : {old new : List Row} {was now : Marks} → length new ≡ length old + 1 → Others (Held (length old)) old new →
+    now.unsent.items ≡ was.unsent.items ++ 0 ∷ [] → now.filled.items ≡ was.filled.items ++ 1 ∷ [] → AreMarked old was → AreMarked new now
+keeper_marked {old} {new} {was} {now} size others is_unsent is_filled marked =
+    let unsents : length was.unsent.items ≡ length old = marked.unsent_size in
+    let filleds : length was.filled.items ≡ length old = marked.filled_size in
+    record {
+      unsent_size = rw is_unsent (let more = length-append was.unsent.items (0 ∷ []) in omega (arith, more, unsents, size));
+      filled_size = rw is_filled (let more = length-append was.filled.items (1 ∷ []) in omega (arith, more, filleds, size));
+      sent = λ i meant. subst (λ (ms : List ℕ). UnlessMarked (HasSent new) ms i) (sym is_unsent)
+          (more_marked (HasSent new) was.unsent.items i (λ j. keep (HasSent old) (HasSent new) was.unsent.items j (λ h. (others (Outputs j) refl ∙ h.0, λ t. others (Waiting j t) refl ∙ h.1 t)) (marked.sent j tt))
+          (λ j l. let none = past_end old j (omega (arith, unsents, l)) in (others (Outputs j) refl ∙ ap (here_if (Outputs j)) none, λ t. others (Waiting j t) refl ∙ ap (here_if (Waiting j t)) none)));
+      unfilled = λ i meant. subst (λ (ms : List ℕ). UnlessMarked (IsUnfilled new) ms i) (sym is_filled)
+          (last_marked (IsUnfilled new) was.filled.items i (λ j l. keep (IsUnfilled old) (IsUnfilled new) was.filled.items j
+          (λ h. (λ s. others (Contents j s) refl ∙ h.0 s, others (Held j) (other_test (length old) j (λ e. omega (arith, filleds, l, e))) ∙ h.1)) (marked.unfilled j tt)));
+    }
+
 -- WHAT AN UNMARKED INSTANCE HAS
 pub before_next : (F : ℕ → Type 0) (marks : List ℕ) (from n : ℕ) (next : Option ℕ) → length marks ≡ n → IsNextMark marks from next → ((i : ℕ) → UnlessMarked F marks i) →
     (i : ℕ) → from ≤ i → i < n → IsBefore i next → F i

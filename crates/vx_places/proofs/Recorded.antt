@@ -24,8 +24,8 @@ use Rattle.vx_places.specs.Views.{row_at, stage_at, stage_items, held_items, her
 use Rattle.vx_places.specs.Holding.{Holds}
 use Rattle.vx_places.specs.Calls.{NoneWaits}
 use Rattle.vx_places.specs.Looks.{HasSent, HasEmptyBuffer}
-use Rattle.vx_places.specs.Laws.{OutputIs, NoneWaitsIs, AwaitsIs, SentIs, SomeIs, BufferIs, HoldsIs, BareIs, FilledThere, LentFilled, StandsThere}
-use Rattle.vx_places.proofs.Looking.{none_waits_for, none_waits_for_all, bare_is}
+use Rattle.vx_places.specs.Laws.{OutputIs, NoneWaitsIs, AwaitsIs, SentIs, SomeIs, BufferIs, HoldsIs, BareIs, ClearIs, ClearBareIs, FilledThere, LentFilled, StandsThere}
+use Rattle.vx_places.proofs.Looking.{none_waits_for, none_waits_for_all, bare_is, clear_is, clear_sent, clear_buffer}
 
 -- WHAT IS SEEN
 -- all but what is held can always be seen
@@ -175,6 +175,23 @@ bare_is_bare h rows i legal holds = (
       bare_is rows i (sent_there h rows legal holds i (bare_sent h i bare))
       (λ s. none_there h rows legal holds (Contents i s) (seen (Contents i s) (row_at rows i) tt) (rest.buffer s))
       (none_there h rows legal holds (Held i) (held_seen i (row_at rows i) kept) rest.hands),
+)
+
+pub clear_is_clear : ClearIs
+clear_is_clear h rows i legal holds = (
+  λ clear. ((sent_is h rows i legal holds).0 (clear_sent rows i clear), (buffer_is h rows i legal holds).0 (clear_buffer rows i clear)),
+  λ is. clear_is rows i ((sent_is h rows i legal holds).1 is.0) ((buffer_is h rows i legal holds).1 is.1),
+)
+
+pub clear_bare_is : ClearBareIs
+clear_bare_is h rows i legal holds = (
+  λ is. bare_of h i (sent h rows legal holds i (clear_sent rows i is.0)) (record { buffer = λ s. none h rows legal holds (Contents i s) (is.0 (Contents i s) refl refl); hands = is.1 }),
+  λ bare.
+      let rest = bare_unfilled h i bare in (
+        clear_is rows i (sent_there h rows legal holds i (bare_sent h i bare))
+            (λ s. none_there h rows legal holds (Contents i s) (seen (Contents i s) (row_at rows i) tt) (rest.buffer s)),
+        rest.hands,
+      ),
 )
 
 pub filled_there : FilledThere

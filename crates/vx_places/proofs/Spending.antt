@@ -13,6 +13,7 @@ use Rattle.vx_record.specs.declared.entry.Entry.TheVariants.{Spent}
 use Rattle.vx_record.specs.Records.{Record}
 use Rattle.vx_record.specs.Copies.{count, joined}
 use Rattle.vx_record.specs.Places.{Place, owner, same_place, all_puts, left}
+use Rattle.vx_record.specs.Places.Place.{Held}
 use Rattle.vx_record.specs.Lists.{without, and_rest, shrunk, stands, parcels_at}
 use Rattle.vx_record.specs.Shifts.{shift, at}
 use Rattle.vx_record.specs.Legal.{IsLegal}
@@ -26,7 +27,7 @@ use Rattle.vx_places.specs.Numbers.{numbers}
 use Rattle.vx_places.specs.Views.{parcels_here, numbers_here, IsAt}
 use Rattle.vx_places.specs.Holding.{Holds}
 use Rattle.vx_places.specs.Calls.{Loses, left_of}
-use Rattle.vx_places.specs.Laws.{SpentShifts}
+use Rattle.vx_places.specs.Laws.{SpentShifts, LentSpentShifts}
 use Rattle.vx_places.proofs.Written.{each_place}
 use Rattle.vx_places.proofs.Losing.{among_before}
 use Rattle.vx_places.proofs.Steps.{came}
@@ -73,8 +74,14 @@ mapped : (F : List (List ℕ) → List (List ℕ)) (o : Option (List Parcel)) (x
 mapped F None xs is same = refl
 mapped F (Some ps) xs is same = ap Some (is ∙ sym same ∙ sym (ap F is))
 
-module _ (h : Record) (i : ℕ) (outcome : Outcome) (q : Place) (copy : Copy) (old new : List Row) (own : owner q ≡ i) (legal : IsLegal (Spent i copy.number outcome ∷ h))
-    (holds : Holds old h) (loses : Loses q copy old new) where
+-- of every place but that at which a copy stands nothing goes
+stays_at : (h : Record) (q p : Place) (gone : List ℕ) → IsLegal h → AreAt h q gone → same_place q p ≡ false → (b : Bool) →
+    (if b then shrunk gone (at h p) else at h p) ≡ at h p
+stays_at h q p gone legal are other true = rw (← (stands_at h p legal)) (others_stay h q p gone (conserved h legal) are other)
+stays_at h q p gone legal are other false = refl
+
+module _ (h : Record) (i : ℕ) (outcome : Outcome) (q : Place) (copy : Copy) (last : Bool) (old new : List Row) (own : owner q ≡ i) (legal : IsLegal (Spent i copy.number outcome ∷ h))
+    (holds : Holds old h) (loses : Loses q copy last old new) where
   -- the parcels at the place, by their numbers: the last of the first goes
   abbrev gone : List ℕ
   gone = copy.number ∷ []
@@ -97,20 +104,15 @@ module _ (h : Record) (i : ℕ) (outcome : Outcome) (q : Place) (copy : Copy) (o
       ∙ sym (first_shrinks copy.number (numbers_of loses.loses.left) rest full once)
       ∙ ap (shrunk gone) (sym before_is)
 
-  -- of every other place nothing goes
   are_at : AreAt h q gone
   are_at d l =
       let a = count-append d (numbers_of loses.loses.left ++ gone) (joined rest) in
       let b = count-append d (numbers_of loses.loses.left) gone in
       rw has (omega (arith, a, b, l))
 
-  stays : (p : Place) → same_place q p ≡ false → (b : Bool) → (if b then shrunk gone (at h p) else at h p) ≡ at h p
-  stays p other true = rw (← (stands_at h p legal.1)) (others_stay h q p gone (conserved h legal.1) are_at other)
-  stays p other false = refl
-
   each : (p : Place) → numbers_here new p ≡ option_map (shift (Spent i copy.number outcome) p) (numbers_here old p)
   each = each_place q (λ p. numbers_here new p ≡ option_map (λ xs. if i == owner p then shrunk gone xs else xs) (numbers_here old p)) (rw (mine, loses.now, loses.was) (ap Some after_is))
-      (λ p other. rw (loses.others p other) (mapped (λ xs. if i == owner p then shrunk gone xs else xs) (parcels_here old p) (at h p) (holds.stand p) (stays p other (i == owner p))))
+      (λ p other. rw (loses.others p other) (mapped (λ xs. if i == owner p then shrunk gone xs else xs) (parcels_here old p) (at h p) (holds.stand p) (stays_at h q p gone legal.1 are_at other (i == owner p))))
     where
       mine : (i == owner q) ≡ true
       mine = grind (arith, nat_tests, own)
@@ -124,8 +126,23 @@ module _ (h : Record) (i : ℕ) (outcome : Outcome) (q : Place) (copy : Copy) (o
       ]
 
 pub spent_shifts : SpentShifts
-spent_shifts h i outcome q copy old new own legal holds loses = record {
-  each = each h i outcome q copy old new own legal holds loses;
-  comes = λ p ev d now. inl (comes h i outcome q copy old new own legal holds loses p ev d now);
+spent_shifts h i outcome q copy last old new own legal holds loses = record {
+  each = each h i outcome q copy last old new own legal holds loses;
+  comes = λ p ev d now. inl (comes h i outcome q copy last old new own legal holds loses p ev d now);
   on = λ j ports d now. inl (loses.on j ports d now);
 }
+
+-- A COPY OF WHAT IS LENT
+pub lent_spent_shifts : LentSpentShifts
+lent_spent_shifts h i c outcome rows lent there legal holds = record {
+  each = each_place (Held i) (λ p. numbers_here rows p ≡ option_map (λ xs. if i == owner p then shrunk (c ∷ []) xs else xs) (numbers_here rows p)) (rw lent refl)
+      (λ p other. mapped (λ xs. if i == owner p then shrunk (c ∷ []) xs else xs) (parcels_here rows p) (at h p) (holds.stand p)
+      (stays_at h (Held i) p (c ∷ []) legal.1 are_at other (i == owner p)));
+  comes = λ p ev d now. inl now;
+  on = λ j ports d now. inl now;
+}
+  where
+    are_at : AreAt h (Held i) (c ∷ [])
+    are_at d l =
+        let same : c ≡ d = grind (arith, nat_tests, l) in
+        subst (λ (x : ℕ). 0 < count x (joined (parcels_at (Held i) (stands h)))) same (rw (stands_at h (Held i) legal.1) there)

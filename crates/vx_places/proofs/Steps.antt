@@ -1,7 +1,8 @@
 -- How a call changes the places, by the numbers of their parcels, and the places of a record with one entry more.
-use Rattle.std.proofs.Common.{◌≡◌, ℕ, Bool, true, false, List, [], ◌∷◌, ◌++◌, refl, sym, ap, ◌∙◌, arith, Option, Some, None, inl, inr, ◌<◌, IfSome}
+use Rattle.std.proofs.Common.{◌≡◌, ℕ, Bool, true, false, List, [], ◌∷◌, ◌++◌, refl, sym, ap, ◌∙◌, arith, Option, Some, None, inl, inr, ◌<◌, IfSome, length}
 use Rattle.std.specs.Prelude.{◌==◌, ◌⊎◌, if◌then◌else◌, nat_lt}
 use Rattle.std.specs.Option.{option_map}
+use Rattle.std.proofs.lemmas.Bool.{eqb-true}
 use Rattle.std.proofs.lemmas.Bool.Decides.{nat_tests}
 use Rattle.std.proofs.lemmas.Iterator.Adapters.{option_map_id}
 use Rattle.std.proofs.lemmas.List.{map-append}
@@ -33,10 +34,10 @@ use Rattle.vx_record.proofs.OnePlace.{conserved}
 use Rattle.vx_record.proofs.Shifting.{stands_at}
 use Rattle.vx_places.specs.declared.row.Row.{Row}
 use Rattle.vx_places.specs.Numbers.{numbers, parcels_in, parcels_out, for_target, noted, EachFilled}
-use Rattle.vx_places.specs.Views.{parcels_here, numbers_here, outputs_here, Others, SameOutputs, IsAmong, IsAt, IsIn, IsOnAmong, IsOn}
-use Rattle.vx_places.specs.Holding.{IsNoAnswer, WasSomewhere, IsKnown, PutsOn, Holds}
+use Rattle.vx_places.specs.Views.{parcels_here, numbers_here, outputs_here, Others, Same, SameOutputs, AddsKeeper, IsAmong, IsAt, IsIn, IsOnAmong, IsOn}
+use Rattle.vx_places.specs.Holding.{IsNoAnswer, WasSomewhere, IsKnown, PutsOn, Holds, Shifts}
 use Rattle.vx_places.specs.Calls.{Takes, Puts, Waits, Moves, PutsOut, Divides}
-use Rattle.vx_places.specs.Laws.{HoldsStep, StillShifts, SameHolds, OldestThere, LentIs, LentComesBack, NoneHolds}
+use Rattle.vx_places.specs.Laws.{HoldsStep, StillShifts, SameHolds, KeeperHolds, TakenKnown, OldestThere, LentIs, LentComesBack, NoneHolds}
 use Rattle.vx_places.proofs.Written.{each_place, each_outputs, one_some}
 use Rattle.vx_places.proofs.Ports.{on_at, copy_counts, on-append, and_filled, born_on, numbers_out, noted_on, ports_put, ports_stay}
 
@@ -204,6 +205,29 @@ take_moves {i} {s} {parcel} {old} {mid} {new} taken put = moves taken put (λ co
     each (Held j) = moved taken put (Held j)
     each p = moved taken put p
 
+-- or is taken away, while what its instance holds is lent
+pub away_shifts : {i s : ℕ} {parcel : Parcel} {old new : List Row} → Takes (Contents i s) parcel old new → parcels_here old (Held i) ≡ None →
+    Shifts (Take i s (numbers_of parcel.finalizers)) [] old new
+away_shifts {i} {s} {parcel} {old} {new} taken lent = record {
+  each = each;
+  comes = λ p event copy now. inl (taken_came taken p event copy now);
+  on = λ j ports copy now. inl (taken.on j ports copy now);
+}
+  where
+    each : (p : Place) → numbers_here new p ≡ option_map (shift (Take i s (numbers_of parcel.finalizers)) p) (numbers_here old p)
+    each (Held j) = go (i == j) refl
+      where
+        go : (b : Bool) → (i == j) ≡ b → numbers_here new (Held j) ≡ option_map (λ xs. if b then xs ++ numbers_of parcel.finalizers ∷ [] else xs) (numbers_here old (Held j))
+        go true is =
+            let own : i ≡ j = grind (arith, nat_tests) in
+            let none : parcels_here old (Held j) ≡ None = rw own at lent in
+            rw (taken.others (Held j) refl, none)
+        go false is = taken_made taken (Held j)
+    each p = taken_made taken p
+
+pub taken_known : TakenKnown
+taken_known h p parcel old new taken holds event copy is = holds.known p event copy (taken_at taken event copy is)
+
 -- A SPLIT
 module _ {i : ℕ} {children : List Child} {old mid new : List Row} {parcel : Parcel} (taken : Takes (Outputs i) parcel old mid) (waits : Waits i children mid new) where
   elsewhere : (p : Place) → is_child_of i p ≡ false → numbers_here new p ≡ option_map (first_gone (Outputs i) p) (numbers_here old p)
@@ -370,6 +394,15 @@ same_holds h old new same holds = record {
   on = λ i ports copy now. holds.on i ports copy (rw (same.outputs i) at now);
 }
 
+pub keeper_holds : KeeperHolds
+keeper_holds h old new adds holds = record {
+  stand = each_place (Held (length old)) (λ p. IfSome (parcels_here new p) (λ ps. numbers ps ≡ at h p)) (rw adds.held tt)
+      (λ p other. rw (adds.others p other) (holds.stand p));
+  known = each_place (Held (length old)) (λ p. (event : Event) (copy : Copy) → IsAt new p event copy → IsKnown h event copy)
+      (λ event copy now. absurd (rw adds.held at now)) (λ p other event copy now. holds.known p event copy (rw (adds.others p other) at now));
+  on = λ i ports copy now. holds.on i ports copy (rw (adds.outputs i) at now);
+}
+
 pub oldest_there : OldestThere
 oldest_there h rows p parcel rest legal holds first = let is = rw first at (holds.stand p) in rw (stands_at h p legal, ← is) refl
 
@@ -396,3 +429,17 @@ lent_comes_back h i parcels old new lends is are holds =
 
 pub none_holds : NoneHolds
 none_holds = record { stand = λ p. refl; known = λ p event copy now. absurd now; on = λ i ports copy now. absurd now }
+
+-- where no child waits, and none is put there, all is as it was
+pub waits_none : {i : ℕ} {old new : List Row} → Waits i [] old new → Same old new
+waits_none {i} {old} {new} wait = record { here = stays; outputs = wait.outputs }
+  where
+    child : (j t : ℕ) (own : Bool) → (j == i) ≡ own → parcels_here new (Waiting j t) ≡ parcels_here old (Waiting j t)
+    child j t true is = rw (eqb-true j i is) (wait.now t ∙ sym (wait.was t))
+    child j t false is = wait.others (Waiting j t) is
+
+    stays : (p : Place) → parcels_here new p ≡ parcels_here old p
+    stays (Outputs j) = wait.others (Outputs j) refl
+    stays (Waiting j t) = child j t (j == i) refl
+    stays (Contents j s) = wait.others (Contents j s) refl
+    stays (Held j) = wait.others (Held j) refl

@@ -140,8 +140,9 @@ module _ {q : Place} {a b : Option (List Parcel)} {old new : List Row} (c : Chan
   pub puts : (before more : List Parcel) → a ≡ Some before → b ≡ Some (before ++ more) → Puts q more old new
   puts before more was now = record { before = before; was = c.was ∙ was; now = c.now ∙ now; others = c.others; outputs = c.outputs }
 
-  pub loses : (copy : Copy) (before after : List Parcel) → a ≡ Some before → b ≡ Some after → LosesCopy copy before after → KeepsPorts old new → Loses q copy old new
-  loses copy before after was now less on =
+  pub loses : (copy : Copy) (last : Bool) (before after : List Parcel) → a ≡ Some before → b ≡ Some after → LosesCopy copy last before after → KeepsPorts old new →
+      Loses q copy last old new
+  loses copy last before after was now less on =
       record { before = before; after = after; was = c.was ∙ was; now = c.now ∙ now; loses = less; others = c.others; on = on }
 
 pub lends : {i : ℕ} {a b : Option (List Parcel)} {old new : List Row} → Changes (Held i) a b old new →

@@ -1,6 +1,7 @@
 -- What each call does to the parcels at the places.
-use Rattle.std.specs.Prelude.{◌≡◌, ◌≢◌, ◌<◌, ◌≤◌, ◌+◌, ℕ, zero, suc, Bool, false, List, [], ◌∷◌, ◌++◌, Option, Some, None, IsSome, IsSomeAnd, length, slice_get}
+use Rattle.std.specs.Prelude.{◌≡◌, ◌≢◌, ◌<◌, ◌≤◌, ◌+◌, ℕ, zero, suc, Bool, false, List, [], ◌∷◌, ◌++◌, Option, Some, None, IsSome, IsSomeAnd, IfSome, length, slice_get}
 use Rattle.vx_value.specs.Filled.{Filled}
+use Rattle.vx_value.specs.Texts.{is_empty}
 use Rattle.vx_value.specs.declared.event.Event.{Event}
 use Rattle.vx_ledger.specs.Copies.{Copy, numbers_of}
 use Rattle.vx_ledger.specs.declared.parcel.Parcel.{Parcel}
@@ -59,21 +60,22 @@ abbrev pub left_of : Event → List Copy → List Parcel → List Parcel
 left_of event [] rest = rest
 left_of event (c ∷ cs) rest = record { event = event; finalizers = c ∷ cs } ∷ rest
 
--- the oldest of some parcels loses its last copy
-pub record LosesCopy (copy : Copy) (old new : List Parcel) : Type 0 where
+-- the oldest of some parcels loses its last copy, and this says whether no other is left of it
+pub record LosesCopy (copy : Copy) (last : Bool) (old new : List Parcel) : Type 0 where
   pub event : Event
   pub left : List Copy
   pub rest : List Parcel
   pub was : old ≡ record { event = event; finalizers = left ++ copy ∷ [] } ∷ rest
   pub now : new ≡ left_of event left rest
+  pub alone : last ≡ is_empty left
 
 -- so it is at a place
-pub record Loses (q : Place) (copy : Copy) (old new : List Row) : Type 0 where
+pub record Loses (q : Place) (copy : Copy) (last : Bool) (old new : List Row) : Type 0 where
   pub before : List Parcel
   pub after : List Parcel
   pub was : parcels_here old q ≡ Some before
   pub now : parcels_here new q ≡ Some after
-  pub loses : LosesCopy copy before after
+  pub loses : LosesCopy copy last before after
   pub others : Others q old new
   pub on : KeepsPorts old new
 
@@ -187,12 +189,12 @@ abbrev pub AreEmpty : List (Filled Parcel) → Type 0
 AreEmpty [] = Unit {0}
 AreEmpty (stage ∷ stages) = (stage.items ≡ []) × AreEmpty stages
 
--- nothing stands at an instance, and nothing is lent
+-- nothing stands at an instance that isn't lent
 pub record IsVacant (row : Row) : Type 0 where
   pub outputs : row.outputs.items ≡ []
   pub waiting : row.waiting.items ≡ []
   pub stages : AreEmpty row.stages.items
-  pub held : IsSomeAnd row.held (λ held. held.items ≡ [])
+  pub held : IfSome row.held (λ held. held.items ≡ [])
 
 -- so it is at each of some instances
 abbrev pub EachVacant : List Row → Type 0
@@ -205,3 +207,10 @@ pub record IsNew (rooms : List ℕ) (room : ℕ) (row : Row) : Type 0 where
   pub waiting : row.waiting.items ≡ []
   pub stages : row.stages.items ≡ empty_stages rooms
   pub held : IsSomeAnd row.held (λ held. (held.items ≡ []) × (held.room ≡ room))
+
+-- nothing stands at an instance, its stages have these rooms, and what it holds is lent from the beginning
+pub record IsNewKeeper (rooms : List ℕ) (row : Row) : Type 0 where
+  pub outputs : row.outputs.items ≡ []
+  pub waiting : row.waiting.items ≡ []
+  pub stages : row.stages.items ≡ empty_stages rooms
+  pub held : row.held ≡ None

@@ -1,5 +1,5 @@
 -- What holds of the places of a record.
-use Rattle.std.specs.Prelude.{◌≡◌, ◌≢◌, ◌<◌, ◌↔◌, ℕ, true, List, [], ◌∷◌, length, map, Option, Some, None}
+use Rattle.std.specs.Prelude.{◌≡◌, ◌≢◌, ◌<◌, ◌↔◌, ℕ, Bool, true, List, [], ◌∷◌, length, map, Option, Some, None}
 use Rattle.vx_plan.specs.declared.stage.Stage.{Stage}
 use Rattle.vx_status.specs.declared.outcome.Outcome.{Outcome}
 use Rattle.vx_ledger.specs.Copies.{Copy, numbers_of}
@@ -21,11 +21,11 @@ use Rattle.vx_record.specs.Shifts.{at}
 use Rattle.vx_record.specs.Legal.{IsLegal}
 use Rattle.vx_places.specs.declared.row.Row.{Row}
 use Rattle.vx_places.specs.Numbers.{numbers, EachFilled}
-use Rattle.vx_places.specs.Views.{Same, parcels_here, outputs_here}
+use Rattle.vx_places.specs.Views.{Same, AddsKeeper, parcels_here, outputs_here}
 use Rattle.vx_places.specs.Rooms.{rooms_at}
 use Rattle.vx_places.specs.Holding.{Holds, Shifts, AreKnown}
 use Rattle.vx_places.specs.Calls.{Takes, TakesOutput, Lends, Loses, IsThere, IsKept, IsLent, NoneWaits, HasSome}
-use Rattle.vx_places.specs.Looks.{HasOutput, HasWaiting, HasSent, HasEmptyBuffer, HoldsMany, IsBare, IsFirstRoom, IsFirstFilled}
+use Rattle.vx_places.specs.Looks.{HasOutput, HasWaiting, HasSent, HasEmptyBuffer, HoldsMany, IsBare, IsClear, IsEnded, IsFirstRoom, IsFirstFilled}
 
 -- places that are a record's are those of the record with one entry more, where they shift as that entry says, and it knows what is
 -- put
@@ -41,6 +41,15 @@ StillShifts = (e : Entry) (rows : List Row) → IsStill e → Shifts e [] rows r
 -- whatever changes of the places beside what stands there, they stay a record's
 abbrev pub SameHolds : Type 0
 SameHolds = (h : Record) (old new : List Row) → Same old new → Holds old h → Holds new h
+
+-- and so they do with an instance more, of which what it holds can't be seen
+abbrev pub KeeperHolds : Type 0
+KeeperHolds = (h : Record) (old new : List Row) → AddsKeeper old new → Holds old h → Holds new h
+
+-- what is taken from a place is known
+abbrev pub TakenKnown : Type 0
+TakenKnown =
+    (h : Record) (p : Place) (parcel : Parcel) (old new : List Row) → Takes p parcel old new → Holds old h → AreKnown h (parcel ∷ [])
 
 -- what stands first at a place is the record's oldest there
 abbrev pub OldestThere : Type 0
@@ -64,8 +73,14 @@ BackSame =
 -- where the last copy of a place's oldest parcel is gone, the places shift as the spend of that copy
 abbrev pub SpentShifts : Type 0
 SpentShifts =
-    (h : Record) (i : ℕ) (outcome : Outcome) (q : Place) (copy : Copy) (old new : List Row) → owner q ≡ i → IsLegal (Spent i copy.number outcome ∷ h) →
-    Holds old h → Loses q copy old new → Shifts (Spent i copy.number outcome) [] old new
+    (h : Record) (i : ℕ) (outcome : Outcome) (q : Place) (copy : Copy) (last : Bool) (old new : List Row) → owner q ≡ i → IsLegal (Spent i copy.number outcome ∷ h) →
+    Holds old h → Loses q copy last old new → Shifts (Spent i copy.number outcome) [] old new
+
+-- where a copy is spent that stands among what an instance holds, which is lent, they shift so and stay as they are
+abbrev pub LentSpentShifts : Type 0
+LentSpentShifts =
+    (h : Record) (i c : ℕ) (outcome : Outcome) (rows : List Row) → parcels_here rows (Held i) ≡ None → 0 < count c (joined (at h (Held i))) →
+    IsLegal (Spent i c outcome ∷ h) → Holds rows h → Shifts (Spent i c outcome) [] rows rows
 
 -- what is lent is what the record has there, and it knows it
 abbrev pub LentIs : Type 0
@@ -122,6 +137,19 @@ abbrev pub BareIs : Type 0
 BareIs =
     (h : Record) (rows : List Row) (i : ℕ) → IsLegal h → Holds rows h →
     (IsBare rows i → is_bare h i ≡ true) × (IsKept rows i → is_bare h i ≡ true → IsBare rows i)
+
+-- nothing but what is held, be that lent or not,
+abbrev pub ClearIs : Type 0
+ClearIs =
+    (h : Record) (rows : List Row) (i : ℕ) → IsLegal h → Holds rows h → IsClear rows i ↔ ((is_sent h i ≡ true) × (buffered h i ≡ []))
+
+-- and so nothing at all where nothing is held either
+abbrev pub ClearBareIs : Type 0
+ClearBareIs = (h : Record) (rows : List Row) (i : ℕ) → IsLegal h → Holds rows h → (IsClear rows i × (held h i ≡ [])) ↔ (is_bare h i ≡ true)
+
+-- the places of an instance may be ended where nothing at all stands there, or nothing but what it holds, which is lent
+abbrev pub EndedWhere : Type 0
+EndedWhere = (rows : List Row) (i : ℕ) → (IsBare rows i → IsEnded rows i) × (IsClear rows i → IsLent rows i → IsEnded rows i)
 
 -- the first stage with room is the record's where their rooms are those that the plan gives them,
 abbrev pub FirstRoomIs : Type 0

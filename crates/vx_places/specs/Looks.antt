@@ -1,6 +1,6 @@
 -- What can be asked of the parcels of an instance.
-use Rattle.std.specs.Prelude.{◌≡◌, ◌<◌, ℕ, List, [], Option, Some, None, IsSomeAnd, length}
-use Rattle.vx_record.specs.Places.{Place, owner}
+use Rattle.std.specs.Prelude.{◌≡◌, ◌<◌, ℕ, false, List, [], Option, Some, None, IsSomeAnd, IfSome, length}
+use Rattle.vx_record.specs.Places.{Place, owner, same_place}
 use Rattle.vx_record.specs.Places.Place.{Outputs, Waiting, Contents, Held}
 use Rattle.vx_places.specs.declared.row.Row.{Row}
 use Rattle.vx_places.specs.Views.{parcels_here}
@@ -42,6 +42,18 @@ IsBare rows i = (p : Place) → owner p ≡ i → parcels_here rows p ≡ Some [
 -- each instance is bare
 abbrev pub AreBare : List Row → Type 0
 AreBare rows = (i : ℕ) → IsThere rows i → IsBare rows i
+
+-- nothing stands at any of its places but that of what it holds, be that lent or not
+abbrev pub IsClear : List Row → ℕ → Type 0
+IsClear rows i = (p : Place) → owner p ≡ i → same_place p (Held i) ≡ false → parcels_here rows p ≡ Some []
+
+-- nothing stands at any of its places that isn't lent
+abbrev pub IsEnded : List Row → ℕ → Type 0
+IsEnded rows i = (p : Place) → owner p ≡ i → IfSome (parcels_here rows p) (λ parcels. parcels ≡ [])
+
+-- so it is of each instance
+abbrev pub AreEnded : List Row → Type 0
+AreEnded rows = (i : ℕ) → IsThere rows i → IsEnded rows i
 
 -- the first number of which something holds; it holds of none where there is none
 abbrev pub IsFirst : (ℕ → Type 0) → Option ℕ → Type 0

@@ -27,7 +27,7 @@ held_room_if (Some row) = line_room row.held
 abbrev pub rooms_at : List Row → ℕ → List ℕ
 rooms_at rows i = rooms_if (row_at rows i)
 
--- the room for what an instance holds, in parcels; none while that is lent, or past the end
+-- the room for what an instance holds, in parcels; none while that is lent, for ever or not, or past the end
 abbrev pub held_room : List Row → ℕ → Option ℕ
 held_room rows i = held_room_if (row_at rows i)
 
@@ -50,4 +50,10 @@ pub record LendsRoom (i room : ℕ) (old new : List Row) : Type 0 where
 pub record AddsRooms (rooms : List ℕ) (room : ℕ) (old new : List Row) : Type 0 where
   pub stages : rooms_at new (length old) ≡ rooms
   pub held : held_room new (length old) ≡ Some room
+  pub others : (i : ℕ) → i < length old → (rooms_at new i ≡ rooms_at old i) × (held_room new i ≡ held_room old i)
+
+-- there is an instance more, whose stages have these rooms, and no room for what it holds; the others have what they had
+pub record AddsKeeperRooms (rooms : List ℕ) (old new : List Row) : Type 0 where
+  pub stages : rooms_at new (length old) ≡ rooms
+  pub held : held_room new (length old) ≡ None
   pub others : (i : ℕ) → i < length old → (rooms_at new i ≡ rooms_at old i) × (held_room new i ≡ held_room old i)

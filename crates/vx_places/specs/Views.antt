@@ -1,5 +1,5 @@
 -- The parcels at each place, as contracts see the places.
-use Rattle.std.specs.Prelude.{◌≡◌, ◌⊎◌, ℕ, zero, suc, false, List, [], ◌∷◌, Option, Some, None}
+use Rattle.std.specs.Prelude.{◌≡◌, ◌⊎◌, ℕ, zero, suc, false, List, [], ◌∷◌, Option, Some, None, length}
 use Rattle.std.specs.Option.{option_map}
 use Rattle.vx_value.specs.Filled.{Filled}
 use Rattle.vx_value.specs.declared.event.Event.{Event}
@@ -71,6 +71,13 @@ SameOutputs old new = (i : ℕ) → outputs_here new i ≡ outputs_here old i
 -- each place has what it had, and each output is on the same ports
 pub record Same (old new : List Row) : Type 0 where
   pub here : (p : Place) → parcels_here new p ≡ parcels_here old p
+  pub outputs : SameOutputs old new
+
+-- there is an instance more, of which what it holds can't be seen; every other place has what it had, and each output is on the
+-- same ports
+pub record AddsKeeper (old new : List Row) : Type 0 where
+  pub held : parcels_here new (Held (length old)) ≡ None
+  pub others : Others (Held (length old)) old new
   pub outputs : SameOutputs old new
 
 -- a copy is in a parcel of some, with the parcel's event

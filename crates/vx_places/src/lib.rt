@@ -5,6 +5,7 @@
 mod laws;
 mod line;
 mod looks;
+mod lost;
 mod marks;
 mod places;
 mod row;
@@ -12,4 +13,5 @@ mod rows;
 
 pub use laws::{looks_laws, places_laws};
 pub use line::Line;
+pub use lost::Lost;
 pub use places::Places;

@@ -4,7 +4,7 @@ ghost use Rattle.vx_record.specs.Places.Place.{Held};
 ghost use Rattle.vx_places.specs.Views.{stage_at, stage_items, held_items, parcels_here};
 ghost use Rattle.vx_places.specs.Calls.{NoneWaits, NoneBefore, IsOldestFor, HasRoom, HasSome, IsKept, HasHeldRoom, waiting_target};
 ghost use Rattle.vx_places.specs.Numbers.{for_target};
-ghost use Rattle.vx_places.specs.Looks.{HasOutput, HasWaiting, HasSent, HasEmptyBuffer, ManyWait, HoldsMany, IsHeldFull, IsBare, IsFirstRoom, IsFirstFilled};
+ghost use Rattle.vx_places.specs.Looks.{HasOutput, HasWaiting, HasSent, HasEmptyBuffer, ManyWait, HoldsMany, IsHeldFull, IsBare, IsClear, IsFirstRoom, IsFirstFilled};
 
 use crate::line::Line;
 use crate::row::Row;
@@ -173,6 +173,14 @@ pub(crate) fn is_bare(rows: &[Row], i: usize) -> bool
     ensures { IsTrue result ↔ IsBare rows.now i }
 {
     is_sent(rows, i) && is_unfilled(rows, i)
+}
+
+// Whether nothing stands at any place of an instance but what it holds, be that lent or not.
+pub(crate) fn is_clear(rows: &[Row], i: usize) -> bool
+    requires { i < length rows.now }
+    ensures { IsTrue result ↔ IsClear rows.now i }
+{
+    is_sent(rows, i) && is_empty_buffer(rows, i)
 }
 
 // How many children of an instance wait.

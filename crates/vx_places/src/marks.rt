@@ -7,7 +7,7 @@ use crate::row::Row;
 use memchr::memchr;
 
 /// The byte of an instance that is marked.
-const MARKED: u8 = 1;
+pub(crate) const MARKED: u8 = 1;
 
 /// Two marks for each instance: whether it may have an output or a waiting child, and whether something may stand in its buffer or its
 /// hand.

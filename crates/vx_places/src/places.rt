@@ -1,19 +1,22 @@
 ghost use Rattle.std.specs.Prelude.{◌≡◌, ◌+◌, ◌<◌, ◌≤◌, ℕ, [], ◌↔◌, length, OnOk, OnErr, IfSome, IfNone, IsTrue, Some, false};
 ghost use Rattle.vx_record.specs.declared.entry.Entry.TheVariants.{Push, Take};
 ghost use Rattle.vx_record.specs.Places.Place.{Outputs, Waiting, Contents, Held};
-ghost use Rattle.vx_places.specs.Views.{Same, parcels_here};
-ghost use Rattle.vx_places.specs.Rooms.{SameRooms, LendsRoom, AddsRooms};
-ghost use Rattle.vx_places.specs.Calls.{Takes, TakesOutput, Lends, Loses, IsRow, IsNew, Moves, PutsOut, Divides, IsThere, HasOutputRoom, HasOutputRoomFor, NoneWaits, IsOldestFor, HasRoom, HasSome, IsKept, IsLent, HasHeldRoom, NothingToSpend, waiting_target};
+ghost use Rattle.vx_ledger.specs.Copies.{numbers_of};
+ghost use Rattle.vx_places.specs.Holding.{Shifts};
+ghost use Rattle.vx_places.specs.Views.{Same, AddsKeeper, parcels_here};
+ghost use Rattle.vx_places.specs.Rooms.{SameRooms, LendsRoom, AddsRooms, AddsKeeperRooms};
+ghost use Rattle.vx_places.specs.Calls.{Takes, TakesOutput, Lends, Loses, IsRow, IsNew, IsNewKeeper, Moves, PutsOut, Divides, IsThere, HasOutputRoom, HasOutputRoomFor, NoneWaits, IsOldestFor, HasRoom, HasSome, IsKept, IsLent, HasHeldRoom, NothingToSpend, waiting_target};
 ghost use Rattle.vx_places.specs.Marks.{IsBefore, IsUnfilled};
-ghost use Rattle.vx_places.specs.Looks.{HasOutput, HasWaiting, HasSent, HasEmptyBuffer, ManyWait, HoldsMany, IsHeldFull, IsBare, IsFirstRoom, IsFirstFilled, AreBare};
+ghost use Rattle.vx_places.specs.Looks.{HasOutput, HasWaiting, HasSent, HasEmptyBuffer, ManyWait, HoldsMany, IsHeldFull, IsBare, IsClear, IsFirstRoom, IsFirstFilled, AreEnded};
 
 use crate::line::Line;
-use crate::marks::{self, Marks};
-use crate::row::{Row, make_row};
+use crate::lost::Lost;
+use crate::marks::{self, MARKED, Marks};
+use crate::row::{Row, make_keeper_row, make_row};
 use crate::{looks, rows};
 use std::alloc::Global;
 use std::marker::Model;
-use vx_ledger::{ChildList, Finalizer, Parcel};
+use vx_ledger::{Child, ChildList, Parcel};
 use vx_transform::Output;
 use vx_value::{ItemList, WantOfMemory};
 
@@ -80,6 +83,25 @@ impl Places {
         self.rows.push_reserved(row);
         self.marks.unsent.push_reserved(0);
         self.marks.filled.push_reserved(0);
+        Ok(())
+    }
+
+    /// Adds an instance as `add` does, but with a keeper elsewhere, which has what it holds: here that is lent for ever. What it takes
+    /// is taken away. For want of memory nothing has changed.
+    pub fn add_keeper(&mut self, alloc: Global, rooms: &[usize]) -> Result<(), WantOfMemory>
+        ensures adds { OnOk result (AddsKeeper self.old self.new) }
+        ensures size { OnOk result (length self.new ≡ length self.old + 1) }
+        ensures fresh { OnOk result (IsRow (IsNewKeeper rooms.now) self.new (length self.old)) }
+        ensures rooms { OnOk result (AddsKeeperRooms rooms.now self.old self.new) }
+        ensures unchanged { OnErr result (self.new ≡ self.old) }
+    {
+        self.rows.reserve(1)?;
+        self.marks.unsent.reserve(1)?;
+        self.marks.filled.reserve(1)?;
+        let row = make_keeper_row(alloc, rooms)?;
+        self.rows.push_reserved(row);
+        self.marks.unsent.push_reserved(0);
+        self.marks.filled.push_reserved(MARKED);
         Ok(())
     }
 
@@ -182,6 +204,14 @@ impl Places {
         looks::is_bare(&self.rows, instance as usize)
     }
 
+    /// Whether nothing stands at any place of an instance but what it holds, be that lent or not.
+    pub fn is_clear(&self, instance: u32) -> bool
+        requires { IsThere self.now instance }
+        ensures clear { IsTrue result ↔ IsClear self.now instance }
+    {
+        looks::is_clear(&self.rows, instance as usize)
+    }
+
     /// The target of the first waiting child of an instance, which is the oldest for it. `None` exactly where none waits.
     pub fn first_waiting(&self, instance: u32) -> Option<u32>
         requires { IsThere self.now instance }
@@ -230,6 +260,8 @@ impl Places {
     }
 
     /// The next instance, from a number on, in whose buffer or hand something may stand. `None` where none may.
+    ///
+    /// While what an instance holds is lent something may stand there, and so it is among them: one with a keeper is each time.
     pub fn next_filled(&self, from: usize) -> Option<usize>
         requires { from ≤ length self.now }
         ensures some { IfSome result (λ i. (from ≤ i) × (i < length self.now)) }
@@ -293,6 +325,18 @@ impl Places {
         marks::mark(&self.rows, &mut self.marks, instance as usize);
     }
 
+    /// Takes the memory in which an instance's children waited, where none waits, for those that come next. It takes no memory.
+    pub fn take_child_room(&mut self, instance: u32) -> Vec<Child>
+        requires there { IsThere self.old instance }
+        requires none { NoneWaits self.old instance }
+        ensures empty { result.items ≡ [] }
+        ensures same { Same self.old self.new }
+        ensures size { length self.new ≡ length self.old }
+        ensures rooms { SameRooms self.old self.new }
+    {
+        rows::take_child_room(&mut self.rows, instance as usize)
+    }
+
     /// Lets the children of an output that was taken wait for their targets, where none waits. It takes no memory.
     pub fn put_children(&mut self, instance: u32, children: ChildList)
         requires there { IsThere self.old instance }
@@ -338,6 +382,24 @@ impl Places {
         marks::mark(&self.rows, &mut self.marks, instance as usize);
     }
 
+    /// Takes the oldest parcel of a stage of an instance's buffer away, while what the instance holds is lent: the parcel belongs with
+    /// that. It takes no memory.
+    pub fn take_away(&mut self, instance: u32, stage: usize) -> Parcel
+        requires there { IsThere self.old instance }
+        requires some { HasSome self.old instance stage }
+        requires lent { IsLent self.old instance }
+        ensures takes { Takes (Contents instance stage) result self.old self.new }
+        ensures shifts { Shifts (Take instance stage (numbers_of result.finalizers)) []
+            self.old self.new }
+        ensures lent { IsLent self.new instance }
+        ensures size { length self.new ≡ length self.old }
+        ensures rooms { SameRooms self.old self.new }
+    {
+        let parcel = rows::pop_stage(&mut self.rows, instance as usize, stage);
+        marks::mark(&self.rows, &mut self.marks, instance as usize);
+        parcel
+    }
+
     /// Lends what an instance holds, as to attempt it elsewhere. It takes no memory.
     pub fn lend(&mut self, instance: u32) -> Line<Parcel>
         requires there { IsThere self.old instance }
@@ -365,74 +427,76 @@ impl Places {
         marks::mark(&self.rows, &mut self.marks, instance as usize);
     }
 
-    /// Takes the last copy of an instance's oldest output, to spend it. `None` exactly where there is no output, or the oldest has
-    /// no copy. It takes no memory.
-    pub fn spend_output(&mut self, instance: u32) -> Option<Finalizer>
+    /// Takes the last copy of an instance's oldest output, to spend it, and tells whether no other is left of it. `None` exactly where
+    /// there is no output, or the oldest has no copy. It takes no memory.
+    pub fn spend_output(&mut self, instance: u32) -> Option<Lost>
         requires { IsThere self.old instance }
-        ensures loses { IfSome result (λ copy. Loses (Outputs instance) copy self.old self.new) }
+        ensures loses { IfSome result
+            (λ lost. Loses (Outputs instance) lost.copy lost.last self.old self.new) }
         ensures size { length self.new ≡ length self.old }
         ensures rooms { SameRooms self.old self.new }
         ensures none { IfNone result (self.new ≡ self.old) }
         ensures empty { IfNone result (NothingToSpend (Outputs instance) self.old) }
     {
-        let copy = rows::spend_output(&mut self.rows, instance as usize)?;
+        let lost = rows::spend_output(&mut self.rows, instance as usize)?;
         marks::mark(&self.rows, &mut self.marks, instance as usize);
-        Some(copy)
+        Some(lost)
     }
 
-    /// Takes the last copy of the oldest parcel that an instance holds, to spend it. `None` exactly where it holds none, or the
-    /// oldest has no copy. It takes no memory.
-    pub fn spend_held(&mut self, instance: u32) -> Option<Finalizer>
+    /// Takes the last copy of the oldest parcel that an instance holds, to spend it, and tells whether no other is left of it. `None`
+    /// exactly where it holds none, or the oldest has no copy. It takes no memory.
+    pub fn spend_held(&mut self, instance: u32) -> Option<Lost>
         requires there { IsThere self.old instance }
         requires kept { IsKept self.old instance }
-        ensures loses { IfSome result (λ copy. Loses (Held instance) copy self.old self.new) }
+        ensures loses { IfSome result
+            (λ lost. Loses (Held instance) lost.copy lost.last self.old self.new) }
         ensures kept { IsKept self.new instance }
         ensures size { length self.new ≡ length self.old }
         ensures rooms { SameRooms self.old self.new }
         ensures none { IfNone result (self.new ≡ self.old) }
         ensures empty { IfNone result (NothingToSpend (Held instance) self.old) }
     {
-        let copy = rows::spend_held(&mut self.rows, instance as usize)?;
+        let lost = rows::spend_held(&mut self.rows, instance as usize)?;
         marks::mark(&self.rows, &mut self.marks, instance as usize);
-        Some(copy)
+        Some(lost)
     }
 
-    /// Takes the last copy of the oldest parcel in a stage of an instance's buffer, to spend it. `None` exactly where the stage has
-    /// no parcel, or the oldest has no copy. It takes no memory.
-    pub fn spend_buffered(&mut self, instance: u32, stage: usize) -> Option<Finalizer>
+    /// Takes the last copy of the oldest parcel in a stage of an instance's buffer, to spend it, and tells whether no other is left of
+    /// it. `None` exactly where the stage has no parcel, or the oldest has no copy. It takes no memory.
+    pub fn spend_buffered(&mut self, instance: u32, stage: usize) -> Option<Lost>
         requires { IsThere self.old instance }
         ensures loses { IfSome result
-            (λ copy. Loses (Contents instance stage) copy self.old self.new) }
+            (λ lost. Loses (Contents instance stage) lost.copy lost.last self.old self.new) }
         ensures size { length self.new ≡ length self.old }
         ensures rooms { SameRooms self.old self.new }
         ensures none { IfNone result (self.new ≡ self.old) }
         ensures empty { IfNone result (NothingToSpend (Contents instance stage) self.old) }
     {
-        let copy = rows::spend_stage(&mut self.rows, instance as usize, stage)?;
+        let lost = rows::spend_stage(&mut self.rows, instance as usize, stage)?;
         marks::mark(&self.rows, &mut self.marks, instance as usize);
-        Some(copy)
+        Some(lost)
     }
 
-    /// Takes the last copy of a waiting child of an instance, the oldest for its target, to spend it; the child is gone where that
-    /// was its only copy. `None` exactly where it has no copy. It takes no memory.
-    pub fn spend_waiting(&mut self, instance: u32, child: usize, target: u32) -> Option<Finalizer>
+    /// Takes the last copy of a waiting child of an instance, the oldest for its target, to spend it, and tells whether no other is left
+    /// of it: then the child is gone. `None` exactly where it has no copy. It takes no memory.
+    pub fn spend_waiting(&mut self, instance: u32, child: usize, target: u32) -> Option<Lost>
         requires there { IsThere self.old instance }
         requires oldest { IsOldestFor self.old instance target child }
         ensures loses { IfSome result
-            (λ copy. Loses (Waiting instance target) copy self.old self.new) }
+            (λ lost. Loses (Waiting instance target) lost.copy lost.last self.old self.new) }
         ensures size { length self.new ≡ length self.old }
         ensures rooms { SameRooms self.old self.new }
         ensures none { IfNone result (self.new ≡ self.old) }
         ensures empty { IfNone result (NothingToSpend (Waiting instance target) self.old) }
     {
-        let copy = rows::spend_child(&mut self.rows, instance as usize, child, target)?;
+        let lost = rows::spend_child(&mut self.rows, instance as usize, child, target)?;
         marks::mark(&self.rows, &mut self.marks, instance as usize);
-        Some(copy)
+        Some(lost)
     }
 
-    /// Ends the places, where nothing stands at any instance and nothing is lent. It takes no memory.
+    /// Ends the places, where nothing stands at any instance that isn't lent. It takes no memory.
     pub fn end(self)
-        requires { AreBare self }
+        requires { AreEnded self }
     {
         let Places { rows, marks: _ } = self;
         rows::end_rows(rows);

@@ -1,9 +1,10 @@
 ghost use Rattle.std.specs.Prelude.{◌≡◌, ◌==◌, ◌<◌, ℕ, false, [], length, IfOk, IfErr, IfSome, IfNone, remove, slice_index_or};
 ghost use Rattle.vx_places.specs.Numbers.{for_target, parcels_out};
 ghost use Rattle.vx_places.specs.Views.{KeepsOn};
-ghost use Rattle.vx_places.specs.Calls.{LosesCopy, LosesLast, NothingToLose, NoneBefore, IsNew, IsVacant, AreEmpty, empty_stages, unless_bare};
+ghost use Rattle.vx_places.specs.Calls.{LosesCopy, LosesLast, NothingToLose, NoneBefore, IsNew, IsNewKeeper, IsVacant, AreEmpty, empty_stages, unless_bare};
 
 use crate::line::Line;
+use crate::lost::Lost;
 use std::alloc::Global;
 use std::collections::VecDeque;
 use vx_ledger::{Child, Finalizer, Finalizers, Parcel, SharedEvent};
@@ -18,7 +19,7 @@ pub struct Row {
     pub waiting: VecDeque<Child>,
     /// Its buffer, stage by stage.
     pub stages: Vec<Line<Parcel>>,
-    /// What it holds, the oldest first. `None` while that is lent.
+    /// What it holds, the oldest first. `None` while that is lent, as it is for ever where a keeper elsewhere has it.
     pub held: Option<Line<Parcel>>,
 }
 
@@ -69,6 +70,19 @@ pub(crate) fn make_row(alloc: Global, rooms: &[usize], held: usize) -> Result<Ro
     }
 }
 
+// The same with a keeper elsewhere, which has what the instance holds.
+pub(crate) fn make_keeper_row(alloc: Global, rooms: &[usize]) -> Result<Row, WantOfMemory>
+    ensures { IfOk result (IsNewKeeper rooms.now) }
+{
+    let stages = make_stages(alloc, rooms)?;
+    Ok(Row {
+        outputs: Line::new(alloc),
+        waiting: VecDeque::new(alloc),
+        stages,
+        held: None,
+    })
+}
+
 // What is left of a parcel. Where that is nothing, it is ended.
 fn rest_of(event: SharedEvent, left: Finalizers) -> Option<Parcel>
     ensures { result ≡ unless_bare event left }
@@ -102,8 +116,9 @@ fn take_last(parcel: Parcel) -> Result<(Finalizer, Option<Parcel>), Parcel>
 
 // Takes the last copy of the oldest parcel, and ends the parcel where it was the only one. `None` where there is no parcel, or the
 // oldest has no copy.
-pub(crate) fn take_copy(line: &mut Line<Parcel>) -> Option<Finalizer>
-    ensures loses { IfSome result (λ copy. LosesCopy copy line.old.items line.new.items) }
+pub(crate) fn take_copy(line: &mut Line<Parcel>) -> Option<Lost>
+    ensures loses { IfSome result
+        (λ lost. LosesCopy lost.copy lost.last line.old.items line.new.items) }
     ensures room { line.new.room ≡ line.old.room }
     ensures none { IfNone result (line.new ≡ line.old) }
     ensures empty { IfNone result (NothingToLose line.old.items) }
@@ -112,9 +127,9 @@ pub(crate) fn take_copy(line: &mut Line<Parcel>) -> Option<Finalizer>
         Ok((copy, left)) => match left {
             Some(parcel) => {
                 line.put_back(parcel);
-                Some(copy)
+                Some(Lost { copy, last: false })
             }
-            None => Some(copy),
+            None => Some(Lost { copy, last: true }),
         },
         Err(parcel) => {
             line.put_back(parcel);
@@ -124,9 +139,10 @@ pub(crate) fn take_copy(line: &mut Line<Parcel>) -> Option<Finalizer>
 }
 
 // The same of the oldest output. What is left of it stays on its ports.
-pub(crate) fn take_output_copy(line: &mut Line<Output>) -> Option<Finalizer>
+pub(crate) fn take_output_copy(line: &mut Line<Output>) -> Option<Lost>
     ensures loses { IfSome result
-        (λ copy. LosesCopy copy (parcels_out line.old.items) (parcels_out line.new.items)) }
+        (λ lost. LosesCopy lost.copy lost.last (parcels_out line.old.items)
+        (parcels_out line.new.items)) }
     ensures on { KeepsOn line.old.items line.new.items }
     ensures room { line.new.room ≡ line.old.room }
     ensures none { IfNone result (line.new ≡ line.old) }
@@ -137,9 +153,9 @@ pub(crate) fn take_output_copy(line: &mut Line<Output>) -> Option<Finalizer>
         Ok((copy, left)) => match left {
             Some(parcel) => {
                 line.put_back(Output { ports, parcel });
-                Some(copy)
+                Some(Lost { copy, last: false })
             }
-            None => Some(copy),
+            None => Some(Lost { copy, last: true }),
         },
         Err(parcel) => {
             line.put_back(Output { ports, parcel });
@@ -169,14 +185,10 @@ fn end_child(waiting: &mut VecDeque<Child>, k: usize)
 
 // Takes the last copy of the waiting child at a place, the oldest for its target, and ends the child where it was the only one.
 // `None` where it has no copy.
-pub(crate) fn take_child_copy(
-    waiting: &mut VecDeque<Child>,
-    k: usize,
-    target: u32,
-) -> Option<Finalizer>
+pub(crate) fn take_child_copy(waiting: &mut VecDeque<Child>, k: usize, target: u32) -> Option<Lost>
     requires { NoneBefore target k waiting.old.items }
     ensures loses { IfSome result
-        (λ copy. LosesCopy copy (for_target target waiting.old.items)
+        (λ lost. LosesCopy lost.copy lost.last (for_target target waiting.old.items)
         (for_target target waiting.new.items)) }
     ensures others { (t : ℕ) → (target == t) ≡ false →
         for_target t waiting.new.items ≡ for_target t waiting.old.items }
@@ -184,13 +196,14 @@ pub(crate) fn take_child_copy(
     ensures empty { IfNone result (NothingToLose (for_target target waiting.old.items)) }
 {
     let copy = waiting[k].parcel.finalizers.pop()?;
-    if waiting[k].parcel.finalizers.is_empty() {
+    let last = waiting[k].parcel.finalizers.is_empty();
+    if last {
         end_child(waiting, k);
     }
-    Some(copy)
+    Some(Lost { copy, last })
 }
 
-// Ends the row of an instance at which nothing stands.
+// Ends the row of an instance at which nothing stands that isn't lent.
 pub(crate) fn end_row(row: Row)
     requires { IsVacant row }
 {
@@ -205,6 +218,6 @@ pub(crate) fn end_row(row: Row)
     end_stages(stages);
     match held {
         Some(held) => held.end(),
-        None => unreachable!(),
+        None => {}
     }
 }

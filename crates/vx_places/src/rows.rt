@@ -7,10 +7,11 @@ ghost use Rattle.vx_places.specs.Rooms.{SameRooms, LendsRoom};
 ghost use Rattle.vx_places.specs.Calls.{Takes, TakesOutput, Puts, Loses, Waits, Lends, HasOutputRoom, HasOutputRoomFor, NoneWaits, IsOldestFor, HasRoom, HasSome, IsKept, IsLent, HasHeldRoom, NothingToSpend, EachVacant};
 
 use crate::line::Line;
+use crate::lost::Lost;
 use crate::row::{self, Row};
 use std::collections::VecDeque;
 use std::mem;
-use vx_ledger::{Child, ChildList, Finalizer, Parcel};
+use vx_ledger::{Child, ChildList, Parcel};
 use vx_transform::Output;
 use vx_value::{ItemList, WantOfMemory};
 
@@ -78,6 +79,20 @@ pub(crate) fn put_children(rows: &mut Vec<Row>, i: usize, children: ChildList)
         VecDeque::from_vec(children.into_vec()),
     );
     none.destroy_empty();
+}
+
+// Takes the memory in which an instance's children waited, where none waits.
+pub(crate) fn take_child_room(rows: &mut Vec<Row>, i: usize) -> Vec<Child>
+    requires within { i < length rows.old.items }
+    requires none { NoneWaits rows.old.items i }
+    ensures empty { result.items ≡ [] }
+    ensures waits { Waits i [] rows.old.items rows.new.items }
+    ensures size { length rows.new.items ≡ length rows.old.items }
+    ensures rooms { SameRooms rows.old.items rows.new.items }
+{
+    let alloc = *rows[i].waiting.allocator();
+    let none = mem::replace(&mut rows[i].waiting, VecDeque::new(alloc));
+    none.into_vec()
 }
 
 // Takes the waiting child at a place, which is the oldest for its target.
@@ -165,9 +180,10 @@ pub(crate) fn pop_stage(rows: &mut Vec<Row>, i: usize, s: usize) -> Parcel
 }
 
 // Takes the last copy of the oldest output of an instance.
-pub(crate) fn spend_output(rows: &mut Vec<Row>, i: usize) -> Option<Finalizer>
+pub(crate) fn spend_output(rows: &mut Vec<Row>, i: usize) -> Option<Lost>
     requires { i < length rows.old.items }
-    ensures loses { IfSome result (λ copy. Loses (Outputs i) copy rows.old.items rows.new.items) }
+    ensures loses { IfSome result
+        (λ lost. Loses (Outputs i) lost.copy lost.last rows.old.items rows.new.items) }
     ensures size { length rows.new.items ≡ length rows.old.items }
     ensures rooms { SameRooms rows.old.items rows.new.items }
     ensures none { IfNone result (rows.new.items ≡ rows.old.items) }
@@ -177,10 +193,11 @@ pub(crate) fn spend_output(rows: &mut Vec<Row>, i: usize) -> Option<Finalizer>
 }
 
 // Takes the last copy of the oldest parcel that an instance holds.
-pub(crate) fn spend_held(rows: &mut Vec<Row>, i: usize) -> Option<Finalizer>
+pub(crate) fn spend_held(rows: &mut Vec<Row>, i: usize) -> Option<Lost>
     requires within { i < length rows.old.items }
     requires kept { IsKept rows.old.items i }
-    ensures loses { IfSome result (λ copy. Loses (Held i) copy rows.old.items rows.new.items) }
+    ensures loses { IfSome result
+        (λ lost. Loses (Held i) lost.copy lost.last rows.old.items rows.new.items) }
     ensures kept { IsKept rows.new.items i }
     ensures size { length rows.new.items ≡ length rows.old.items }
     ensures rooms { SameRooms rows.old.items rows.new.items }
@@ -194,10 +211,10 @@ pub(crate) fn spend_held(rows: &mut Vec<Row>, i: usize) -> Option<Finalizer>
 }
 
 // Takes the last copy of the oldest parcel in a stage of an instance's buffer.
-pub(crate) fn spend_stage(rows: &mut Vec<Row>, i: usize, s: usize) -> Option<Finalizer>
+pub(crate) fn spend_stage(rows: &mut Vec<Row>, i: usize, s: usize) -> Option<Lost>
     requires { i < length rows.old.items }
     ensures loses { IfSome result
-        (λ copy. Loses (Contents i s) copy rows.old.items rows.new.items) }
+        (λ lost. Loses (Contents i s) lost.copy lost.last rows.old.items rows.new.items) }
     ensures size { length rows.new.items ≡ length rows.old.items }
     ensures rooms { SameRooms rows.old.items rows.new.items }
     ensures none { IfNone result (rows.new.items ≡ rows.old.items) }
@@ -211,11 +228,11 @@ pub(crate) fn spend_stage(rows: &mut Vec<Row>, i: usize, s: usize) -> Option<Fin
 }
 
 // Takes the last copy of the waiting child at a place, the oldest for its target.
-pub(crate) fn spend_child(rows: &mut Vec<Row>, i: usize, k: usize, target: u32) -> Option<Finalizer>
+pub(crate) fn spend_child(rows: &mut Vec<Row>, i: usize, k: usize, target: u32) -> Option<Lost>
     requires within { i < length rows.old.items }
     requires oldest { IsOldestFor rows.old.items i target k }
     ensures loses { IfSome result
-        (λ copy. Loses (Waiting i target) copy rows.old.items rows.new.items) }
+        (λ lost. Loses (Waiting i target) lost.copy lost.last rows.old.items rows.new.items) }
     ensures size { length rows.new.items ≡ length rows.old.items }
     ensures rooms { SameRooms rows.old.items rows.new.items }
     ensures none { IfNone result (rows.new.items ≡ rows.old.items) }
@@ -224,7 +241,7 @@ pub(crate) fn spend_child(rows: &mut Vec<Row>, i: usize, k: usize, target: u32) 
     row::take_child_copy(&mut rows[i].waiting, k, target)
 }
 
-// Ends the rows of instances at which nothing stands.
+// Ends the rows of instances at which nothing stands that isn't lent.
 pub(crate) fn end_rows(rows: Vec<Row>)
     requires { EachVacant rows.items }
 {

@@ -18,8 +18,8 @@ use Rattle.vx_record.specs.Lists.{stands, parcels_at, places}
 use Rattle.vx_record.specs.Parcels.{first_copy}
 use Rattle.vx_record.specs.Moving.{Releases}
 use Rattle.vx_record.specs.Legal.{IsLegal}
-use Rattle.vx_record.specs.Tallies.{outcome_of, was_spent, any_copy, is_unread, is_newest, is_output, is_child_for, is_held_by, same_status, spent_as, one_if, count_puts, parcels_that, unread_parcels, newest_parcels, parcels_spent}
-use Rattle.vx_record.specs.Growth.{has_copy, passing_now, unread_in, newest_in, spent_in, RisesLegally, SpentRises}
+use Rattle.vx_record.specs.Tallies.{outcome_of, was_spent, first_spent, is_unread, is_newest, is_output, is_child_for, is_held_by, same_status, spent_as, one_if, count_puts, parcels_that, unread_parcels, newest_parcels, parcels_spent}
+use Rattle.vx_record.specs.Growth.{begins_with, passing_now, unread_in, newest_in, spent_in, RisesLegally, SpentRises}
 use Rattle.vx_record.proofs.Counts.{count-append}
 use Rattle.vx_record.specs.Sending.{IsOldest}
 use Rattle.vx_record.specs.Routing.{routes}
@@ -104,32 +104,15 @@ spent_now test i d outcome h c none = elim (cases_eq d c) [
     passes None = false
     passes (Some outcome') = test outcome'
 
--- t: whether this outcome passes; b: whether it is of the first copy; w: whether that one passed before; hs, a: the same of the others
-gathered : (t b w hs a : Bool) → (((t && b) || w) || ((t && hs) || a)) ≡ ((t && (b || hs)) || (w || a))
-gathered true true w hs a = refl
-gathered true false true hs a = sym (or_true hs)
-  where
-    or_true : (x : Bool) → (x || true) ≡ true
-    or_true true = refl
-    or_true false = refl
-gathered true false false hs a = refl
-gathered false b w hs a = refl
-
-any_now : (test : Outcome → Bool) (i d : ℕ) (outcome : Outcome) (h : Record) (copies : List ℕ) → was_spent test h d ≡ false →
-    any_copy test (Spent i d outcome ∷ h) copies ≡ ((test outcome && has_copy d copies) || any_copy test h copies)
-any_now test i d outcome h [] none = right_alone (test outcome) false
-any_now test i d outcome h (c ∷ rest) none =
-    let first = spent_now test i d outcome h c none in
-    let others = any_now test i d outcome h rest none in
-    (λ k. first k || others k) ∙ gathered (test outcome) (d == c) (was_spent test h c) (has_copy d rest) (any_copy test h rest)
+first_now : (test : Outcome → Bool) (i d : ℕ) (outcome : Outcome) (h : Record) (copies : List ℕ) → was_spent test h d ≡ false →
+    first_spent test (Spent i d outcome ∷ h) copies ≡ ((test outcome && begins_with d copies) || first_spent test h copies)
+first_now test i d outcome h [] none = right_alone (test outcome) false
+first_now test i d outcome h (c ∷ rest) none = spent_now test i d outcome h c none
 
 -- NEW PUTS PASS NO TEST OF OUTCOMES
-pub none_passes : (test : Outcome → Bool) (h : Record) (copies : List ℕ) → ((c : ℕ) → 0 < count c copies → was_spent test h c ≡ false) → any_copy test h copies ≡ false
+none_passes : (test : Outcome → Bool) (h : Record) (copies : List ℕ) → ((c : ℕ) → 0 < count c copies → was_spent test h c ≡ false) → first_spent test h copies ≡ false
 none_passes test h [] none = refl
-none_passes test h (c ∷ rest) none =
-    let here : was_spent test h c ≡ false = none c (grind (arith, nat_tests)) in
-    let others = none_passes test h rest (λ d l. none d (omega arith)) in
-    λ k. here k || others k
+none_passes test h (c ∷ rest) none = none c (grind (arith, nat_tests))
 
 pub and_false : (b : Bool) → (b && false) ≡ false
 and_false true = refl
@@ -148,32 +131,32 @@ counting_from from (suc n) c l = elim (cases_eq from c) [
 
 -- parcels of one new copy each
 born_none : (test : Outcome → Bool) (h : Record) (here : Place → Bool) (p : Place) (copies : List ℕ) → ((c : ℕ) → 0 < count c copies → was_spent test h c ≡ false) →
-    count_puts (λ (put : Put). here put.place && any_copy test h put.copies) (one_each p copies) ≡ 0
+    count_puts (λ (put : Put). here put.place && first_spent test h put.copies) (one_each p copies) ≡ 0
 born_none test h here p [] none = refl
 born_none test h here p (c ∷ rest) none =
-    let first : any_copy test h (c ∷ []) ≡ false = none_passes test h (c ∷ []) (λ d l. none d (grind (arith, nat_tests))) in
+    let first : first_spent test h (c ∷ []) ≡ false = none_passes test h (c ∷ []) (λ d l. none d (grind (arith, nat_tests))) in
     let fails = (ap (λ b. one_if (here p && b)) first) ∙ ap one_if (and_false (here p)) in
     let others = born_none test h here p rest (λ d l. none d (omega arith)) in
     omega arith
 
 -- children of new copies
 split_none : (test : Outcome → Bool) (h : Record) (here : Place → Bool) (i next m : ℕ) (targets : List ℕ) → ((c : ℕ) → next ≤ c → was_spent test h c ≡ false) →
-    count_puts (λ (put : Put). here put.place && any_copy test h put.copies)
+    count_puts (λ (put : Put). here put.place && first_spent test h put.copies)
     (map (λ (child : Child). record { place = Waiting i child.target; copies = child.copies }) (children_of next m targets)) ≡ 0
 split_none test h here i next m [] none = refl
 split_none test h here i next m (t ∷ rest) none =
-    let first : any_copy test h (counting next m) ≡ false = none_passes test h (counting next m) (λ c l. none c (counting_from next m c l)) in
+    let first : first_spent test h (counting next m) ≡ false = none_passes test h (counting next m) (λ c l. none c (counting_from next m c l)) in
     let fails = (ap (λ b. one_if (here (Waiting i t) && b)) first) ∙ ap one_if (and_false (here (Waiting i t))) in
     let others = split_none test h here i (next + m) m rest (λ c l. none c (omega arith)) in
     omega arith
 
 -- outputs of copies that aren't spent
 answer_none : (test : Outcome → Bool) (h : Record) (here : Place → Bool) (i : ℕ) (made : List Output) → ((c : ℕ) → 0 < count c (put_out made) → was_spent test h c ≡ false) →
-    count_puts (λ (put : Put). here put.place && any_copy test h put.copies)
+    count_puts (λ (put : Put). here put.place && first_spent test h put.copies)
     (map (λ (output : Output). record { place = Outputs i; copies = output.copies }) made) ≡ 0
 answer_none test h here i [] none = refl
 answer_none test h here i (output ∷ rest) none =
-    let first : any_copy test h output.copies ≡ false = none_passes test h output.copies (λ c l. none c (let e = count-append c output.copies (put_out rest) in omega arith)) in
+    let first : first_spent test h output.copies ≡ false = none_passes test h output.copies (λ c l. none c (let e = count-append c output.copies (put_out rest) in omega arith)) in
     let fails = (ap (λ b. one_if (here (Outputs i) && b)) first) ∙ ap one_if (and_false (here (Outputs i))) in
     let others = answer_none test h here i rest (λ c l. none c (let e = count-append c output.copies (put_out rest) in omega arith)) in
     omega arith
@@ -194,45 +177,45 @@ pub still : (test : Put → Bool) (old new : List Put) → count_puts test new �
 still test old new none = let both = count_puts-append test old new in omega arith
 
 -- the parcels that an entry makes pass
-abbrev any_in : (Outcome → Bool) → (Place → Bool) → Record → Entry → ℕ
-any_in test here h (Spent j c outcome) = passing_now test here h c outcome
-any_in test here h other = 0
+abbrev first_in : (Outcome → Bool) → (Place → Bool) → Record → Entry → ℕ
+first_in test here h (Spent j c outcome) = passing_now test here h c outcome
+first_in test here h other = 0
 
--- how an entry changes the number of the parcels, at some places, of which a copy passes
-any_rises : (test : Outcome → Bool) (here : Place → Bool) → ((i s : ℕ) → here (Contents i s) ≡ false) → ((i : ℕ) → here (Held i) ≡ false) →
+-- how an entry changes the number of the parcels, at some places, whose first copy passes
+first_rises : (test : Outcome → Bool) (here : Place → Bool) → ((i s : ℕ) → here (Contents i s) ≡ false) → ((i : ℕ) → here (Held i) ≡ false) →
     (e : Entry) (h : Record) → IsLegal (e ∷ h) →
-    parcels_that (any_copy test (e ∷ h)) here (e ∷ h) ≡ parcels_that (any_copy test h) here h + any_in test here h e
-any_rises test here in_stage in_hold (Born i b place copies events waits stream end) h legal =
+    parcels_that (first_spent test (e ∷ h)) here (e ∷ h) ≡ parcels_that (first_spent test h) here h + first_in test here h e
+first_rises test here in_stage in_hold (Born i b place copies events waits stream end) h legal =
     let fresh : (c : ℕ) → 0 < count c copies → was_spent test h c ≡ false =
     λ c l.
     let same = ap (count c) legal.0.row.next in
     not_made test h c legal.1 (counting_from (next_copy h) (length copies) c (omega arith))
     in
-    still (λ (put : Put). here put.place && any_copy test h put.copies) (all_puts h) (one_each (Outputs i) copies)
+    still (λ (put : Put). here put.place && first_spent test h put.copies) (all_puts h) (one_each (Outputs i) copies)
     (born_none test h here (Outputs i) copies fresh)
-any_rises test here in_stage in_hold (Split i ports copies event children) h legal =
-    still (λ (put : Put). here put.place && any_copy test h put.copies) (all_puts h) (puts (Split i ports copies event children))
-    (ap (λ (cs : List Child). count_puts (λ (put : Put). here put.place && any_copy test h put.copies)
+first_rises test here in_stage in_hold (Split i ports copies event children) h legal =
+    still (λ (put : Put). here put.place && first_spent test h put.copies) (all_puts h) (puts (Split i ports copies event children))
+    (ap (λ (cs : List Child). count_puts (λ (put : Put). here put.place && first_spent test h put.copies)
     (map (λ (child : Child). record { place = Waiting i child.target; copies = child.copies }) cs)) legal.0.row.split.made
     ∙ split_none test h here i (next_copy h) (length copies) (routes h i (port_list ports)) (λ c l. not_made test h c legal.1 l))
-any_rises test here in_stage in_hold (Push i t s copies) h legal =
-    still (λ (put : Put). here put.place && any_copy test h put.copies) (all_puts h) (puts (Push i t s copies))
-    (ap (λ b. one_if (b && any_copy test h copies) + 0) (in_stage t s))
-any_rises test here in_stage in_hold (Take i s copies) h legal =
-    still (λ (put : Put). here put.place && any_copy test h put.copies) (all_puts h) (puts (Take i s copies))
-    (ap (λ b. one_if (b && any_copy test h copies) + 0) (in_hold i))
-any_rises test here in_stage in_hold (Answer i made discarded kept) h legal =
-    still (λ (put : Put). here put.place && any_copy test h put.copies) (all_puts h) (puts (Answer i made discarded kept))
+first_rises test here in_stage in_hold (Push i t s copies) h legal =
+    still (λ (put : Put). here put.place && first_spent test h put.copies) (all_puts h) (puts (Push i t s copies))
+    (ap (λ b. one_if (b && first_spent test h copies) + 0) (in_stage t s))
+first_rises test here in_stage in_hold (Take i s copies) h legal =
+    still (λ (put : Put). here put.place && first_spent test h put.copies) (all_puts h) (puts (Take i s copies))
+    (ap (λ b. one_if (b && first_spent test h copies) + 0) (in_hold i))
+first_rises test here in_stage in_hold (Answer i made discarded kept) h legal =
+    still (λ (put : Put). here put.place && first_spent test h put.copies) (all_puts h) (puts (Answer i made discarded kept))
     (answer_none test h here i made
     (λ c l. not_spent test h c (released_live h i made legal.1 (conserved (Answer i made discarded kept ∷ h) legal).0 c l).2))
-any_rises test here in_stage in_hold (Spent i c outcome) h legal =
+first_rises test here in_stage in_hold (Spent i c outcome) h legal =
     let none = not_spent test h c legal.0.row.live.2 in
-    let after = λ (put : Put). here put.place && any_copy test (Spent i c outcome ∷ h) put.copies in
+    let after = λ (put : Put). here put.place && first_spent test (Spent i c outcome ∷ h) put.copies in
     let whole = count_puts-append after (all_puts h) [] in
-    let parted = count_parts here (any_copy test (Spent i c outcome ∷ h)) (λ copies. test outcome && has_copy c copies) (any_copy test h) (all_puts h)
-    (λ copies. any_now test i c outcome h copies none) in
+    let parted = count_parts here (first_spent test (Spent i c outcome ∷ h)) (λ copies. test outcome && begins_with c copies) (first_spent test h) (all_puts h)
+    (λ copies. first_now test i c outcome h copies none) in
     omega arith
-any_rises test here in_stage in_hold e h legal = still (λ (put : Put). here put.place && any_copy test h put.copies) (all_puts h) [] refl
+first_rises test here in_stage in_hold e h legal = still (λ (put : Put). here put.place && first_spent test h put.copies) (all_puts h) [] refl
 
 -- A SINK'S PARCELS BY THEIR FIRST COPY
 born_elsewhere : (test : List ℕ → Bool) (i j : ℕ) (copies : List ℕ) →
@@ -289,16 +272,16 @@ held_rises status (Spent j c outcome) h i legal =
 held_rises status e h i legal = still (λ (put : Put). is_held_by i put.place && spent_as status h put.copies) (all_puts h) [] refl
 
 unread_rises : RisesLegally unread_parcels unread_in
-unread_rises e h i legal = any_rises is_unread (is_output i) (λ j s. refl) (λ j. refl) e h legal ∙ ap (λ n. unread_parcels h i + n) (same e)
+unread_rises e h i legal = first_rises is_unread (is_output i) (λ j s. refl) (λ j. refl) e h legal ∙ ap (λ n. unread_parcels h i + n) (same e)
   where
-    same : (e : Entry) → any_in is_unread (is_output i) h e ≡ unread_in h i e
+    same : (e : Entry) → first_in is_unread (is_output i) h e ≡ unread_in h i e
     same (Spent j c outcome) = refl
     same e = refl
 
 newest_rises : RisesLegally newest_parcels newest_in
-newest_rises e h i legal = any_rises is_newest (is_child_for i) (λ j s. refl) (λ j. refl) e h legal ∙ ap (λ n. newest_parcels h i + n) (same e)
+newest_rises e h i legal = first_rises is_newest (is_child_for i) (λ j s. refl) (λ j. refl) e h legal ∙ ap (λ n. newest_parcels h i + n) (same e)
   where
-    same : (e : Entry) → any_in is_newest (is_child_for i) h e ≡ newest_in h i e
+    same : (e : Entry) → first_in is_newest (is_child_for i) h e ≡ newest_in h i e
     same (Spent j c outcome) = refl
     same e = refl
 

@@ -1,6 +1,5 @@
 -- How one more entry changes what an instance did: bytes, confirms and counts.
 use Rattle.std.specs.Prelude.{ℕ, ◌+◌, ◌≡◌, Bool, true, false, not, ◌&&◌, List, [], ◌∷◌, ◌++◌, length, count_by, if◌then◌else◌, ◌==◌}
-use Rattle.std.specs.List.{list_any}
 use Rattle.vx_value.specs.Texts.{Word}
 use Rattle.vx_status.specs.Tables.{status_of}
 use Rattle.vx_status.specs.declared.outcome.Outcome.{Outcome}
@@ -15,7 +14,7 @@ use Rattle.vx_record.specs.Confirms.{births_in, births, confirmed_in, confirmed}
 use Rattle.vx_record.specs.Places.{Place}
 use Rattle.vx_record.specs.Parcels.{first_copy}
 use Rattle.vx_record.specs.Legal.{IsLegal}
-use Rattle.vx_record.specs.Tallies.{is_unread, is_newest, is_output, is_child_for, any_copy, same_status, spent_as, is_held_by, parcels_that, unread_parcels, newest_parcels, parcels_spent, lines_read, overlong_read, undecodable_read, events_born, same_end, is_batch_of, notices, takes, is_first, sent_parcels, dropped_parcels, attempts_made, bytes_sent, tally}
+use Rattle.vx_record.specs.Tallies.{is_unread, is_newest, is_output, is_child_for, first_spent, same_status, spent_as, is_held_by, parcels_that, unread_parcels, newest_parcels, parcels_spent, lines_read, overlong_read, undecodable_read, events_born, same_end, is_batch_of, notices, takes, is_first, sent_parcels, dropped_parcels, attempts_made, bytes_sent, tally}
 
 -- the bytes of a stream that an entry took for the instance
 abbrev pub taken_in : ℕ → ℕ → Entry → Word
@@ -115,14 +114,15 @@ TransformRises = Rises takes takes_in × Rises sent_parcels outputs_in × Rises 
 abbrev pub SinkRises : Type 0
 SinkRises = Rises takes takes_in × Rises attempts_made attempts_in × Rises bytes_sent sent_in
 
--- whether a parcel has a copy
-abbrev pub has_copy : ℕ → List ℕ → Bool
-has_copy c copies = list_any (λ d. c == d) copies
+-- whether a parcel begins with a copy
+abbrev pub begins_with : ℕ → List ℕ → Bool
+begins_with c [] = false
+begins_with c (d ∷ cs) = c == d
 
--- the parcels at some places that a Spent of a copy makes pass: one of their copies is spent so now, and none was before
+-- the parcels at some places that a Spent of a copy makes pass: their first copy is spent so now, and wasn't before
 abbrev pub passing_now : (Outcome → Bool) → (Place → Bool) → Record → ℕ → Outcome → ℕ
 passing_now test here h c outcome =
-    parcels_that (λ copies. (test outcome && has_copy c copies) && not (any_copy test h copies)) here h
+    parcels_that (λ copies. (test outcome && begins_with c copies) && not (first_spent test h copies)) here h
 
 -- the parcels that an entry makes unread
 abbrev pub unread_in : Record → ℕ → Entry → ℕ

@@ -97,9 +97,10 @@ count_puts test (put ∷ rest) = one_if (test put) + count_puts test rest
 abbrev pub parcels_that : (List ℕ → Bool) → (Place → Bool) → Record → ℕ
 parcels_that test here h = count_puts (λ (put : Put). here put.place && test put.copies) (all_puts h)
 
--- whether one of a parcel's copies was spent so
-abbrev pub any_copy : (Outcome → Bool) → Record → List ℕ → Bool
-any_copy test h copies = list_any (was_spent test h) copies
+-- whether a parcel's first copy was spent so; an empty one has none
+abbrev pub first_spent : (Outcome → Bool) → Record → List ℕ → Bool
+first_spent test h [] = false
+first_spent test h (c ∷ cs) = was_spent test h c
 
 -- whether two statuses of events are the same
 abbrev pub same_status : EventStatus → EventStatus → Bool
@@ -113,13 +114,13 @@ same_status s t = false
 abbrev pub spent_as : EventStatus → Record → List ℕ → Bool
 spent_as status h copies = was_spent (λ outcome. same_status (status_of outcome) status) h (first_copy copies)
 
--- the parcels that an instance put out and that had no target
+-- the parcels that an instance put out and that had no target, each by its first copy
 abbrev pub unread_parcels : Record → ℕ → ℕ
-unread_parcels h i = parcels_that (any_copy is_unread h) (is_output i) h
+unread_parcels h i = parcels_that (first_spent is_unread h) (is_output i) h
 
--- the parcels for an instance that its full buffer dropped
+-- the parcels for an instance that its full buffer dropped, each by its first copy
 abbrev pub newest_parcels : Record → ℕ → ℕ
-newest_parcels h i = parcels_that (any_copy is_newest h) (is_child_for i) h
+newest_parcels h i = parcels_that (first_spent is_newest h) (is_child_for i) h
 
 -- the parcels that a sink held and that were spent with a status
 abbrev pub parcels_spent : EventStatus → Record → ℕ → ℕ

@@ -17,7 +17,7 @@ use Rattle.vx_record.proofs.Senders.{same_told}
 use Rattle.vx_sourcecore.proofs.Keeping.{abreast_kept, abreast_under}
 use Rattle.vx_sourcecore.proofs.MakingKept.{generating_kept, generating_under}
 use Rattle.vx_tasks.specs.declared.task.Role.{Role}
-use Rattle.vx_tasks.specs.declared.task.Role.TheVariants.{Source, Generator, Sink, Blackhole, Transform, Unfit}
+use Rattle.vx_tasks.specs.declared.task.Role.TheVariants.{Source, Generator, Sink, Blackhole, Transform, Merge, Unfit}
 use Rattle.vx_tasks.specs.Telling.{IsTold, HasCounted}
 use Rattle.vx_tasks.specs.Home.{HasCome}
 use Rattle.vx_tasks.proofs.Staying.{device_is, told_same}
@@ -76,6 +76,8 @@ come_far (Sink codec) h (Install version plan once instances now) i legal none i
 come_far (Sink codec) h e i legal none is come = come
 come_far (Transform picker) h (Install version plan once instances now) i legal none is come = absurd none
 come_far (Transform picker) h e i legal none is come = come
+come_far Merge h (Install version plan once instances now) i legal none is come = absurd none
+come_far Merge h e i legal none is come = come
 come_far Unfit h e i legal none is come = tt
 
 -- MUTE ENTRIES
@@ -116,4 +118,6 @@ come_mute (Sink codec) h (Install version plan once instances now) i mute come =
 come_mute (Sink codec) h e i mute come = come
 come_mute (Transform picker) h (Install version plan once instances now) i mute come = absurd mute
 come_mute (Transform picker) h e i mute come = come
+come_mute Merge h (Install version plan once instances now) i mute come = absurd mute
+come_mute Merge h e i mute come = come
 come_mute Unfit h e i mute come = tt

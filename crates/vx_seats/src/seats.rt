@@ -1,10 +1,11 @@
-ghost use Rattle.std.specs.Prelude.{◌≡◌, ◌<◌, ◌+◌, ◌⊎◌, ◌||◌, ◌&&◌, not, if◌then◌else◌, ℕ, Bool, true, false, List, [], ◌∷◌, length, IfOk, IfSome, IfNone, IsSome, Some, None, is_some, slice_get, count_by};
+ghost use Rattle.std.specs.Prelude.{◌≡◌, ◌==◌, ◌<◌, ◌+◌, ◌⊎◌, ◌||◌, ◌&&◌, not, if◌then◌else◌, ℕ, Bool, true, false, List, [], ◌∷◌, length, IfOk, IfSome, IfNone, IsSome, Some, None, is_some, slice_get, count_by};
 ghost use Rattle.vx_value.specs.Texts.{Word, is_empty};
 ghost use Rattle.vx_record.specs.Records.{Record, capped};
 ghost use Rattle.vx_record.specs.Legal.{IsLegal};
 ghost use Rattle.vx_record.specs.Installs.{source_at};
 ghost use Rattle.vx_record.specs.Reads.{bytes_taken, bytes_of, is_end};
-ghost use Rattle.vx_record.specs.Tallies.{is_batch_of, is_first, is_newest, is_unread, any_copy};
+ghost use Rattle.vx_record.specs.Parcels.{first_copy};
+ghost use Rattle.vx_record.specs.Tallies.{is_batch_of, is_first, is_newest, is_unread};
 ghost use Rattle.vx_record.specs.Turns.{lease_now};
 ghost use Rattle.vx_record.specs.SinkBatches.{is_failed as is_failed_by};
 ghost use Rattle.vx_record.specs.Shifts.{at};
@@ -289,14 +290,15 @@ impl<P: Port> Seats<P> {
         self.seats[i as usize].counts.answered(sent, dropped);
     }
 
-    /// A copy was spent that an instance held, as answered, discarded or given up. `first` says that it came first in the parcel that was taken:
-    /// its other copies don't count.
+    /// A copy was spent that an instance held, as answered, discarded or given up. Of a sink `first` says that it came first in the
+    /// parcel that was taken: its other copies don't count.
     pub fn spent(&mut self, i: u32, outcome: Outcome, first: bool)
         requires { i < length self.old }
         ensures size { length self.new ≡ length self.old }
         ensures stays { EachSeat Stays self.old self.new }
         ensures knows { (h : Record) → (c : ℕ) → is_newest outcome ≡ false →
-            is_unread outcome ≡ false → first ≡ is_first h i c → Knows P.told self.old h →
+            is_unread outcome ≡ false →
+            (class_at h i ≡ Some Sink → first ≡ is_first h i c) → Knows P.told self.old h →
             IsLegal (Spent i c outcome ∷ h) → Knows P.told self.new (Spent i c outcome ∷ h) }
     {
         let seat = &mut self.seats[i as usize];
@@ -304,14 +306,14 @@ impl<P: Port> Seats<P> {
         count_spent(&mut seat.counts, sink, first, outcome);
     }
 
-    /// A copy that an instance put out was spent for want of a reader. `first` says that no other copy of its parcel was spent so
-    /// before.
+    /// A copy that an instance put out was spent for want of a reader. `first` says that it came first in the parcel that was put
+    /// out: its other copies don't count.
     pub fn unread(&mut self, i: u32, first: bool)
         requires { i < length self.old }
         ensures size { length self.new ≡ length self.old }
         ensures stays { EachSeat Stays self.old self.new }
         ensures knows { (h : Record) → (c : ℕ) → (copies : List ℕ) →
-            WasPutIn h (Outputs i) copies c → first ≡ not (any_copy is_unread h copies) →
+            WasPutIn h (Outputs i) copies c → first ≡ (c == first_copy copies) →
             Knows P.told self.old h → IsLegal (Spent i c NoConsumer ∷ h) →
             Knows P.told self.new (Spent i c NoConsumer ∷ h) }
     {
@@ -320,13 +322,14 @@ impl<P: Port> Seats<P> {
         count_unread(&mut seat.counts, sink, first);
     }
 
-    /// A copy that waited for a target was dropped as the newest. `first` says that no other copy of its parcel was dropped so before.
+    /// A copy that waited for a target was dropped as the newest. `first` says that it came first in the parcel that waited: its other
+    /// copies don't count.
     pub fn dropped(&mut self, target: u32, first: bool)
         requires { target < length self.old }
         ensures size { length self.new ≡ length self.old }
         ensures stays { EachSeat Stays self.old self.new }
         ensures knows { (h : Record) → (i c : ℕ) → (copies : List ℕ) →
-            WasPutIn h (Waiting i target) copies c → first ≡ not (any_copy is_newest h copies) →
+            WasPutIn h (Waiting i target) copies c → first ≡ (c == first_copy copies) →
             Knows P.told self.old h → IsLegal (Spent i c NewestDropped ∷ h) →
             Knows P.told self.new (Spent i c NewestDropped ∷ h) }
     {
@@ -457,7 +460,8 @@ fn number_after(before: u64, now: u64, set: bool) -> u64
 fn count_spent(counts: &mut Counts, sink: bool, first: bool, outcome: Outcome)
     ensures { (h : Record) → (i c : ℕ) → is_newest outcome ≡ false → is_unread outcome ≡ false →
         IsLegal (Spent i c outcome ∷ h) → (sink ≡ true → class_at h i ≡ Some Sink) →
-        (sink ≡ false → class_at h i ≡ Some Sink → ⊥) → first ≡ is_first h i c →
+        (sink ≡ false → class_at h i ≡ Some Sink → ⊥) →
+        (class_at h i ≡ Some Sink → first ≡ is_first h i c) →
         Meets i h counts.old.tally → Meets i (Spent i c outcome ∷ h) counts.new.tally }
 {
     if both(sink, first) {
@@ -465,11 +469,11 @@ fn count_spent(counts: &mut Counts, sink: bool, first: bool, outcome: Outcome)
     }
 }
 
-/// Counts a spend for want of a reader, if it is the first of its parcel.
+/// Counts a spend for want of a reader, if it is that of its parcel's first copy.
 fn count_unread(counts: &mut Counts, sink: bool, first: bool)
     ensures { (h : Record) → (i c : ℕ) → (copies : List ℕ) → IsLegal (Spent i c NoConsumer ∷ h) →
         (sink ≡ true → class_at h i ≡ Some Sink) → (sink ≡ false → IsGiver (class_at h i)) →
-        WasPutIn h (Outputs i) copies c → first ≡ not (any_copy is_unread h copies) →
+        WasPutIn h (Outputs i) copies c → first ≡ (c == first_copy copies) →
         Meets i h counts.old.tally → Meets i (Spent i c NoConsumer ∷ h) counts.new.tally }
 {
     if both(!sink, first) {
@@ -477,12 +481,12 @@ fn count_unread(counts: &mut Counts, sink: bool, first: bool)
     }
 }
 
-/// Counts a drop of the newest for a sink, if it is the first of its parcel.
+/// Counts a drop of the newest for a sink, if it is that of its parcel's first copy.
 fn count_dropped(counts: &mut Counts, sink: bool, first: bool)
     ensures { (h : Record) → (i j c : ℕ) → (copies : List ℕ) →
         IsLegal (Spent i c NewestDropped ∷ h) → (sink ≡ true → class_at h j ≡ Some Sink) →
         (sink ≡ false → class_at h j ≡ Some Sink → ⊥) → WasPutIn h (Waiting i j) copies c →
-        first ≡ not (any_copy is_newest h copies) → Meets j h counts.old.tally →
+        first ≡ (c == first_copy copies) → Meets j h counts.old.tally →
         Meets j (Spent i c NewestDropped ∷ h) counts.new.tally }
 {
     if both(sink, first) {

@@ -5,9 +5,9 @@ use Rattle.vx_places.proofs.Written.{waiting_written, loses, keeps, read_at, if_
 use Rattle.vx_places.proofs.rows.spend_child.Goals as goal
 
 pub returns-clause-loses : goal.returns-clause-loses
-returns-clause-loses c = IfSome_then c.take_child_copy.result c.take_child_copy.ensures.loses (λ copy less.
+returns-clause-loses c = IfSome_then c.take_child_copy.result c.take_child_copy.ensures.loses (λ lost less.
     let others = c.take_child_copy.ensures.others in
-    let change = waiting_written _ _ _ c.requires.within c.index_mut.ensures.value _ refl refl refl c.args.target others in loses change copy _ _ refl refl less (keeps change (λ j. refl)))
+    let change = waiting_written _ _ _ c.requires.within c.index_mut.ensures.value _ refl refl refl c.args.target others in loses change lost.copy lost.last _ _ refl refl less (keeps change (λ j. refl)))
 
 pub returns-clause-empty : goal.returns-clause-empty
 returns-clause-empty c =

@@ -5,8 +5,8 @@ use Rattle.vx_places.proofs.Written.{outputs_written, outputs_related, loses, ro
 use Rattle.vx_places.proofs.rows.spend_output.Goals as goal
 
 pub returns-clause-loses : goal.returns-clause-loses
-returns-clause-loses c = IfSome_then c.take_output_copy.result c.take_output_copy.ensures.loses (λ copy less.
-    loses (outputs_written _ _ _ c.requires c.index_mut.ensures.value _) copy _ _ refl refl less
+returns-clause-loses c = IfSome_then c.take_output_copy.result c.take_output_copy.ensures.loses (λ lost less.
+    loses (outputs_written _ _ _ c.requires c.index_mut.ensures.value _) lost.copy lost.last _ _ refl refl less
     (outputs_related _ _ _ c.requires c.index_mut.ensures.value KeepsOn (λ os ports copy on. on) _ c.take_output_copy.ensures.on))
 
 pub returns-clause-rooms : goal.returns-clause-rooms

@@ -13,9 +13,9 @@ within c =
     let ok = c.index_mut.result.now.stages.ok in omega (arith, ok, same, c.len.ensures, c.if-s-len.true)
 
 pub returns-then-s-len-clause-loses : goal.returns-then-s-len-clause-loses
-returns-then-s-len-clause-loses c = IfSome_then c.take_copy.result c.take_copy.ensures.loses (λ copy less.
+returns-then-s-len-clause-loses c = IfSome_then c.take_copy.result c.take_copy.ensures.loses (λ lost less.
     let change = stage_written _ _ _ c.requires c.index_mut.ensures.value c.args.s _ _ (within c) c.index_mut-then-s-len.ensures.value in
-    loses change copy _ _ refl refl less (keeps change (λ j. refl)))
+    loses change lost.copy lost.last _ _ refl refl less (keeps change (λ j. refl)))
 
 pub returns-then-s-len-clause-none : goal.returns-then-s-len-clause-none
 returns-then-s-len-clause-none c = if_none_then c.take_copy.result

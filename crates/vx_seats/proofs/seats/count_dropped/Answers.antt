@@ -1,5 +1,5 @@
 use Rattle.std.proofs.Common.{◌∙◌, sym}
-use Rattle.std.proofs.lemmas.Bool.{and_parts, not-true}
+use Rattle.std.proofs.lemmas.Bool.{and_parts, eqb-true}
 use Rattle.vx_status.specs.declared.outcome.Outcome.TheVariants.{NewestDropped}
 use Rattle.vx_record.specs.declared.entry.Entry.TheVariants.{Spent}
 use Rattle.vx_counts.proofs.Once.{itself}
@@ -10,7 +10,7 @@ use Rattle.vx_seats.proofs.seats.count_dropped.Goals as goal
 pub returns-then-both : goal.returns-then-both
 returns-then-both c = λ h i j k copies legal sinks others put first meets.
     let two = and_parts c.args.sink c.args.first (sym c.both.ensures ∙ c.if-both.true) in
-    c.dropped_newest.ensures h j i k legal (sinks two.0) (record { giver = i; copies = copies; put = put; first = not-true _ (sym first ∙ two.1) }) meets
+    c.dropped_newest.ensures h j i k legal (sinks two.0) (record { giver = i; copies = copies; put = put; first = eqb-true _ _ (sym first ∙ two.1) }) meets
 
 -- a copy that is dropped as the newest, that isn't the first of its parcel, or whose target is no sink, counts for nobody
 pub returns-else-both : goal.returns-else-both

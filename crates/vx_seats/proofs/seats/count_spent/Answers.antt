@@ -4,7 +4,7 @@ use Rattle.vx_status.specs.declared.outcome.Outcome.{Outcome}
 use Rattle.vx_status.specs.declared.outcome.Outcome.TheVariants.{Filtered}
 use Rattle.vx_record.specs.declared.entry.Entry.TheVariants.{Spent}
 use Rattle.vx_record.specs.Records.{Record}
-use Rattle.vx_record.specs.Tallies.{is_newest, is_unread}
+use Rattle.vx_record.specs.Tallies.{is_first, is_newest, is_unread}
 use Rattle.vx_counts.specs.Meets.{LeavesBe}
 use Rattle.vx_counts.specs.Spends.{BeginsNone}
 use Rattle.vx_counts.proofs.Stays.{others_stay}
@@ -19,9 +19,9 @@ leaves h i c outcome newest unread none = first_of (search, cc)
 pub returns-then-both : goal.returns-then-both
 returns-then-both c = λ h i k newest unread legal sinks others first meets.
     let two = and_parts c.args.sink c.args.first (sym c.both.ensures ∙ c.if-both.true) in
-    c.spent.ensures h i i k newest legal (sinks two.0) (sym first ∙ two.1) meets
+    c.spent.ensures h i i k newest legal (sinks two.0) (sym (first (sinks two.0)) ∙ two.1) meets
 
 pub returns-else-both : goal.returns-else-both
 returns-else-both c = λ h i k newest unread legal sinks others first meets.
-    let none = unless c.args.sink c.args.first _ c.both.result others first c.both.ensures c.if-both.false in
+    let none : BeginsNone h i k = λ class. unless c.args.sink c.args.first (is_first h i k) c.both.result others (first class) c.both.ensures c.if-both.false class in
     meets ∙ sym (others_stay (Spent i k c.args.outcome) h i legal (leaves h i k c.args.outcome newest unread none))

@@ -1,6 +1,6 @@
 use Rattle.std.proofs.Common.{◌∙◌, sym}
 use Rattle.std.specs.Prelude.{not}
-use Rattle.std.proofs.lemmas.Bool.{and_parts, not-false, not-true}
+use Rattle.std.proofs.lemmas.Bool.{and_parts, eqb-true, not-false, not-true}
 use Rattle.vx_status.specs.declared.outcome.Outcome.TheVariants.{NoConsumer}
 use Rattle.vx_record.specs.declared.entry.Entry.TheVariants.{Spent}
 use Rattle.vx_counts.proofs.Once.{itself}
@@ -11,7 +11,7 @@ use Rattle.vx_seats.proofs.seats.count_unread.Goals as goal
 pub returns-then-both : goal.returns-then-both
 returns-then-both c = λ h i k copies legal sinks givers put first meets.
     let two = and_parts (not c.args.sink) c.args.first (sym c.both.ensures ∙ c.if-both.true) in
-    c.unread.ensures h i i k legal (givers (not-true c.args.sink two.0)) (record { copies = copies; put = put; first = not-true _ (sym first ∙ two.1) }) meets
+    c.unread.ensures h i i k legal (givers (not-true c.args.sink two.0)) (record { copies = copies; put = put; first = eqb-true _ _ (sym first ∙ two.1) }) meets
 
 -- a copy for want of a reader, that isn't the first of its parcel, or whose instance gives nothing, counts for nobody
 pub returns-else-both : goal.returns-else-both

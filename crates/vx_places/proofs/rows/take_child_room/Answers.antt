@@ -1,0 +1,15 @@
+use Rattle.std.proofs.Common.{refl, ap, ◌∙◌, []}
+use Rattle.vx_places.proofs.Written.{has, children_wait, rooms_kept}
+use Rattle.vx_places.proofs.rows.take_child_room.Goals as goal
+
+pub returns-clause-waits : goal.returns-clause-waits
+returns-clause-waits c = children_wait _ _ _ c.requires.within c.index_mut.ensures.value _ refl refl refl []
+    (has _ c.args.rows.now.items c.args.i _ c.requires.within c.index_mut.ensures.value c.requires.none)
+    (ap (λ (v : _). v.items) c.replace-none.ensures.after ∙ c.new.ensures.items)
+
+pub returns-clause-empty : goal.returns-clause-empty
+returns-clause-empty c = c.into_vec.ensures.items ∙ (ap (λ (v : _). v.items) c.replace-none.ensures.value
+    ∙ has _ c.args.rows.now.items c.args.i _ c.requires.within c.index_mut.ensures.value c.requires.none)
+
+pub returns-clause-rooms : goal.returns-clause-rooms
+returns-clause-rooms c = search rooms_kept
