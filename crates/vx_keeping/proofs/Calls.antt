@@ -1,0 +1,378 @@
+-- What each call of a keeper leads to.
+use Rattle.std.proofs.Common.{◌≡◌, ℕ, ◌+◌, ◌<◌, Bool, true, false, cond, Option, Some, None, List, [], ◌∷◌, ◌++◌, map, reverse, refl, sym, ap, ap₂, ◌∙◌, subst, arith, inl, inr, append-nil}
+use Rattle.std.specs.Prelude.{◌↔◌, IsSome, IsNone, IsTrue, IfSome, IfNone, is_some, filter, not}
+use Rattle.std.specs.List.{sum_by}
+use Rattle.std.proofs.lemmas.Bool.Decides.{nat_tests}
+use Rattle.std.proofs.lemmas.List.Sums.{sum_by-append, sum_by-cons}
+use Rattle.vx_value.specs.Filled.{Filled}
+use Rattle.vx_value.specs.Texts.{is_empty}
+use Rattle.vx_ledger.specs.Copies.{Copy, numbers_of}
+use Rattle.vx_ledger.specs.declared.parcel.Parcel.{Parcel}
+use Rattle.vx_transform.specs.Shelves.{Shelved, copies_put_out, copies_dropped, copies_on}
+use Rattle.vx_transform.specs.declared.output.Output.{Output}
+use Rattle.vx_condition.specs.Picking.{held}
+use Rattle.vx_condition.specs.Reducing.{groups, due}
+use Rattle.vx_record.specs.declared.entry.Entry.TheVariants.{Take, Answer}
+use Rattle.vx_record.specs.Records.{Record}
+use Rattle.vx_record.specs.Copies.{count, joined}
+use Rattle.vx_record.specs.Turns.{lease_now}
+use Rattle.vx_record.specs.Places.Place.{Held}
+use Rattle.vx_record.specs.Inputs.{Input as Told, unanswered, inputs, answered, to_answer, is_tick, steps_of}
+use Rattle.vx_record.specs.Shifts.{at}
+use Rattle.vx_record.specs.Legal.{IsLegal}
+use Rattle.vx_record.proofs.Answers.{inputs_parted}
+use Rattle.vx_places.specs.Holding.{AreKnown}
+use Rattle.vx_places.specs.Numbers.{IsCopyIn, EachFilled}
+use Rattle.vx_reduce.specs.declared.reduce.Reduce.{Reduce}
+use Rattle.vx_reduce.specs.declared.group.Group.{Group}
+use Rattle.vx_reduce.specs.declared.reduce_settings.ReduceSettings.{ReduceSettings}
+use Rattle.vx_reduce.specs.Groups.{copies_held}
+use Rattle.vx_reduce.specs.Reducers.{due_of}
+use Rattle.vx_reduce.specs.Inputs.{Input, steps_of as reduce_steps}
+use Rattle.vx_reduce.specs.Standing.{settings_of, IsAt, IsDueAt}
+use Rattle.vx_reduce.proofs.GoingOn.{begun}
+use Rattle.vx_keeping.specs.declared.store.Store.{Store}
+use Rattle.vx_keeping.specs.Kept.{Kept, nothing, loose_copies, copies_kept}
+use Rattle.vx_keeping.specs.Given.{arrived_all, SameCopies, IsGiven}
+use Rattle.vx_keeping.specs.Stored.{with_shelf, shelf_of, copies_stored, kept_of, IsBare, IsSettled}
+use Rattle.vx_keeping.specs.Keeping.{Accounts, told, told_at, taken_in, RunsWith, IsBareOrMeant, HasGiven, IsAbreast, Keeps, HasMade}
+use Rattle.vx_keeping.specs.Answers.{Reduces, notes_of, IsDueBehind, GivesUp}
+use Rattle.vx_keeping.proofs.Weights.{dropped-append, put_out-append, no_copies}
+use Rattle.vx_keeping.proofs.Ruling.{settings_mean, rule_there}
+use Rattle.vx_keeping.proofs.Staying.{map_none}
+use Rattle.vx_keeping.proofs.Accounting.{kept_weigh, held_none, lost_there, lost_made, lost_leads}
+use Rattle.vx_keeping.proofs.Telling.{told_behind, steps_told}
+use Rattle.vx_keeping.proofs.Filling.{groups_have, no_groups}
+use Rattle.vx_keeping.proofs.Bearing.{answered_filled, taken_filled}
+use Rattle.vx_keeping.proofs.Popping.{parts_none}
+use Rattle.vx_keeping.proofs.Going.{unfit_keeps, short_keeps, made_on, answer_makes, take_accounts, take_abreast}
+use Rattle.vx_keeping.proofs.Storing.{has_none}
+use Rattle.vx_keeping.proofs.Answering.{nothing_kept, put_out_keeps}
+
+-- NEW
+pub new_keeps : (store : Store) (settings : ReduceSettings) → store.taken.items ≡ [] → shelf_of store ≡ nothing → store.reduce.groups ≡ [] → store.reduce.since ≡ 0 → settings_of store.reduce ≡ settings →
+    (h : Record) (i : ℕ) → RunsWith h i settings → inputs h i ≡ [] → at h (Held i) ≡ [] → Keeps (kept_of store None true) h i
+new_keeps store settings taken shelf none since set h i runs given holds = record {
+  accounts = record {
+    counted = λ c. ap (λ ps. count c (joined ps)) holds ∙ sym (ap (λ cs. count c (numbers_of cs)) bare);
+    known = λ copy is. absurd (subst (λ cs. IsCopyIn cs copy) bare is);
+  };
+  abreast = λ fit. record {
+    given = record {
+      set = with_set;
+      earlier = [];
+      more = [];
+      answered = sym parts.1;
+      given = refl;
+      stands = λ s r. begun s store.reduce (settings_mean h i s (settings_of store.reduce) with_set r) none since;
+      shelf = λ s r. shelf;
+      meant = inl (none, shelf);
+      loose = refl;
+    };
+    bare = shelf;
+    taken =
+        ap (map (told_at (lease_now h i))) taken
+        ∙ sym (ap (λ (xs : List Told). reverse (filter (λ (x : Told). not (is_tick x.step)) xs)) parts.0);
+  };
+}
+  where
+    with_set : RunsWith h i (settings_of store.reduce)
+    with_set = subst (RunsWith h i) (sym set) runs
+
+    parts : (unanswered h i ≡ []) × (answered h i ≡ [])
+    parts = parts_none (unanswered h i) (answered h i) (sym (inputs_parted h i) ∙ given)
+
+    bare : copies_kept (kept_of store None true) ≡ []
+    bare = nothing_kept (kept_of store None true) refl taken none shelf
+
+-- TAKE
+pub pushed_weigh : (old new : Store) (loose : Option Copy) (fit : Bool) (parcel : Parcel) → new.reduce ≡ old.reduce → shelf_of new ≡ shelf_of old → new.taken.items ≡ old.taken.items ++ parcel ∷ [] →
+    (w : Copy → ℕ) → sum_by w (copies_kept (kept_of new loose fit)) ≡ sum_by w (copies_kept (kept_of old loose fit)) + sum_by w parcel.finalizers
+pushed_weigh old new loose fit parcel reduce shelf taken w =
+    let a = kept_weigh (kept_of new loose fit) w in
+    let b = kept_weigh (kept_of old loose fit) w in
+    let c = ap (λ (r : Reduce). sum_by w (copies_held r.groups)) reduce in
+    let d = ap (λ (sh : Shelved). sum_by w (copies_put_out sh.outputs)) shelf in
+    let e = ap (λ (sh : Shelved). sum_by w (copies_dropped sh.dropped)) shelf in
+    let f = ap (λ ps. sum_by w (copies_dropped ps)) taken ∙ dropped-append old.taken.items (parcel ∷ []) w in
+    let g = sum_by-append w parcel.finalizers [] in
+    omega (arith, a, b, c, d, e, f, g)
+
+pub take_keeps : (old new : Kept) (parcel : Parcel) → ((w : Copy → ℕ) → sum_by w (copies_kept new) ≡ sum_by w (copies_kept old) + sum_by w parcel.finalizers) → new.fit ≡ old.fit →
+    (new.fit ≡ true → new ≡ record old { taken = record { items = old.taken.items ++ parcel ∷ []; room = old.taken.room } }) →
+    (h : Record) (i s : ℕ) → Keeps old h i → IsLegal (Take i s (numbers_of parcel.finalizers) ∷ h) → AreKnown h (parcel ∷ []) → Keeps new (Take i s (numbers_of parcel.finalizers) ∷ h) i
+take_keeps old new parcel more fits is h i s keeps legal known = record {
+  accounts = take_accounts old new parcel h i s legal known more keeps.accounts;
+  abreast = λ fit. take_abreast old new parcel h i s legal known (is fit) (keeps.abreast (sym fits ∙ fit));
+}
+
+-- whether any was
+turned : (b : Bool) → not b ≡ false → b ≡ true
+turned true is = refl
+turned false is = absurd cc
+
+pub has_taken_then : (k : Kept) (none : Bool) → IsTrue none ↔ (k.taken.items ≡ []) → k.fit ≡ true → (h : Record) (i : ℕ) → Keeps k h i → (not none ≡ false) ↔ (taken_in h i ≡ [])
+has_taken_then k none says fits h i keeps =
+    let a = keeps.abreast fits in (
+      λ is. sym a.taken ∙ ap (map (told_at (lease_now h i))) (says.0 (turned none is)),
+      λ gone. ap not (says.1 (map_none (told_at (lease_now h i)) k.taken.items (a.taken ∙ gone))),
+    )
+
+-- PUT OUT
+pub put_out_then : (old new : Kept) (outputs : List Output) → (old.fit ≡ true → outputs ≡ old.shelf.outputs) → (old.fit ≡ true → new ≡ record old { shelf = nothing }) →
+    (h : Record) (i : ℕ) (kept : List ℕ) → HasMade old h i (to_answer h i) → IsLegal (Answer i (notes_of outputs) [] kept ∷ h) → Keeps new (Answer i (notes_of outputs) [] kept ∷ h) i
+put_out_then old new outputs all is h i kept made legal =
+    let same = all made.fit in
+    subst (λ (os : List Output). Keeps new (Answer i (notes_of os) [] kept ∷ h) i) (sym same)
+    (put_out_keeps old new h i kept (is made.fit) made (subst (λ (os : List Output). IsLegal (Answer i (notes_of os) [] kept ∷ h)) same legal))
+
+-- GIVE UP
+pub gives_up : (copy : Copy) (old new : Kept) → new.fit ≡ false → ((w : Copy → ℕ) → sum_by w (copies_kept old) ≡ w copy + sum_by w (copies_kept new)) → GivesUp copy old new
+gives_up copy old new unfit loses = record {
+  same = λ w. loses w ∙ sym (sum_by-cons w copy (copies_kept new));
+  there = lost_there copy old new loses;
+  made = lost_made copy old new loses;
+  leads = λ h i outcome accounts legal. unfit_keeps new _ i unfit (lost_leads copy old new loses h i outcome accounts legal);
+}
+
+-- EMPTY
+-- where a record has the instance hold nothing, there is no copy
+counted_none : (cs : List Copy) → ((c : ℕ) → count c (numbers_of cs) ≡ 0) → cs ≡ []
+counted_none [] none = refl
+counted_none (x ∷ cs) none = let e = none x.number in absurd (grind (arith, nat_tests, e))
+
+pub all_gone : (k : Kept) (h : Record) (i : ℕ) → Accounts k h i → at h (Held i) ≡ [] → copies_kept k ≡ []
+all_gone k h i accounts none = counted_none (copies_kept k) (λ c. sym (accounts.counted c) ∙ ap (λ ps. count c (joined ps)) none)
+
+pub none_there : (k : Kept) (h : Record) (i : ℕ) → IsLegal h → Accounts k h i → copies_kept k ≡ [] → at h (Held i) ≡ []
+none_there k h i legal accounts none = held_none h i legal (λ c. accounts.counted c ∙ ap (λ cs. count c (numbers_of cs)) none)
+
+pub no_parcels : (ps : List Parcel) → EachFilled ps → copies_dropped ps ≡ [] → ps ≡ []
+no_parcels [] filled none = refl
+no_parcels (p ∷ ps) filled none = absurd (filled.0 (parts_none p.finalizers (copies_dropped ps) none).0)
+
+-- then nothing waits either, and there is no group
+pub bare_then : (store : Store) (loose : Option Copy) (fit : Bool) (h : Record) (i : ℕ) → fit ≡ true → IsLegal h → Keeps (kept_of store loose fit) h i → at h (Held i) ≡ [] → IsBare store
+bare_then store loose fit h i fits legal keeps none = record {
+  taken = no_parcels store.taken.items (taken_filled h i (lease_now h i) store.taken.items legal a.taken) (parts_none (copies_dropped store.taken.items) (copies_on (shelf_of store)) behind.1).0;
+  ready = (parts_none store.ready.items store.shelf.outputs (ap (λ (sh : Shelved). sh.outputs) a.bare)).0;
+  groups = no_group a.given.meant;
+}
+  where
+    a : IsAbreast (kept_of store loose fit) h i
+    a = keeps.abreast fits
+
+    all : copies_kept (kept_of store loose fit) ≡ []
+    all = all_gone (kept_of store loose fit) h i keeps.accounts none
+
+    behind : (copies_held store.reduce.groups ≡ []) × (copies_dropped store.taken.items ++ copies_on (shelf_of store) ≡ [])
+    behind = parts_none (copies_held store.reduce.groups) (copies_dropped store.taken.items ++ copies_on (shelf_of store)) (parts_none (loose_copies loose) (copies_stored store) all).1
+
+    no_group : IsBareOrMeant (kept_of store loose fit) → store.reduce.groups ≡ []
+    no_group (inl bare) = bare.0
+    no_group (inr m) =
+        let g = a.given in
+        let rule = rule_there h i m.0 (settings_of store.reduce) g.set m.1 in
+        let given : List Input = reverse g.more ++ g.earlier in
+        let is = g.stands rule.0 rule.1 in
+        let same : given ≡ g.earlier = ap (λ (l : List Input). reverse l ++ g.earlier) (map_none told g.more g.given) in
+        let at_earlier : IsAt rule.0 g.earlier store.reduce = subst (λ l. IsAt rule.0 l store.reduce) same is in
+        at_earlier.held
+        ∙ no_groups rule.0 g.earlier (groups rule.0 (reduce_steps g.earlier)) (groups_have rule.0 g.earlier (answered_filled h i g.earlier legal g.answered))
+        (ap copies_held (sym at_earlier.held) ∙ behind.0)
+
+-- what is bare has no copy
+pub bare_none : (store : Store) → store.shelf ≡ nothing → IsBare store → copies_stored store ≡ []
+bare_none store clear bare =
+    ap (λ gs. copies_held gs ++ (copies_dropped store.taken.items ++ (copies_put_out (store.ready.items ++ store.shelf.outputs) ++ copies_dropped store.shelf.dropped))) bare.groups
+    ∙ ap (λ ps. copies_dropped ps ++ (copies_put_out (store.ready.items ++ store.shelf.outputs) ++ copies_dropped store.shelf.dropped)) bare.taken
+    ∙ ap (λ (os : List Output). copies_put_out (os ++ store.shelf.outputs) ++ copies_dropped store.shelf.dropped) bare.ready
+    ∙ ap (λ (sh : Shelved). copies_put_out sh.outputs ++ copies_dropped sh.dropped) clear
+
+pub no_loose : (loose : Option Copy) → loose_copies loose ≡ [] → loose ≡ None
+no_loose None none = refl
+no_loose (Some copy) none = absurd cc
+
+-- so it is asked of a keeper that is fit,
+pub empty_fit : (store : Store) (loose : Option Copy) (fit answer : Bool) → fit ≡ true → IsSettled store loose fit → IsTrue answer ↔ IsBare store → (h : Record) (i : ℕ) → IsLegal h → Keeps (kept_of store loose fit) h i →
+    IsTrue answer ↔ (at h (Held i) ≡ [])
+empty_fit store loose fit answer fits settled says h i legal keeps =
+    let clear = settled.clear fits in (
+      λ is. none_there (kept_of store loose fit) h i legal keeps.accounts (ap (λ (o : Option Copy). loose_copies o ++ copies_stored store) clear.1 ∙ bare_none store clear.0 (says.0 is)),
+      λ none. says.1 (bare_then store loose fit h i fits legal keeps none),
+    )
+
+-- and of one that isn't
+pub empty_unfit : (store : Store) (loose : Option Copy) (fit answer : Bool) → fit ≡ false → IsSettled store loose fit → is_some loose ≡ not answer → (h : Record) (i : ℕ) → IsLegal h → Keeps (kept_of store loose fit) h i →
+    IsTrue answer ↔ (at h (Held i) ≡ [])
+empty_unfit store loose fit answer unfit settled says h i legal keeps = (
+  λ is. let gone = is_gone loose (says ∙ ap not is) in
+      none_there (kept_of store loose fit) h i legal keeps.accounts (ap (λ (o : Option Copy). loose_copies o ++ copies_stored store) gone ∙ settled.next unfit gone),
+  λ none. turned answer (sym says ∙ ap is_some (no_loose loose (parts_none (loose_copies loose) (copies_stored store) (all_gone (kept_of store loose fit) h i keeps.accounts none)).0)),
+)
+  where
+    is_gone : (o : Option Copy) → IsNone o → o ≡ None
+    is_gone None is = refl
+    is_gone (Some copy) is = absurd cc
+
+-- DUE
+due_none : (r : Reduce) → r.groups ≡ [] → due_of r ≡ None
+due_none r none = ap (λ (gs : List Group). cond (is_empty gs) None (Some (held (r.since + r.flush_period_ms)))) none
+
+pub due_behind : (k : Kept) (moment : Option ℕ) → moment ≡ due_of k.reduce → IsDueAt k.reduce moment → (h : Record) (i : ℕ) (behind : List Told) → HasGiven k h i behind → IsDueBehind moment h i behind
+due_behind k moment is stands h i behind g = record {
+  moment = λ s r.
+      stands s (reverse g.more ++ g.earlier) (g.stands s r)
+      ∙ ap (due s) (sym (steps_told (reverse g.more ++ g.earlier)) ∙ ap steps_of (told_behind g.more g.earlier) ∙ ap₂ (λ xs ys. steps_of (reverse xs ++ ys)) g.given g.answered);
+  runs = λ some. go some g.meant;
+}
+  where
+    go : IsSome moment → IsBareOrMeant k → Reduces h i
+    go some (inl bare) = let none : moment ≡ None = is ∙ due_none k.reduce bare.0 in absurd cc
+    go some (inr m) = rule_there h i m.0 (settings_of k.reduce) g.set m.1
+
+-- AS THE FIELDS HAVE IT
+pub with_loose : (loose : Option Copy) (old new : Store) → SameCopies (copies_stored old) (copies_stored new) → SameCopies (loose_copies loose ++ copies_stored old) (loose_copies loose ++ copies_stored new)
+with_loose loose old new same w =
+    let a = sum_by-append w (loose_copies loose) (copies_stored old) in let b = sum_by-append w (loose_copies loose) (copies_stored new) in let c = same w in omega (arith, a, b, c)
+
+-- an answer
+pub answer_then : (now : ℕ) (old new : Store) (loose : Option Copy) (fit : Bool) → fit ≡ true → loose ≡ None → IsGiven (arrived_all now old.taken.items) old.reduce new.reduce (shelf_of old) (shelf_of new) →
+    SameCopies (copies_stored old) (copies_stored new) → new.taken.items ≡ [] → (h : Record) (i : ℕ) → now ≡ lease_now h i → Keeps (kept_of old loose fit) h i → HasMade (kept_of new loose fit) h i (taken_in h i)
+answer_then now old new loose fit fits none given same taken = answer_makes now (kept_of old loose fit) (kept_of new loose fit) fits given (with_loose loose old new same) taken fits none
+
+-- a tick, and the flush
+pub more_then : (xs : List Input) (old new : Store) (loose : Option Copy) (fit : Bool) → fit ≡ true → loose ≡ None → IsGiven xs old.reduce new.reduce (shelf_of old) (shelf_of new) → SameCopies (copies_stored old) (copies_stored new) →
+    new.taken ≡ old.taken → (h : Record) (i : ℕ) (behind : List Told) → HasMade (kept_of old loose fit) h i behind → HasMade (kept_of new loose fit) h i (behind ++ map told xs)
+more_then xs old new loose fit fits none given same taken = made_on (kept_of old loose fit) (kept_of new loose fit) xs given (with_loose loose old new same) taken fits none
+
+-- no memory was found for one of the three
+pub short_same : (old mid new : Store) (loose next : Option Copy) → SameCopies (copies_stored old) (copies_stored mid) → SameCopies (loose_copies loose ++ copies_stored mid) (loose_copies next ++ copies_stored new) →
+    SameCopies (loose_copies loose ++ copies_stored old) (loose_copies next ++ copies_stored new)
+short_same old mid new loose next same found w = with_loose loose old mid same w ∙ found w
+
+pub short_then : (old mid new : Store) (loose next : Option Copy) (fit after : Bool) → after ≡ false → SameCopies (copies_stored old) (copies_stored mid) →
+    SameCopies (loose_copies loose ++ copies_stored mid) (loose_copies next ++ copies_stored new) →
+    (h : Record) (i : ℕ) → Accounts (kept_of old loose fit) h i → Keeps (kept_of new next after) h i
+short_then old mid new loose next fit after unfit same found = short_keeps (kept_of old loose fit) (kept_of new next after) unfit (short_same old mid new loose next same found)
+
+-- a keeper that fails without one
+pub fail_then : (old new : Store) (loose next : Option Copy) (fit after : Bool) → after ≡ false → SameCopies (loose_copies loose ++ copies_stored old) (loose_copies next ++ copies_stored new) →
+    (h : Record) (i : ℕ) → Accounts (kept_of old loose fit) h i → Keeps (kept_of new next after) h i
+fail_then old new loose next fit after unfit same = short_keeps (kept_of old loose fit) (kept_of new next after) unfit same
+
+-- a take
+kept_is : (a b : Kept) → a.reduce ≡ b.reduce → a.taken ≡ b.taken → a.shelf ≡ b.shelf → a.loose ≡ b.loose → a.fit ≡ b.fit → a ≡ b
+kept_is a b reduce taken shelf loose fit =
+    let f : Reduce → Kept = λ x. record { reduce = x; taken = a.taken; shelf = a.shelf; loose = a.loose; fit = a.fit } in
+    let g : Filled Parcel → Kept = λ x. record { reduce = b.reduce; taken = x; shelf = a.shelf; loose = a.loose; fit = a.fit } in
+    let h : Shelved → Kept = λ x. record { reduce = b.reduce; taken = b.taken; shelf = x; loose = a.loose; fit = a.fit } in
+    let j : Option Copy → Kept = λ x. record { reduce = b.reduce; taken = b.taken; shelf = b.shelf; loose = x; fit = a.fit } in
+    let k : Bool → Kept = λ x. record { reduce = b.reduce; taken = b.taken; shelf = b.shelf; loose = b.loose; fit = x } in
+    ap f reduce ∙ ap g taken ∙ ap h shelf ∙ ap j loose ∙ ap k fit
+
+filled_is : (a : Filled Parcel) (items : List Parcel) (room : ℕ) → a.items ≡ items → a.room ≡ room → a ≡ record { items = items; room = room }
+filled_is a items room same of =
+    let f : List Parcel → Filled Parcel = λ ps. record { items = ps; room = a.room } in
+    let g : ℕ → Filled Parcel = λ n. record { items = items; room = n } in
+    ap f same ∙ ap g of
+
+abbrev pub TakesTo : Kept → Kept → Parcel → Type 0
+TakesTo old new parcel =
+    (h : Record) (i s : ℕ) → Keeps old h i → IsLegal (Take i s (numbers_of parcel.finalizers) ∷ h) → AreKnown h (parcel ∷ []) → Keeps new (Take i s (numbers_of parcel.finalizers) ∷ h) i
+
+-- no copy is lost or doubled
+pub pushed_same : (old : Store) (line : Filled Parcel) (loose : Option Copy) (fit : Bool) (parcel : Parcel) → line.items ≡ old.taken.items ++ parcel ∷ [] →
+    SameCopies (copies_kept (kept_of old loose fit) ++ parcel.finalizers) (copies_kept (kept_of (record { reduce = old.reduce; taken = line; ready = old.ready; shelf = old.shelf }) loose fit))
+pushed_same old line loose fit parcel items w =
+    let new : Store = record { reduce = old.reduce; taken = line; ready = old.ready; shelf = old.shelf } in
+    sum_by-append w (copies_kept (kept_of old loose fit)) parcel.finalizers ∙ sym (pushed_weigh old new loose fit parcel refl refl items w)
+
+pub take_fit : (old : Store) (line : Filled Parcel) (loose : Option Copy) (fit : Bool) (parcel : Parcel) → line.items ≡ old.taken.items ++ parcel ∷ [] → line.room ≡ old.taken.room →
+    TakesTo (kept_of old loose fit) (kept_of (record { reduce = old.reduce; taken = line; ready = old.ready; shelf = old.shelf }) loose fit) parcel
+take_fit old line loose fit parcel items room =
+    let new : Store = record { reduce = old.reduce; taken = line; ready = old.ready; shelf = old.shelf } in
+    take_keeps (kept_of old loose fit) (kept_of new loose fit) parcel (pushed_weigh old new loose fit parcel refl refl items) refl
+    (λ fits. kept_is (kept_of new loose fit) (record (kept_of old loose fit) { taken = record { items = old.taken.items ++ parcel ∷ []; room = old.taken.room } }) refl (filled_is line (old.taken.items ++ parcel ∷ []) old.taken.room items room) refl refl refl)
+
+pub take_unfit : (old new : Store) (line : Filled Parcel) (loose next : Option Copy) (fit : Bool) (parcel : Parcel) → fit ≡ false → line.items ≡ old.taken.items ++ parcel ∷ [] →
+    SameCopies (loose_copies loose ++ copies_stored (record { reduce = old.reduce; taken = line; ready = old.ready; shelf = old.shelf })) (loose_copies next ++ copies_stored new) → TakesTo (kept_of old loose fit) (kept_of new next fit) parcel
+take_unfit old new line loose next fit parcel unfit items same =
+    let mid : Store = record { reduce = old.reduce; taken = line; ready = old.ready; shelf = old.shelf } in
+    take_keeps (kept_of old loose fit) (kept_of new next fit) parcel (λ w. sym (same w) ∙ pushed_weigh old mid loose fit parcel refl refl items w) refl (λ fits. absurd cc)
+
+-- the outputs are put out
+pub settled_out : (old new : Store) (loose : Option Copy) (fit : Bool) → new.reduce ≡ old.reduce → new.taken ≡ old.taken → new.shelf ≡ old.shelf → new.ready.items ≡ [] → IsSettled old loose fit → IsSettled new loose fit
+settled_out old new loose fit reduce taken shelf ready settled = record {
+  room = subst (λ n. 0 < n) (sym (ap (λ (t : Filled Parcel). t.room) taken)) settled.room;
+  clear = λ fits. let was = settled.clear fits in (shelf ∙ was.0, was.1);
+  next = λ unfit none.
+      let parts = has_none old (settled.next unfit none) in
+      ap (λ (r : Reduce). copies_held r.groups ++ (copies_dropped new.taken.items ++ copies_on (shelf_of new))) reduce
+      ∙ ap (λ (cs : List Copy). cs ++ (copies_dropped new.taken.items ++ copies_on (shelf_of new))) parts.groups
+      ∙ ap (λ (t : Filled Parcel). copies_dropped t.items ++ copies_on (shelf_of new)) taken
+      ∙ ap (λ (cs : List Copy). cs ++ copies_on (shelf_of new)) parts.taken
+      ∙ ap (λ (os : List Output). copies_put_out (os ++ new.shelf.outputs) ++ copies_dropped new.shelf.dropped) ready
+      ∙ ap copies_on shelf ∙ parts.shelf;
+}
+
+pub put_out_same : (old new : Store) (loose : Option Copy) (fit : Bool) (outputs : List Output) → new.reduce ≡ old.reduce → new.taken ≡ old.taken → new.shelf ≡ old.shelf → new.ready.items ≡ [] → outputs ≡ old.ready.items →
+    SameCopies (copies_kept (kept_of old loose fit)) (copies_put_out outputs ++ copies_kept (kept_of new loose fit))
+put_out_same old new loose fit outputs reduce taken shelf ready is w =
+    let a = kept_weigh (kept_of old loose fit) w in
+    let b = kept_weigh (kept_of new loose fit) w in
+    let c = sum_by-append w (copies_put_out outputs) (copies_kept (kept_of new loose fit)) in
+    let d = put_out-append old.ready.items old.shelf.outputs w in
+    let e = put_out-append new.ready.items new.shelf.outputs w in
+    let f = ap (λ os. sum_by w (copies_put_out os)) ready in
+    let g = ap (λ os. sum_by w (copies_put_out os)) is in
+    let h = ap (λ (sh : Shelved). sum_by w (copies_put_out sh.outputs)) shelf in
+    let j = ap (λ (sh : Shelved). sum_by w (copies_dropped sh.dropped)) shelf in
+    let m = ap (λ (r : Reduce). sum_by w (copies_held r.groups)) reduce in
+    let n = ap (λ (t : Filled Parcel). sum_by w (copies_dropped t.items)) taken in
+    omega (arith, a, b, c, d, e, f, g, h, j, m, n)
+
+pub put_out_store : (old new : Store) (loose : Option Copy) (fit : Bool) (outputs : List Output) → new.reduce ≡ old.reduce → new.taken ≡ old.taken → new.shelf ≡ old.shelf → new.ready.items ≡ [] → outputs ≡ old.ready.items →
+    IsSettled old loose fit → (h : Record) (i : ℕ) (kept : List ℕ) → HasMade (kept_of old loose fit) h i (to_answer h i) → IsLegal (Answer i (notes_of outputs) [] kept ∷ h) →
+    Keeps (kept_of new loose fit) (Answer i (notes_of outputs) [] kept ∷ h) i
+put_out_store old new loose fit outputs reduce taken shelf ready is settled = put_out_then (kept_of old loose fit) (kept_of new loose fit) outputs
+    (λ fits. is ∙ sym (append-nil old.ready.items) ∙ ap (λ (sh : Shelved). old.ready.items ++ sh.outputs) (sym (settled.clear fits).0))
+    (λ fits. kept_is (kept_of new loose fit) (record (kept_of old loose fit) { shelf = nothing }) reduce taken
+    (ap (λ (os : List Output). with_shelf os new.shelf) ready ∙ ap (λ (sh : Shelved). with_shelf [] sh) (shelf ∙ (settled.clear fits).0)) refl refl)
+
+-- a copy is given up
+module _ (store mid new : Store) (loose there next result : Option Copy) (fit after : Bool) (unfit : after ≡ false) (found : SameCopies (loose_copies loose ++ copies_stored store) (loose_copies there ++ copies_stored mid)) (none : there ≡ None → copies_stored mid ≡ [])
+    (left : SameCopies (copies_stored mid) (loose_copies next ++ copies_stored new)) (is : result ≡ there) where
+  pub given_some : IfSome result (λ copy. GivesUp copy (kept_of store loose fit) (kept_of new next after))
+  given_some = go result is
+    where
+      go : (o : Option Copy) → o ≡ there → IfSome o (λ copy. GivesUp copy (kept_of store loose fit) (kept_of new next after))
+      go None same = tt
+      go (Some copy) same = gives_up copy (kept_of store loose fit) (kept_of new next after) unfit (λ w.
+          let a = found w in
+          let b = left w in
+          let c = ap (λ (o : Option Copy). sum_by w (loose_copies o ++ copies_stored mid)) (sym same) in
+          let d = sum_by-cons w copy (copies_stored mid) in
+          omega (arith, a, b, c, d))
+
+  pub given_none : IsNone result ↔ (copies_kept (kept_of store loose fit) ≡ [])
+  given_none = (
+    λ absent. no_copies (copies_kept (kept_of store loose fit)) (λ w.
+        let gone : there ≡ None = sym is ∙ is_none result absent in
+        let a = found w in
+        let b = ap (λ (o : Option Copy). sum_by w (loose_copies o ++ copies_stored mid)) gone in
+        let c = ap (sum_by w) (none gone) in
+        omega (arith, a, b, c)),
+    λ empty. ap is_some (is ∙ no_loose there (parts_none (loose_copies there) (copies_stored mid) (no_copies (loose_copies there ++ copies_stored mid) (λ w. sym (found w) ∙ ap (sum_by w) empty))).0),
+  )
+    where
+      is_none : (o : Option Copy) → IsNone o → o ≡ None
+      is_none None absent = refl
+      is_none (Some copy) absent = absurd cc
+
+  pub given_empty : IfNone result (copies_kept (kept_of new next after) ≡ [])
+  given_empty = go result is
+    where
+      go : (o : Option Copy) → o ≡ there → IfNone o (copies_kept (kept_of new next after) ≡ [])
+      go None same = no_copies (copies_kept (kept_of new next after)) (λ w. sym (left w) ∙ ap (sum_by w) (none (sym same)))
+      go (Some copy) same = tt

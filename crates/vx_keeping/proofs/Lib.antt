@@ -1,0 +1,15 @@
+pub mod Weights
+pub mod Inputs
+pub mod Ruling
+pub mod Staying
+pub mod Telling
+pub mod Filling
+pub mod Accounting
+pub mod Bearing
+pub mod Going
+pub mod Answering
+pub mod Popping
+pub mod Calls
+pub mod Storing
+pub mod Others
+pub mod Resting

@@ -1,0 +1,76 @@
+-- What holds where nothing was taken, nothing is held, or no tick waits.
+use Rattle.std.proofs.Common.{◌≡◌, Bool, true, false, List, [], ◌∷◌, ◌++◌, map, reverse, refl, sym, ap, ◌∙◌, arith, inl, inr}
+use Rattle.std.specs.Prelude.{◌==◌, filter, not, if◌then◌else◌}
+use Rattle.std.proofs.lemmas.Bool.Decides.{nat_tests}
+use Rattle.std.proofs.lemmas.List.{reverse-reverse}
+use Rattle.vx_transform.specs.Shelves.{copies_dropped, copies_on}
+use Rattle.vx_condition.specs.Steps.{comes, ticks}
+use Rattle.vx_record.specs.declared.entry.Entry.TheVariants.{Take, Tick, Answer}
+use Rattle.vx_record.specs.Turns.{lease_now}
+use Rattle.vx_record.specs.Parcels.{parcel_event}
+use Rattle.vx_record.specs.Inputs.{Input as Told, unanswered, is_tick, has_tick}
+use Rattle.vx_reduce.specs.Groups.{copies_held, put_all}
+use Rattle.vx_reduce.specs.Inputs.{Input, outputs_over}
+use Rattle.vx_reduce.specs.Standing.{settings_of}
+use Rattle.vx_keeping.specs.Kept.{nothing, loose_copies}
+use Rattle.vx_keeping.specs.Keeping.{told, told_at, IsBareOrMeant}
+use Rattle.vx_keeping.specs.Laws.{TicksStay, NothingGiven, NothingMade, HoldsNothing, NothingTaken}
+use Rattle.vx_keeping.proofs.Ruling.{rule_there}
+use Rattle.vx_keeping.proofs.Staying.{map_none}
+use Rattle.vx_keeping.proofs.Bearing.{taken_filled}
+use Rattle.vx_keeping.proofs.Popping.{parts_none}
+use Rattle.vx_keeping.proofs.Answering.{unticked}
+use Rattle.vx_keeping.proofs.Calls.{all_gone, none_there, no_parcels}
+
+-- TICKS
+pub ticks_stay : TicksStay
+ticks_stay h i (Take j s copies) other none = go (j == i)
+  where
+    go : (b : Bool) → has_tick ((if b then record { step = comes (parcel_event h copies) (lease_now h i); copies = copies } ∷ [] else []) ++ unanswered h i) ≡ false
+    go true = none
+    go false = none
+ticks_stay h i (Tick j now) other none = go (j == i) refl
+  where
+    go : (b : Bool) → (j == i) ≡ b → has_tick ((if b then record { step = ticks now; copies = [] } ∷ [] else []) ++ unanswered h i) ≡ false
+    go true is = absurd (other (grind (arith, nat_tests)))
+    go false is = none
+ticks_stay h i (Answer j outputs discarded kept) other none = go (j == i)
+  where
+    go : (b : Bool) → has_tick (if b then [] else unanswered h i) ≡ false
+    go true = refl
+    go false = none
+ticks_stay h i e other none = none
+
+-- NOTHING WAS TAKEN
+pub nothing_given : NothingGiven
+nothing_given h i none taken = sym (unticked (unanswered h i) none) ∙ sym (reverse-reverse (filter (λ (x : Told). not (is_tick x.step)) (unanswered h i))) ∙ ap reverse taken
+
+pub nothing_made : NothingMade
+nothing_made k h i made none = record {
+  accounts = made.accounts;
+  abreast = λ fit. record {
+    given = made.given;
+    bare = bare made.given.meant;
+    taken = ap (map (told_at (lease_now h i))) made.taken ∙ sym none;
+  };
+}
+  where
+    bare : IsBareOrMeant k → k.shelf ≡ nothing
+    bare (inl b) = b.1
+    bare (inr m) =
+        let g = made.given in
+        let rule = rule_there h i m.0 (settings_of k.reduce) g.set m.1 in
+        g.shelf rule.0 rule.1 ∙ ap (λ (more : List Input). put_all nothing (outputs_over rule.0 g.earlier more)) (map_none told g.more g.given)
+
+-- NOTHING IS HELD
+pub holds_nothing : HoldsNothing
+holds_nothing k h i legal accounts = (λ none. none_there k h i legal accounts none, λ none. all_gone k h i accounts none)
+
+pub nothing_taken : NothingTaken
+nothing_taken k h i legal keeps fit none =
+    let a = keeps.abreast fit in
+    let all = all_gone k h i keeps.accounts none in
+    let stored = (parts_none (loose_copies k.loose) (copies_held k.reduce.groups ++ (copies_dropped k.taken.items ++ copies_on k.shelf)) all).1 in
+    let behind = (parts_none (copies_held k.reduce.groups) (copies_dropped k.taken.items ++ copies_on k.shelf) stored).1 in
+    let parcels = no_parcels k.taken.items (taken_filled h i (lease_now h i) k.taken.items legal a.taken) (parts_none (copies_dropped k.taken.items) (copies_on k.shelf) behind).0 in
+    sym a.taken ∙ ap (map (told_at (lease_now h i))) parcels

@@ -1,0 +1,6 @@
+pub mod Kept
+pub mod Given
+pub mod Stored
+pub mod Keeping
+pub mod Answers
+pub mod Laws
