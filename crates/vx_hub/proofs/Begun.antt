@@ -1,6 +1,7 @@
 -- A hub as it begins.
 use Rattle.std.proofs.Common.{◌≡◌, ◌≢◌, ◌∙◌, ℕ, zero, suc, ◌+◌, ◌<◌, ◌≤◌, inl, inr, Bool, true, false, List, [], ◌∷◌, ◌++◌, Option, Some, None, IfSome, length, refl, sym, ap, subst, arith, get_or}
-use Rattle.std.specs.Prelude.{◌^◌, ◌&&◌, if◌then◌else◌, map, IsSomeAnd, slice_get, slice_set, vec_capacity}
+use Rattle.std.specs.Prelude.{is_some, ◌^◌, ◌&&◌, if◌then◌else◌, map, IsSomeAnd, slice_get, slice_set, vec_capacity}
+use Rattle.std.proofs.lemmas.List.{length-append}
 use Rattle.std.proofs.lemmas.Bool.{and_from, cases_eq, cases_lt}
 use Rattle.std.proofs.lemmas.List.{length_push}
 use Rattle.std.proofs.lemmas.Option.{IfSome_then, slice_get_past, slice_get_read, slice_get-get_or}
@@ -29,6 +30,7 @@ use Rattle.vx_sourcecore.specs.Turns.{NothingLeft}
 use Rattle.vx_sourcecore.proofs.Keeping.{fresh_abreast}
 use Rattle.vx_sourcecore.proofs.MakingKept.{generator_fresh}
 use Rattle.vx_balance.proofs.Steps.{aside_kept}
+use Rattle.vx_counts.proofs.Begun.{begun_first, begun_stays}
 use Rattle.vx_transform.specs.declared.output.Output.{Output}
 use Rattle.vx_places.specs.Numbers.{parcels_out}
 use Rattle.vx_places.specs.Views.{row_at, here_if, outputs_if, outputs_here, parcels_here}
@@ -37,7 +39,7 @@ use Rattle.vx_places.specs.Holding.{Holds}
 use Rattle.vx_places.specs.Rooms.{rooms_at, rooms_if, held_room}
 use Rattle.vx_places.proofs.Steps.{holds_step, still_shifts, same_holds, none_holds}
 use Rattle.vx_tasks.specs.declared.task.Role.{Role}
-use Rattle.vx_tasks.specs.declared.task.Role.TheVariants.{Source, Generator, Sink, Blackhole, Transform, Unfit}
+use Rattle.vx_tasks.specs.declared.task.Role.TheVariants.{Source, Generator, Sink, Blackhole, Transform, Merge, Unfit}
 use Rattle.vx_tasks.specs.Home.{StandsAt, HasCome, IsAtHome}
 use Rattle.vx_tasks.specs.Telling.{IsTold, HasCounted, spec_by, spec_of}
 use Rattle.vx_seats.specs.declared.seat.Seat.{Seat}
@@ -45,13 +47,17 @@ use Rattle.vx_seats.specs.Beginning.{AreNew, IsFresh, AreFresh}
 use Rattle.vx_seats.specs.Knowing.{Knows}
 use Rattle.vx_seats.proofs.Staying.{written, other_seat}
 use Rattle.vx_moves.specs.declared.books.Books.{Books}
+use Rattle.vx_tasks.specs.Joining.{joins_at}
+use Rattle.vx_keeping.specs.Kept.{Kept}
+use Rattle.vx_moves.specs.Keepers.{keeper_at}
+use Rattle.vx_moves.proofs.Keepers.{alone_by}
 use Rattle.vx_moves.specs.Rooms.{planned_rooms, hand_of, IsHandOf}
 use Rattle.vx_moves.specs.Stands.{Stands}
 use Rattle.vx_hub.specs.declared.hub.Hub.{Hub}
 use Rattle.vx_hub.specs.declared.making.Room.{Room}
 use Rattle.vx_hub.specs.declared.parts.Named.{Named}
 use Rattle.vx_hub.specs.Beginning.{IsBegun, at_once, IsWorkerFor, IsRoleFor, IsRoleBut, AreFor, HasRoomFor, HaveRooms, AreVacant, AreRoledFrom, AreSeatedFrom}
-use Rattle.vx_hub.specs.Making.{IsUntouched, AreUntouched, IsPickerFor, ArePickers, is_served, all_served}
+use Rattle.vx_hub.specs.Making.{AreFree, IsUntouched, AreUntouched, IsPickerFor, ArePickers, is_served, all_served}
 use Rattle.vx_hub.specs.Standing.{AreSources, IsHub}
 use Rattle.vx_hub.proofs.Resting.{with_some, if_there, pushed}
 use Rattle.vx_hub.proofs.Served.{serves, served_at}
@@ -71,6 +77,7 @@ worker_but (Generator maker) c is = is
 worker_but (Sink codec) c is = is
 worker_but Blackhole c is = is
 worker_but (Transform picker) c is = absurd is
+worker_but Merge c is = absurd is
 worker_but Unfit c is = absurd is
 
 -- two lists are the same below a number
@@ -176,6 +183,7 @@ whole_role (Generator maker) None c but of = but
 whole_role (Sink codec) None c but of = but
 whole_role Blackhole None c but of = but
 whole_role (Transform p) None c but of = absurd but
+whole_role Merge None c but of = absurd but
 whole_role Unfit None c but of = cc
 whole_role role (Some p) c but of = of.1
 
@@ -211,6 +219,7 @@ fit_role (Generator maker) c is = λ e. cc
 fit_role (Sink codec) c is = λ e. cc
 fit_role Blackhole c is = λ e. cc
 fit_role (Transform picker) c is = λ e. cc
+fit_role Merge c is = absurd is
 fit_role Unfit c is = absurd is
 
 -- what it keeps stands for nothing
@@ -220,6 +229,7 @@ bare_role (Generator maker) c is = tt
 bare_role (Sink codec) c is = tt
 bare_role Blackhole c is = tt
 bare_role (Transform picker) c is = is.1
+bare_role Merge c is = absurd is
 bare_role Unfit c is = absurd is
 
 -- of an instance nothing is had at first, be there a port or not
@@ -268,6 +278,7 @@ module _ {plan : Plan} (accepted : IsPlan plan) (i : ℕ) {c : Component}
   come_first (Sink codec) is = rw runs is
   come_first Blackhole is = rw runs is
   come_first (Transform picker) is = rw runs is.0
+  come_first Merge is = absurd is
   come_first Unfit is = absurd is
 
 module _ {P : Type 0} {told_by : P → Told} {plan : Plan} (accepted : IsPlan plan) (once : Bool) where
@@ -348,6 +359,41 @@ judging_first : (plan : Plan) (once : Bool) (now : ℕ) → IsPlan plan → all_
 judging_first plan once now accepted served i = let h = begun plan once now in judges_if (component_of h i)
     (rw (component_in_place h plan i (begun_legal plan once now accepted) refl) (if_there (slice_get plan.components i) (λ c there. served_at plan.components i c served there)))
 
+-- WHAT NOBODY KEEPS
+pub free_at : (slots : List (Option Kept)) → AreFree slots → (i : ℕ) → keeper_at slots i ≡ None
+free_at [] free i = refl
+free_at (slot ∷ rest) free zero = free.0
+free_at (slot ∷ rest) free (suc i) = free_at rest free.1 i
+
+pub free_by : (slots : List (Option Kept)) → ((i : ℕ) → is_some (keeper_at slots i) ≡ false) → AreFree slots
+free_by [] none = tt
+free_by (None ∷ rest) none = (refl, free_by rest (λ i. none (suc i)))
+free_by (Some k ∷ rest) none = let no = none zero in absurd cc
+
+-- so many of some are there, all of them free, and there is room for the others
+pub record AreFreeTo (n i capacity : ℕ) (slots : List (Option Kept)) : Type 0 where
+  pub many : length slots ≡ i
+  pub free : AreFree slots
+  pub room : n ≤ capacity
+
+free_behind : (slots : List (Option Kept)) → AreFree slots → AreFree (slots ++ None ∷ [])
+free_behind [] free = (refl, tt)
+free_behind (slot ∷ rest) free = (free.0, free_behind rest free.1)
+
+pub one_free_more : (n i was now : ℕ) (slots all : List (Option Kept)) → all ≡ slots ++ None ∷ [] → now ≡ was → AreFreeTo n i was slots → AreFreeTo n (i + 1) now all
+one_free_more n i was now slots all is same to = record {
+  many = let one = ap length is in omega (arith, one, length-append slots (None ∷ []), to.many);
+  free = rw is (free_behind slots to.free);
+  room = omega (arith, same, to.room);
+}
+
+pub last_free : (slots : List (Option Kept)) (slot : Option Kept) → AreFree (slots ++ slot ∷ []) → AreFree slots × (slot ≡ None)
+last_free [] slot free = (tt, free.0)
+last_free (first ∷ rest) slot free = let more = last_free rest slot free.1 in ((free.0, more.0), more.1)
+
+false_true : false ≡ true → ⊥
+false_true same = cc
+
 -- ALL OF IT
 module _ {P : Type 0} {told_by : P → Told} {plan : Plan} {once : Bool} {now : ℕ} {room : Room P}
     {seats : List (Seat P)} (accepted : IsPlan plan) (few : length plan.components < 2 ^ 32)
@@ -356,6 +402,7 @@ module _ {P : Type 0} {told_by : P → Told} {plan : Plan} {once : Bool} {now : 
   abbrev books_first : Record → Books P
   books_first log = record {
     places = room.places;
+    keepers = room.keepers;
     seats = seats;
     balance = room.balance;
     run = record { plan = plan; abandoned = None; latest = now; short = false };
@@ -373,9 +420,16 @@ module _ {P : Type 0} {told_by : P → Told} {plan : Plan} {once : Bool} {now : 
     balance = aside_kept room.balance [] (Install 0 plan once (first_instances 0 plan.components) now) tt made.balance;
     run = record { installed = refl; cause = refl; later = λ worker. omega arith; judging = judging_first plan once now accepted served; returned = λ fed. tt };
     size = made.places_size ∙ sym fresh.size;
-    kept = λ i home. rw (made.vacant (Held i));
+    kept = λ i home alone. rw (made.vacant (Held i)) refl;
     rooms = let each = room_first accepted once now room.places made.vacant made.rooms made.places_size in
         record { stages = λ i. (each i).0; hands = λ i. (each i).1 };
+    begun = begun_stays (joins_at (begun plan once now)) (Install 0 plan once (first_instances 0 plan.components) now) [] (begun_legal plan once now accepted) tt (begun_first (joins_at (begun plan once now)));
+    keepers = record {
+      many = made.slots ∙ sym made.places_size;
+      whose = λ i. ap is_some (free_at room.keepers.items made.free i) ∙ sym (alone_by (begun plan once now) (judging_first plan once now accepted served) i);
+      apart = λ i joins. absurd (false_true (sym (alone_by (begun plan once now) (judging_first plan once now accepted served) i) ∙ joins));
+    };
+    keeps = λ i. rw (free_at room.keepers.items made.free i) tt;
   }
 
   pub hub_first : (hub : Hub P) {log : Record} → log ≡ begun plan once now → hub.books ≡ books_first log →

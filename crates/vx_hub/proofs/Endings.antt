@@ -45,6 +45,7 @@ use Rattle.vx_moves.specs.declared.books.Books.{Books}
 use Rattle.vx_moves.specs.Leaving.{Leaves}
 use Rattle.vx_moves.specs.Spends.{IsSpendOf, OnlySpends}
 use Rattle.vx_moves.specs.Stands.{Stands, Steps}
+use Rattle.vx_moves.proofs.Keepers.{alone_by}
 use Rattle.vx_moves.proofs.Moving.{seen_kept}
 use Rattle.vx_ready.specs.Asking.{IsSettled}
 use Rattle.vx_ready.proofs.Knowing.{known, runs}
@@ -239,7 +240,7 @@ module _ {P : Type 0} {told_by : P → Told} {books : Books P} (stands : Stands 
   pub bare_not : i < length books.seats → (IsBare books.places i → ⊥) → MayRetire books.log i → ⊥
   bare_not within none may =
       none ((bare_is_bare books.log books.places i stands.legal stands.places).1
-      (seen_kept books.places i (rw stands.size within) (stands.kept i may.home)) (retired_bare books.log i stands.legal may))
+      (seen_kept books.places i (rw stands.size within) (stands.kept i may.home (alone_by books.log stands.run.judging i))) (retired_bare books.log i stands.legal may))
 
   -- a run that wasn't given up
   module _ (none : is_some books.run.abandoned ≡ false) where

@@ -44,10 +44,11 @@ use Rattle.vx_tasks.specs.declared.task.Role.TheVariants as role_is
 use Rattle.vx_tasks.specs.declared.task.Task.{Task}
 use Rattle.vx_tasks.specs.declared.work.Job.{Job}
 use Rattle.vx_tasks.specs.declared.work.Job.TheVariants as job
-use Rattle.vx_tasks.specs.Home.{HasKept, IsAtHome}
+use Rattle.vx_tasks.specs.Joining.{joins_at}
+use Rattle.vx_tasks.specs.Home.{HasCome, HasKept, IsAtHome}
 use Rattle.vx_tasks.specs.Out.{IsIdle, IsHeld, MayAttemptNow, MayCloseNow, AreDue, is_unfit}
 use Rattle.vx_seats.specs.declared.seat.Seat.{Seat}
-use Rattle.vx_seats.specs.Knowing.{HasHome, IsKnown}
+use Rattle.vx_seats.specs.Knowing.{HasHome, IsAtHomeBut, IsKnown}
 use Rattle.vx_seats.specs.Staying.{IsLeft}
 use Rattle.vx_seats.proofs.Telling.{told_mute, come_mute}
 use Rattle.vx_moves.specs.declared.books.Books.{Books}
@@ -57,6 +58,7 @@ use Rattle.vx_moves.specs.Leaving.{Leaves}
 use Rattle.vx_moves.specs.Rooms.{IsHandOf}
 use Rattle.vx_moves.specs.Stands.{Stands, Steps}
 use Rattle.vx_moves.specs.Taking.{MayTakeNow}
+use Rattle.vx_moves.proofs.Keepers.{alone_by}
 use Rattle.vx_moves.proofs.Leaving.{each_stays}
 use Rattle.vx_moves.proofs.Stepping.{follows}
 use Rattle.vx_ready.specs.Asking.{IsServed}
@@ -250,23 +252,28 @@ had_task task None n left = absurd left
 had_task task (Some was) None left = absurd left
 had_task task (Some was) (Some is) left = left.had
 
-fits : (role : Role) → role ≢ role_is.Unfit → is_unfit role ≡ false
-fits (role_is.Source core) fit = refl
-fits (role_is.Generator maker) fit = refl
-fits (role_is.Sink codec) fit = refl
-fits role_is.Blackhole fit = refl
-fits (role_is.Transform picker) fit = refl
-fits role_is.Unfit fit = absurd (fit refl)
+fits : (h : Record) (i : ℕ) (role : Role) → joins_at h i ≡ false → HasCome h i role → role ≢ role_is.Unfit → is_unfit role ≡ false
+fits h i (role_is.Source core) alone come fit = refl
+fits h i (role_is.Generator maker) alone come fit = refl
+fits h i (role_is.Sink codec) alone come fit = refl
+fits h i role_is.Blackhole alone come fit = refl
+fits h i (role_is.Transform picker) alone come fit = refl
+fits h i role_is.Merge alone come fit = let no = sym alone ∙ come in cc
+fits h i role_is.Unfit alone come fit = absurd (fit refl)
+
+come_of : {P : Type 0} (told_by : P → Told) (starved : Bool) (h : Record) (i : ℕ) (task : Task P) → IsAtHomeBut told_by starved h i task → HasCome h i task.role
+come_of told_by true h i task is = is.1
+come_of told_by false h i task is = is.come
 
 -- a seat whose task left is well still, and what is leased while all is well is of use
 left_says : {P : Type 0} (told_by : P → Told) (i : ℕ) (task : Task P) (h : Record) (o n : Option (Seat P)) →
     IsSomeAnd o (λ was. IsSomeAnd n (λ is. IsLeft task was is)) →
-    IfSome o IsWellAt → IfSome o (λ seat. IsKnown told_by seat h i) → IfSome n IsWellAt × (is_unfit task.role ≡ false)
-left_says told_by i task h None n left well known = absurd left
-left_says told_by i task h (Some was) None left well known = absurd left
-left_says told_by i task h (Some was) (Some is) left well known =
+    joins_at h i ≡ false → IfSome o IsWellAt → IfSome o (λ seat. IsKnown told_by seat h i) → IfSome n IsWellAt × (is_unfit task.role ≡ false)
+left_says told_by i task h None n left alone well known = absurd left
+left_says told_by i task h (Some was) None left alone well known = absurd left
+left_says told_by i task h (Some was) (Some is) left alone well known =
     let home : HasHome told_by was.facts h i task = rw left.had at known.home in
-    (assumption (left.flags.owing ∙ well.settled, left.flags.behind ∙ well.counted, left.flags.starved ∙ well.fed), fits task.role (home.fit well.counted))
+    (assumption (left.flags.owing ∙ well.settled, left.flags.behind ∙ well.counted, left.flags.starved ∙ well.fed), fits h i task.role alone (come_of told_by was.facts.starved h i task home.task_is) (home.fit well.counted))
 
 taken_by : (i worker : ℕ) (h : Record) (e : Entry) → Follows h e → IsTakeOf i h e → out_to h i ≡ Some worker →
     IsBy worker h e × (out_to (e ∷ h) i ≡ Some worker)
@@ -398,7 +405,7 @@ module _ {P : Type 0} {told_by : P → Told} {i worker now : ℕ} {task : Task P
       let later = stands.run.later worker in
       let may = ready.leasable.may worker (omega (arith, later, latest)) in
       let rows = stands.size in let size = lent.steps.size in let now_rows = lent.steps.stands.size in let within = ready.within in
-      let kept = still_kept old.places mid.places i (omega (arith, rows, within)) (lent.rooms i).1 (stands.kept i may.home) in (
+      let kept = still_kept old.places mid.places i (omega (arith, rows, within)) (lent.rooms i).1 (stands.kept i may.home (alone_by old.log stands.run.judging i)) in (
         kept,
         gathers work (kept_at mid.places i (omega (arith, now_rows, size, within)) kept) may.settled
             (sym stands.run.cause ∙ ready.settled.going) ready.works,
@@ -421,7 +428,7 @@ module _ {P : Type 0} {told_by : P → Told} {i worker now : ℕ} {task : Task P
     gone = gone_all two.log gathered.only
 
     left : IfSome (slice_get mid.seats i) IsWellAt × (is_unfit task.role ≡ false)
-    left = left_says told_by i task old.log (slice_get old.seats i) (slice_get mid.seats i) lent.seats.one (well.seats i) (stood.seats.each i)
+    left = left_says told_by i task old.log (slice_get old.seats i) (slice_get mid.seats i) lent.seats.one (alone_by old.log stood.run.judging i) (well.seats i) (stood.seats.each i)
 
     size : length new.seats ≡ length old.seats
     size = ap length seats ∙ (gathered.size ∙ lent.steps.size)
@@ -475,6 +482,7 @@ module _ {P : Type 0} {told_by : P → Told} {i worker now : ℕ} {task : Task P
         settled = gathered.settled;
         untaken = gathered.untaken;
         fit = left.1;
+        alone = alone_by two.log gathered.stands.run.judging i;
       });
       room = rw log room;
       only = rw log made;

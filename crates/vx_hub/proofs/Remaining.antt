@@ -20,8 +20,9 @@ use Rattle.vx_record.proofs.OnePlace.{one_place}
 use Rattle.vx_record.proofs.Senders.{retired_home}
 use Rattle.vx_record.proofs.Shifting.{stands_at}
 use Rattle.vx_balance.proofs.Settling.{settled_closes}
-use Rattle.vx_places.specs.Looks.{AreBare}
+use Rattle.vx_places.specs.Looks.{AreBare, AreEnded}
 use Rattle.vx_places.specs.Views.{here_if, parcels_here}
+use Rattle.vx_places.proofs.Looking.{bare_ended}
 use Rattle.vx_places.proofs.Recorded.{bare_is_bare}
 use Rattle.vx_tasks.specs.declared.task.Task.{Task}
 use Rattle.vx_tasks.specs.Home.{IsAtHome}
@@ -33,6 +34,7 @@ use Rattle.vx_seats.specs.Calls.{IsClosedBy}
 use Rattle.vx_seats.specs.Staying.{OneSeat, IsLeft}
 use Rattle.vx_moves.specs.declared.books.Books.{Books}
 use Rattle.vx_moves.specs.Stands.{Stands}
+use Rattle.vx_moves.proofs.Keepers.{alone_by}
 use Rattle.vx_moves.proofs.Moving.{seen_kept}
 use Rattle.vx_ready.specs.Asking.{IsServed}
 use Rattle.vx_ready.proofs.Counting.{started_are}
@@ -78,11 +80,14 @@ module _ {P : Type 0} {told_by : P → Told} {books : Books P} (stands : Stands 
   within i l = let size = stands.seats.size in omega (arith, size, l)
 
   -- nothing stands anywhere
-  pub bare_all : AreBare books.places
+  bare_all : AreBare books.places
   bare_all i there =
       let retired = over i (within i (rw (← stands.size) there)) in
       (bare_is_bare books.log books.places i stands.legal stands.places).1
-      (seen_kept books.places i there (stands.kept i (retired_home books.log i stands.legal retired))) (stays_bare books.log i stands.legal retired)
+      (seen_kept books.places i there (stands.kept i (retired_home books.log i stands.legal retired) (alone_by books.log stands.run.judging i))) (stays_bare books.log i stands.legal retired)
+
+  pub may_end : AreEnded books.places
+  may_end = bare_ended books.places bare_all
 
   vacant_at : (p : Place) → parcels_here books.places p ≡ Some []
   vacant_at p = elim (cases_lt (owner p) (length books.places)) [

@@ -23,11 +23,12 @@ use Rattle.vx_places.specs.declared.row.Row.{Row}
 use Rattle.vx_places.specs.Rooms.{rooms_at, held_room}
 use Rattle.vx_places.specs.Views.{parcels_here}
 use Rattle.vx_tasks.specs.declared.task.Role.{Role}
-use Rattle.vx_tasks.specs.declared.task.Role.TheVariants.{Source, Generator, Sink, Blackhole, Transform, Unfit}
+use Rattle.vx_tasks.specs.declared.task.Role.TheVariants.{Source, Generator, Sink, Blackhole, Transform, Merge, Unfit}
 use Rattle.vx_seats.specs.declared.seat.Seat.{Seat}
 use Rattle.vx_seats.specs.Beginning.{AreNew, HasBorneNone}
 use Rattle.vx_seats.specs.Knowing.{IsFittedTo}
 use Rattle.vx_moves.specs.Rooms.{hand_of}
+use Rattle.vx_hub.specs.Making.{AreFree}
 use Rattle.vx_hub.specs.Standing.{AreSources}
 use Rattle.vx_hub.specs.declared.making.Room.{Room}
 use Rattle.vx_hub.specs.declared.parts.Named.{Named}
@@ -69,6 +70,7 @@ IsWorkerFor settings (Generator maker) = IsGeneratorFor settings maker
 IsWorkerFor settings (Sink codec) = encoding settings ≡ Some codec
 IsWorkerFor settings Blackhole = is_swallowing settings ≡ true
 IsWorkerFor settings (Transform picker) = ⊥
+IsWorkerFor settings Merge = ⊥
 IsWorkerFor settings Unfit = ⊥
 
 -- a sink begins with the codec by which it writes, and a transform picks by its settings, and saw no event
@@ -78,6 +80,7 @@ IsRoleFor (Generator maker) c = IsGeneratorFor c.settings maker
 IsRoleFor (Sink codec) c = encoding c.settings ≡ Some codec
 IsRoleFor Blackhole c = is_swallowing c.settings ≡ true
 IsRoleFor (Transform picker) c = Picks c.settings picker × StandsFor picker []
+IsRoleFor Merge c = ⊥
 IsRoleFor Unfit c = ⊥
 
 -- but for what a transform picks by, which comes with the parts
@@ -87,6 +90,7 @@ IsRoleBut (Generator maker) c = IsGeneratorFor c.settings maker
 IsRoleBut (Sink codec) c = encoding c.settings ≡ Some codec
 IsRoleBut Blackhole c = is_swallowing c.settings ≡ true
 IsRoleBut (Transform picker) c = ⊥
+IsRoleBut Merge c = ⊥
 IsRoleBut Unfit c = is_transform c ≡ true
 
 -- a role with what its component picks by, if it is a transform's
@@ -133,6 +137,8 @@ pub record HasRoomFor {P : Type 0} (plan : Plan) (room : Room P) : Type 0 where
   pub vacant : AreVacant room.places
   pub rooms : HaveRooms plan.components room.places
   pub places_size : length room.places ≡ length plan.components
+  pub slots : length room.keepers.items ≡ length plan.components
+  pub free : AreFree room.keepers.items
   pub berths : length plan.components ≤ vec_capacity room.ports
   pub none : room.ports.items ≡ []
   pub sources : AreSources plan.components (length plan.components) room.sources.items

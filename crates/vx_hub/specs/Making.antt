@@ -11,6 +11,7 @@ use Rattle.vx_record.specs.Records.{Record}
 use Rattle.vx_record.specs.Installs.{in_force}
 pub use Rattle.vx_ready.specs.Asking.{is_ported, is_judge, is_served, all_served}
 use Rattle.vx_tasks.specs.Telling.{HasCounted}
+use Rattle.vx_keeping.specs.Kept.{Kept}
 use Rattle.vx_hub.specs.declared.parts.Named.{Named}
 
 -- nothing went through a port, it wasn't started, its counts are 0 where they are exact, and it is made for that
@@ -50,3 +51,8 @@ ArePickers (component ∷ components) (picker ∷ rest) = IsPickerFor component 
 -- each component of the plan in force works with a port, judges event by event, makes its lines itself or writes nothing
 abbrev pub AreServed : Record → Type 0
 AreServed h = IfSome (in_force h) (λ (plan : Plan). all_served plan.components ≡ true)
+
+-- there is a keeper in none of some slots
+abbrev pub AreFree : List (Option Kept) → Type 0
+AreFree [] = Unit {0}
+AreFree (slot ∷ rest) = (slot ≡ None) × AreFree rest

@@ -20,7 +20,7 @@ use vx_plan::{Class, Component, Plan, Settings, StageList};
 use vx_seats::{Batching, Facts, Progress, Seat};
 use vx_sinkcore::Schedule;
 use vx_sourcecore::{Generator, Prefix, SourceCore};
-use vx_tasks::Role;
+use vx_tasks::{Role, Writer};
 use vx_value::{NumberList, Text, WantOfMemory};
 
 /// The greatest number that an instance may have.
@@ -246,7 +246,7 @@ fn make_worker(alloc: Global, settings: &Settings) -> Result<Role, WantOfMemory>
             Ok(Role::Generator(Generator::new(core, texts, lines_at_once(*interval))))
         }
         Settings::Console { encoding_codec, .. } | Settings::FileOut { encoding_codec, .. } => {
-            Ok(Role::Sink(*encoding_codec))
+            Ok(Role::Sink(Writer::new(alloc, *encoding_codec)))
         }
         Settings::Blackhole { .. } => Ok(Role::Blackhole),
         Settings::Filter { .. }

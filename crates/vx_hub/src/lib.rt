@@ -16,6 +16,7 @@ mod parts;
 mod pushing;
 mod ready;
 mod remains;
+mod slots;
 mod telling;
 
 pub use fatal::Fatal;

@@ -14,10 +14,12 @@ ghost use Rattle.vx_hub.specs.Standing.{AreSources, IsHub};
 use crate::beginning::{hand, make_roles, make_seats, stage_rooms};
 use crate::hub::Hub;
 use crate::parts::{Named, NewRefused, Numbered, Parts};
+use crate::slots::{end_slots, free_slots};
 use std::alloc::Global;
 use vx_balance::Balance;
 use vx_ends::Port;
 use vx_history::History;
+use vx_keeping::Keeper;
 use vx_moves::{Books, Run};
 use vx_pick::Picker;
 use vx_places::Places;
@@ -33,6 +35,7 @@ pub struct Room<P> {
     pub balance: Balance,
     pub ports: Vec<Numbered<P>>,
     pub places: Places,
+    pub keepers: Vec<Option<Keeper>>,
     pub sources: Vec<u32>,
 }
 
@@ -74,15 +77,22 @@ fn make_room<P: Port>(alloc: Global, plan: &Plan) -> Result<Room<P>, WantOfMemor
     let balance = Balance::new(alloc)?;
     let ports = Vec::with_capacity(alloc, plan.components.len())?;
     let sources = make_sources(alloc, plan)?;
-    let places = make_places(alloc, plan)?;
-    Ok(Room {
-        seats,
-        roles,
-        balance,
-        ports,
-        places,
-        sources,
-    })
+    let keepers = free_slots(alloc, plan.components.len())?;
+    match make_places(alloc, plan) {
+        Ok(places) => Ok(Room {
+            seats,
+            roles,
+            balance,
+            ports,
+            places,
+            keepers,
+            sources,
+        }),
+        Err(WantOfMemory) => {
+            end_slots(keepers);
+            Err(WantOfMemory)
+        }
+    }
 }
 
 /// The instances of a plan that are sources, in order.
@@ -170,6 +180,7 @@ fn begin<P: Port>(alloc: Global, parts: Parts<P>, room: Room<P>, now: u64) -> Hu
         balance,
         ports: berths,
         places,
+        keepers,
         sources,
     } = room;
     let seats = Seats::new(seat_all(seats, role_all(roles, pickers.into_vec()), ports.into_vec()));
@@ -185,6 +196,7 @@ fn begin<P: Port>(alloc: Global, parts: Parts<P>, room: Room<P>, now: u64) -> Hu
         alloc,
         books: Books {
             places,
+            keepers,
             seats,
             balance,
             run,

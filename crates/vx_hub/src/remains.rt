@@ -7,6 +7,7 @@ ghost use Rattle.vx_hub.specs.Standing.{IsHub};
 
 use crate::hub::Hub;
 use crate::parts::{Numbered, NumberedList};
+use crate::slots::end_slots;
 use vx_ends::Port;
 use vx_history::History;
 use vx_moves::Books;
@@ -48,12 +49,14 @@ impl<P: Port> Hub<P> {
         } = self;
         let Books {
             places,
+            keepers,
             seats,
             balance: _,
             run: _,
             log,
         } = books;
         places.end();
+        end_slots(keepers);
         Remains {
             ports: ports_of(seats, ports),
             history: log,

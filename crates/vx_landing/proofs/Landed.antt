@@ -81,6 +81,8 @@ come_under (role.Sink codec) h (entry.Install version plan once instances now) i
 come_under (role.Sink codec) h e i unread come = come
 come_under (role.Transform picker) h (entry.Install version plan once instances now) i unread come = absurd unread
 come_under (role.Transform picker) h e i unread come = come
+come_under role.Merge h (entry.Install version plan once instances now) i unread come = absurd unread
+come_under role.Merge h e i unread come = come
 come_under role.Unfit h e i unread come = tt
 
 -- a turn that took nothing leaves it where it was
@@ -90,6 +92,7 @@ role_idle (role.Generator generator) h i took none turned = absurd (rw none at t
 role_idle role.Blackhole h i took none turned = absurd turned
 role_idle (role.Sink codec) h i took none turned = absurd turned
 role_idle (role.Transform picker) h i took none turned = absurd turned
+role_idle role.Merge h i took none turned = absurd turned
 role_idle role.Unfit h i took none turned = tt
 
 -- whoever reads is a source where what it read was cut
@@ -101,17 +104,19 @@ role_cut (role.Generator generator) h i took reading cut reads cuts turned fit =
 role_cut role.Blackhole h i took reading cut reads cuts turned fit = absurd turned
 role_cut (role.Sink codec) h i took reading cut reads cuts turned fit = absurd turned
 role_cut (role.Transform picker) h i took reading cut reads cuts turned fit = absurd turned
+role_cut role.Merge h i took reading cut reads cuts turned fit = absurd turned
 role_cut role.Unfit h i took reading cut reads cuts turned fit = let no = rw (reads, cuts) at fit in cc
 
 -- and it is of no use any more where it wasn't
-role_uncut : (r : Role) (h : Record) (i : ℕ) (took : Turned) (reading : Reading) → reading_of took ≡ Some reading → cut_of took ≡ None →
-    is_unfit r ≡ lacks_cut took → HasCome h i r
-role_uncut (role.Source core) h i took reading reads cuts fit = let no = rw (reads, cuts) at fit in cc
-role_uncut (role.Generator generator) h i took reading reads cuts fit = let no = rw (reads, cuts) at fit in cc
-role_uncut role.Blackhole h i took reading reads cuts fit = let no = rw (reads, cuts) at fit in cc
-role_uncut (role.Sink codec) h i took reading reads cuts fit = let no = rw (reads, cuts) at fit in cc
-role_uncut (role.Transform picker) h i took reading reads cuts fit = let no = rw (reads, cuts) at fit in cc
-role_uncut role.Unfit h i took reading reads cuts fit = tt
+role_uncut : (r : Role) (h k : Record) (i : ℕ) (took : Turned) (reading : Reading) → reading_of took ≡ Some reading → cut_of took ≡ None →
+    HasRoleTurned k i r took → is_unfit r ≡ lacks_cut took → HasCome h i r
+role_uncut (role.Source core) h k i took reading reads cuts turned fit = let no = rw (reads, cuts) at fit in cc
+role_uncut (role.Generator generator) h k i took reading reads cuts turned fit = let no = rw (reads, cuts) at fit in cc
+role_uncut role.Blackhole h k i took reading reads cuts turned fit = let no = rw (reads, cuts) at fit in cc
+role_uncut (role.Sink codec) h k i took reading reads cuts turned fit = let no = rw (reads, cuts) at fit in cc
+role_uncut (role.Transform picker) h k i took reading reads cuts turned fit = let no = rw (reads, cuts) at fit in cc
+role_uncut role.Merge h k i took reading reads cuts turned fit = absurd turned
+role_uncut role.Unfit h k i took reading reads cuts turned fit = tt
 
 -- what a turn read is told by its entry
 entry_of : (h : Record) (i : ℕ) (took : Turned) {reading : Reading} → reading_of took ≡ Some reading →
@@ -375,7 +380,7 @@ module _ {P : Type 0} {told_by : P → Told} {i : ℕ} {task : Task P} {old : Bo
     pub landed_uncut : {new : Books P} → cut_of took ≡ None → IsMarked told_by NowOwes i mid new → HasLanded told_by i task old new
     landed_uncut cuts marked =
         landed_marked stands within b log found.1.1.steps.stands found.1.1.only be marked b.out
-        (back_owing stands within b (marked.log ∙ log) marked.stands told (role_uncut task.role read i took found.0 found.1.0 cuts b.fit) b.unclosed
+        (back_owing stands within b (marked.log ∙ log) marked.stands told (role_uncut task.role read old.log i took found.0 found.1.0 cuts b.acted.come b.fit) b.unclosed
         (carried_one (λ seat. (seat.facts.starved ≡ false) × (seat.facts.behind ≡ true)) (IsOwing task) marked.seats
         (carried_one IsWellAt (λ seat. (seat.facts.starved ≡ false) × (seat.facts.behind ≡ true)) found.1.1.leaves.seats b.well
         (λ was is reads well. (reads.starved ∙ well.fed, rw cuts at reads.behind)))

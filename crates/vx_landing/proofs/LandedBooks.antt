@@ -75,6 +75,7 @@ role_confirmed h i (role.Generator generator) took c turned = (made_under h (ent
 role_confirmed h i role.Blackhole took c turned = turned
 role_confirmed h i (role.Sink codec) took c turned = turned
 role_confirmed h i (role.Transform picker) took c turned = turned
+role_confirmed h i role.Merge took c turned = turned
 role_confirmed h i role.Unfit took c turned = tt
 
 -- so does what may be read

@@ -1,28 +1,25 @@
 -- What a transform answers: of the parcels that it judged those on some port are put out, and the others stay and are discarded.
-use Rattle.std.proofs.Common.{◌≡◌, ◌∙◌, ℕ, ◌+◌, ◌≤◌, Bool, true, false, List, [], ◌∷◌, ◌++◌, Option, None, Some, length, map, refl, sym, ap, subst, arith}
+use Rattle.std.proofs.Common.{◌≡◌, ◌∙◌, ℕ, ◌+◌, ◌≤◌, Bool, true, false, List, [], ◌∷◌, Option, None, Some, length, map, refl, sym, ap, subst, arith}
 use Rattle.std.specs.Prelude.{◌==◌, if◌then◌else◌, count_by, IsSomeAnd}
 use Rattle.std.proofs.lemmas.Bool.Decides.{nat_tests}
-use Rattle.std.proofs.lemmas.List.{length-append, length-map}
+use Rattle.std.proofs.lemmas.List.{length-map}
 use Rattle.vx_ends.specs.Told.{Told}
 use Rattle.vx_ledger.specs.Copies.{numbers_of}
 use Rattle.vx_ledger.specs.declared.parcel.Parcel.{Parcel}
 use Rattle.vx_record.specs.declared.entry.Entry.{Entry}
 use Rattle.vx_record.specs.declared.entry.Entry.TheVariants.{Answer}
 use Rattle.vx_record.specs.Records.{Record}
-use Rattle.vx_record.specs.Copies.{count}
-use Rattle.vx_record.specs.Judges.{OnlyJudges}
-use Rattle.vx_record.specs.Legal.{IsLegal}
-use Rattle.vx_record.specs.Lists.{parcels_at, standing, unless_empty, without}
+use Rattle.vx_record.specs.declared.output.Output.{Output}
+use Rattle.vx_record.specs.Lists.{parcels_at, shrunk, stands}
 use Rattle.vx_record.specs.Parcels.{parcel_event}
-use Rattle.vx_record.specs.Places.{Place, Put, Kind, all_puts, kind, left, same_place}
+use Rattle.vx_record.specs.Places.{Place, put_out}
 use Rattle.vx_record.specs.Places.Place.{Held}
 use Rattle.vx_record.specs.Shifts.{at}
 use Rattle.vx_record.specs.Tallies.{is_first}
 use Rattle.vx_record.proofs.Shifting.{stands_at}
 use Rattle.vx_balance.proofs.Steps.{aside_kept}
-use Rattle.vx_counts.specs.Spends.{IsOne, AllOnes}
-use Rattle.vx_counts.proofs.Judges.{judges_ones, judge_drops}
-use Rattle.vx_counts.proofs.Singles.{one-length}
+use Rattle.vx_counts.specs.Begun.{AreBegun, LeavesBegun}
+use Rattle.vx_counts.proofs.Dropping.{dropped_begun}
 use Rattle.vx_places.specs.declared.row.Row.{Row}
 use Rattle.vx_places.specs.Calls.{HasOutputRoomFor, PutsOut}
 use Rattle.vx_places.specs.Holding.{AreKnown, Shifts}
@@ -39,6 +36,8 @@ use Rattle.vx_tasks.proofs.Writing.{events_said}
 use Rattle.vx_moves.specs.declared.books.Books.{Books}
 use Rattle.vx_moves.specs.Answering.{answer_by, put_out_of, refused_of, MayAnswerNow}
 use Rattle.vx_moves.specs.Stands.{Stands, Steps}
+use Rattle.vx_tasks.specs.Joining.{joins_at}
+use Rattle.vx_moves.proofs.Keepers.{spares_other}
 use Rattle.vx_moves.proofs.Stepping.{Behind, moved_step, never_both}
 
 -- WHAT THE RECORD SAYS OF IT
@@ -66,49 +65,17 @@ module _ (h : Record) (i : ℕ) (ports : List ℕ) (parcels : List Parcel) (held
   answer_is : answer_by h i ports ≡ Answer i (put_out_on ports parcels) (refused_on ports parcels) []
   answer_is = rw (outs_are, gone_are) refl
 
--- ONE COPY EACH
--- of parcels that have one each, what is left of them has too
-abbrev AreOnes : List (List ℕ) → Type 0
-AreOnes [] = Unit {0}
-AreOnes (copies ∷ rest) = IsOne copies × AreOnes rest
-
-one_left : (gone copies : List ℕ) (p q : Place) (rest : List Put) → IsOne copies → AreOnes (parcels_at q rest) →
-    AreOnes (parcels_at q (unless_empty p (without gone copies) rest))
-one_left gone [] p q rest one others = absurd one
-one_left gone (c ∷ []) p q rest one others = go (count c gone == 0)
+-- what stays of some parcels are first parts where all are
+begun_stopped : (h : Record) (p : Place) (ports : List ℕ) (parcels : List Parcel) → AreBegun h p (numbers parcels) → AreBegun h p (numbers (stopped ports parcels))
+begun_stopped h p [] parcels begun = tt
+begun_stopped h p (n ∷ ns) [] begun = tt
+begun_stopped h p (n ∷ ns) (parcel ∷ parcels) begun = go (n == 0) (begun_stopped h p ns parcels begun.1)
   where
-    there : (b : Bool) → AreOnes (if b then (c ∷ []) ∷ parcels_at q rest else parcels_at q rest)
-    there true = (tt, others)
-    there false = others
+    go : (b : Bool) → AreBegun h p (numbers (stopped ns parcels)) → AreBegun h p (numbers (if b then parcel ∷ stopped ns parcels else stopped ns parcels))
+    go true rest = (begun.0, rest)
+    go false rest = rest
 
-    go : (b : Bool) → AreOnes (parcels_at q (unless_empty p (if b then c ∷ [] else []) rest))
-    go true = there (same_place p q)
-    go false = others
-one_left gone (c ∷ d ∷ cs) p q rest one others = absurd one
-
-ones_left : (gone : Kind → List ℕ) (puts : List Put) (p : Place) → AllOnes puts → AreOnes (parcels_at p (standing gone puts))
-ones_left gone [] p ones = tt
-ones_left gone (put ∷ rest) p ones = one_left (gone (kind put.place)) put.copies put.place p (standing gone rest) ones.0 (ones_left gone rest p ones.1)
-
--- so it is of what an instance holds
-ones_held : (h : Record) (i : ℕ) (parcels : List Parcel) → IsLegal h → OnlyJudges h → IsHeld h i parcels → AreOnes (numbers parcels)
-ones_held h i parcels legal only held = rw (held.held, ← (stands_at h (Held i) legal)) (ones_left (left h) (all_puts h) (Held i) (judges_ones h legal only))
-
--- as many copies are discarded as parcels stay
-as_many_stay : (ports : List ℕ) (parcels : List Parcel) → AreOnes (numbers parcels) → length (refused_on ports parcels) ≡ length (stopped ports parcels)
-as_many_stay [] parcels ones = refl
-as_many_stay (n ∷ ns) [] ones = refl
-as_many_stay (n ∷ ns) (p ∷ ps) ones = go (n == 0) (as_many_stay ns ps ones.1)
-  where
-    go : (b : Bool) → length (refused_on ns ps) ≡ length (stopped ns ps) →
-        length (if b then numbers_of p.finalizers ++ refused_on ns ps else refused_on ns ps) ≡ length (if b then p ∷ stopped ns ps else stopped ns ps)
-    go true same =
-        let all = length-append (numbers_of p.finalizers) (refused_on ns ps) in
-        let one = one-length (numbers_of p.finalizers) ones.0 in
-        omega (arith, same, all, one)
-    go false same = same
-
--- and as many outputs are put out as parcels pass
+-- as many outputs are put out as parcels pass
 as_many_pass : (ports : List ℕ) (parcels : List Parcel) → length (put_out_on ports parcels) ≡ length (passed ports parcels)
 as_many_pass [] parcels = refl
 as_many_pass (n ∷ ns) [] = refl
@@ -154,21 +121,36 @@ module _ {P : Type 0} {told_by : P → Told} {old : Books P} {i : ℕ} {ports : 
   pub many_sent : length (put_out_of old.log ports (at old.log (Held i))) ≡ length (passed ports parcels)
   many_sent = rw (outs_are old.log i ports parcels held) (as_many_pass ports parcels)
 
-  pub many_dropped : count_by (is_first old.log i) (refused_of ports (at old.log (Held i))) ≡ length (stopped ports parcels)
-  many_dropped =
-      judge_drops old.log i _ _ [] stood.legal stood.run.judging may.may ∙ ap length (gone_are old.log i ports parcels held)
-      ∙ as_many_stay ports parcels (ones_held old.log i parcels stood.legal stood.run.judging held)
+  -- what stays are first parts of what the instance took
+  stay_begun : joins_at old.log i ≡ false → AreBegun old.log (Held i) (numbers (stopped ports parcels))
+  stay_begun alone =
+      begun_stopped old.log (Held i) ports parcels
+      (subst (AreBegun old.log (Held i)) (stands_at old.log (Held i) stood.legal ∙ sym held.held) (stood.begun (Held i) alone))
+
+  -- so each parcel that is discarded counts once
+  pub many_dropped : joins_at old.log i ≡ false → count_by (is_first old.log i) (refused_of ports (at old.log (Held i))) ≡ length (stopped ports parcels)
+  many_dropped alone =
+      ap (count_by (is_first old.log i)) (gone_are old.log i ports parcels held ∙ divided.refused)
+      ∙ dropped_begun old.log i (numbers (stopped ports parcels)) stood.legal (stay_begun alone)
+      ∙ length-map (stopped ports parcels) (λ (p : Parcel). numbers_of p.finalizers)
+
+  leaves_begun : LeavesBegun (joins_at old.log) old.log (answer_by old.log i ports)
+  leaves_begun alone =
+      subst (AreBegun old.log (Held i))
+      (sym
+      (ap (λ (outputs : List Output). shrunk (put_out outputs) (parcels_at (Held i) (stands old.log))) (outs_are old.log i ports parcels held)
+      ∙ ap (shrunk (put_out (put_out_on ports parcels))) (stands_at old.log (Held i) stood.legal ∙ sym held.held) ∙ divided.left)) (stay_begun alone)
 
   -- where what is held is lent, and what passes is put out, the books stand for the record with the answer
-  pub answer_step : {places : List Row} {seats : List (Seat P)} {log : Record} → parcels_here old.places (Held i) ≡ None →
+  pub answer_step : {places : List Row} {seats : List (Seat P)} {log : Record} → joins_at old.log i ≡ false → parcels_here old.places (Held i) ≡ None →
       PutsOut i (passed ports parcels) old.places places → Behind old.log (answer_by old.log i ports) (Knows told_by seats) →
       log ≡ answer_by old.log i ports ∷ old.log → length places ≡ length old.places → length seats ≡ length old.seats → SameRooms old.places places →
       Steps told_by (answer_by old.log i ports) old (record old { places = places; seats = seats; log = log })
-  answer_step {places} lent puts knows noted rows size rooms =
+  answer_step {places} alone lent puts knows noted rows size rooms =
       let same = answer_is old.log i ports parcels held in
       let shifts : Shifts (answer_by old.log i ports) (parcels_out (passed ports parcels)) old.places places =
       rw same (puts.answered (put_out_on ports parcels) (refused_on ports parcels) [] divided.noted divided.filled_out lent) in
-      moved_step stood (assumption) may.may (never_both may.going) noted shifts
+      moved_step stood (assumption) leaves_begun (spares_other old.log i alone) may.may (never_both may.going) noted shifts
       (λ _. subst (λ (e : Entry). AreKnown (e ∷ old.log) (parcels_out (passed ports parcels))) (sym same) (answer_known old.log i ports parcels held.known).0) knows
       (λ _. aside_kept old.balance old.log (answer_by old.log i ports) tt stood.balance) rows size rooms
 

@@ -3,5 +3,8 @@ pub mod Leaving
 pub mod Moving
 pub mod Noticing
 pub mod Spending
+pub mod Keepers
 pub mod Stepping
 pub mod Outlets
+pub mod Merging
+pub mod GivingUp

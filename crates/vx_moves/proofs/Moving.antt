@@ -42,6 +42,7 @@ use Rattle.vx_balance.specs.Promises.{Bears, IsAside, Routes, lists_of}
 use Rattle.vx_balance.proofs.Holding.{oldest_held}
 use Rattle.vx_balance.proofs.Owning.{length-counting, length-numbers}
 use Rattle.vx_balance.proofs.Steps.{aside_kept}
+use Rattle.vx_counts.specs.Begun.{LeavesBegun}
 use Rattle.vx_places.specs.declared.row.Row.{Row}
 use Rattle.vx_places.specs.Calls.{Divides, HasHeldRoom, IsKept, IsThere, Moves, NoneWaits, PutsOut, Takes, TakesOutput}
 use Rattle.vx_places.specs.Holding.{Holds, IsKnown, AreKnown}
@@ -61,6 +62,8 @@ use Rattle.vx_moves.specs.declared.books.Books.{Books}
 use Rattle.vx_moves.specs.Bearing.{paired, HasBorne, MayBearNow}
 use Rattle.vx_moves.specs.Rooms.{AreRooms, IsHandOf}
 use Rattle.vx_moves.specs.Splitting.{HasSplit, IsSplitShort, oldest_readers}
+use Rattle.vx_tasks.specs.Joining.{joins_at}
+use Rattle.vx_moves.specs.Keepers.{StandApart, AreKeepers, SparesKept}
 use Rattle.vx_moves.specs.Stands.{Stands, Steps, KeptAtHome}
 use Rattle.vx_moves.proofs.Outlets.{outlets_read}
 use Rattle.vx_moves.proofs.Stepping.{Behind, IsOfPart, moved_step, never_both, none_put, same_stands}
@@ -74,15 +77,19 @@ seen_kept rows i there is = go (parcels_here rows (Held i)) refl is
     go (Some parcels) seen is = (held_says rows i there).0 parcels seen
 
 -- where what an instance holds is lent or comes back, and nothing else changes, the books stand for what they stood for
-pub hand_stands : {P : Type 0} {told_by : P → Told} {old : Books P} {places : List Row} (i : ℕ) → Stands told_by old →
+pub hand_stands : {P : Type 0} {told_by : P → Told} {old : Books P} {places : List Row} (i : ℕ) → Stands told_by old → joins_at old.log i ≡ false →
     Holds places old.log → Others (Held i) old.places places →
     (is_out old.log i ≡ false → IsSome (parcels_here places (Held i))) → SameStageRooms old.places places →
     ((j : ℕ) → j ≢ i → held_room places j ≡ held_room old.places j) →
     IfSome (held_room places i) (IsHandOf old.log i) → length places ≡ length old.places → Stands told_by (record old { places = places })
-hand_stands {old = old} {places = places} i stood holds others here stages hands hand rows =
+hand_stands {old = old} {places = places} i stood alone holds others here stages hands hand rows =
     let seen = each_place (Held i) (λ p. is_out old.log (owner p) ≡ false → IsSome (parcels_here old.places p) → IsSome (parcels_here places p))
     (λ home _. here home) (λ p other _ is. rw (others p other) is) in
-    let kept : KeptAtHome places old.log = λ j home. seen (Held j) home (stood.kept j home) in
+    let kept : KeptAtHome places old.log = λ j home merges. seen (Held j) home (stood.kept j home merges) in
+    let unseen = each_place (Held i) (λ p. joins_at old.log (owner p) ≡ true → parcels_here old.places p ≡ None → parcels_here places p ≡ None)
+    (λ joins none. never_both alone joins) (λ p other joins none. others p other ∙ none) in
+    let apart : StandApart places old.log = λ j joins. unseen (Held j) joins (stood.keepers.apart j joins) in
+    let keepers : AreKeepers old.keepers.items places old.log = record { many = stood.keepers.many ∙ sym rows; whose = stood.keepers.whose; apart = apart } in
     let rooms : AreRooms places old.log = record {
       stages = λ j. stages j ∙ stood.rooms.stages j;
       hands = λ j. elim (cases_eq j i) [ inl same ↦ rw same hand | inr other ↦ rw (hands j other) (stood.rooms.hands j) ];
@@ -106,7 +113,7 @@ module _ {P : Type 0} {told_by : P → Told} {old : Books P} (stood : Stands tol
   pub oldest_is : numbers_of parcel.finalizers ≡ oldest (at old.log p)
   oldest_is = ap oldest (rw seen at (stood.places.stand p))
 
-  is_oldest : IsOldest (numbers_of parcel.finalizers) (parcels_at p (stands old.log))
+  pub is_oldest : IsOldest (numbers_of parcel.finalizers) (parcels_at p (stands old.log))
   is_oldest = oldest_there old.log old.places p parcel rest stood.legal stood.places seen
 
   is_filled : parcel.finalizers ≢ []
@@ -127,14 +134,14 @@ module _ {P : Type 0} {told_by : P → Told} {old : Books P} {entry : List ℕ �
   abbrev move : Entry
   move = entry (oldest (at old.log from))
 
-  pub moves_step : {seats : List (Seat P)} {log : Record} → IsOfPart move → IsAside move →
+  pub moves_step : {seats : List (Seat P)} {log : Record} → IsOfPart move → LeavesBegun (joins_at old.log) old.log move → SparesKept old.log move → IsAside move →
       (IsOldest (oldest (at old.log from)) (parcels_at from (stands old.log)) → Allows old.log move) → MayStillCome old.log move → log ≡ move ∷ old.log →
       Behind old.log move (Knows told_by seats) → length places ≡ length old.places → length seats ≡ length old.seats → SameRooms old.places places →
       Steps told_by move old (record old { places = places; seats = seats; log = log })
-  moves_step part aside row left noted knows =
+  moves_step part leaves spares aside row left noted knows =
       let are = oldest_is stood from moves.taken.was in
       let first : IsOldest (oldest (at old.log from)) (parcels_at from (stands old.log)) = rw are at (is_oldest stood from moves.taken.was) in
-      moved_step stood part (row first) left noted (rw are at moves.shifts) (λ _. none_put (move ∷ old.log)) knows
+      moved_step stood part leaves spares (row first) left noted (rw are at moves.shifts) (λ _. none_put (move ∷ old.log)) knows
       (λ _. aside_kept old.balance old.log move aside stood.balance)
 
 -- WHAT IS HELD
@@ -263,7 +270,7 @@ module _ {P : Type 0} {told_by : P → Told} {old : Books P} {i : ℕ} {output :
         fits = rw (← stood.balance.next, many, size) routed.splits.fits;
       } in
       let steps : Steps told_by e old (record old { places = places; balance = balance; log = log }) =
-      moved_step stood (assumption) row (never_both going) noted_so
+      moved_step stood (assumption) tt (λ j joins. tt) row (never_both going) noted_so
       (divides.split old.places parcel ports parcel.event taken (rw routed.made (each_filled targets next parcel filled)))
       (λ legal. rw routed.made (children_known _ (next_copy h) parcel targets next (omega (arith, stood.balance.next))
       (λ c above. said_after c (next_copy h) (event_of h c) parcel.event above)
@@ -345,7 +352,7 @@ birth_step {old = old} {i = i} {b = b} {position = position} {events = events} {
       waiting = refl;
       fits = rw (long, ← stood.balance.next) bears.fits;
     } in
-    moved_step stood (assumption) row (never_both may.going) noted
+    moved_step stood (assumption) tt (λ j joins. tt) row (never_both may.going) noted
     (puts.born next next copies events waits position.stream position.end (rw each (numbers_paired events (joined lists) (sym many) ∙ ap singles are)) (on_paired events lists))
     (λ legal. rw each (paired_known (e ∷ h) next events (joined lists)
     ((rw (number, are) at (bears.of_batch h next events waits position.stream position.end)) legal)

@@ -1,9 +1,10 @@
 -- What a spend needs and leaves, of whatever place, and what many do.
-use Rattle.std.proofs.Common.{◌≡◌, ◌∙◌, ℕ, ◌+◌, ◌<◌, Bool, true, false, List, [], ◌∷◌, ◌++◌, Option, Some, None, length, refl, sym, ap, inl, inr, arith}
-use Rattle.std.specs.Prelude.{◌==◌, if◌then◌else◌, not, IsSomeAnd}
+use Rattle.std.proofs.Common.{subst, ◌≡◌, ◌∙◌, ℕ, ◌+◌, ◌<◌, Bool, true, false, List, [], ◌∷◌, ◌++◌, Option, Some, None, length, refl, sym, ap, inl, inr, arith}
+use Rattle.std.specs.Prelude.{◌==◌, if◌then◌else◌, IsSomeAnd}
 use Rattle.std.proofs.lemmas.Bool.Decides.{nat_tests}
 use Rattle.std.proofs.lemmas.List.{append-nil, map-append, length-append}
 use Rattle.vx_ends.specs.Told.{Told}
+use Rattle.vx_value.specs.Texts.{is_empty}
 use Rattle.vx_value.specs.declared.event.Event.{Event}
 use Rattle.vx_status.specs.declared.outcome.Outcome.{Outcome}
 use Rattle.vx_status.specs.declared.outcome.Outcome.TheVariants.{NewestDropped, NoConsumer, Abandoned}
@@ -17,14 +18,13 @@ use Rattle.vx_record.specs.Records.{Record}
 use Rattle.vx_record.specs.Abandoning.{abandoned, gives_up}
 use Rattle.vx_record.specs.Additions.{OnlyAdds}
 use Rattle.vx_record.specs.Copies.{all_of, count, joined, next_copy, spends, times_spent, IsLive}
-use Rattle.vx_record.specs.Judges.{OnlyJudges}
 use Rattle.vx_record.specs.Legal.{IsLegal, Follows}
 use Rattle.vx_record.specs.Lists.{contents, outputs, shrunk, waiting}
-use Rattle.vx_record.specs.Places.{Place, Put, owner, same_place}
+use Rattle.vx_record.specs.Places.{Place, owner, same_place}
 use Rattle.vx_record.specs.Places.Place.{Outputs, Waiting, Contents, Held}
 use Rattle.vx_record.specs.Shifts.{at}
 use Rattle.vx_record.specs.Spending.{oldest, HasCause}
-use Rattle.vx_record.specs.Tallies.{any_copy, is_first, is_newest, is_unread}
+use Rattle.vx_record.specs.Tallies.{is_first, is_newest, is_unread}
 use Rattle.vx_record.specs.Turns.{is_out}
 use Rattle.vx_record.proofs.Adding.{adds_both, adds_none, adds_one}
 use Rattle.vx_record.proofs.Counts.{count-append}
@@ -33,11 +33,10 @@ use Rattle.vx_record.proofs.OnePlace.{conserved}
 use Rattle.vx_record.proofs.Shifting.{stands_at}
 use Rattle.vx_balance.specs.Owned.{IsOfBatch}
 use Rattle.vx_balance.proofs.Sums.{sum_point}
-use Rattle.vx_counts.specs.Spends.{StandsAt, WasPutIn, IsOne, AllOnes}
-use Rattle.vx_counts.proofs.Dropping.{first_of_taken}
-use Rattle.vx_counts.proofs.Passing.{unspent_none}
-use Rattle.vx_counts.proofs.Judges.{judges_ones}
-use Rattle.vx_counts.proofs.SpentFrom.{legal_place, stands_put}
+use Rattle.vx_counts.specs.Begun.{AreBegun, IsBegun, IsLastAt, WasPutAs}
+use Rattle.vx_counts.specs.Spends.{StandsAt}
+use Rattle.vx_counts.proofs.Begun.{last_is_first, last_taken_first}
+use Rattle.vx_counts.proofs.SpentFrom.{legal_place}
 use Rattle.vx_places.specs.declared.row.Row.{Row}
 use Rattle.vx_places.specs.Calls.{IsOldestFor, NoneBefore, HasSome, Loses, NothingToLose, NothingToSpend, left_of}
 use Rattle.vx_places.specs.Holding.{Holds}
@@ -58,7 +57,9 @@ use Rattle.vx_moves.specs.declared.books.Books.{Books}
 use Rattle.vx_moves.specs.Spends.{IsSpendOf, MaySpendAll, MaySpendFrom, IsNotedAs, IsSettled, HasSpent, OnlySpends, unspent}
 use Rattle.vx_moves.specs.Stands.{Stands}
 use Rattle.vx_moves.proofs.Leaving.{rooms_both, each_both}
-use Rattle.vx_moves.proofs.Stepping.{Rests, follows, moved, none_put}
+use Rattle.vx_moves.specs.Keepers.{AreKept, SparesKept}
+use Rattle.vx_moves.proofs.Keepers.{kept_behind, place_alone}
+use Rattle.vx_moves.proofs.Stepping.{Rests, follows, keeps_behind, moved, none_put}
 
 -- NOTHING TO SPEND
 -- no parcel at a place of a legal record is empty
@@ -112,11 +113,11 @@ oldest_there : (c : ℕ) (ps : List (List ℕ)) → 0 < count c (oldest ps) → 
 oldest_there c [] l = l
 oldest_there c (p ∷ ps) l = omega (arith, count-append c p (joined ps))
 
-only_one : (c d : ℕ) → 0 < count d (c ∷ []) → c ≡ d
+pub only_one : (c d : ℕ) → 0 < count d (c ∷ []) → c ≡ d
 only_one c d l = grind (arith, nat_tests, l)
 
 -- how many are left
-spent_falls : (h : Record) (i c : ℕ) (outcome : Outcome) → IsLive h c → unspent (Spent i c outcome ∷ h) + 1 ≡ unspent h
+pub spent_falls : (h : Record) (i c : ℕ) (outcome : Outcome) → IsLive h c → unspent (Spent i c outcome ∷ h) + 1 ≡ unspent h
 spent_falls h i c outcome live =
     let same : next_copy h + 0 ≡ next_copy h = omega arith in
     let more : (d : ℕ) → times_spent (Spent i c outcome ∷ h) d ≡ times_spent h d + count d (c ∷ []) = λ d. count-append d (all_of spends h) (c ∷ []) in
@@ -125,35 +126,11 @@ spent_falls h i c outcome live =
     (rw (more c) (grind (arith, nat_tests, live.2)))
     (λ d other. rw (more d) (grind (arith, nat_tests, other))))
 
-notice_keeps : (h : Record) (b : ℕ) (status : BatchStatus) → unspent (Notice b status ∷ h) ≡ unspent h
+pub notice_keeps : (h : Record) (b : ℕ) (status : BatchStatus) → unspent (Notice b status ∷ h) ≡ unspent h
 notice_keeps h b status = let same : next_copy h + 0 ≡ next_copy h = omega arith in simp (same, append-nil)
 
--- WHERE COPIES STAND: where each transform judges event by event, each parcel has one, which comes first in it
-one_among : (before : List Put) (put : Put) (after : List Put) → AllOnes (before ++ put ∷ after) → IsOne put.copies
-one_among [] put after all = all.0
-one_among (x ∷ xs) put after all = one_among xs put after all.1
-
-alone : (c : ℕ) (copies : List ℕ) → IsOne copies → 0 < count c copies → copies ≡ c ∷ []
-alone c [] one l = absurd one
-alone c (d ∷ []) one l = ap (λ n. n ∷ []) (only_one d c l)
-alone c (d ∷ x ∷ xs) one l = absurd one
-
--- a copy that stands somewhere was put there alone
-pub put_alone : (h : Record) (p : Place) (c : ℕ) → IsLegal h → OnlyJudges h → 0 < count c (joined (at h p)) → WasPutIn h p (c ∷ []) c
-put_alone h p c legal only l =
-    let put = stands_put h p c (rw (stands_at h p legal) l) in
-    let all = rw put.1.put.2 at (judges_ones h legal only) in
-    rw (alone c put.0 (one_among put.1.put.0 (record { place = p; copies = put.0 }) put.1.put.1 all) put.1.has) at put.1
-
--- and it comes first in what an instance took
-pub comes_first : (h : Record) (i c : ℕ) → IsLegal h → OnlyJudges h → 0 < count c (joined (at h (Held i))) → true ≡ is_first h i c
-comes_first h i c legal only l = sym (first_of_taken h i c [] legal (put_alone h (Held i) c legal only l).put).0
-
--- of a copy that isn't spent none was spent so or so
-pub none_before : (h : Record) (test : Outcome → Bool) (c : ℕ) → times_spent h c ≡ 0 → true ≡ not (any_copy test h (c ∷ []))
-none_before h test c unspent = sym (ap not (unspent_none h test (c ∷ []) (λ d l. rw (← (only_one c d l)) unspent)))
-
--- it stands at no other place
+-- WHERE COPIES STAND
+-- a copy that stands at one place stands at no other
 elsewhere : (h : Record) (p q : Place) (c : ℕ) → IsLegal h → same_place p q ≡ false → 0 < count c (joined (at h p)) → StandsAt h q c → ⊥
 elsewhere h p q c legal apart l other = absurd (omega (arith, other, not_there h p q c (conserved h legal) apart (rw (stands_at h p legal) l)))
 
@@ -167,7 +144,7 @@ held_so h i c other legal l = (refl, refl)
 
 -- A SPEND, AND PERHAPS A NOTICE
 -- what the spend leaves and the notice keeps
-behind : {e : Entry} {h log : Record} (F : Record → Type 0) → F (e ∷ h) → ((b : ℕ) (status : BatchStatus) → F (Notice b status ∷ e ∷ h)) → IsNotedAs e h log → F log
+pub behind : {e : Entry} {h log : Record} (F : Record → Type 0) → F (e ∷ h) → ((b : ℕ) (status : BatchStatus) → F (Notice b status ∷ e ∷ h)) → IsNotedAs e h log → F log
 behind F spent noticed (inl is) = rw is spent
 behind F spent noticed (inr more) = rw more.1.1 (noticed more.0 more.1.0)
 
@@ -180,16 +157,48 @@ pub record IsSpendable (h : Record) (p : Place) (outcome : Outcome) (copy : Copy
   pub follows : Follows h (Spent (owner p) copy.number outcome)
   pub legal : IsLegal (Spent (owner p) copy.number outcome ∷ h)
 
-module _ {P : Type 0} {told_by : P → Told} {old : Books P} {p : Place} {outcome : Outcome} {copy : Copy} {rows : List Row} (stood : Stands told_by old)
-    (may : MaySpendFrom old.log p outcome) (loses : Loses p copy old.places rows) where
+empty_numbers : (cs : List Copy) → is_empty (numbers_of cs) ≡ is_empty cs
+empty_numbers [] = refl
+empty_numbers (c ∷ cs) = refl
+
+module _ {P : Type 0} {told_by : P → Told} {old : Books P} {p : Place} {copy : Copy} {last : Bool} {rows : List Row} (stood : Stands told_by old)
+    (loses : Loses p copy last old.places rows) where
   had : (numbers_of loses.loses.left ++ copy.number ∷ []) ∷ numbers loses.loses.rest ≡ at old.log p
   had =
       sym (ap (λ ns. ns ∷ numbers loses.loses.rest) (map-append (λ (c : Copy). c.number) loses.loses.left (copy ∷ [])))
       ∙ rw (loses.was, loses.loses.was) at (stood.places.stand p)
 
+  -- it is the last of what is left of a parcel, which is a first part of one that was put there
+  is_last : IsLastAt old.log p copy.number
+  is_last = record {
+    before = [];
+    left = numbers_of loses.loses.left;
+    after = numbers loses.loses.rest;
+    is = stands_at old.log p stood.legal ∙ sym had;
+  }
+
+  is_begun : IsBegun old.log p (numbers_of loses.loses.left ++ copy.number ∷ [])
+  unfolding is_last
+  is_begun = (subst (AreBegun old.log p) is_last.is (stood.begun p (place_alone old.places old.log p stood.keepers.apart loses.was))).0
+
+  alone : is_empty (numbers_of loses.loses.left) ≡ last
+  alone = empty_numbers loses.loses.left ∙ sym loses.loses.alone
+
+  -- so it came first in that parcel exactly where no other copy is left
+  pub put_so : WasPutAs old.log p copy.number last
+  put_so = subst (WasPutAs old.log p copy.number) alone (last_is_first old.log p (numbers_of loses.loses.left) copy.number stood.legal is_begun)
+
+-- so it is of what an instance took
+pub taken_so : {P : Type 0} {told_by : P → Told} {old : Books P} {i : ℕ} {copy : Copy} {last : Bool} {rows : List Row} (stood : Stands told_by old)
+    (loses : Loses (Held i) copy last old.places rows) → last ≡ is_first old.log i copy.number
+taken_so {old = old} {i = i} {copy = copy} stood loses =
+    sym (alone stood loses) ∙ last_taken_first old.log i (numbers_of loses.loses.left) copy.number stood.legal (is_begun stood loses)
+
+module _ {P : Type 0} {told_by : P → Told} {old : Books P} {p : Place} {outcome : Outcome} {copy : Copy} {last : Bool} {rows : List Row}
+    (stood : Stands told_by old) (may : MaySpendFrom old.log p outcome) (loses : Loses p copy last old.places rows) where
   pub spendable : IsSpendable old.log p outcome copy
   spendable =
-      let among : 0 < count copy.number (oldest (at old.log p)) = rw (← had) (grind (arith, nat_tests, count-append)) in
+      let among : 0 < count copy.number (oldest (at old.log p)) = rw (← (had stood loses)) (grind (arith, nat_tests, count-append)) in
       let there = oldest_there copy.number (at old.log p) among in
       let known = stood.places.known p loses.loses.event copy (rw (loses.was, loses.loses.was) (inl (refl, copy_last loses.loses.left copy))) in
       let live = stands_there old.log copy.number p stood.legal there in
@@ -207,6 +216,16 @@ module _ {P : Type 0} {told_by : P → Told} {old : Books P} {p : Place} {outcom
       go true = rw (← (stands_at old.log q stood.legal)) (others_stay old.log p q (copy.number ∷ []) (conserved old.log stood.legal) are_at other)
       go false = refl
 
+  -- no keeper has it: what an instance holds that merges is seen at no place
+  spares_kept : SparesKept old.log (Spent (owner p) copy.number outcome)
+  spares_kept j joins same =
+      each_place p (λ q. parcels_here old.places q ≡ None → count copy.number (joined (at old.log q)) ≡ 0)
+      (λ none. let no = sym none ∙ loses.was in cc) (λ q other none. unheld q other) (Held j) (stood.keepers.apart j joins)
+    where
+      unheld : (q : Place) → same_place p q ≡ false → count copy.number (joined (at old.log q)) ≡ 0
+      unheld q other =
+          rw (stands_at old.log q stood.legal) at (not_there old.log p q copy.number (conserved old.log stood.legal) other (rw (← (stands_at old.log p stood.legal)) at spendable.there))
+
   -- the law of spends: where such a copy is gone, and its spend is settled, the books stand
   pub spent_step : {log : Record} {account : Ledger} {seats : List (Seat P)} → IsSettled told_by (Spent (owner p) copy.number outcome) old.log log account seats →
       length rows ≡ length old.places → SameRooms old.places rows → length seats ≡ length old.seats → EachSeat Stays old.seats seats →
@@ -216,11 +235,15 @@ module _ {P : Type 0} {told_by : P → Told} {old : Books P} {p : Place} {outcom
       let e = Spent (owner p) copy.number outcome in
       let kind = IsSpendOf (owner p) outcome in
       let is = spendable in
-      let shifts = spent_shifts h (owner p) outcome p copy old.places rows refl is.legal stood.places loses in
-      let spent : Rests rows old.run (e ∷ h) = moved (assumption) is.legal shifts (none_put (e ∷ h)) same (assumption stood) in
-      let rests : Rests rows old.run log = behind (λ k. IsLegal k → Rests rows old.run k) (λ _. spent)
-      (λ b status legal. moved (assumption) legal (still_shifts (Notice b status) rows tt) (none_put (Notice b status ∷ e ∷ h)) (assumption) spent)
+      let shifts = spent_shifts h (owner p) outcome p copy last old.places rows refl is.legal stood.places loses in
+      let slots = old.keepers.items in
+      let spent : Rests rows slots old.run (e ∷ h) = moved (assumption) (inl (p, is_last stood loses)) is.legal shifts (none_put (e ∷ h)) same many (assumption stood) in
+      let rests : Rests rows slots old.run log = behind (λ k. IsLegal k → Rests rows slots old.run k) (λ _. spent)
+      (λ b status legal. moved (assumption) tt legal (still_shifts (Notice b status) rows tt) (none_put (Notice b status ∷ e ∷ h)) (assumption) refl spent)
       settled.noted settled.legal in
+      let keeps : AreKept slots (e ∷ h) = keeps_behind stood e spares_kept is.legal in
+      let kept : AreKept slots log = behind (λ k. IsLegal k → AreKept slots k) (λ _. keeps)
+      (λ b status legal. kept_behind slots (e ∷ h) (Notice b status) legal (λ j joins. tt) spent.keepers.whose keeps) settled.noted settled.legal in
       let one : OnlyAdds kind h (e ∷ h) = adds_one kind h h (e ∷ h) e (adds_none kind h h refl) is.follows (refl, refl) refl in
       let fell = spent_falls h (owner p) copy.number outcome is.live in
       let now : joined (at log p) ≡ numbers_of loses.loses.left ++ joined (numbers loses.loses.rest) =
@@ -231,9 +254,9 @@ module _ {P : Type 0} {told_by : P → Told} {old : Books P} {p : Place} {outcom
         noted = settled.noted;
         only = behind (λ k. IsLegal k → OnlyAdds kind h k) (λ _. one)
             (λ b status legal. adds_one kind h (e ∷ h) (Notice b status ∷ e ∷ h) (Notice b status) one legal.0 tt refl) settled.noted settled.legal;
-        stands = assumption (settled, rests, many ∙ stood.size ∙ sym size);
-        lost = λ c. rw (now, ← had) (omega (arith, count-append));
-        fewer = rw (now, ← had) (omega (arith, length-append {A = ℕ}));
+        stands = assumption (settled, rests, kept, many ∙ stood.size ∙ sym size);
+        lost = λ c. rw (now, ← (had stood loses)) (omega (arith, count-append));
+        fewer = rw (now, ← (had stood loses)) (omega (arith, length-append {A = ℕ}));
         left = behind (λ k. unspent k + 1 ≡ unspent h) fell (λ b status. omega (arith, fell, notice_keeps (e ∷ h) b status)) settled.noted;
         others = λ q other. behind (λ k. at k q ≡ at h q) (others_now q other) (λ b status. others_now q other) settled.noted;
         leaves = record { seats = stay; rooms = same; run = refl };

@@ -1,6 +1,8 @@
 pub mod Returns
 pub mod Rooms
+pub mod Keepers
 pub mod Stands
+pub mod Merging
 pub mod Leaving
 pub mod Leasing
 pub mod Reading

@@ -1,16 +1,19 @@
-ghost use Rattle.std.specs.Prelude.{◌≡◌, ◌<◌, ℕ, [], length, true, false, IsTrue};
+ghost use Rattle.std.specs.Prelude.{◌≡◌, ◌<◌, ◌+◌, ℕ, [], length, true, false, IsTrue};
 ghost use Rattle.vx_status.specs.declared.outcome.Outcome.TheVariants.{Abandoned};
 ghost use Rattle.vx_record.specs.Abandoning.{abandoned};
 ghost use Rattle.vx_record.specs.Places.{Place, owner};
-ghost use Rattle.vx_record.specs.Places.Place.{Outputs, Waiting, Contents};
+ghost use Rattle.vx_record.specs.Places.Place.{Outputs, Waiting, Contents, Held};
 ghost use Rattle.vx_record.specs.Shifts.{at};
 ghost use Rattle.vx_record.specs.Turns.{is_out};
-ghost use Rattle.vx_moves.specs.Spends.{HasSpent, OnlySpends};
+ghost use Rattle.vx_tasks.specs.Joining.{joins_at};
+ghost use Rattle.vx_moves.specs.Spends.{HasSpent, OnlySpends, unspent};
 ghost use Rattle.vx_moves.specs.Stands.{Stands};
 
 use crate::books::Books;
+use crate::keeping;
 use crate::settle::settle;
 use vx_ends::Port;
+use vx_places::Lost;
 use vx_status::Outcome;
 
 impl<P: Port> Books<P> {
@@ -25,9 +28,10 @@ impl<P: Port> Books<P> {
         ensures none { result ≡ false → at self.old.log (Outputs i) ≡ [] }
         ensures unchanged { result ≡ false → self.new ≡ self.old }
     {
-        let Some(copy) = self.places.spend_output(i) else {
+        let Some(lost) = self.places.spend_output(i) else {
             return false;
         };
+        let Lost { copy, last: _ } = lost;
         settle(
             &mut self.seats,
             &mut self.balance,
@@ -54,9 +58,10 @@ impl<P: Port> Books<P> {
         let Some(target) = self.places.first_waiting(i) else {
             return false;
         };
-        let Some(copy) = self.places.spend_waiting(i, 0, target) else {
+        let Some(lost) = self.places.spend_waiting(i, 0, target) else {
             unreachable!();
         };
+        let Lost { copy, last: _ } = lost;
         settle(
             &mut self.seats,
             &mut self.balance,
@@ -82,9 +87,10 @@ impl<P: Port> Books<P> {
         let Some(stage) = self.places.first_filled(i) else {
             return false;
         };
-        let Some(copy) = self.places.spend_buffered(i, stage) else {
+        let Some(lost) = self.places.spend_buffered(i, stage) else {
             unreachable!();
         };
+        let Lost { copy, last: _ } = lost;
         settle(
             &mut self.seats,
             &mut self.balance,
@@ -108,7 +114,65 @@ impl<P: Port> Books<P> {
         self.give_up_outputs(i);
         self.give_up_children(i);
         self.give_up_buffer(i);
-        self.spend_all_held(i, Outcome::Abandoned);
+        self.give_up_hand(i);
+    }
+
+    /// Gives up all that an instance holds.
+    fn give_up_hand(&mut self, i: u32)
+        requires stands { Stands P.told self.old }
+        requires within { i < length self.old.seats }
+        requires over { abandoned self.old.log ≡ true }
+        requires home { is_out self.old.log i ≡ false }
+        ensures spent { OnlySpends P.told i Abandoned self.old self.new }
+        ensures none { at self.new.log (Held i) ≡ [] }
+    {
+        if self.merges(i) {
+            self.give_up_keeper(i);
+        } else {
+            self.spend_all_held(i, Outcome::Abandoned);
+        }
+    }
+
+    /// Gives up a copy of what an instance at home keeps that merges. Whether there was one.
+    fn give_up_kept(&mut self, i: u32) -> bool
+        requires stands { Stands P.told self.old }
+        requires within { i < length self.old.seats }
+        requires joins { joins_at self.old.log i ≡ true }
+        requires over { abandoned self.old.log ≡ true }
+        requires home { is_out self.old.log i ≡ false }
+        ensures spent { OnlySpends P.told i Abandoned self.old self.new }
+        ensures fewer { IsTrue result → unspent self.new.log + 1 ≡ unspent self.old.log }
+        ensures none { result ≡ false → at self.new.log (Held i) ≡ [] }
+        ensures over { abandoned self.new.log ≡ true }
+        ensures home { is_out self.new.log i ≡ false }
+        ensures joins { joins_at self.new.log i ≡ true }
+    {
+        let Some(copy) = keeping::lose(&mut self.keepers, i as usize) else {
+            return false;
+        };
+        self.seats.spent(i, Outcome::Abandoned, false);
+        settle(
+            &mut self.seats,
+            &mut self.balance,
+            &mut self.log,
+            i,
+            copy,
+            Outcome::Abandoned,
+        );
+        true
+    }
+
+    /// Gives up all that an instance keeps that merges.
+    fn give_up_keeper(&mut self, i: u32)
+        requires stands { Stands P.told self.old }
+        requires within { i < length self.old.seats }
+        requires joins { joins_at self.old.log i ≡ true }
+        requires over { abandoned self.old.log ≡ true }
+        requires home { is_out self.old.log i ≡ false }
+        ensures spent { OnlySpends P.told i Abandoned self.old self.new }
+        ensures none { at self.new.log (Held i) ≡ [] }
+    {
+        while self.give_up_kept(i) {}
     }
 
     /// Gives up all outputs of an instance.

@@ -1,8 +1,9 @@
-ghost use Rattle.std.specs.Prelude.{◌≡◌, ◌<◌, length, true, None, IsSome};
+ghost use Rattle.std.specs.Prelude.{◌≡◌, ◌<◌, length, true, false, None, IsSome};
 ghost use Rattle.vx_record.specs.Turns.{is_out};
 ghost use Rattle.vx_record.specs.Places.Place.{Held};
 ghost use Rattle.vx_places.specs.Rooms.{LendsRoom};
 ghost use Rattle.vx_places.specs.Views.{parcels_here};
+ghost use Rattle.vx_tasks.specs.Joining.{joins_at};
 ghost use Rattle.vx_tasks.specs.Out.{IsHeld};
 ghost use Rattle.vx_moves.specs.Rooms.{IsHandOf};
 ghost use Rattle.vx_moves.specs.Stands.{Stands};
@@ -31,11 +32,12 @@ impl<P: Port> Books<P> {
         self.places.lend(i)
     }
 
-    /// Takes back what was lent, where it is what the record has the instance hold. It takes no memory.
+    /// Takes back what was lent by an instance that doesn't merge, where it is what the record has it hold. It takes no memory.
     pub fn give_back(&mut self, i: u32, held: Line<Parcel>)
         requires stands { Stands P.told self.old }
         requires within { i < length self.old.seats }
         requires lent { parcels_here self.old.places (Held i) ≡ None }
+        requires alone { joins_at self.old.log i ≡ false }
         requires held { IsHeld self.old.log i held.items }
         requires room { IsHandOf self.old.log i held.room }
         ensures stands { Stands P.told self.new }

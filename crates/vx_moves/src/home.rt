@@ -5,6 +5,7 @@ ghost use Rattle.vx_record.specs.Places.Place.{Held};
 ghost use Rattle.vx_record.specs.Turns.{is_out};
 ghost use Rattle.vx_places.specs.Views.{parcels_here};
 ghost use Rattle.vx_places.specs.Rooms.{SameRooms};
+ghost use Rattle.vx_tasks.specs.Joining.{joins_at};
 ghost use Rattle.vx_seats.specs.Calls.{HasTaskBack};
 ghost use Rattle.vx_seats.specs.Staying.{OneSeat};
 ghost use Rattle.vx_moves.specs.Returns.{IsReturned};
@@ -21,7 +22,8 @@ impl<P: Port> Books<P> {
         requires within { i < length self.old.seats }
         requires out { is_out self.old.log i ≡ true }
         requires left { MayStillCome self.old.log (Home i) }
-        requires kept { IsSome (parcels_here self.old.places (Held i)) }
+        requires kept { joins_at self.old.log i ≡ false →
+            IsSome (parcels_here self.old.places (Held i)) }
         requires back { HasTaskBack P.told self.old.seats self.old.log i task }
         requires returned { self.old.run.short ≡ false → IsReturned self.old.log i }
         ensures steps { Steps P.told (Home i) self.old self.new }

@@ -11,6 +11,7 @@ ghost use Rattle.vx_moves.specs.Stands.{Stands};
 use crate::books::Books;
 use crate::settle::settle;
 use vx_ends::Port;
+use vx_places::Lost;
 use vx_status::Outcome;
 
 impl<P: Port> Books<P> {
@@ -26,10 +27,11 @@ impl<P: Port> Books<P> {
         ensures none { result ≡ false → at self.old.log (Held i) ≡ [] }
         ensures unchanged { result ≡ false → self.new ≡ self.old }
     {
-        let Some(copy) = self.places.spend_held(i) else {
+        let Some(lost) = self.places.spend_held(i) else {
             return false;
         };
-        self.seats.spent(i, outcome, true);
+        let Lost { copy, last } = lost;
+        self.seats.spent(i, outcome, last);
         settle(
             &mut self.seats,
             &mut self.balance,
@@ -66,10 +68,11 @@ impl<P: Port> Books<P> {
         ensures none { result ≡ false → at self.old.log (Outputs i) ≡ [] }
         ensures unchanged { result ≡ false → self.new ≡ self.old }
     {
-        let Some(copy) = self.places.spend_output(i) else {
+        let Some(lost) = self.places.spend_output(i) else {
             return false;
         };
-        self.seats.unread(i, true);
+        let Lost { copy, last } = lost;
+        self.seats.unread(i, last);
         settle(
             &mut self.seats,
             &mut self.balance,
@@ -91,10 +94,11 @@ impl<P: Port> Books<P> {
         requires may { MaySpendFrom self.old.log (Waiting i target) NewestDropped }
         ensures spent { HasSpent P.told (Waiting i target) NewestDropped self.old self.new }
     {
-        let Some(copy) = self.places.spend_waiting(i, child, target) else {
+        let Some(lost) = self.places.spend_waiting(i, child, target) else {
             unreachable!();
         };
-        self.seats.dropped(target, true);
+        let Lost { copy, last } = lost;
+        self.seats.dropped(target, last);
         settle(
             &mut self.seats,
             &mut self.balance,

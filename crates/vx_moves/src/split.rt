@@ -40,13 +40,14 @@ impl<P: Port> Books<P> {
         ensures unchanged { (result ≡ Ok true → ⊥) → self.new.log ≡ self.old.log }
         ensures size { length self.new.seats ≡ length self.old.seats }
     {
+        let room = self.places.take_child_room(i);
         let Some(Output { ports, parcel }) = self.places.take_output(i) else {
             unreachable!();
         };
         let ports = bounded(ports);
         let was = Snapshot::of(&parcel);
         let outlet = &self.seats.get(i).outlet;
-        match self.balance.route(outlet, ports, parcel) {
+        match self.balance.route(outlet, ports, parcel, room) {
             Ok(Routed::Children(children)) => {
                 note_split(&mut self.log, i, ports, &was, &children);
                 self.places.put_children(i, children);

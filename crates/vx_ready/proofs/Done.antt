@@ -20,6 +20,7 @@ use Rattle.vx_places.proofs.Recorded.{buffer_is, holds_is}
 use Rattle.vx_seats.specs.declared.seat.Seat.{Seat}
 use Rattle.vx_moves.specs.declared.books.Books.{Books}
 use Rattle.vx_moves.specs.Stands.{Stands}
+use Rattle.vx_moves.proofs.Keepers.{alone_by}
 use Rattle.vx_ready.specs.Asking.{IsSettled}
 use Rattle.vx_ready.proofs.Knowing.{at_home, owes_none, seat_there}
 use Rattle.vx_ready.proofs.Testing.{same_tests, empty_tests}
@@ -27,7 +28,7 @@ use Rattle.vx_ready.proofs.Testing.{same_tests, empty_tests}
 -- what an instance at home holds isn't lent
 kept_at : {P : Type 0} (told_by : P → Told) (books : Books P) (stands : Stands told_by books) (i : ℕ) (seat : Seat P) (at : slice_get books.seats i ≡ Some seat) → i < length books.seats → IsSettled books i → IsKept books.places i
 kept_at told_by books stands i seat at within settled =
-    go (parcels_here books.places (Held i)) refl (stands.kept i (at_home told_by books stands i seat at settled).1.home)
+    go (parcels_here books.places (Held i)) refl (stands.kept i (at_home told_by books stands i seat at settled).1.home (alone_by books.log stands.run.judging i))
   where
     go : (o : Option (List Parcel)) → parcels_here books.places (Held i) ≡ o → IsSome o → IsKept books.places i
     go None there is = cc

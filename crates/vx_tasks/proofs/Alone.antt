@@ -56,6 +56,7 @@ come_ported h i (role.Sink codec) come =
 come_ported h i role.Blackhole come =
     by_component (component_of h i) (λ (c : Component). is_swallowing c.settings ≡ true) false (λ c is. swallows_device c.settings is) come
 come_ported h i (role.Transform picker) come = tt
+come_ported h i role.Merge come = tt
 come_ported h i role.Unfit come = tt
 
 -- a black hole writes nothing

@@ -74,6 +74,7 @@ landed work port role confirmed done =
 -- what an instance does stays of use, but where what it read wasn't cut
 fit_of : (told : Told) (h : Record) (i : ℕ) (was now : Role) (d : Done) → is_unfit was ≡ false → KeepsRole was now d → HasActed told h i now d → is_unfit now ≡ leaves_unfit d
 fit_of told h i was now (done.Read turned) fit keeps acted = acted.fit
+fit_of told h i role.Merge now d fit keeps acted = cc
 fit_of told h i role.Unfit now d fit keeps acted = cc
 fit_of told h i (role.Source core) (role.Source next) d fit keeps acted = refl
 fit_of told h i (role.Generator generator) (role.Generator next) d fit keeps acted = refl
@@ -92,6 +93,7 @@ untaken_of h i job.Judge (role.Sink codec) d legal given come fit was does left 
 untaken_of h i job.Judge (role.Transform picker) (done.Judged ports) legal given come fit was does left = cc
 untaken_of h i job.Judge (role.Transform picker) done.Short legal given come fit was does left = cc
 untaken_of h i job.Judge (role.Transform picker) other legal given come fit was does left = absurd does
+untaken_of h i job.Judge role.Merge d legal given come fit was does left = cc
 untaken_of h i job.Judge role.Unfit d legal given come fit was does left = cc
 untaken_of h i job.Read r d legal given come fit was does left = was (λ is. cc)
 untaken_of h i job.Confirm r d legal given come fit was does left = was (λ is. cc)
@@ -106,6 +108,7 @@ kept_still h i was (role.Source core) d keeps same kept = tt
 kept_still h i was (role.Generator generator) d keeps same kept = tt
 kept_still h i was (role.Sink codec) d keeps same kept = tt
 kept_still h i was role.Blackhole d keeps same kept = tt
+kept_still h i was role.Merge d keeps same kept = tt
 kept_still h i was role.Unfit d keeps same kept = tt
 kept_still h i (role.Transform picker) (role.Transform next) d keeps same kept =
     subst (λ (p : Picker). StandsFor p (answered_events h i)) (sym (same picker next keeps)) kept
@@ -113,6 +116,7 @@ kept_still h i (role.Source core) (role.Transform next) d keeps same kept = absu
 kept_still h i (role.Generator generator) (role.Transform next) d keeps same kept = absurd keeps
 kept_still h i (role.Sink codec) (role.Transform next) d keeps same kept = absurd keeps
 kept_still h i role.Blackhole (role.Transform next) d keeps same kept = absurd keeps
+kept_still h i role.Merge (role.Transform next) d keeps same kept = absurd keeps
 kept_still h i role.Unfit (role.Transform next) d keeps same kept = absurd keeps
 
 -- what it keeps stands for what it has answered, unless it judged, or no memory was found
@@ -158,6 +162,7 @@ module _ {P : Type 0} (told_by : P → Told) (h : Record) (work : Work P) (legal
         settled = left.settled;
         untaken = untaken_of h work.instance work.job work.task.role done legal left.job left.home.come left.fit left.untaken does;
         fit = fit_of (told_by port) h work.instance work.task.role role done left.fit keeps acted;
+        alone = left.alone;
       }
 
   -- no memory was found to confirm
@@ -174,6 +179,7 @@ module _ {P : Type 0} (told_by : P → Told) (h : Record) (work : Work P) (legal
     settled = left.settled;
     untaken = λ is. cc;
     fit = left.fit;
+    alone = left.alone;
   }
 
 -- where the attempt starved the port goes beyond the record

@@ -147,6 +147,7 @@ module _ (h : Record) (i : ℕ) (legal : IsLegal h) (transform : transform_at h 
   come_judges role.Blackhole fit is = absurd (no_hole is)
   come_judges (role.Transform picker) fit is =
       judges_by (λ (c : Component). Picks c.settings picker) (λ c of picks. picker_judges c.settings picker picks) is
+  come_judges role.Merge fit is = cc
   come_judges role.Unfit fit is = cc
 
 -- a judge has a rule

@@ -53,6 +53,7 @@ use Rattle.vx_tasks.specs.declared.task.Role.TheVariants as role
 use Rattle.vx_tasks.specs.declared.work.Job.{Job}
 use Rattle.vx_tasks.specs.declared.work.Job.TheVariants as job
 use Rattle.vx_tasks.specs.Telling.{IsTold, GoesBeyond}
+use Rattle.vx_tasks.specs.Joining.{is_joining, joins_at}
 use Rattle.vx_tasks.specs.Home.{HasCome, StandsAt, HasKept}
 use Rattle.vx_tasks.specs.Out.{IsReadable, IsIdle, IsHeld, MayAttemptNow, MayReadNow, MayCloseNow, MayJudgeNow, IsGiven, AreJudged, AreDue, turn_entry, deeds, confirm_entries, IsConfirmedSo, IsKeptBy, TellsDone, HasRoleTurned, HasActed, events_held, picked_ports}
 use Rattle.vx_tasks.specs.Laws.{LeftKept, DoneKept}
@@ -173,12 +174,16 @@ module _ (old new : Record) (i worker : ℕ) (legal : IsLegal old) (adds : OnlyA
   ported : device_at new i ≡ device_at old i
   ported = device_is new old i run
 
+  joins_kept : joins_at new i ≡ joins_at old i
+  joins_kept = told_by false (λ (c : Component). is_transform c && is_joining c.settings) new old i run
+
   come_kept : (r : Role) → HasCome old i r → HasCome new i r
   come_kept (role.Source core) is = (abreast_kept old new i core adds is.0, ported ∙ is.1)
   come_kept (role.Generator generator) is = (generating_kept old new i generator adds is.0, ported ∙ is.1)
   come_kept role.Blackhole is = subst (λ (o : Option Component). IsSomeAnd o (λ (c : Component). is_swallowing c.settings ≡ true)) (sym run) is
   come_kept (role.Sink codec) is = subst (λ (o : Option Component). IsSomeAnd o (λ (c : Component). encoding c.settings ≡ Some codec)) (sym run) is
   come_kept (role.Transform picker) is = subst (λ (o : Option Component). IsSomeAnd o (λ (c : Component). Picks c.settings picker)) (sym run) is
+  come_kept role.Merge is = joins_kept ∙ is
   come_kept role.Unfit is = tt
 
   due_kept : (positions : Option (List Position)) → AreDue old i positions → AreDue new i positions
@@ -249,6 +254,7 @@ module _ (old new : Record) (i worker : ℕ) (legal : IsLegal old) (adds : OnlyA
   turned_role_kept role.Blackhole turned is = is
   turned_role_kept (role.Sink codec) turned is = is
   turned_role_kept (role.Transform picker) turned is = is
+  turned_role_kept role.Merge turned is = is
   turned_role_kept role.Unfit turned is = tt
 
   given_lines : lines_given new i ≡ lines_given old i
@@ -362,6 +368,7 @@ left_kept told old new work legal adds left =
       settled = settled_kept old new i w legal adds left.out left.settled;
       untaken = λ no. untaken_kept old new i w legal adds left.out (left.untaken no);
       fit = left.fit;
+      alone = joins_kept old new i w legal adds left.out ∙ left.alone;
     }
 
 pub done_kept : {P : Type 0} (told : P → Told) → DoneKept told
@@ -380,4 +387,5 @@ done_kept told old new landing legal adds back =
       settled = settled_kept old new i w legal adds back.out back.settled;
       untaken = λ no. untaken_kept old new i w legal adds back.out (back.untaken no);
       fit = back.fit;
+      alone = joins_kept old new i w legal adds back.out ∙ back.alone;
     }

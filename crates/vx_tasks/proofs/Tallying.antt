@@ -192,6 +192,7 @@ work_behind (role.Generator generator) old mid new d fell more same shown = alon
 work_behind (role.Sink codec) old mid new d fell more same shown = shows_behind old mid new d fell more same shown
 work_behind role.Blackhole old mid new d fell more same shown = alone_behind old mid new d same shown
 work_behind (role.Transform picker) old mid new d fell more same shown = shows_behind old mid new d fell more same shown
+work_behind role.Merge old mid new d fell more same shown = shows_behind old mid new d fell more same shown
 work_behind role.Unfit old mid new d fell more same shown = shows_behind old mid new d fell more same shown
 
 -- and where no memory was found before
@@ -201,4 +202,5 @@ work_short (role.Generator generator) old new same = same
 work_short (role.Sink codec) old new same = tt
 work_short role.Blackhole old new same = same
 work_short (role.Transform picker) old new same = tt
+work_short role.Merge old new same = tt
 work_short role.Unfit old new same = tt

@@ -12,18 +12,21 @@ use Rattle.vx_sourcecore.specs.Abreast.{IsAbreast}
 use Rattle.vx_sourcecore.specs.Generators.{IsGenerating}
 use Rattle.vx_sourcecore.specs.Lines.{is_swallowing}
 use Rattle.vx_tasks.specs.declared.task.Role.{Role}
-use Rattle.vx_tasks.specs.declared.task.Role.TheVariants.{Source, Generator, Sink, Blackhole, Transform, Unfit}
+use Rattle.vx_tasks.specs.declared.task.Role.TheVariants.{Source, Generator, Sink, Blackhole, Transform, Merge, Unfit}
 use Rattle.vx_tasks.specs.declared.task.Task.{Task}
 use Rattle.vx_tasks.specs.Telling.{IsTold}
+use Rattle.vx_tasks.specs.Joining.{joins_at}
 
 -- what an instance does has come as far as the record has it: a source with a port is abreast of it, one without makes the lines that
--- come next, a sink writes by the codec of its component, a black hole is one, and a transform picks by the settings of its component
+-- come next, a sink writes by the codec of its component, a black hole is one, a transform that judges picks by the settings of its component, and
+-- one that merges is a reduce
 abbrev pub HasCome : Record → ℕ → Role → Type 0
 HasCome h i (Source core) = IsAbreast h i core × (device_at h i ≡ true)
 HasCome h i (Generator generator) = IsGenerating h i generator × (device_at h i ≡ false)
 HasCome h i (Sink codec) = IsSomeAnd (component_of h i) (λ (c : Component). encoding c.settings ≡ Some codec)
 HasCome h i Blackhole = IsSomeAnd (component_of h i) (λ (c : Component). is_swallowing c.settings ≡ true)
 HasCome h i (Transform picker) = IsSomeAnd (component_of h i) (λ (c : Component). Picks c.settings picker)
+HasCome h i Merge = joins_at h i ≡ true
 HasCome h i Unfit = Unit {0}
 
 -- what an instance keeps stands for some events: what a transform keeps that judges by those that came before
@@ -33,6 +36,7 @@ StandsAt (Generator generator) events = Unit {0}
 StandsAt (Sink codec) events = Unit {0}
 StandsAt Blackhole events = Unit {0}
 StandsAt (Transform picker) events = StandsFor picker events
+StandsAt Merge events = Unit {0}
 StandsAt Unfit events = Unit {0}
 
 -- for those that it has answered

@@ -27,6 +27,7 @@ DoesJob job.Read (role.Generator generator) done.Short = Unit {0}
 DoesJob job.Read (role.Sink codec) done.Nothing = Unit {0}
 DoesJob job.Read role.Blackhole done.Nothing = Unit {0}
 DoesJob job.Read (role.Transform picker) done.Nothing = Unit {0}
+DoesJob job.Read role.Merge done.Nothing = Unit {0}
 DoesJob job.Read role.Unfit done.Nothing = Unit {0}
 DoesJob job.Attempt (role.Sink codec) (done.Attempted all sent answer) = Unit {0}
 DoesJob job.Attempt (role.Sink codec) done.Short = Unit {0}
@@ -35,6 +36,7 @@ DoesJob job.Attempt role.Blackhole (done.Attempted all sent answer) = (all.value
 DoesJob job.Attempt (role.Source core) done.Nothing = Unit {0}
 DoesJob job.Attempt (role.Generator generator) done.Nothing = Unit {0}
 DoesJob job.Attempt (role.Transform picker) done.Nothing = Unit {0}
+DoesJob job.Attempt role.Merge done.Nothing = Unit {0}
 DoesJob job.Attempt role.Unfit done.Nothing = Unit {0}
 DoesJob job.Judge (role.Transform picker) (done.Judged ports) = Unit {0}
 DoesJob job.Judge (role.Transform picker) done.Short = Unit {0}
@@ -42,6 +44,7 @@ DoesJob job.Judge (role.Source core) done.Nothing = Unit {0}
 DoesJob job.Judge (role.Generator generator) done.Nothing = Unit {0}
 DoesJob job.Judge (role.Sink codec) done.Nothing = Unit {0}
 DoesJob job.Judge role.Blackhole done.Nothing = Unit {0}
+DoesJob job.Judge role.Merge done.Nothing = Unit {0}
 DoesJob job.Judge role.Unfit done.Nothing = Unit {0}
 DoesJob job.Close does done.Closed = Unit {0}
 DoesJob job.Confirm does done.Nothing = Unit {0}
@@ -75,6 +78,7 @@ KeepsRole (role.Sink codec) (role.Sink next) outcome = next ≡ codec
 KeepsRole role.Blackhole role.Blackhole outcome = Unit {0}
 KeepsRole (role.Transform picker) (role.Transform next) outcome =
     ((settings : Settings) → Picks settings picker → Picks settings next) × ButForJudgement outcome (next ≡ picker)
+KeepsRole role.Merge role.Merge outcome = Unit {0}
 KeepsRole role.Unfit role.Unfit outcome = Unit {0}
 KeepsRole was now outcome = ⊥
 
@@ -121,6 +125,7 @@ ShowsWork (role.Generator generator) old new outcome = ShowsAlone old new outcom
 ShowsWork (role.Sink codec) old new outcome = ShowsDone old new outcome
 ShowsWork role.Blackhole old new outcome = ShowsAlone old new outcome
 ShowsWork (role.Transform picker) old new outcome = ShowsDone old new outcome
+ShowsWork role.Merge old new outcome = ShowsDone old new outcome
 ShowsWork role.Unfit old new outcome = ShowsDone old new outcome
 
 -- an instance that works with a port has one, and one that needs none has none
@@ -130,4 +135,5 @@ IsPortedAs device (role.Generator generator) = device ≡ false
 IsPortedAs device (role.Sink codec) = device ≡ true
 IsPortedAs device role.Blackhole = device ≡ false
 IsPortedAs device (role.Transform picker) = Unit {0}
+IsPortedAs device role.Merge = Unit {0}
 IsPortedAs device role.Unfit = Unit {0}

@@ -1,5 +1,6 @@
 pub mod Telling
 pub mod Judging
+pub mod Joining
 pub mod Home
 pub mod Out
 pub mod Attempts

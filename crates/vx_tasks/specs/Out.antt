@@ -46,6 +46,7 @@ use Rattle.vx_tasks.specs.declared.task.Role.TheVariants as role
 use Rattle.vx_tasks.specs.declared.work.Job.{Job}
 use Rattle.vx_tasks.specs.declared.work.Job.TheVariants as job
 use Rattle.vx_tasks.specs.declared.work.Work.{Work}
+use Rattle.vx_tasks.specs.Joining.{joins_at}
 use Rattle.vx_tasks.specs.Telling.{IsTold, IsToldButGiven, GoesBeyond}
 use Rattle.vx_tasks.specs.Home.{HasCome, StandsAt, HasKept, IsAtHome}
 
@@ -113,16 +114,17 @@ abbrev pub AreDue : Record → ℕ → Option (List Position) → Type 0
 AreDue h i None = is_confirm_due (at_lease h i) i ≡ false
 AreDue h i (Some positions) = (source_at h i ≡ true) × ((is_confirm_due (at_lease h i) i ≡ true) × (positions ≡ due (at_lease h i) i))
 
--- whether what an instance does is nothing any more
+-- whether an instance has no work for a worker: it merges, or what it does is nothing any more
 abbrev pub is_unfit : Role → Bool
 is_unfit (role.Source core) = false
 is_unfit (role.Generator generator) = false
 is_unfit (role.Sink codec) = false
 is_unfit role.Blackhole = false
 is_unfit (role.Transform picker) = false
+is_unfit role.Merge = true
 is_unfit role.Unfit = true
 
--- a task as it left; all that its instance discarded is spent, and a transform that isn't to judge has answered what it took
+-- a task as it left, of an instance that doesn't merge; all that its instance discarded is spent, and a transform that isn't to judge has answered what it took
 pub record HasLeft {P : Type 0} (told_by : P → Told) (h : Record) (work : Work P) : Type 0 where
   pub out : out_to h work.instance ≡ Some work.worker
   pub idle : IsIdle h work.instance
@@ -134,6 +136,7 @@ pub record HasLeft {P : Type 0} (told_by : P → Told) (h : Record) (work : Work
   pub untaken : (work.job ≡ job.Judge → ⊥) → owes_answer h work.instance ≡ false
   pub job : IsGiven h work.instance work.job
   pub fit : is_unfit work.task.role ≡ false
+  pub alone : joins_at h work.instance ≡ false
 
 -- the entry of a read, and where there is none, of an idle take
 abbrev pub read_entry : ℕ → Option Reading → Entry
@@ -201,6 +204,7 @@ HasRoleTurned h i (role.Generator generator) turned = HasMade h i generator turn
 HasRoleTurned h i (role.Sink codec) turned = ⊥
 HasRoleTurned h i role.Blackhole turned = ⊥
 HasRoleTurned h i (role.Transform picker) turned = ⊥
+HasRoleTurned h i role.Merge turned = ⊥
 HasRoleTurned h i role.Unfit turned = Unit {0}
 
 -- what a read took is what a source that makes its lines may give
@@ -299,3 +303,4 @@ pub record HasDone {P : Type 0} (told_by : P → Told) (h : Record) (landing : L
   pub settled : owes_discards h landing.instance ≡ false
   pub untaken : leaves_taken landing.done ≡ false → owes_answer h landing.instance ≡ false
   pub fit : is_unfit landing.task.role ≡ leaves_unfit landing.done
+  pub alone : joins_at h landing.instance ≡ false

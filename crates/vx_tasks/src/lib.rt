@@ -7,9 +7,11 @@ mod laws;
 mod sending;
 mod task;
 mod work;
+mod writer;
 
 pub use confirming::Confirmed;
 pub use landing::{Done, Landing, PortsList};
 pub use laws::task_laws;
 pub use task::{Role, Task};
 pub use work::{Job, Work};
+pub use writer::Writer;

@@ -1,4 +1,4 @@
-use vx_json::Codec;
+use crate::writer::Writer;
 use vx_pick::Picker;
 use vx_sourcecore::{Generator, SourceCore};
 
@@ -10,11 +10,13 @@ pub enum Role {
     /// Makes its lines itself. It needs no port.
     Generator(Generator),
     /// Writes what it holds by a codec.
-    Sink(Codec),
+    Sink(Writer),
     /// Takes what it holds, and writes nothing. It needs no port.
     Blackhole,
     /// Judges what it holds, event by event. It needs no port.
     Transform(Picker),
+    /// Merges what comes with what it keeps, which stands elsewhere: no worker does that. It needs no port.
+    Merge,
     /// Nothing any more: memory was wanting while it cut what it had read.
     Unfit,
 }

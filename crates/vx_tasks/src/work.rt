@@ -23,6 +23,7 @@ use crate::confirming::confirm;
 use crate::landing::{Done, Landing, PortsList};
 use crate::sending::attempt;
 use crate::task::{Role, Task};
+use crate::writer::Writer;
 use std::alloc::Global;
 use std::snapshot::Snapshot;
 use vx_ends::{Clock, Port, PositionList, Reply};
@@ -133,10 +134,7 @@ fn act<P: Port>(alloc: Global, job: Job, port: &mut P, role: Role, held: &Line<P
     match (job, role) {
         (Job::Read, Role::Source(core)) => read(port, core),
         (Job::Read, Role::Generator(generator)) => make(generator),
-        (Job::Attempt, Role::Sink(codec)) => Deed {
-            role: Role::Sink(codec),
-            done: send(alloc, port, codec, held),
-        },
+        (Job::Attempt, Role::Sink(writer)) => send(alloc, port, writer, held),
         (Job::Attempt, Role::Blackhole) => Deed {
             role: Role::Blackhole,
             done: swallow(alloc),
@@ -328,38 +326,55 @@ fn close<P: Port>(port: &mut P) -> Done
     Done::Closed
 }
 
-/// Writes a sink batch.
-fn send<P: Port>(alloc: Global, port: &mut P, codec: Codec, held: &Line<Parcel>) -> Done
+/// Writes a sink batch, in the memory of the one before.
+fn send<P: Port>(alloc: Global, port: &mut P, writer: Writer, held: &Line<Parcel>) -> Deed
     ensures told { (h : Record) (i : ℕ) → device_at h i ≡ true → IsTold (P.told port.old) h i →
-        TellsDone (P.told port.new) h i held.now.items result }
+        TellsDone (P.told port.new) h i held.now.items result.done }
     ensures acted { (h : Record) (i : ℕ) →
-        MayAct (P.told port.old) h i (Role.Sink codec) held.now.items Job.Attempt →
-        HasActed (P.told port.new) h i (Role.Sink codec) result }
-    ensures does { DoesJob Job.Attempt (Role.Sink codec) result }
+        MayAct (P.told port.old) h i (Role.Sink writer) held.now.items Job.Attempt →
+        HasActed (P.told port.new) h i result.role result.done }
+    ensures does { DoesJob Job.Attempt (Role.Sink writer) result.done }
+    ensures keeps { KeepsRole (Role.Sink writer) result.role result.done }
     ensures counts { NoneFell (P.told port.old) (P.told port.new) }
     ensures starts { StartsOnce (P.told port.old) (P.told port.new) }
-    ensures shows { ShowsDone (P.told port.old) (P.told port.new) result }
+    ensures shows { ShowsDone (P.told port.old) (P.told port.new) result.done }
 {
-    let Ok(bytes) = encode(alloc, codec, held) else {
-        return Done::Short;
+    let codec = writer.codec();
+    let Ok(bytes) = encode(codec, held, writer.into_room()) else {
+        return Deed {
+            role: Role::Sink(Writer::new(alloc, codec)),
+            done: Done::Short,
+        };
     };
     let all = Snapshot::of(&bytes);
-    match attempt(port, bytes.as_slice()) {
-        Ok(attempted) => Done::Attempted {
-            all,
-            sent: attempted.sent,
-            reply: attempted.reply,
+    let answer = attempt(port, bytes.as_slice());
+    let role = Role::Sink(Writer::behind(alloc, codec, bytes));
+    match answer {
+        Ok(attempted) => Deed {
+            role,
+            done: Done::Attempted {
+                all,
+                sent: attempted.sent,
+                reply: attempted.reply,
+            },
         },
-        Err(short) if short.sent == 0 => Done::Short,
-        Err(_) => Done::Starved,
+        Err(short) if short.sent == 0 => Deed {
+            role,
+            done: Done::Short,
+        },
+        Err(_) => Deed {
+            role,
+            done: Done::Starved,
+        },
     }
 }
 
-/// What parcels are written as: each of their events by a codec, the oldest first.
-fn encode(alloc: Global, codec: Codec, parcels: &Line<Parcel>) -> Result<Bytes, WantOfMemory>
+/// What parcels are written as in some room: each of their events by a codec, the oldest first.
+fn encode(codec: Codec, parcels: &Line<Parcel>, room: Bytes) -> Result<Bytes, WantOfMemory>
     ensures { IfOk result (λ bytes. bytes ≡ written codec parcels.now.items) }
 {
-    let mut out = Bytes::new(alloc);
+    let mut out = room;
+    out.clear();
     for i in 0..parcels.len() {
         if let Some(parcel) = parcels.get(i) {
             encode_event(codec, parcel.event.get(), &mut out)?;

@@ -1,8 +1,10 @@
 use Rattle.std.proofs.Common.{refl}
 use Rattle.vx_record.specs.declared.entry.Entry.TheVariants.{Abandon}
 use Rattle.vx_balance.proofs.Steps.{aside_kept}
+use Rattle.vx_counts.proofs.Begun.{begun_stays}
 use Rattle.vx_seats.proofs.Aside.{aside_known}
-use Rattle.vx_moves.proofs.Stepping.{never_both, still, step}
+use Rattle.vx_tasks.specs.Joining.{joins_at}
+use Rattle.vx_moves.proofs.Stepping.{keeps_behind, never_both, still, step}
 use Rattle.vx_moves.proofs.books.Books.abandon.Goals as goal
 
 pub returns-clause-steps : goal.returns-clause-steps
@@ -15,4 +17,6 @@ returns-clause-steps g c =
       run = record { installed = s.run.installed; cause = refl; later = s.run.later; judging = s.run.judging; returned = s.run.returned };
       kept = s.kept;
       rooms = assumption s.rooms;
-    }) (λ legal. aside_known g.P.Port.told e d.log d.seats tt legal s.seats) (λ _. aside_kept d.balance d.log e tt s.balance) refl refl
+      keepers = assumption s.keepers;
+      begun = begun_stays (joins_at d.log) e d.log legal tt s.begun;
+    }) (keeps_behind s e (λ j joins. tt)) (λ legal. aside_known g.P.Port.told e d.log d.seats tt legal s.seats) (λ _. aside_kept d.balance d.log e tt s.balance) refl refl

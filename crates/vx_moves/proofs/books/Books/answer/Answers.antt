@@ -1,4 +1,4 @@
-use Rattle.std.proofs.Common.{◌≡◌, ◌∙◌, [], length, refl, sym, ap, arith}
+use Rattle.std.proofs.Common.{◌≡◌, ◌∙◌, false, [], length, refl, sym, ap, arith}
 use Rattle.std.specs.Prelude.{count_by}
 use Rattle.vx_record.specs.Records.{capped}
 use Rattle.vx_record.specs.Places.Place.{Held}
@@ -8,8 +8,12 @@ use Rattle.vx_tasks.specs.Out.{IsHeld}
 use Rattle.vx_moves.specs.Answering.{put_out_of, refused_of, MayAnswerNow}
 use Rattle.vx_moves.proofs.Answering.{answer_held, answer_step, each_judged, many_dropped, many_sent, room_for}
 use Rattle.vx_moves.proofs.Leaving.{each_stays, rooms_back, rooms_both}
-use Rattle.vx_moves.proofs.Stepping.{same_stands}
+use Rattle.vx_tasks.specs.Joining.{joins_at}
+use Rattle.vx_moves.proofs.Stepping.{alone_at, same_stands}
 use Rattle.vx_moves.proofs.books.Books.answer.Goals as goal
+
+pub give_back-requires-clause-alone : goal.give_back-requires-clause-alone
+give_back-requires-clause-alone g c = rw c.lend-held.ensures.log (alone_at c.args.self.now c.args.i c.requires.stands c.requires.kept)
 
 pub returns-in_default-clause-leaves : goal.returns-in_default-clause-leaves
 returns-in_default-clause-leaves g c = record {
@@ -42,12 +46,13 @@ give_back-requires-2-clause-stands g c =
     let lent = c.lend-held.ensures in
     let held : IsHeld mid.log i parcels = rw lent.log lent.held in
     let may : MayAnswerNow mid.log i ports = rw lent.log c.requires.may in
+    let alone : joins_at mid.log i ≡ false = rw lent.log (alone_at c.args.self.now i c.requires.stands c.requires.kept) in
     let stood = same_stands lent.stands room.same lent.stands.seats refl room.size refl room.rooms in
     let passes = c.len.ensures ∙ ap length c.divide-passed.ensures.passed ∙ sym (many_sent lent.stands may held) in
-    let stays = c.len-2.ensures ∙ ap length c.divide-passed.ensures.stopped ∙ sym (many_dropped lent.stands may held) in
+    let stays = c.len-2.ensures ∙ ap length c.divide-passed.ensures.stopped ∙ sym (many_dropped lent.stands may held alone) in
     let sent : c.len.result ≡ capped (length (put_out_of mid.log ports (at mid.log (Held i)))) = omega (arith, passes) in
     let dropped : c.len-2.result ≡ capped (count_by (is_first mid.log i) (refused_of ports (at mid.log (Held i)))) = omega (arith, stays) in
-    (answer_step stood may held (room.same.here (Held i) ∙ lent.lent) (rw c.divide-passed.ensures.passed at c.put_out.ensures.puts)
+    (answer_step stood may held alone (room.same.here (Held i) ∙ lent.lent) (rw c.divide-passed.ensures.passed at c.put_out.ensures.puts)
     (c.answered.ensures.knows mid.log (put_out_of mid.log ports (at mid.log (Held i))) (refused_of ports (at mid.log (Held i))) [] sent dropped lent.stands.seats)
     c.note_answer.ensures c.put_out.ensures.size c.answered.ensures.size c.put_out.ensures.rooms).stands
 
@@ -58,6 +63,9 @@ pub give_back-requires-2-clause-held : goal.give_back-requires-2-clause-held
 give_back-requires-2-clause-held g c =
     rw (c.note_answer.ensures, c.lend-held.ensures.log, c.divide-passed.ensures.stopped)
     (answer_held c.requires.stands c.requires.may c.lend-held.ensures.held)
+
+pub give_back-requires-2-clause-alone : goal.give_back-requires-2-clause-alone
+give_back-requires-2-clause-alone g c = rw (c.note_answer.ensures, c.lend-held.ensures.log) (alone_at c.args.self.now c.args.i c.requires.stands c.requires.kept)
 
 pub returns-clause-leaves : goal.returns-clause-leaves
 returns-clause-leaves g c = record {

@@ -9,5 +9,5 @@ returns-clause-steps g c =
     let s = c.requires.stands in
     let all = c.args.all.now.value in
     let many : c.args.sent ≡ capped (length (take c.args.sent all)) = omega (arith, c.ranges.sent.fits, c.requires.fits, length-take c.args.sent all) in
-    plain_step s (assumption) c.requires.may c.requires.left c.note.ensures
+    plain_step s (assumption) (λ j joins. tt) c.requires.may c.requires.left c.note.ensures
     (c.attempted.ensures.knows c.args.self.now.log _ _ many s.seats) c.attempted.ensures.size

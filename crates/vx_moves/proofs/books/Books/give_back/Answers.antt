@@ -9,7 +9,7 @@ returns-clause-stands g c =
     let lends = c.give_back.ensures.lends in
     let rooms = c.give_back.ensures.rooms in
     let held = c.requires.held in
-    hand_stands c.args.i s (lent_comes_back c.args.self.now.log c.args.i c.args.held.items c.args.self.now.places c.give_back.new.self lends
+    hand_stands c.args.i s c.requires.alone (lent_comes_back c.args.self.now.log c.args.i c.args.held.items c.args.self.now.places c.give_back.new.self lends
     held.held held.known s.places)
     (λ p other. sym (lends.others p other)) (λ _. rw lends.was refl) (λ j. sym (rooms.stages j)) (λ j other. sym (rooms.others j other))
     (rw rooms.was c.requires.room)

@@ -1,7 +1,9 @@
 use Rattle.std.proofs.Common.{refl}
 use Rattle.vx_record.specs.declared.entry.Entry.TheVariants.{Home}
 use Rattle.vx_balance.proofs.Steps.{aside_kept}
-use Rattle.vx_moves.proofs.Stepping.{home_kept, still, step}
+use Rattle.vx_counts.proofs.Begun.{begun_stays}
+use Rattle.vx_tasks.specs.Joining.{joins_at}
+use Rattle.vx_moves.proofs.Stepping.{keeps_behind, home_kept, still, step}
 use Rattle.vx_moves.proofs.books.Books.home.Goals as goal
 
 pub returns-clause-steps : goal.returns-clause-steps
@@ -20,4 +22,6 @@ returns-clause-steps g c =
       };
       kept = home_kept d.places d.log c.args.i s.kept c.requires.kept;
       rooms = assumption s.rooms;
-    }) (c.arrive.ensures.knows d.log c.requires.back s.seats) (λ _. aside_kept d.balance d.log e tt s.balance) refl c.arrive.ensures.size
+      keepers = assumption s.keepers;
+      begun = begun_stays (joins_at d.log) e d.log legal tt s.begun;
+    }) (keeps_behind s e (λ j joins. tt)) (c.arrive.ensures.knows d.log c.requires.back s.seats) (λ _. aside_kept d.balance d.log e tt s.balance) refl c.arrive.ensures.size

@@ -5,6 +5,7 @@ use Rattle.vx_record.specs.declared.entry.Entry.TheVariants.{Lease}
 use Rattle.vx_record.specs.Records.{Record}
 use Rattle.vx_record.specs.Turns.{is_out}
 use Rattle.vx_balance.proofs.Steps.{aside_kept}
+use Rattle.vx_counts.proofs.Begun.{begun_stays}
 use Rattle.vx_tasks.specs.declared.task.Task.{Task}
 use Rattle.vx_record.specs.Ceasing.{cause_of}
 use Rattle.vx_tasks.specs.Home.{HasKept, IsAtHome}
@@ -14,7 +15,8 @@ use Rattle.vx_seats.specs.Knowing.{HasHome, IsKnown}
 use Rattle.vx_seats.proofs.Progressing.{going_on}
 use Rattle.vx_seats.proofs.Telling.{told_mute, come_mute}
 use Rattle.vx_moves.specs.Stands.{Steps}
-use Rattle.vx_moves.proofs.Stepping.{lease_kept, lease_later, never_both, still, step}
+use Rattle.vx_tasks.specs.Joining.{joins_at}
+use Rattle.vx_moves.proofs.Stepping.{keeps_behind, lease_kept, lease_later, never_both, still, step}
 use Rattle.vx_moves.proofs.books.Books.lease.Goals as goal
 
 there : {X : Type 0} (xs : List X) (i : ℕ) → i < length xs → IsSome (slice_get xs i)
@@ -67,7 +69,9 @@ returns g c =
       };
       kept = lease_kept d.places d.log i worker now s.kept;
       rooms = assumption s.rooms;
-    }) (gave.knows d.log worker 0 s.seats) (λ _. aside_kept d.balance d.log (Lease i worker now 0) tt s.balance) refl c.leave.ensures.size in
+      keepers = assumption s.keepers;
+      begun = begun_stays (joins_at d.log) (Lease i worker now 0) d.log legal tt s.begun;
+    }) (keeps_behind s (Lease i worker now 0) (λ j joins. tt)) (gave.knows d.log worker 0 s.seats) (λ _. aside_kept d.balance d.log (Lease i worker now 0) tt s.balance) refl c.leave.ensures.size in
     record {
       lent = record {
         steps = steps;

@@ -1,5 +1,6 @@
 use Rattle.vx_places.proofs.Steps.{lent_is}
 use Rattle.vx_places.proofs.Recorded.{lent_filled}
+use Rattle.vx_moves.proofs.Keepers.{seen_alone}
 use Rattle.vx_moves.proofs.Stepping.{never_both}
 use Rattle.vx_moves.proofs.Moving.{hand_stands, seen_kept}
 use Rattle.vx_moves.proofs.books.Books.lend.Goals as goal
@@ -12,7 +13,7 @@ returns-clause-stands g c =
     let s = c.requires.stands in
     let lends = c.lend.ensures.lends in
     let rooms = c.lend.ensures.rooms in
-    hand_stands c.args.i s (lent_is c.args.self.now.log c.args.i c.lend.result.items c.args.self.now.places c.lend.new.self lends s.places).0 lends.others
+    hand_stands c.args.i s (seen_alone c.args.self.now.places c.args.self.now.log c.args.i s.keepers.apart c.requires.kept) (lent_is c.args.self.now.log c.args.i c.lend.result.items c.args.self.now.places c.lend.new.self lends s.places).0 lends.others
     (λ home. never_both home c.requires.out) rooms.stages rooms.others (rw rooms.now tt) c.lend.ensures.size
 
 pub returns-clause-held : goal.returns-clause-held

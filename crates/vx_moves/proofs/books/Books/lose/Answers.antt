@@ -6,5 +6,5 @@ returns-clause-steps g c =
     let h = c.args.self.now.log in
     let s = c.requires.stands in
     let after = c.lost-at.ensures.after h c.requires.fit c.requires.may.turn.source s.seats in
-    plain_step s (assumption) c.requires.may c.requires.left (rw after at c.note.ensures)
+    plain_step s (assumption) (λ j joins. tt) c.requires.may c.requires.left (rw after at c.note.ensures)
     (rw after at (c.lost-at.ensures.knows h c.args.failed s.seats)) c.lost-at.ensures.size

@@ -11,7 +11,7 @@ returns-clause-steps g c =
     let d = c.args.self.now in
     let s = c.requires.stands in
     let room = first_room_is d.log d.places c.args.target (Some c.args.stage) s.legal s.places (s.rooms.stages c.args.target) c.requires.room in
-    moves_step s c.push.ensures.moves (assumption) tt (λ oldest. record { home = c.requires.home; oldest = oldest; room = room })
+    moves_step s c.push.ensures.moves (assumption) tt (λ j joins. tt) tt (λ oldest. record { home = c.requires.home; oldest = oldest; room = room })
     (never_both c.requires.going) c.note.ensures
     (λ legal. aside_known g.P.Port.told _ d.log d.seats tt legal s.seats) c.push.ensures.size refl c.push.ensures.rooms
 

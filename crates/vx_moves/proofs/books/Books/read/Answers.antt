@@ -35,7 +35,7 @@ returns-clause-steps g c =
     go None may noted bytes all = absurd may
     go (Some r) may noted bytes all =
         let new = lines_said (AreNew c.args.self.now.log c.args.i r.stream r.took) (cut_of c.args.turned.now) may.lines in
-        plain_step c.requires.stands (assumption) may.row may.left noted
+        plain_step c.requires.stands (assumption) (λ j joins. tt) may.row may.left noted
         (c.read.ensures.knows c.args.self.now.log r.stream r.took bytes all (rw c.new_in-new.ensures new) c.requires.stands.seats) c.read.ensures.size
 
 pub returns-clause-leaves : goal.returns-clause-leaves

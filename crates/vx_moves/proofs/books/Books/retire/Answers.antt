@@ -5,4 +5,4 @@ use Rattle.vx_moves.proofs.books.Books.retire.Goals as goal
 pub returns-clause-steps : goal.returns-clause-steps
 returns-clause-steps g c =
     let s = c.requires.stands in
-    plain_step s (assumption) c.requires.may (λ _. refl) c.note.ensures (c.retired.ensures.knows c.args.self.now.log s.seats) c.retired.ensures.size
+    plain_step s (assumption) (λ j joins. tt) c.requires.may (λ _. refl) c.note.ensures (c.retired.ensures.knows c.args.self.now.log s.seats) c.retired.ensures.size

@@ -2,7 +2,7 @@ use Rattle.std.proofs.Common.{◌∙◌}
 use Rattle.vx_record.specs.Places.Place.{Held}
 use Rattle.vx_moves.proofs.Leaving.{each_both}
 use Rattle.vx_moves.proofs.Moving.{seen_kept}
-use Rattle.vx_moves.proofs.Spending.{comes_first, held_so, nothing_there, spendable, spent_step}
+use Rattle.vx_moves.proofs.Spending.{held_so, nothing_there, spendable, spent_step, taken_so}
 use Rattle.vx_moves.proofs.books.Books.spend_held.Goals as goal
 
 pub spend_held-requires-clause-kept : goal.spend_held-requires-clause-kept
@@ -11,11 +11,11 @@ spend_held-requires-clause-kept g c = seen_kept c.args.self.now.places c.args.i 
 pub settle-requires : goal.settle-requires
 settle-requires g c =
     let h = c.args.self.now.log in
-    let n = c.in-Some.copy.number in
+    let n = c.in-Some.lost.copy.number in
     let is = spendable c.requires.stands c.requires.may c.in-Some.ensures.loses in
     let so = held_so h c.args.i n c.args.outcome is.legal is.there in
-    let first = comes_first h c.args.i n is.legal.1 c.requires.stands.run.judging is.there in
-    assumption (is, c.spent.ensures.knows h n so.0 so.1 first c.requires.stands.seats is.legal)
+    let first = taken_so c.requires.stands c.in-Some.ensures.loses in
+    assumption (is, c.spent.ensures.knows h n so.0 so.1 (λ sink. first) c.requires.stands.seats is.legal)
 
 pub returns-clause-spent : goal.returns-clause-spent
 returns-clause-spent g c _ =

@@ -1,8 +1,6 @@
-use Rattle.std.proofs.Common.{◌∙◌, [], ◌∷◌}
-use Rattle.vx_record.specs.Places.Place.{Waiting}
-use Rattle.vx_record.specs.Tallies.{is_newest}
+use Rattle.std.proofs.Common.{◌∙◌}
 use Rattle.vx_moves.proofs.Leaving.{each_both}
-use Rattle.vx_moves.proofs.Spending.{none_before, put_alone, spendable, spent_step, waits_some}
+use Rattle.vx_moves.proofs.Spending.{put_so, spendable, spent_step, waits_some}
 use Rattle.vx_moves.proofs.books.Books.spend_newest.Goals as goal
 
 pub unreachable-requires : goal.unreachable-requires
@@ -13,10 +11,10 @@ unreachable-requires g c =
 pub settle-requires : goal.settle-requires
 settle-requires g c =
     let h = c.args.self.now.log in
-    let n = c.in-Some.copy.number in
+    let n = c.in-Some.lost.copy.number in
     let is = spendable c.requires.stands c.requires.may c.in-Some.ensures.loses in
-    let put = put_alone h (Waiting c.args.i c.args.target) n is.legal.1 c.requires.stands.run.judging is.there in
-    assumption (is, c.dropped.ensures.knows h c.args.i n (n ∷ []) put (none_before h is_newest n is.live.2) c.requires.stands.seats is.legal)
+    let so = put_so c.requires.stands c.in-Some.ensures.loses in
+    assumption (is, c.dropped.ensures.knows h c.args.i n so.copies so.put so.is c.requires.stands.seats is.legal)
 
 pub returns : goal.returns
 returns g c = record {

@@ -1,17 +1,16 @@
-use Rattle.std.proofs.Common.{◌∙◌, [], ◌∷◌}
+use Rattle.std.proofs.Common.{◌∙◌}
 use Rattle.vx_record.specs.Places.Place.{Outputs}
-use Rattle.vx_record.specs.Tallies.{is_unread}
 use Rattle.vx_moves.proofs.Leaving.{each_both}
-use Rattle.vx_moves.proofs.Spending.{none_before, nothing_there, put_alone, spendable, spent_step}
+use Rattle.vx_moves.proofs.Spending.{nothing_there, put_so, spendable, spent_step}
 use Rattle.vx_moves.proofs.books.Books.spend_unread.Goals as goal
 
 pub settle-requires : goal.settle-requires
 settle-requires g c =
     let h = c.args.self.now.log in
-    let n = c.in-Some.copy.number in
+    let n = c.in-Some.lost.copy.number in
     let is = spendable c.requires.stands c.requires.may c.in-Some.ensures.loses in
-    let put = put_alone h (Outputs c.args.i) n is.legal.1 c.requires.stands.run.judging is.there in
-    assumption (is, c.unread.ensures.knows h n (n ∷ []) put (none_before h is_unread n is.live.2) c.requires.stands.seats is.legal)
+    let so = put_so c.requires.stands c.in-Some.ensures.loses in
+    assumption (is, c.unread.ensures.knows h n so.copies so.put so.is c.requires.stands.seats is.legal)
 
 pub returns-clause-spent : goal.returns-clause-spent
 returns-clause-spent g c _ =

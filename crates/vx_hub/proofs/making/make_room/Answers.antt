@@ -1,0 +1,22 @@
+use Rattle.std.proofs.Common.{◌≡◌, ◌∙◌, length, ap, arith}
+use Rattle.vx_plan.specs.declared.plan.Plan.{Plan}
+use Rattle.vx_hub.proofs.making.make_room.Goals as goal
+
+pub returns-in-Ok : goal.returns-in-Ok
+returns-in-Ok g c =
+    let same : length c.plan.inside.components ≡ length c.args.plan.now.components = ap (λ (plan : Plan). length plan.components) c.plan.view_is in
+    record {
+      seats = c.in_ok-seats.ensures.begun;
+      seats_size = c.in_ok-seats.ensures.size;
+      roles = c.in_ok-roles.ensures.begun;
+      roles_size = c.in_ok-roles.ensures.size;
+      balance = c.in_ok-balance.ensures;
+      vacant = c.in-Ok.ensures.vacant;
+      rooms = c.in-Ok.ensures.rooms;
+      places_size = c.in-Ok.ensures.size;
+      slots = c.in_ok-keepers.ensures.many ∙ c.len-2.ensures ∙ same;
+      free = c.in_ok-keepers.ensures.free;
+      berths = omega (arith, c.in_ok-ports.ensures.capacity, c.len.ensures, same);
+      none = c.in_ok-ports.ensures.items;
+      sources = c.in_ok-sources.ensures;
+    }

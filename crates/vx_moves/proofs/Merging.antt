@@ -1,0 +1,352 @@
+-- What a keeper made, and how it becomes an answer.
+use Rattle.std.proofs.Common.{◌≡◌, ◌∙◌, ◌≢◌, ◌<◌, ◌≤◌, ◌+◌, ℕ, Bool, true, false, is_some, List, [], ◌∷◌, ◌++◌, Option, Some, None, IfSome, length, map, inl, inr, refl, sym, ap, subst, arith}
+use Rattle.std.specs.Prelude.{IsSomeAnd, IsSome, ◌==◌, ◌&&◌, ◌↔◌}
+use Rattle.std.specs.Global.{Vec}
+use Rattle.std.proofs.lemmas.Bool.{cases_eq}
+use Rattle.std.proofs.lemmas.Bool.Decides.{nat_tests}
+use Rattle.std.proofs.lemmas.List.{length-map}
+use Rattle.vx_ends.specs.Told.{Told}
+use Rattle.vx_value.specs.Texts.{is_empty}
+use Rattle.vx_ledger.specs.Copies.{numbers_of}
+use Rattle.vx_ledger.specs.declared.parcel.Parcel.{Parcel}
+use Rattle.vx_plan.specs.declared.class.Class.{Class}
+use Rattle.vx_plan.specs.declared.class.Class.TheVariants.{Source, Transform, Sink}
+use Rattle.vx_plan.specs.declared.component.Component.{Component}
+use Rattle.vx_plan.specs.Components.{is_transform, is_sink}
+use Rattle.vx_transform.specs.declared.output.Output.{Output}
+use Rattle.vx_condition.specs.Steps.{ticks}
+use Rattle.vx_record.specs.declared.entry.Entry.{Entry}
+use Rattle.vx_record.specs.declared.entry.Entry.TheVariants.{Take, Tick, Answer}
+use Rattle.vx_record.specs.Records.{Record}
+use Rattle.vx_record.specs.Additions.{OnlyAdds}
+use Rattle.vx_record.specs.Answering.{MayAnswer, MayFlush}
+use Rattle.vx_record.specs.Inputs.{Input, flush, to_answer, unanswered, ticks_wait}
+use Rattle.vx_record.specs.Legal.{IsLegal}
+use Rattle.vx_record.specs.Installs.{component_of, sink_at}
+use Rattle.vx_record.specs.Places.Place.{Contents, Held}
+use Rattle.vx_record.specs.SinkBatches.{is_full_batch}
+use Rattle.vx_record.specs.Spending.{oldest}
+use Rattle.vx_record.specs.Stages.{first_filled}
+use Rattle.vx_record.specs.Shifts.{at}
+use Rattle.vx_record.specs.Transforms.{IsTickDue}
+use Rattle.vx_record.specs.Turns.{lease_now}
+use Rattle.vx_tasks.specs.Joining.{is_joining, joins_at}
+use Rattle.vx_record.proofs.Adding.{adds_both, adds_none, adds_one}
+use Rattle.vx_balance.proofs.Steps.{aside_kept}
+use Rattle.vx_places.specs.declared.row.Row.{Row}
+use Rattle.vx_places.specs.Calls.{HasOutputRoomFor, PutsOut as PutsOutAt, Takes}
+use Rattle.vx_places.specs.Holding.{AreKnown, Shifts}
+use Rattle.vx_places.specs.Numbers.{AreNoted, EachFilled, parcels_out}
+use Rattle.vx_places.specs.Rooms.{SameRooms}
+use Rattle.vx_places.proofs.Steps.{still_shifts, taken_known}
+use Rattle.vx_seats.specs.declared.seat.Seat.{Seat}
+use Rattle.vx_seats.specs.Knowing.{Knows}
+use Rattle.vx_seats.proofs.Aside.{aside_known}
+use Rattle.vx_keeping.specs.Answers.{notes_of, kept_behind, MayBeNoted}
+use Rattle.vx_keeping.specs.Kept.{Kept}
+use Rattle.vx_keeping.specs.Keeping.{taken_in, Accounts, Keeps, HasMade}
+use Rattle.vx_keeping.proofs.Going.{keeps_stays, made_keeps, none_taken}
+use Rattle.vx_keeping.proofs.Answering.{to_answer_tick, made_may_be_noted, kept_nothing, may_answer_made}
+use Rattle.vx_keeping.proofs.Others.{outputs_known}
+use Rattle.vx_moves.specs.declared.books.Books.{Books}
+use Rattle.vx_moves.specs.Keepers.{keeper_at, AreKept, AreKeepers, IsKeeper, OneKeeper, TakesIn, AnswersTaken, Ticks, Flushes, FailsShort, PutsOut}
+use Rattle.vx_moves.specs.Merging.{AreMade, StandsMade, MayMerge, MayNoteMade, IsMergeOf}
+use Rattle.vx_moves.specs.Stands.{StandsBy, Stands, Steps}
+use Rattle.vx_moves.specs.Taking.{MayTakeNow}
+use Rattle.vx_moves.proofs.Moving.{is_oldest, oldest_is}
+use Rattle.vx_moves.proofs.Stepping.{Behind, follows, moved, never_both, none_put, stands_behind, step}
+
+-- ONE KEEPER IS CHANGED
+both_some : (F : Kept → Kept → Type 0) (o n : Option Kept) → IsSomeAnd o (λ was. IsSomeAnd n (λ is. F was is)) → is_some n ≡ is_some o
+both_some F None n is = absurd is
+both_some F (Some was) None is = absurd is
+both_some F (Some was) (Some now) is = refl
+
+pub one_keepers : {F : Kept → Kept → Type 0} (i : ℕ) (old new : List (Option Kept)) (rows : List Row) (h : Record) → OneKeeper F i old new →
+    AreKeepers old rows h → AreKeepers new rows h
+one_keepers {F} i old new rows h one are = record {
+  many = one.many ∙ are.many;
+  whose = λ j. elim (cases_eq j i) [
+    | inl here ↦ rw here (both_some F (keeper_at old i) (keeper_at new i) one.one ∙ are.whose i)
+    | inr other ↦ ap is_some (one.others j other) ∙ are.whose j
+  ];
+  apart = are.apart;
+}
+
+-- what is so of the one that was is so of the one that is
+pub one_is : (F : Kept → Kept → Type 0) (A B : Kept → Type 0) (o n : Option Kept) → IsSomeAnd o (λ was. IsSomeAnd n (λ is. F was is)) → IfSome o A →
+    ((was is : Kept) → F was is → A was → B is) → IsSomeAnd n B
+one_is F A B None n is had leads = absurd is
+one_is F A B (Some was) None is had leads = absurd is
+one_is F A B (Some was) (Some now) is had leads = leads was now is had
+
+pub some_if : (A : Kept → Type 0) (o : Option Kept) → IsSomeAnd o A → IfSome o A
+some_if A None is = absurd is
+some_if A (Some k) is = is
+
+module _ {P : Type 0} {told_by : P → Told} {old : Books P} {slots : Vec (Option Kept)} (i : ℕ) where
+  -- it made something of what it kept
+  pub made_one : {F : Kept → Kept → Type 0} (given : List Input) → Stands told_by old → OneKeeper F i old.keepers.items slots.items →
+      ((was is : Kept) → F was is → Keeps was old.log i → HasMade is old.log i given) → StandsMade told_by i given (record old { keepers = slots })
+  made_one {F} given stands one makes =
+      let keepers = one_keepers i old.keepers.items slots.items old.places old.log one stands.keepers in
+      let keeps : AreMade i given slots.items old.log = record {
+        others = λ j other. rw (one.others j other) (stands.keeps j);
+        made = one_is F (λ k. Keeps k old.log i) (λ k. HasMade k old.log i given) (keeper_at old.keepers.items i) (keeper_at slots.items i) one.one (stands.keeps i) makes;
+      } in
+      assumption (keepers, keeps, stands)
+
+  -- it failed, whatever it was
+  failed_by : {AreSo : List (Option Kept) → Record → Type 0} → StandsBy AreSo told_by old old.log →
+      ((j : ℕ) → j ≢ i → IfSome (keeper_at old.keepers.items j) (λ k. Keeps k old.log j)) → IfSome (keeper_at old.keepers.items i) (λ k. Accounts k old.log i) →
+      OneKeeper FailsShort i old.keepers.items slots.items → Stands told_by (record old { keepers = slots })
+  failed_by stands others accounts one =
+      let keepers = one_keepers i old.keepers.items slots.items old.places old.log one stands.keepers in
+      let here : IfSome (keeper_at slots.items i) (λ k. Keeps k old.log i) =
+      some_if (λ k. Keeps k old.log i) (keeper_at slots.items i)
+      (one_is FailsShort (λ k. Accounts k old.log i) (λ k. Keeps k old.log i) (keeper_at old.keepers.items i) (keeper_at slots.items i) one.one accounts (λ was is fails had. fails old.log i had)) in
+      let keeps : AreKept slots.items old.log = λ j. elim (cases_eq j i) [
+        | inl same ↦ rw same here
+        | inr other ↦ rw (one.others j other) (others j other)
+      ] in
+      assumption (keepers, keeps, stands)
+
+  pub failed_kept : Stands told_by old → OneKeeper FailsShort i old.keepers.items slots.items → Stands told_by (record old { keepers = slots })
+  failed_kept stands one = failed_by stands (λ j other. stands.keeps j) (accounted (keeper_at old.keepers.items i) (stands.keeps i)) one
+    where
+      accounted : (o : Option Kept) → IfSome o (λ k. Keeps k old.log i) → IfSome o (λ k. Accounts k old.log i)
+      accounted None is = tt
+      accounted (Some k) is = is.accounts
+
+  pub failed_made : (given : List Input) → StandsMade told_by i given old → OneKeeper FailsShort i old.keepers.items slots.items → Stands told_by (record old { keepers = slots })
+  failed_made given stands one = failed_by stands stands.keeps.others (accounted (keeper_at old.keepers.items i) stands.keeps.made) one
+    where
+      accounted : (o : Option Kept) → IsSomeAnd o (λ k. HasMade k old.log i given) → IfSome o (λ k. Accounts k old.log i)
+      accounted None is = absurd is
+      accounted (Some k) is = is.accounts
+
+module _ {P : Type 0} {told_by : P → Told} {old : Books P} (i : ℕ) where
+  -- THE TICK
+  -- where one was made and is noted, what was made waits for the Answer to it
+  pub ticked : (now : ℕ) → StandsMade told_by i (record { step = ticks now; copies = [] } ∷ []) old → MayMerge old.log i now → IsTickDue old.log i now →
+      taken_in old.log i ≡ [] → StandsBy (AreMade i (to_answer (Tick i now ∷ old.log) i)) told_by (record old { log = Tick i now ∷ old.log }) (Tick i now ∷ old.log)
+  ticked now stands may due none =
+      let h = old.log in
+      let e = Tick i now in
+      let all = to_answer_tick h i now may.unticked ∙ ap (λ xs. xs ++ record { step = ticks now; copies = [] } ∷ []) none in
+      stands_behind stands (AreMade i (to_answer (e ∷ h) i)) {new = record old { log = e ∷ h }}
+      (record { out = may.out; of_lease = may.moment; due = due; once = may.unticked }) (never_both may.going)
+      (λ legal. moved (assumption) tt legal (still_shifts e old.places tt) (none_put (e ∷ h)) (λ j. (refl, refl)) refl (assumption stands))
+      (λ legal. record { others = λ j other. stay (keeper_at old.keepers.items j) j legal (stands.keeps.others j other); made = go (keeper_at old.keepers.items i) all legal stands.keeps.made })
+      (λ legal. aside_known told_by e h old.seats tt legal stands.seats) (λ _. aside_kept old.balance h e tt stands.balance) refl refl
+    where
+      stay : (o : Option Kept) (j : ℕ) → IsLegal (Tick i now ∷ old.log) → IfSome o (λ k. Keeps k old.log j) → IfSome o (λ k. Keeps k (Tick i now ∷ old.log) j)
+      stay None j legal is = tt
+      stay (Some k) j legal is = keeps_stays k old.log j (Tick i now) legal tt is
+
+      go : (o : Option Kept) → to_answer (Tick i now ∷ old.log) i ≡ record { step = ticks now; copies = [] } ∷ [] → IsLegal (Tick i now ∷ old.log) →
+          IsSomeAnd o (λ k. HasMade k old.log i (record { step = ticks now; copies = [] } ∷ [])) →
+          IsSomeAnd o (λ k. HasMade k (Tick i now ∷ old.log) i (to_answer (Tick i now ∷ old.log) i))
+      go None all legal is = absurd is
+      go (Some k) all legal is =
+          subst (HasMade k (Tick i now ∷ old.log) i) (sym all) (made_keeps k old.log i (Tick i now) (record { step = ticks now; copies = [] } ∷ []) legal tt is)
+
+-- THE ANSWER
+-- outputs are those of an entry that has them so
+noted_so : (outputs : List Output) → AreNoted outputs (notes_of outputs)
+noted_so [] = tt
+noted_so (output ∷ rest) = (refl, refl, noted_so rest)
+
+pub the_one : (F : Kept → Type 0) (o : Option Kept) → IsSomeAnd o F → (k : Kept) × ((o ≡ Some k) × F k)
+the_one F None is = absurd is
+the_one F (Some k) is = (k, (refl, is))
+
+module _ {P : Type 0} {told_by : P → Told} {old : Books P} (slots : Vec (Option Kept)) (i : ℕ) (outputs : List Output)
+    (stands : StandsMade told_by i (to_answer old.log i) old) (may : MayNoteMade i old) (one : OneKeeper (PutsOut outputs) i old.keepers.items slots.items) where
+  found : (k : Kept) × ((keeper_at old.keepers.items i ≡ Some k) × HasMade k old.log i (to_answer old.log i))
+  found = the_one (λ k. HasMade k old.log i (to_answer old.log i)) (keeper_at old.keepers.items i) stands.keeps.made
+
+  abbrev k : Kept
+  k = found.0
+
+  put : (is : Kept) × ((keeper_at slots.items i ≡ Some is) × PutsOut outputs k is)
+  put = the_one (PutsOut outputs k) (keeper_at slots.items i) (rw found.1.0 at one.one)
+
+  same : outputs ≡ k.shelf.outputs
+  same = put.1.1.outputs_are
+
+  abbrev kept : List ℕ
+  kept = kept_behind old.log i outputs
+
+  -- the entry
+  abbrev e : Entry
+  e = Answer i (notes_of outputs) [] kept
+
+  row : MayAnswer old.log i (notes_of outputs) [] kept
+  row = rw same (may_answer_made k old.log i stands.legal may.out found.1.1 may.holds (λ none. rw found.1.0 at (may.flush none)))
+
+  may_note : MayBeNoted old.log i k.shelf.outputs
+  may_note = made_may_be_noted k old.log i stands.legal found.1.1
+
+  known : IsLegal (e ∷ old.log) → AreKnown (e ∷ old.log) (parcels_out outputs)
+  known = subst (λ os. IsLegal (Answer i (notes_of os) [] kept ∷ old.log) → AreKnown (Answer i (notes_of os) [] kept ∷ old.log) (parcels_out os)) (sym same)
+      (outputs_known k old.log i kept found.1.1)
+
+  -- the books stand for the record with it
+  pub answered_made : {places : List Row} {seats : List (Seat P)} → Behind old.log e (Knows told_by seats) → PutsOutAt i outputs old.places places →
+      length places ≡ length old.places → length seats ≡ length old.seats → SameRooms old.places places →
+      Stands told_by (record old { places = places; keepers = slots; seats = seats; log = e ∷ old.log })
+  answered_made {places} {seats} knows puts rows size rooms =
+      let h = old.log in
+      let shifts = puts.answered (notes_of outputs) [] kept (noted_so outputs) (rw same may_note.filled) (stands.keepers.apart i may.joins) in
+      stands_behind stands AreKept {new = record old { places = places; keepers = slots; seats = seats; log = e ∷ h }} row (never_both may.going)
+      (λ legal.
+      let rests = moved (assumption) (λ alone. never_both alone may.joins) legal shifts (known legal) rooms rows (assumption stands) in
+      record {
+        places = rests.places;
+        run = rests.run;
+        kept = rests.kept;
+        rooms = rests.rooms;
+        begun = rests.begun;
+        keepers = one_keepers i old.keepers.items slots.items places (e ∷ h) one rests.keepers;
+      })
+      (λ legal j. elim (cases_eq j i) [
+        | inl here ↦ rw (here, put.1.0) (put.1.1.keeps h i kept found.1.1 legal)
+        | inr other ↦ rw (one.others j other) (stay (keeper_at old.keepers.items j) j other legal (stands.keeps.others j other))
+      ])
+      knows (λ _. aside_kept old.balance h e tt stands.balance) rows size
+    where
+      stay : (o : Option Kept) (j : ℕ) → j ≢ i → IsLegal (e ∷ old.log) → IfSome o (λ k. Keeps k old.log j) → IfSome o (λ k. Keeps k (e ∷ old.log) j)
+      stay None j other legal is = tt
+      stay (Some kept_there) j other legal is = keeps_stays kept_there old.log j e legal (λ here. other (sym here)) is
+
+  -- by that entry alone, and nothing waits for an answer then
+  pub answered_only : OnlyAdds (IsMergeOf i) old.log (e ∷ old.log)
+  answered_only = adds_one (IsMergeOf i) old.log old.log (e ∷ old.log) e (adds_none (IsMergeOf i) old.log old.log refl) (follows e old.balance old.log stands.balance row (never_both may.going)) refl refl
+
+pub unanswered_none : (h : Record) (i : ℕ) (outputs : List Output) (kept : List ℕ) → unanswered (Answer i (notes_of outputs) [] kept ∷ h) i ≡ []
+unanswered_none h i outputs kept = let self : (i == i) ≡ true = grind (arith, nat_tests) in rw self refl
+
+-- what made something is fit
+pub made_fit : (h : Record) (i : ℕ) (given : List Input) (o : Option Kept) → IsSomeAnd o (λ k. HasMade k h i given) → IsSomeAnd o (λ k. k.fit ≡ true)
+made_fit h i given None made = absurd made
+made_fit h i given (Some k) made = made.fit
+
+-- there is room for what is taken off, as for what was put out
+pub room_put : (rows : List Row) (i : ℕ) (outputs : List Output) (o n : Option Kept) → IsSomeAnd o (λ was. IsSomeAnd n (λ is. PutsOut outputs was is)) →
+    IsSomeAnd o (λ k. HasOutputRoomFor rows i (length k.shelf.outputs)) → HasOutputRoomFor rows i (length outputs)
+room_put rows i outputs None n puts room = absurd puts
+room_put rows i outputs (Some was) None puts room = absurd puts
+room_put rows i outputs (Some was) (Some now) puts room = rw puts.outputs_are room
+
+pub many_noted : (outputs : List Output) → length (notes_of outputs) ≡ length outputs
+many_noted outputs = length-map outputs (λ (output : Output). record { ports = output.ports; copies = numbers_of output.parcel.finalizers; event = output.parcel.event })
+
+-- an instance that merges has a keeper
+pub keeper_there : (slots : List (Option Kept)) (rows : List Row) (h : Record) (i : ℕ) → AreKeepers slots rows h → joins_at h i ≡ true → IsKeeper (λ k. Unit {0}) slots i
+keeper_there slots rows h i are joins = go (keeper_at slots i) (are.whose i)
+  where
+    go : (o : Option Kept) → is_some o ≡ joins_at h i → IsSomeAnd o (λ k. Unit {0})
+    go None is = let no = is ∙ joins in cc
+    go (Some k) is = tt
+
+-- a change of a keeper that was fit
+with_fit : {F : Kept → Kept → Type 0} {i : ℕ} {old new : List (Option Kept)} → OneKeeper F i old new → IsKeeper (λ k. k.fit ≡ true) old i →
+    OneKeeper (λ was is. F was is × (was.fit ≡ true)) i old new
+with_fit {F} {i} {old} {new} one fit = record { one = go (keeper_at old i) (keeper_at new i) one.one fit; others = one.others; many = one.many }
+  where
+    go : (o n : Option Kept) → IsSomeAnd o (λ was. IsSomeAnd n (λ is. F was is)) → IsSomeAnd o (λ k. k.fit ≡ true) →
+        IsSomeAnd o (λ was. IsSomeAnd n (λ is. F was is × (was.fit ≡ true)))
+    go None n is had = absurd is
+    go (Some was) None is had = absurd is
+    go (Some was) (Some now) is had = (is, had)
+
+module _ {P : Type 0} {told_by : P → Told} {old : Books P} {slots : Vec (Option Kept)} (i : ℕ) (stands : Stands told_by old) where
+  -- all that was taken was answered
+  pub taken_made : (now : ℕ) → now ≡ lease_now old.log i → OneKeeper (AnswersTaken now) i old.keepers.items slots.items →
+      StandsMade told_by i (taken_in old.log i) (record old { keepers = slots })
+  taken_made now moment one = made_one i (taken_in old.log i) stands one (λ was is answers keeps. answers old.log i moment keeps)
+
+  -- a tick was answered where nothing was taken
+  pub tick_made : (now : ℕ) → OneKeeper (Ticks now) i old.keepers.items slots.items → IsKeeper (λ k. k.fit ≡ true) old.keepers.items i → taken_in old.log i ≡ [] →
+      StandsMade told_by i (record { step = ticks now; copies = [] } ∷ []) (record old { keepers = slots })
+  tick_made now one fit none = made_one i (record { step = ticks now; copies = [] } ∷ []) stands (with_fit one fit)
+      (λ was is both keeps. both.0 old.log i [] (none_taken was old.log i keeps both.1 none))
+
+  -- and so was the flush
+  pub flush_made : OneKeeper Flushes i old.keepers.items slots.items → IsKeeper (λ k. k.fit ≡ true) old.keepers.items i → taken_in old.log i ≡ [] →
+      StandsMade told_by i (flush ∷ []) (record old { keepers = slots })
+  flush_made one fit none = made_one i (flush ∷ []) stands (with_fit one fit)
+      (λ was is both keeps. both.0 old.log i [] (none_taken was old.log i keeps both.1 none))
+
+-- behind a flush nothing is kept
+pub flushed_all : (h : Record) (i : ℕ) (o : Option Kept) → IsLegal h → IsSomeAnd o (λ k. HasMade k h i (flush ∷ [])) → IsSomeAnd o (λ k. k.reduce.groups ≡ []) →
+    MayFlush h i [] → IsSomeAnd o (λ k. MayFlush h i (kept_behind h i k.shelf.outputs))
+flushed_all h i None legal made none may = absurd made
+flushed_all h i (Some k) legal made none may = rw (kept_nothing k h i (flush ∷ []) legal made none) may
+
+-- A TAKE
+-- an instance that merges is no sink
+joins_none : (o : Option Component) → (elim o [ None ↦ false | Some c ↦ is_transform c && is_joining c.settings ]) ≡ true → (elim o [ None ↦ false | Some c ↦ is_sink c ]) ≡ true → ⊥
+joins_none None joins sink = cc
+joins_none (Some c) joins sink = go c.class joins sink
+  where
+    go : (class : Class) → ((elim class [ Source ↦ false | Transform ↦ true | Sink ↦ false ]) && is_joining c.settings) ≡ true →
+        (elim class [ Source ↦ false | Transform ↦ false | Sink ↦ true ]) ≡ true → ⊥
+    go Source joins sink = cc
+    go Transform joins sink = cc
+    go Sink joins sink = cc
+
+-- whether it holds nothing is what its keeper says
+pub none_kept : (h : Record) (i : ℕ) (none : Bool) (o : Option Kept) → IsLegal h → IfSome o (λ k. Keeps k h i) →
+    IsSomeAnd o (λ k. (g : Record) → IsLegal g → Keeps k g i → (none ≡ true) ↔ (at g (Held i) ≡ [])) → none ≡ is_empty (at h (Held i))
+none_kept h i none None legal keeps exact = absurd exact
+none_kept h i none (Some k) legal keeps exact = go none (at h (Held i)) (exact h legal keeps)
+  where
+    go : (b : Bool) (xs : List (List ℕ)) → (b ≡ true) ↔ (xs ≡ []) → b ≡ is_empty xs
+    go true [] same = refl
+    go true (x ∷ xs) same = let no = same.0 refl in cc
+    go false [] same = let no = same.1 refl in cc
+    go false (x ∷ xs) same = refl
+
+module _ {P : Type 0} {told_by : P → Told} {old : Books P} (slots : Vec (Option Kept)) (i stage : ℕ) (parcel : Parcel) {places : List Row} (stands : Stands told_by old)
+    (joins : joins_at old.log i ≡ true) (takes : Takes (Contents i stage) parcel old.places places) (one : OneKeeper (TakesIn parcel) i old.keepers.items slots.items) where
+  are : numbers_of parcel.finalizers ≡ oldest (at old.log (Contents i stage))
+  are = oldest_is stands (Contents i stage) takes.was
+
+  abbrev takes_it : Entry
+  takes_it = Take i stage (oldest (at old.log (Contents i stage)))
+
+  kept_then : IsLegal (takes_it ∷ old.log) → AreKept slots.items (takes_it ∷ old.log)
+  kept_then legal j = elim (cases_eq j i) [
+    | inl here ↦ rw here
+        (some_if (λ k. Keeps k (takes_it ∷ old.log) i) (keeper_at slots.items i)
+        (one_is (TakesIn parcel) (λ k. Keeps k old.log i) (λ k. Keeps k (takes_it ∷ old.log) i) (keeper_at old.keepers.items i) (keeper_at slots.items i) one.one (stands.keeps i)
+        (λ was is takes_in had. subst (λ copies. IsLegal (Take i stage copies ∷ old.log) → Keeps is (Take i stage copies ∷ old.log) i) are
+        (λ before. takes_in old.log i stage had before (taken_known old.log (Contents i stage) parcel old.places places takes stands.places)) legal)))
+    | inr other ↦ rw (one.others j other) (stay (keeper_at old.keepers.items j) j other (stands.keeps j))
+  ]
+    where
+      stay : (o : Option Kept) (j : ℕ) → j ≢ i → IfSome o (λ k. Keeps k old.log j) → IfSome o (λ k. Keeps k (takes_it ∷ old.log) j)
+      stay None j other is = tt
+      stay (Some kept_there) j other is = keeps_stays kept_there old.log j takes_it legal (λ here. other (sym here)) is
+
+  pub kept_step : {seats : List (Seat P)} {log : Record} → MayTakeNow old.log i → first_filled old.log i ≡ Some stage → log ≡ takes_it ∷ old.log →
+      Shifts (Take i stage (numbers_of parcel.finalizers)) [] old.places places → Behind old.log takes_it (Knows told_by seats) →
+      length places ≡ length old.places → length seats ≡ length old.seats → SameRooms old.places places →
+      Steps told_by takes_it old (record old { places = places; keepers = slots; seats = seats; log = log })
+  kept_step may first noted shifts knows rows size rooms =
+      let oldest_first = is_oldest stands (Contents i stage) takes.was in
+      let unfilled : sink_at old.log i ≡ true → is_full_batch old.log i ≡ false = λ sink. absurd (joins_none (component_of old.log i) joins sink) in
+      step stands (assumption (first, unfilled, may, rw are at oldest_first)) (never_both may.going) noted
+      (λ legal.
+      let rests = moved (assumption) tt legal (rw are at shifts) (none_put (takes_it ∷ old.log)) rooms rows (assumption stands) in
+      record {
+        places = rests.places;
+        run = rests.run;
+        kept = rests.kept;
+        rooms = rests.rooms;
+        begun = rests.begun;
+        keepers = one_keepers i old.keepers.items slots.items places (takes_it ∷ old.log) one rests.keepers;
+      })
+      kept_then knows (λ _. aside_kept old.balance old.log takes_it tt stands.balance) rows size

@@ -1,0 +1,15 @@
+use Rattle.std.proofs.Common.{refl}
+use Rattle.vx_status.specs.declared.outcome.Outcome.TheVariants.{Abandoned}
+use Rattle.vx_record.proofs.Adding.{adds_none}
+use Rattle.vx_moves.specs.Spends.{IsSpendOf}
+use Rattle.vx_moves.proofs.Leaving.{each_stays}
+use Rattle.vx_moves.proofs.Spending.{spends_both}
+use Rattle.vx_moves.proofs.books.Books.give_up_keeper.Goals as goal
+
+pub loop-preserved : goal.loop-preserved
+loop-preserved g c =
+    let one = c.give_up_kept.ensures in
+    record { spent = spends_both c.loop.invariant.spent one.spent; over = one.over; home = one.home; joins = one.joins }
+
+pub returns-clause-spent : goal.returns-clause-spent
+returns-clause-spent g c = spends_both c.loop.invariant.spent c.give_up_kept.ensures.spent

@@ -1,0 +1,57 @@
+use Rattle.std.proofs.Common.{List, [], ◌∷◌, Option, sym, subst}
+use Rattle.vx_record.specs.Answering.{MayFlush}
+use Rattle.vx_keeping.specs.Answers.{kept_behind}
+use Rattle.vx_keeping.specs.Kept.{Kept}
+use Rattle.vx_record.specs.Inputs.{flush}
+use Rattle.vx_keeping.proofs.Answering.{to_answer_flush}
+use Rattle.vx_moves.specs.Keepers.{keeper_at, IsKeeper}
+use Rattle.vx_moves.proofs.Merging.{failed_kept, flush_made, flushed_all, keeper_there, made_fit}
+use Rattle.vx_moves.proofs.books.Books.merge_flush.Goals as goal
+
+pub flush-requires-clause-there : goal.flush-requires-clause-there
+flush-requires-clause-there g c =
+    let d = c.args.self.now in
+    keeper_there d.keepers.items d.places d.log c.args.i c.requires.stands.keepers c.requires.may.joins
+
+pub returns-in_err-flush-clause-stands : goal.returns-in_err-flush-clause-stands
+returns-in_err-flush-clause-stands g c = failed_kept c.args.i c.requires.stands c.in_err-flush.ensures.short
+
+pub reserve_made-requires-clause-fit : goal.reserve_made-requires-clause-fit
+reserve_made-requires-clause-fit g c =
+    let d = c.args.self.now in
+    let i = c.args.i in
+    let none = (to_answer_flush d.log i c.requires.none).0 in
+    let made = flush_made {slots = c.flush.new.keepers} i c.requires.stands c.in_ok-flush.ensures.made c.in_ok-flush.ensures.had none in
+    made_fit d.log i (flush ∷ []) (keeper_at c.flush.new.keepers.items i) made.keeps.made
+
+pub returns-in_err-reserve_made-clause-stands : goal.returns-in_err-reserve_made-clause-stands
+returns-in_err-reserve_made-clause-stands g c =
+    let i = c.args.i in
+    let none = (to_answer_flush c.args.self.now.log i c.requires.none).0 in
+    c.in_err-reserve_made.ensures.short (flush ∷ []) (flush_made i c.requires.stands c.in_ok-flush.ensures.made c.in_ok-flush.ensures.had none)
+
+pub note_made-requires-clause-made : goal.note_made-requires-clause-made
+note_made-requires-clause-made g c =
+    let i = c.args.i in
+    let given = to_answer_flush c.args.self.now.log i c.requires.none in
+    rw (c.reserve_made.ensures.unchanged, given.1)
+    (rw c.reserve_made.ensures.unchanged at
+    (c.in_ok-reserve_made.ensures.made (flush ∷ []) (flush_made i c.requires.stands c.in_ok-flush.ensures.made c.in_ok-flush.ensures.had given.0)))
+
+pub note_made-requires-clause-may : goal.note_made-requires-clause-may
+note_made-requires-clause-may g c =
+    let d = c.args.self.now in
+    let i = c.args.i in
+    let may = c.requires.may in
+    let none = (to_answer_flush d.log i c.requires.none).0 in
+    let made = flush_made {slots = c.flush.new.keepers} i c.requires.stands c.in_ok-flush.ensures.made c.in_ok-flush.ensures.had none in
+    let same = c.reserve_made.ensures.unchanged in
+    record {
+      joins = rw same may.joins;
+      going = rw same may.going;
+      out = rw same may.out;
+      holds = rw same may.holds;
+      flush = λ _. rw same
+          (subst (λ (slots : List (Option Kept)). IsKeeper (λ k. MayFlush d.log i (kept_behind d.log i k.shelf.outputs)) slots i) (sym c.in_ok-reserve_made.ensures.kept)
+          (flushed_all d.log i (keeper_at c.flush.new.keepers.items i) c.requires.stands.legal made.keeps.made c.in_ok-flush.ensures.none c.requires.last));
+    }

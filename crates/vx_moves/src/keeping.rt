@@ -1,0 +1,155 @@
+// What each instance keeps that merges, one function for each thing that is done with it.
+ghost use Rattle.std.specs.Prelude.{◌≡◌, ◌<◌, ◌↔◌, [], true, is_some, length, IsTrue, OnOk, OnErr, IfSome, IfNone};
+ghost use Rattle.vx_record.specs.Records.{Record};
+ghost use Rattle.vx_record.specs.Legal.{IsLegal};
+ghost use Rattle.vx_record.specs.Places.Place.{Held};
+ghost use Rattle.vx_record.specs.Shifts.{at};
+ghost use Rattle.vx_keeping.specs.Keeping.{Keeps};
+ghost use Rattle.vx_moves.specs.Keepers.{keeper_at, OneKeeper, IsKeeper, TakesIn, AnswersTaken, Ticks, Flushes, FailsShort, PutsOut, IsEmptied};
+ghost use Rattle.vx_keeping.specs.Answers.{GivesUp};
+
+use std::alloc::Global;
+use vx_keeping::Keeper;
+use vx_ledger::{Finalizer, Parcel};
+use vx_transform::Output;
+use vx_value::{ItemList, WantOfMemory};
+
+// Whether an instance has a keeper.
+pub(crate) fn is_there(keepers: &Vec<Option<Keeper>>, i: usize) -> bool
+    requires { i < length keepers.now.items }
+    ensures { result ≡ is_some (keeper_at keepers.now.items i) }
+{
+    keepers[i].is_some()
+}
+
+// Gives a keeper a parcel that its instance took, for which it has room.
+pub(crate) fn keep(keepers: &mut Vec<Option<Keeper>>, i: usize, parcel: Parcel)
+    requires within { i < length keepers.old.items }
+    requires room { IsKeeper (λ k. length k.taken.items < k.taken.room) keepers.old.items i }
+    ensures took { OneKeeper (TakesIn parcel) i keepers.old.items keepers.new.items }
+{
+    match &mut keepers[i] {
+        Some(keeper) => keeper.take(parcel),
+        None => unreachable!(),
+    }
+}
+
+// Whether a keeper has no copy.
+pub(crate) fn keeps_none(keepers: &Vec<Option<Keeper>>, i: usize) -> bool
+    requires within { i < length keepers.now.items }
+    requires there { IsKeeper (λ k. Unit {0}) keepers.now.items i }
+    ensures exact { IsKeeper
+        (λ k. (h : Record) → IsLegal h → Keeps k h i → IsTrue result ↔ (at h (Held i) ≡ []))
+        keepers.now.items i }
+{
+    match &keepers[i] {
+        Some(keeper) => keeper.is_empty(),
+        None => unreachable!(),
+    }
+}
+
+// Has a keeper answer what was taken.
+pub(crate) fn answer(
+    keepers: &mut Vec<Option<Keeper>>,
+    i: usize,
+    alloc: Global,
+    now: u64,
+) -> Result<(), WantOfMemory>
+    requires within { i < length keepers.old.items }
+    requires there { IsKeeper (λ k. Unit {0}) keepers.old.items i }
+    ensures made { OnOk result (OneKeeper (AnswersTaken now) i keepers.old.items keepers.new.items) }
+    ensures short { OnErr result (OneKeeper FailsShort i keepers.old.items keepers.new.items) }
+{
+    match &mut keepers[i] {
+        Some(keeper) => keeper.answer(alloc, now),
+        None => unreachable!(),
+    }
+}
+
+// Has a keeper act by itself at a moment.
+pub(crate) fn tick(
+    keepers: &mut Vec<Option<Keeper>>,
+    i: usize,
+    alloc: Global,
+    now: u64,
+) -> Result<(), WantOfMemory>
+    requires within { i < length keepers.old.items }
+    requires there { IsKeeper (λ k. Unit {0}) keepers.old.items i }
+    ensures made { OnOk result (OneKeeper (Ticks now) i keepers.old.items keepers.new.items) }
+    ensures had { OnOk result (IsKeeper (λ k. k.fit ≡ true) keepers.old.items i) }
+    ensures short { OnErr result (OneKeeper FailsShort i keepers.old.items keepers.new.items) }
+{
+    match &mut keepers[i] {
+        Some(keeper) => keeper.tick(alloc, now),
+        None => unreachable!(),
+    }
+}
+
+// Has a keeper put out all that it holds.
+pub(crate) fn flush(
+    keepers: &mut Vec<Option<Keeper>>,
+    i: usize,
+    alloc: Global,
+) -> Result<(), WantOfMemory>
+    requires within { i < length keepers.old.items }
+    requires there { IsKeeper (λ k. Unit {0}) keepers.old.items i }
+    ensures made { OnOk result (OneKeeper Flushes i keepers.old.items keepers.new.items) }
+    ensures had { OnOk result (IsKeeper (λ k. k.fit ≡ true) keepers.old.items i) }
+    ensures none { OnOk result (IsKeeper (λ k. k.reduce.groups ≡ []) keepers.new.items i) }
+    ensures short { OnErr result (OneKeeper FailsShort i keepers.old.items keepers.new.items) }
+{
+    match &mut keepers[i] {
+        Some(keeper) => keeper.flush(alloc),
+        None => unreachable!(),
+    }
+}
+
+// How many outputs a keeper has that made something.
+pub(crate) fn outputs(keepers: &Vec<Option<Keeper>>, i: usize) -> usize
+    requires within { i < length keepers.now.items }
+    requires there { IsKeeper (λ k. k.fit ≡ true) keepers.now.items i }
+    ensures many { IsKeeper (λ k. result ≡ length k.shelf.outputs) keepers.now.items i }
+{
+    match &keepers[i] {
+        Some(keeper) => keeper.outputs(),
+        None => unreachable!(),
+    }
+}
+
+// No memory was found for the outputs of a keeper.
+pub(crate) fn fail(keepers: &mut Vec<Option<Keeper>>, i: usize)
+    requires within { i < length keepers.old.items }
+    requires there { IsKeeper (λ k. Unit {0}) keepers.old.items i }
+    ensures short { OneKeeper FailsShort i keepers.old.items keepers.new.items }
+{
+    match &mut keepers[i] {
+        Some(keeper) => keeper.fail(),
+        None => unreachable!(),
+    }
+}
+
+// Takes the outputs of a keeper that made something.
+pub(crate) fn put_out(keepers: &mut Vec<Option<Keeper>>, i: usize) -> ItemList<Output>
+    requires within { i < length keepers.old.items }
+    requires there { IsKeeper (λ k. k.fit ≡ true) keepers.old.items i }
+    ensures put { OneKeeper (PutsOut result) i keepers.old.items keepers.new.items }
+{
+    match &mut keepers[i] {
+        Some(keeper) => keeper.put_out(),
+        None => unreachable!(),
+    }
+}
+
+// Takes a copy of a keeper, to be spent. `None` exactly where it has none.
+pub(crate) fn lose(keepers: &mut Vec<Option<Keeper>>, i: usize) -> Option<Finalizer>
+    requires within { i < length keepers.old.items }
+    requires there { IsKeeper (λ k. Unit {0}) keepers.old.items i }
+    ensures some { IfSome result
+        (λ copy. OneKeeper (GivesUp copy) i keepers.old.items keepers.new.items) }
+    ensures none { IfNone result (OneKeeper IsEmptied i keepers.old.items keepers.new.items) }
+{
+    match &mut keepers[i] {
+        Some(keeper) => keeper.give_up(),
+        None => unreachable!(),
+    }
+}

@@ -1,0 +1,141 @@
+ghost use Rattle.std.specs.Prelude.{◌≡◌, ◌≢◌, ◌<◌, List, [], length, true, OnOk, OnErr};
+ghost use Rattle.vx_record.specs.Additions.{OnlyAdds};
+ghost use Rattle.vx_record.specs.Answering.{MayFlush};
+ghost use Rattle.vx_record.specs.Inputs.{Input as Told, unanswered, to_answer};
+ghost use Rattle.vx_record.specs.Transforms.{IsTickDue};
+ghost use Rattle.vx_tasks.specs.Joining.{joins_at};
+ghost use Rattle.vx_keeping.specs.Keeping.{taken_in};
+ghost use Rattle.vx_moves.specs.Leaving.{Leaves};
+ghost use Rattle.vx_moves.specs.Keepers.{IsKeeper};
+ghost use Rattle.vx_moves.specs.Merging.{StandsMade, HasRoomForMade, MayMerge, MayNoteMade, IsMergeOf};
+ghost use Rattle.vx_moves.specs.Stands.{Stands};
+
+use crate::books::Books;
+use crate::keeping;
+use std::alloc::Global;
+use vx_ends::Port;
+use vx_value::WantOfMemory;
+
+impl<P: Port> Books<P> {
+    /// Whether an instance merges.
+    pub fn merges(&self, i: u32) -> bool
+        requires stands { Stands P.told self.now }
+        requires within { i < length self.now.seats }
+        ensures { result ≡ joins_at self.now.log i }
+    {
+        keeping::is_there(&self.keepers, i as usize)
+    }
+
+    /// Has an instance that merges and is out answer what it took, at the moment of its lease in milliseconds.
+    ///
+    /// For want of memory nothing has changed in the record, and its keeper answers nothing any more.
+    pub fn merge_taken(&mut self, alloc: Global, i: u32, now: u64) -> Result<(), WantOfMemory>
+        requires stands { Stands P.told self.old }
+        requires within { i < length self.old.seats }
+        requires may { MayMerge self.old.log i now }
+        requires took { unanswered self.old.log i ≢ [] }
+        ensures stands { Stands P.told self.new }
+        ensures only { OnlyAdds (IsMergeOf i) self.old.log self.new.log }
+        ensures answered { OnOk result (unanswered self.new.log i ≡ []) }
+        ensures leaves { Leaves self.old self.new }
+        ensures unchanged { OnErr result (self.new.log ≡ self.old.log) }
+        ensures size { length self.new.seats ≡ length self.old.seats }
+    {
+        keeping::answer(&mut self.keepers, i as usize, alloc, now)?;
+        self.reserve_made(i)?;
+        self.note_made(i);
+        Ok(())
+    }
+
+    /// Has an instance that merges and is out act by itself, at the moment of its lease in milliseconds, where it took nothing since its
+    /// last answer and its next check is due.
+    ///
+    /// For want of memory nothing has changed in the record, and its keeper answers nothing any more.
+    pub fn merge_tick(&mut self, alloc: Global, i: u32, now: u64) -> Result<(), WantOfMemory>
+        requires stands { Stands P.told self.old }
+        requires within { i < length self.old.seats }
+        requires may { MayMerge self.old.log i now }
+        requires none { taken_in self.old.log i ≡ [] }
+        requires due { IsTickDue self.old.log i now }
+        ensures stands { Stands P.told self.new }
+        ensures only { OnlyAdds (IsMergeOf i) self.old.log self.new.log }
+        ensures answered { OnOk result (unanswered self.new.log i ≡ []) }
+        ensures leaves { Leaves self.old self.new }
+        ensures unchanged { OnErr result (self.new.log ≡ self.old.log) }
+        ensures size { length self.new.seats ≡ length self.old.seats }
+    {
+        keeping::tick(&mut self.keepers, i as usize, alloc, now)?;
+        self.reserve_made(i)?;
+        self.log.note(&(i, now));
+        self.note_made(i);
+        Ok(())
+    }
+
+    /// Has an instance that merges and is out put out all that it holds, where it took nothing since its last answer, and nothing can
+    /// come any more.
+    ///
+    /// For want of memory nothing has changed in the record, and its keeper answers nothing any more.
+    pub fn merge_flush(&mut self, alloc: Global, i: u32, now: u64) -> Result<(), WantOfMemory>
+        requires stands { Stands P.told self.old }
+        requires within { i < length self.old.seats }
+        requires may { MayMerge self.old.log i now }
+        requires none { unanswered self.old.log i ≡ [] }
+        requires last { MayFlush self.old.log i [] }
+        ensures stands { Stands P.told self.new }
+        ensures only { OnlyAdds (IsMergeOf i) self.old.log self.new.log }
+        ensures answered { OnOk result (unanswered self.new.log i ≡ []) }
+        ensures leaves { Leaves self.old self.new }
+        ensures unchanged { OnErr result (self.new.log ≡ self.old.log) }
+        ensures size { length self.new.seats ≡ length self.old.seats }
+    {
+        keeping::flush(&mut self.keepers, i as usize, alloc)?;
+        self.reserve_made(i)?;
+        self.note_made(i);
+        Ok(())
+    }
+
+    // Makes room for what a keeper made. Where no memory is found for that, it answers nothing any more.
+    fn reserve_made(&mut self, i: u32) -> Result<(), WantOfMemory>
+        requires within { i < length self.old.seats }
+        requires rows { length self.old.places ≡ length self.old.seats }
+        requires slots { length self.old.keepers.items ≡ length self.old.places }
+        requires fit { IsKeeper (λ k. k.fit ≡ true) self.old.keepers.items i }
+        ensures made { OnOk result
+            ((given : List Told) → StandsMade P.told i given self.old →
+            StandsMade P.told i given self.new) }
+        ensures room { OnOk result (HasRoomForMade i self.new) }
+        ensures kept { OnOk result (self.new.keepers.items ≡ self.old.keepers.items) }
+        ensures short { OnErr result
+            ((given : List Told) → StandsMade P.told i given self.old → Stands P.told self.new) }
+        ensures leaves { Leaves self.old self.new }
+        ensures unchanged { self.new.log ≡ self.old.log }
+        ensures size { length self.new.seats ≡ length self.old.seats }
+    {
+        let n = keeping::outputs(&self.keepers, i as usize);
+        match self.places.reserve_outputs(i, n) {
+            Ok(()) => Ok(()),
+            Err(WantOfMemory) => {
+                keeping::fail(&mut self.keepers, i as usize);
+                Err(WantOfMemory)
+            }
+        }
+    }
+
+    // Notes what a keeper made as the answer of its instance, for which there is room.
+    fn note_made(&mut self, i: u32)
+        requires made { StandsMade P.told i (to_answer self.old.log i) self.old }
+        requires within { i < length self.old.seats }
+        requires room { HasRoomForMade i self.old }
+        requires may { MayNoteMade i self.old }
+        ensures stands { Stands P.told self.new }
+        ensures only { OnlyAdds (IsMergeOf i) self.old.log self.new.log }
+        ensures answered { unanswered self.new.log i ≡ [] }
+        ensures leaves { Leaves self.old self.new }
+        ensures size { length self.new.seats ≡ length self.old.seats }
+    {
+        let outputs = keeping::put_out(&mut self.keepers, i as usize);
+        self.log.note(&(i, &outputs));
+        self.seats.answered(i, outputs.len() as u64, 0);
+        self.places.put_out(i, outputs);
+    }
+}
