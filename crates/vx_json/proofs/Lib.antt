@@ -2,6 +2,7 @@ pub mod Growths
 pub mod Escaping
 pub mod Commas
 pub mod Choices
+pub mod Plains
 pub mod TextTails
 pub mod NumberTails
 pub mod Completions
@@ -24,6 +25,8 @@ pub mod Shallow
 pub mod WrittenAgain
 pub mod Fitting
 pub mod Runs
+pub mod Spellings
+pub mod Walks
 pub mod Objects
 pub mod Lines
 pub mod Probed

@@ -1,8 +1,7 @@
 -- Where runs of bytes of one kind lead.
-use Rattle.std.proofs.Common.{◌≡◌, ℕ, zero, suc, ◌+◌, ◌<◌, ◌≤◌, ◌==◌, true, false, Some, List, [], ◌∷◌, ◌++◌, length, take, drop, get_or, refl, sym, ◌∙◌, ap, subst, arith, append_assoc}
+use Rattle.std.proofs.Common.{◌≡◌, ℕ, ◌+◌, ◌<◌, ◌==◌, true, false, Some, List, [], ◌∷◌, ◌++◌, length, take, get_or, refl, sym, ◌∙◌, ap, subst, arith, append_assoc}
 use Rattle.std.proofs.lemmas.List.{take_more, append-nil}
 use Rattle.std.proofs.lemmas.Bool.Decides.{nat_tests}
-use Rattle.std.proofs.Math.Seq.{drop-cons}
 use Rattle.std.specs.Str.Lossy.{utf8_lossy}
 use Rattle.vx_value.specs.Texts.{Word, is_empty}
 use Rattle.vx_value.specs.Datum.{Datum, Words, NamedDatum}
@@ -18,7 +17,6 @@ use Rattle.vx_json.specs.declared.number_place.NumberPlace.{NumberPlace}
 use Rattle.vx_json.specs.declared.number_place.NumberPlace.TheVariants as number
 use Rattle.vx_json.proofs.Choices.{both_true, and_true}
 use Rattle.vx_json.proofs.TextRuns.{in-text, in-name}
-use Rattle.vx_json.proofs.Readings.{HasRead, read-more, low-at}
 
 -- ---- one byte more
 pub plain-append : (a b : Word) → are_plain a ≡ true → are_plain b ≡ true → are_plain (a ++ b) ≡ true
@@ -162,14 +160,3 @@ text-ends w bytes words st e c = subst (λ x. LeadsLevel (InText place.Plain x) 
 
 pub digits-go-on : (p : NumberPlace) (w v run : Word) (st : List Frame) → TakesDigits p → all_digits run ≡ true → v ≡ w ++ run → LeadsLevel (InNumber p w) st run (InNumber p v)
 digits-go-on p w v run st t h e = subst (λ x. LeadsLevel (InNumber p w) st run (InNumber p x)) (sym e) (digits-run p w run st t h)
-
--- ---- what a reader knows behind them
-pub read-run : (n : ℕ) (bytes : Word) (i : ℕ) (m k : Mode) (st : List Frame) → i + n ≤ length bytes → HasRead bytes i m st → LeadsLevel m st (take n (drop i bytes)) k → HasRead bytes (i + n) k st
-read-run zero bytes i m k st l h e = subst (λ j. HasRead bytes j k st) (omega arith) (subst (λ x. HasRead bytes i x st) e h)
-read-run (suc n) bytes i m k st l h e =
-    let within : i < length bytes = omega arith in
-    let next_place : suc i ≡ i + 1 = omega arith in
-    let front : take (suc n) (drop i bytes) ≡ get_or bytes i 0 ∷ take n (drop (i + 1) bytes) = ap (take (suc n)) (drop-cons bytes i 0 within) ∙ ap (λ j. get_or bytes i 0 ∷ take n (drop j bytes)) next_place in
-    let f : LeadsLevel m st (get_or bytes i 0 ∷ take n (drop (i + 1) bytes)) k = subst (λ x. LeadsLevel m st x k) front e in
-    let next : HasRead bytes (i + 1) f.0 st = read-more bytes i (get_or bytes i 0) m f.0 st st within refl h (sym f.1) (omega (arith, f.2, low-at bytes i m st h)) in
-    subst (λ j. HasRead bytes j k st) (omega arith) (read-run n bytes (i + 1) f.0 k st (omega arith) next f.3)

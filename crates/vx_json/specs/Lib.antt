@@ -18,5 +18,6 @@ pub mod LineEvents
 pub mod LineLaws
 pub mod Runs
 pub mod Openings
+pub mod Walks
 pub mod Spots
 pub mod Probing

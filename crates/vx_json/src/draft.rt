@@ -55,11 +55,21 @@ impl Draft {
     pub fn put(&mut self, alloc: Global, name: Text, value: Value) -> Result<(), WantOfMemory>
         ensures { OnOk result (self.new ≡ with_field self.old name (datum_of value)) }
     {
+        if let Kept::List(fields) = &mut self.kept {
+            if stays_list(fields, name.as_str()) {
+                return put_field(fields, name, value);
+            }
+        }
+        self.put_in_tree(alloc, name, value)
+    }
+
+    // The same, where the fields then stand in a tree.
+    #[inline(never)]
+    fn put_in_tree(&mut self, alloc: Global, name: Text, value: Value) -> Result<(), WantOfMemory>
+        ensures { OnOk result (self.new ≡ with_field self.old name (datum_of value)) }
+    {
         match &mut self.kept {
             Kept::List(fields) => {
-                if stays_list(fields, name.as_str()) {
-                    return put_field(fields, name, value);
-                }
                 let mut tree = plant(alloc, fields)?;
                 insert(alloc, &mut tree, name, value)?;
                 self.kept = Kept::Tree(tree);

@@ -34,6 +34,7 @@ fn digit_to(b: u8, next: NumberPlace) -> Option<NumberPlace>
 }
 
 /// Where a byte leads inside a number. `None` exactly where it isn't part of it.
+#[inline(always)]
 pub fn number_move(place: NumberPlace, b: u8) -> Option<NumberPlace>
     ensures { result ≡ number_move place b }
 {
@@ -90,7 +91,7 @@ fn whole_of(text: &str) -> Option<i64>
 
 /// The value of a number by its text.
 #[tactic(auto, unfolding(crate::specs::Machine::number_datum))]
-fn value_of_text(text: Text) -> Value
+pub fn value_of_text(text: Text) -> Value
     ensures { datum_of result ≡ number_datum text }
 {
     match whole_of(text.as_str()) {

@@ -12,11 +12,9 @@ ghost use Rattle.vx_json.specs.Written.{written};
 use crate::frame::Frame;
 use crate::json_fault::JsonFault;
 use crate::mode::Mode;
+use crate::walk::DEEPEST;
 use std::alloc::Global;
 use vx_value::{Event, Value, WantOfMemory};
-
-/// How many levels of brackets and braces may be open at once.
-const DEEPEST: usize = 32;
 
 /// How many levels are open at a place.
 #[tactic(auto, using(crate::proofs::StackRules::stacks))]
@@ -52,7 +50,7 @@ fn value(alloc: Global, bytes: &[u8]) -> Result<Value, JsonFault>
 {
     let mut stack = Vec::new(alloc);
     let mut mode = Mode::Before;
-    let mut i: usize = 0;
+    let mut i = mode.walk(&mut stack, alloc, bytes)?;
     while i < bytes.len() {
         match mode.step(alloc, &mut stack, bytes[i]) {
             Ok(Some(next)) => mode = next,
@@ -63,7 +61,7 @@ fn value(alloc: Global, bytes: &[u8]) -> Result<Value, JsonFault>
             return Err(JsonFault::Deep { at: i as u64 });
         }
         i += 1;
-        i += mode.run(alloc, &bytes[i..])?;
+        i += mode.walk(&mut stack, alloc, &bytes[i..])?;
     }
     let at = bytes.len() as u64;
     if !stack.is_empty() {

@@ -3,35 +3,16 @@ ghost use Rattle.vx_json.specs.Machine as machine;
 ghost use Rattle.vx_json.specs.ModeViews.{mode_view};
 ghost use Rattle.vx_json.specs.Numbers.{is_digit};
 ghost use Rattle.vx_json.specs.Openings.{IsOpened};
-ghost use Rattle.vx_json.specs.Runs.{is_plain, are_plain, all_digits, takes_digits, IsClosed, LeadsLevel};
+ghost use Rattle.vx_json.specs.Runs.{are_plain, all_digits, takes_digits, IsClosed, LeadsLevel};
 
 use crate::draft::Draft;
 use crate::mode::Mode;
 use crate::number_place::NumberPlace;
+use crate::plain::{closed, plain_len};
 use crate::text_place::TextPlace;
 use std::alloc::Global;
 use std::mem;
 use vx_value::{Text, Value, WantOfMemory};
-
-/// Whether a byte inside a text is a character that stands for itself.
-fn is_plain(b: u8) -> bool
-    ensures { result ≡ is_plain b }
-{
-    b >= 32 && (b < 128 && (b != b'"' && b != b'\\'))
-}
-
-/// How many bytes at the front are characters that stand for themselves.
-fn plain_len(bytes: &[u8]) -> usize
-    ensures within { result ≤ length bytes.now }
-    ensures plain { are_plain (take result bytes.now) ≡ true }
-{
-    for (i, b) in bytes.iter().enumerate() {
-        if !is_plain(*b) {
-            return i;
-        }
-    }
-    bytes.len()
-}
 
 /// Whether a byte is a digit.
 fn is_digit(b: u8) -> bool
@@ -63,21 +44,7 @@ fn digits_len(bytes: &[u8]) -> usize
     bytes.len()
 }
 
-/// The text of the first `n` bytes, where a quote comes behind them.
-fn closed(alloc: Global, bytes: &[u8], n: usize) -> Result<Option<Text>, WantOfMemory>
-    requires within { n ≤ length bytes.now }
-    requires plain { are_plain (take n bytes.now) ≡ true }
-    ensures within { IfOk result (λ o. IfSome o (λ _. n + 1 ≤ length bytes.now)) }
-    ensures closed { IfOk result (λ o. IfSome o (IsClosed (take (n + 1) bytes.now))) }
-{
-    if n == bytes.len() || bytes[n] != b'"' {
-        return Ok(None);
-    }
-    let text = Text::lossy(alloc, &bytes[..n])?;
-    Ok(Some(text))
-}
-
-/// The same, where a text has no bytes yet.
+/// The text of the first `n` bytes, where a quote comes behind them, and a text has no bytes yet.
 fn closed_from(
     alloc: Global,
     text: &Vec<u8>,
