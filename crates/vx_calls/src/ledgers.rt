@@ -189,7 +189,7 @@ fn routed<R: Abort>(rt: &R, alloc: Global, outlet: &Outlet, ports: u128) -> Resu
     let mut told = Vec::new(alloc);
     let mut batches = Batches::new(alloc)?;
     let parcel = parcel_of_two(alloc, &mut batches)?;
-    match outlet.route(ports, parcel, &mut batches) {
+    match outlet.route(ports, parcel, &mut batches, Vec::new(alloc)) {
         Ok(Routed::Children(children)) => spend_children(rt, &mut told, &mut batches, children),
         Ok(Routed::NoConsumer(back)) => spend_parcel(rt, &mut told, &mut batches, back),
         Err(_refused) => panic!(rt; "refused"),

@@ -20,6 +20,8 @@ mod groups;
 #[cfg(test)]
 mod json_events;
 #[cfg(test)]
+mod keepers;
+#[cfg(test)]
 mod ledgers;
 #[cfg(test)]
 mod lists;
