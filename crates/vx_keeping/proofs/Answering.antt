@@ -1,6 +1,6 @@
 -- What a keeper made may be noted, and how it stands behind that.
 use Rattle.std.proofs.Common.{◌≡◌, ℕ, ◌≤◌, Bool, true, false, not, ◌&&◌, cond, Option, Some, None, List, [], ◌∷◌, ◌++◌, map, reverse, refl, sym, ap, ap₂, ◌∙◌, subst, arith, inl, inr, append_assoc, append-nil}
-use Rattle.std.specs.Prelude.{◌==◌, ◌≢◌, ◌||◌, filter, if◌then◌else◌, nat_le}
+use Rattle.std.specs.Prelude.{◌==◌, ◌≢◌, ◌||◌, filter, if◌then◌else◌, nat_le, IsSomeAnd}
 use Rattle.std.specs.List.{sum_by, list_any}
 use Rattle.std.proofs.lemmas.Bool.Decides.{nat_tests}
 use Rattle.std.proofs.lemmas.List.{reverse-append, reverse-reverse}
@@ -18,8 +18,8 @@ use Rattle.vx_record.specs.Places.{put_out}
 use Rattle.vx_record.specs.Places.Place.{Held}
 use Rattle.vx_record.specs.Lists.{without}
 use Rattle.vx_record.specs.Turns.{lease_now}
-use Rattle.vx_record.specs.Inputs.{Input as Told, unanswered, inputs, at_answer, answered, flush, or_flush, to_answer, is_tick, steps_of}
-use Rattle.vx_record.specs.Transforms.{Rule, reduces, Discards, reduced, is_reached}
+use Rattle.vx_record.specs.Inputs.{Input as Told, unanswered, inputs, at_answer, answered, flush, or_flush, to_answer, is_tick, steps, steps_of}
+use Rattle.vx_record.specs.Transforms.{Rule, reduces, RunsBy, Discards, reduced, is_reached, IsDue}
 use Rattle.vx_record.specs.Owing.{last_discarded}
 use Rattle.vx_record.specs.Answering.{MayAnswer}
 use Rattle.vx_record.specs.Shifts.{at}
@@ -33,7 +33,7 @@ use Rattle.vx_reduce.specs.Standing.{settings_of}
 use Rattle.vx_keeping.specs.Kept.{Kept, nothing, loose_copies, copies_kept}
 use Rattle.vx_keeping.specs.Keeping.{told_at, RunsWith, IsBareOrMeant, HasGiven, Keeps, HasMade}
 use Rattle.vx_keeping.specs.Answers.{Reduces, notes_of}
-use Rattle.vx_keeping.specs.Laws.{ToAnswerTaken, ToAnswerTick, ToAnswerFlush, DueIs, TickIsDue, MadeMayBeNoted, NoneKept, MayAnswerMade}
+use Rattle.vx_keeping.specs.Laws.{ToAnswerTaken, ToAnswerTick, ToAnswerFlush, DueIs, TickIsDue, NoTickBefore, MadeMayBeNoted, NoneKept, MayAnswerMade}
 use Rattle.vx_keeping.proofs.Ruling.{rule_there, reducing_rule}
 use Rattle.vx_keeping.proofs.Staying.{with_stays}
 use Rattle.vx_keeping.proofs.Accounting.{kept_weigh, held_none, if_self, put_or_kept, none_kept, put_out_accounts}
@@ -97,6 +97,17 @@ tick_is_due h i moment now none due_behind reached =
   where
     le_true : (m n : ℕ) → m ≤ n → nat_le m n ≡ true
     le_true m n l = grind (arith, nat_tests)
+
+reached_then : (soonest : Option ℕ) (now : ℕ) → is_reached soonest now ≡ true → IsSomeAnd soonest (λ moment. moment ≤ now)
+reached_then None now is = cc
+reached_then (Some moment) now is = grind (arith, nat_tests, is)
+
+pub no_tick_before : NoTickBefore
+no_tick_before k h i now soonest fit keeps none due_behind tick =
+    let rule = reducing_rule h i (settings_of k.reduce) tick.rule (keeps.abreast fit).given.set tick.follows in
+    let runs : RunsBy h i (reduces rule.0) = subst (RunsBy h i) rule.1 tick.follows in
+    let reached : is_reached (due rule.0 (steps h i)) now ≡ true = subst (λ (r : Rule). IsDue r (steps h i) now) rule.1 tick.reached in
+    reached_then soonest now (ap (λ (o : Option ℕ). is_reached o now) (due_is h i soonest rule.0 none runs due_behind) ∙ reached)
 
 -- WHAT MAY BE NOTED
 pub nothing_kept : (k : Kept) → k.loose ≡ None → k.taken.items ≡ [] → k.reduce.groups ≡ [] → k.shelf ≡ nothing → copies_kept k ≡ []

@@ -1,5 +1,5 @@
 -- What holds of keepers beside their calls.
-use Rattle.std.specs.Prelude.{◌≡◌, ◌≢◌, ◌≤◌, ◌↔◌, ℕ, true, false, Option, Some, List, [], ◌∷◌, ◌++◌}
+use Rattle.std.specs.Prelude.{◌≡◌, ◌≢◌, ◌≤◌, ◌↔◌, ℕ, true, false, Option, Some, List, [], ◌∷◌, ◌++◌, IsSomeAnd}
 use Rattle.vx_condition.specs.Steps.{ticks}
 use Rattle.vx_condition.specs.Reducing.{Settings, due}
 use Rattle.vx_record.specs.declared.entry.Entry.{Entry}
@@ -96,6 +96,12 @@ DueIs =
 -- and once it is reached, a tick is due
 abbrev pub TickIsDue : Type 0
 TickIsDue = (h : Record) (i moment now : ℕ) → ticks_wait h i ≡ false → IsDueBehind (Some moment) h i (taken_in h i) → moment ≤ now → IsTickDue h i now
+
+-- and before that none is, of a keeper that can answer
+abbrev pub NoTickBefore : Type 0
+NoTickBefore =
+    (k : Kept) (h : Record) (i now : ℕ) (soonest : Option ℕ) → k.fit ≡ true → Keeps k h i → ticks_wait h i ≡ false → IsDueBehind soonest h i (taken_in h i) →
+    IsTickDue h i now → IsSomeAnd soonest (λ moment. moment ≤ now)
 
 -- what a keeper made of all that is to be answered may be noted
 abbrev pub MadeMayBeNoted : Type 0

@@ -122,6 +122,8 @@ impl Keeper {
         ensures made { OnOk result
             ((h : Record) (i : ℕ) → now ≡ lease_now h i → Keeps self.old h i →
             HasMade self.new h i (taken_in h i)) }
+        ensures had { OnOk result (self.old.fit ≡ true) }
+        ensures fit { OnOk result (self.new.fit ≡ true) }
         ensures short { OnErr result
             ((h : Record) (i : ℕ) → Accounts self.old h i → Keeps self.new h i) }
         ensures same { SameCopies (copies_kept self.old) (copies_kept self.new) }
@@ -148,6 +150,7 @@ impl Keeper {
             ((h : Record) (i : ℕ) (given : List Told) → HasMade self.old h i given →
             HasMade self.new h i (given ++ record { step = ticks now; copies = [] } ∷ [])) }
         ensures had { OnOk result (self.old.fit ≡ true) }
+        ensures fit { OnOk result (self.new.fit ≡ true) }
         ensures short { OnErr result
             ((h : Record) (i : ℕ) → Accounts self.old h i → Keeps self.new h i) }
         ensures same { SameCopies (copies_kept self.old) (copies_kept self.new) }
@@ -174,6 +177,7 @@ impl Keeper {
             ((h : Record) (i : ℕ) (given : List Told) → HasMade self.old h i given →
             HasMade self.new h i (given ++ flush ∷ [])) }
         ensures had { OnOk result (self.old.fit ≡ true) }
+        ensures fit { OnOk result (self.new.fit ≡ true) }
         ensures groups { OnOk result (self.new.reduce.groups ≡ []) }
         ensures short { OnErr result
             ((h : Record) (i : ℕ) → Accounts self.old h i → Keeps self.new h i) }
