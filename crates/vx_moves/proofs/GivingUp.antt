@@ -1,12 +1,10 @@
 -- How what an instance keeps that merges is given up, where the run is.
-use Rattle.std.proofs.Common.{◌≡◌, ◌∙◌, ◌≢◌, ℕ, ◌+◌, ◌<◌, Bool, true, false, List, [], ◌∷◌, Option, Some, None, IfSome, length, inl, inr, refl, sym, ap, subst, arith}
+use Rattle.std.proofs.Common.{◌≡◌, ◌∙◌, ℕ, ◌+◌, ◌<◌, Bool, true, false, List, [], ◌∷◌, Option, Some, None, IfSome, length, inl, inr, refl, sym, arith}
 use Rattle.std.specs.Prelude.{◌==◌, ◌&&◌, if◌then◌else◌, IsSomeAnd}
 use Rattle.std.specs.Global.{Vec}
 use Rattle.std.proofs.lemmas.Bool.{cases_eq}
-use Rattle.std.proofs.lemmas.Bool.Decides.{nat_tests}
 use Rattle.vx_ends.specs.Told.{Told}
 use Rattle.vx_status.specs.declared.outcome.Outcome.TheVariants.{Abandoned}
-use Rattle.vx_status.specs.declared.batch_status.BatchStatus.{BatchStatus}
 use Rattle.vx_ledger.specs.Copies.{Copy}
 use Rattle.vx_ledger.specs.Ledger.{Ledger}
 use Rattle.vx_record.specs.declared.entry.Entry.{Entry}
@@ -24,7 +22,7 @@ use Rattle.vx_record.specs.Copies.{count, joined, IsLive}
 use Rattle.vx_record.specs.Legal.{IsLegal, Follows}
 use Rattle.vx_record.specs.Lists.{shrunk}
 use Rattle.vx_record.specs.Places.{Place, owner, same_place}
-use Rattle.vx_record.specs.Places.Place.{Outputs, Waiting, Contents, Held}
+use Rattle.vx_record.specs.Places.Place.{Held}
 use Rattle.vx_record.specs.Shifts.{at}
 use Rattle.vx_record.specs.Turns.{is_out}
 use Rattle.vx_record.proofs.Adding.{adds_none, adds_one}
@@ -32,7 +30,6 @@ use Rattle.vx_record.proofs.Hands.{AreAt, others_stay}
 use Rattle.vx_record.proofs.OnePlace.{conserved}
 use Rattle.vx_record.proofs.Shifting.{stands_at}
 use Rattle.vx_balance.specs.Owned.{IsOfBatch}
-use Rattle.vx_places.specs.declared.row.Row.{Row}
 use Rattle.vx_places.proofs.Recorded.{stands_there}
 use Rattle.vx_places.proofs.Spending.{lent_spent_shifts}
 use Rattle.vx_places.proofs.Steps.{still_shifts}
@@ -40,24 +37,24 @@ use Rattle.vx_places.proofs.Written.{each_place}
 use Rattle.vx_seats.specs.declared.seat.Seat.{Seat}
 use Rattle.vx_seats.specs.Staying.{EachSeat, Stays}
 use Rattle.vx_tasks.specs.Joining.{is_joining, joins_at}
-use Rattle.vx_keeping.specs.Answers.{GivesUp}
-use Rattle.vx_keeping.specs.Kept.{Kept, copies_kept}
-use Rattle.vx_keeping.specs.Keeping.{Accounts, Keeps, IsMade}
-use Rattle.vx_keeping.proofs.Going.{keeps_stays, unfit_keeps}
+use Rattle.vx_keeping.specs.Kept.{Kept}
+use Rattle.vx_keeping.specs.Keeping.{Accounts, IsMade}
+use Rattle.vx_keeping.proofs.Going.{unfit_keeps}
+use Rattle.vx_keeping.proofs.Resting.{ticks_stay}
 use Rattle.vx_keeping.proofs.Calls.{none_there}
 use Rattle.vx_moves.specs.declared.books.Books.{Books}
-use Rattle.vx_moves.specs.Keepers.{keeper_at, AreKept, OneKeeper, IsEmptied}
+use Rattle.vx_moves.specs.Keepers.{keeper_at, IsKept, AreKept, OneKeeper, Loses, IsEmptied}
 use Rattle.vx_moves.specs.Spends.{IsSpendOf, IsSettled, OnlySpends, unspent}
 use Rattle.vx_moves.specs.Stands.{Stands}
-use Rattle.vx_moves.proofs.Keepers.{kept_behind}
+use Rattle.vx_moves.proofs.Keepers.{kept_behind, stays_kept}
 use Rattle.vx_moves.proofs.Leaving.{each_stays}
-use Rattle.vx_moves.proofs.Merging.{one_is, one_keepers, some_if, the_one}
+use Rattle.vx_moves.proofs.Merging.{one_is, one_keepers, some_if}
 use Rattle.vx_moves.proofs.Spending.{behind, notice_keeps, only_one, spent_falls}
 use Rattle.vx_moves.proofs.Stepping.{Rests, follows, moved, none_put}
 
-accounted : (h : Record) (i : ℕ) (o : Option Kept) → IfSome o (λ k. Keeps k h i) → IfSome o (λ k. Accounts k h i)
+accounted : (h : Record) (i : ℕ) (o : Option Kept) → IfSome o (λ k. IsKept k h i) → IfSome o (λ k. Accounts k h i)
 accounted h i None is = tt
-accounted h i (Some k) is = is.accounts
+accounted h i (Some k) is = is.keeps.accounts
 
 -- what a keeper gives up it has, by what the record says, which knows it
 pub record IsThere (h : Record) (i : ℕ) (copy : Copy) : Type 0 where
@@ -69,15 +66,15 @@ pub record IsThere (h : Record) (i : ℕ) (copy : Copy) : Type 0 where
 
 module _ {P : Type 0} {told_by : P → Told} {old : Books P} (slots : Vec (Option Kept)) (i : ℕ) (copy : Copy) (stands : Stands told_by old)
     (joins : joins_at old.log i ≡ true) (over : abandoned old.log ≡ true) (home : is_out old.log i ≡ false)
-    (one : OneKeeper (GivesUp copy) i old.keepers.items slots.items) where
+    (one : OneKeeper (Loses copy) i old.keepers.items slots.items) where
   abbrev e : Entry
   e = Spent i copy.number Abandoned
 
-  was_there : (o n : Option Kept) → IsSomeAnd o (λ was. IsSomeAnd n (λ is. GivesUp copy was is)) → IfSome o (λ k. Accounts k old.log i) →
+  was_there : (o n : Option Kept) → IsSomeAnd o (λ was. IsSomeAnd n (λ is. Loses copy was is)) → IfSome o (λ k. Accounts k old.log i) →
       (0 < count copy.number (joined (at old.log (Held i)))) × IsMade old.log copy
   was_there None n is had = absurd is
   was_there (Some was) None is had = absurd is
-  was_there (Some was) (Some now) is had = (is.there old.log i had, is.made old.log i had)
+  was_there (Some was) (Some now) is had = (is.gives.there old.log i had, is.gives.made old.log i had)
 
   pub is_there : IsThere old.log i copy
   is_there =
@@ -99,15 +96,11 @@ module _ {P : Type 0} {told_by : P → Told} {old : Books P} (slots : Vec (Optio
   kept_then : IsLegal (e ∷ old.log) → AreKept slots.items (e ∷ old.log)
   kept_then legal j = elim (cases_eq j i) [
     | inl here ↦ rw here
-        (some_if (λ k. Keeps k (e ∷ old.log) i) (keeper_at slots.items i)
-        (one_is (GivesUp copy) (λ k. Accounts k old.log i) (λ k. Keeps k (e ∷ old.log) i) (keeper_at old.keepers.items i) (keeper_at slots.items i) one.one
-        (accounted old.log i (keeper_at old.keepers.items i) (stands.keeps i)) (λ was is gives had. gives.leads old.log i Abandoned had legal)))
-    | inr other ↦ rw (one.others j other) (stay (keeper_at old.keepers.items j) j other (stands.keeps j))
+        (some_if (λ k. IsKept k (e ∷ old.log) i) (keeper_at slots.items i)
+        (one_is (Loses copy) (λ k. IsKept k old.log i) (λ k. IsKept k (e ∷ old.log) i) (keeper_at old.keepers.items i) (keeper_at slots.items i) one.one (stands.keeps i)
+        (λ was is loses had. record { keeps = loses.gives.leads old.log i Abandoned had.keeps.accounts legal; unticked = ticks_stay old.log i e tt had.unticked })))
+    | inr other ↦ rw (one.others j other) (stays_kept (keeper_at old.keepers.items j) old.log j e legal (λ here. absurd (other (sym here))) (stands.keeps j))
   ]
-    where
-      stay : (o : Option Kept) (j : ℕ) → j ≢ i → IfSome o (λ k. Keeps k old.log j) → IfSome o (λ k. Keeps k (e ∷ old.log) j)
-      stay None j other is = tt
-      stay (Some k) j other is = keeps_stays k old.log j e legal (λ here. absurd (other (sym here))) is
 
   -- where the spend of such a copy is settled, the books stand
   pub given_up_step : {log : Record} {account : Ledger} {seats : List (Seat P)} → IsSettled told_by e old.log log account seats →
@@ -155,18 +148,21 @@ module _ {P : Type 0} {told_by : P → Told} {old : Books P} (slots : Vec (Optio
 -- WHERE NOTHING IS LEFT
 module _ {P : Type 0} {told_by : P → Told} {old : Books P} (slots : Vec (Option Kept)) (i : ℕ) (stands : Stands told_by old)
     (one : OneKeeper IsEmptied i old.keepers.items slots.items) where
-  emptied_keeps : (was is : Kept) → IsEmptied was is → Keeps was old.log i → Keeps is old.log i
-  emptied_keeps was is emptied had = unfit_keeps is old.log i emptied.unfit (record {
-    counted = λ c. had.accounts.counted c ∙ rw (emptied.had, emptied.has) refl;
-    known = λ copy among. absurd (rw emptied.has at among);
-  })
+  emptied_keeps : (was is : Kept) → IsEmptied was is → IsKept was old.log i → IsKept is old.log i
+  emptied_keeps was is emptied had = record {
+    keeps = unfit_keeps is old.log i emptied.gets.unfit (record {
+      counted = λ c. had.keeps.accounts.counted c ∙ rw (emptied.had, emptied.has) refl;
+      known = λ copy among. absurd (rw emptied.has at among);
+    });
+    unticked = had.unticked;
+  }
 
   pub emptied_stands : Stands told_by (record old { keepers = slots })
   emptied_stands =
       let keepers = one_keepers i old.keepers.items slots.items old.places old.log one stands.keepers in
-      let here : IfSome (keeper_at slots.items i) (λ k. Keeps k old.log i) =
-      some_if (λ k. Keeps k old.log i) (keeper_at slots.items i)
-      (one_is IsEmptied (λ k. Keeps k old.log i) (λ k. Keeps k old.log i) (keeper_at old.keepers.items i) (keeper_at slots.items i) one.one (stands.keeps i) emptied_keeps) in
+      let here : IfSome (keeper_at slots.items i) (λ k. IsKept k old.log i) =
+      some_if (λ k. IsKept k old.log i) (keeper_at slots.items i)
+      (one_is IsEmptied (λ k. IsKept k old.log i) (λ k. IsKept k old.log i) (keeper_at old.keepers.items i) (keeper_at slots.items i) one.one (stands.keeps i) emptied_keeps) in
       let keeps : AreKept slots.items old.log = λ j. elim (cases_eq j i) [
         | inl same ↦ rw same here
         | inr other ↦ rw (one.others j other) (stands.keeps j)
@@ -176,10 +172,10 @@ module _ {P : Type 0} {told_by : P → Told} {old : Books P} (slots : Vec (Optio
   pub emptied_none : at old.log (Held i) ≡ []
   emptied_none = go (keeper_at old.keepers.items i) (keeper_at slots.items i) one.one (stands.keeps i)
     where
-      go : (o n : Option Kept) → IsSomeAnd o (λ was. IsSomeAnd n (λ is. IsEmptied was is)) → IfSome o (λ k. Keeps k old.log i) → at old.log (Held i) ≡ []
+      go : (o n : Option Kept) → IsSomeAnd o (λ was. IsSomeAnd n (λ is. IsEmptied was is)) → IfSome o (λ k. IsKept k old.log i) → at old.log (Held i) ≡ []
       go None n is had = absurd is
       go (Some was) None is had = absurd is
-      go (Some was) (Some now) is had = none_there was old.log i stands.legal had.accounts is.had
+      go (Some was) (Some now) is had = none_there was old.log i stands.legal had.keeps.accounts is.had
 
   pub emptied_spends : OnlySpends told_by i Abandoned old (record old { keepers = slots })
   emptied_spends = record {

@@ -1,9 +1,10 @@
 -- What becomes of the keepers behind an entry.
-use Rattle.std.specs.Prelude.{IsSomeAnd, ◌<◌, ◌&&◌}
-use Rattle.std.proofs.Common.{◌≡◌, ◌∙◌, ℕ, Bool, true, false, is_some, List, [], ◌∷◌, Option, Some, None, IfSome, IsSome, length, refl, sym}
+use Rattle.std.specs.Prelude.{IsSomeAnd, ◌<◌}
+use Rattle.std.proofs.Common.{◌≡◌, ◌∙◌, ℕ, Bool, true, false, is_some, List, ◌∷◌, Option, Some, None, IfSome, IsSome, length, refl, sym, ap}
 use Rattle.std.specs.Option.{option_map}
 use Rattle.vx_ledger.specs.declared.parcel.Parcel.{Parcel}
 use Rattle.vx_record.specs.declared.entry.Entry.{Entry}
+use Rattle.vx_record.specs.declared.entry.Entry.TheVariants.{Tick}
 use Rattle.vx_record.specs.Records.{Record}
 use Rattle.vx_record.specs.Legal.{IsLegal}
 use Rattle.vx_record.specs.Places.{Place}
@@ -14,25 +15,31 @@ use Rattle.vx_places.specs.Rooms.{held_room}
 use Rattle.vx_places.specs.Numbers.{numbers}
 use Rattle.vx_places.specs.Views.{parcels_here}
 use Rattle.vx_places.specs.declared.row.Row.{Row}
-use Rattle.vx_plan.specs.declared.component.Component.{Component}
-use Rattle.vx_plan.specs.declared.settings.Settings.{Settings}
-use Rattle.vx_plan.specs.declared.settings.Settings.TheVariants.{Reduce}
-use Rattle.vx_plan.specs.Components.{is_transform}
-use Rattle.vx_record.specs.Installs.{component_of}
-use Rattle.vx_record.specs.Judges.{is_judging, OnlyJudges}
-use Rattle.vx_tasks.specs.Joining.{is_joining, joins_at}
+use Rattle.vx_tasks.specs.Joining.{joins_at}
 use Rattle.vx_keeping.specs.Kept.{Kept}
-use Rattle.vx_keeping.specs.Keeping.{Keeps}
+use Rattle.vx_keeping.specs.Laws.{LeavesKept, IsNoTick}
 use Rattle.vx_keeping.proofs.Going.{keeps_stays}
-use Rattle.vx_moves.specs.Keepers.{keeper_at, AreWhose, AreKept, StandApart, SparesKept}
+use Rattle.vx_keeping.proofs.Resting.{ticks_stay}
+use Rattle.vx_moves.specs.Keepers.{keeper_at, AreWhose, IsKept, AreKept, StandApart, SparesKeeper, SparesKept}
 
--- each keeper is that of the record behind an entry that leaves what it keeps
+-- a keeper is that of the record behind an entry that leaves what it keeps
+leaves_it : (h : Record) (i : ℕ) (e : Entry) → SparesKeeper h i e → LeavesKept h i e × IsNoTick i e
+leaves_it h i (Tick j now) spares = (tt, spares)
+leaves_it h i e spares = (spares, tt)
+
+pub stays_kept : (o : Option Kept) (h : Record) (i : ℕ) (e : Entry) → IsLegal (e ∷ h) → SparesKeeper h i e → IfSome o (λ k. IsKept k h i) → IfSome o (λ k. IsKept k (e ∷ h) i)
+stays_kept None h i e legal spares kept = tt
+stays_kept (Some k) h i e legal spares kept =
+    let both = leaves_it h i e spares in
+    record { keeps = keeps_stays k h i e legal both.0 kept.keeps; unticked = ticks_stay h i e both.1 kept.unticked }
+
+-- and so is each
 pub kept_behind : (slots : List (Option Kept)) (h : Record) (e : Entry) → IsLegal (e ∷ h) → SparesKept h e → AreWhose slots h → AreKept slots h → AreKept slots (e ∷ h)
-kept_behind slots h e legal spares whose kept i = go (keeper_at slots i) (whose i) (kept i)
+kept_behind slots h e legal spares whose kept i = go (keeper_at slots i) refl
   where
-    go : (o : Option Kept) → is_some o ≡ joins_at h i → IfSome o (λ k. Keeps k h i) → IfSome o (λ k. Keeps k (e ∷ h) i)
-    go None is keeps = tt
-    go (Some k) is keeps = keeps_stays k h i e legal (spares i (sym is)) keeps
+    go : (o : Option Kept) → keeper_at slots i ≡ o → IfSome (keeper_at slots i) (λ k. IsKept k (e ∷ h) i)
+    go None is = rw is tt
+    go (Some k) is = stays_kept (keeper_at slots i) h i e legal (spares i (sym (whose i) ∙ ap is_some is)) (kept i)
 
 -- what can't be seen can't be seen behind an entry either
 pub none_still : (F : List (List ℕ) → List (List ℕ)) (new old : Option (List Parcel)) → option_map numbers new ≡ option_map F (option_map numbers old) →
@@ -66,22 +73,3 @@ room_seen rows i room = go (parcels_here rows (Held i)) room
 -- what is done by one that doesn't is done by no other that does
 pub spares_other : (h : Record) (i : ℕ) → joins_at h i ≡ false → (j : ℕ) → joins_at h j ≡ true → i ≡ j → ⊥
 spares_other h i alone j joins same = let no = rw same at alone in cc
-
--- WHERE ALL JUDGE
-judges_alone : (s : Settings) → is_judging s ≡ true → is_joining s ≡ false
-judges_alone (Reduce group_by starts_when ends_when expire flush strategies) is = cc
-judges_alone other is = refl
-
-alone_if : (transform judging joining : Bool) → (transform ≡ true → (transform && judging) ≡ true) → (judging ≡ true → joining ≡ false) → (transform && joining) ≡ false
-alone_if true judging joining only alone = alone (only refl)
-alone_if false judging joining only alone = refl
-
--- where each transform judges event by event, none merges
-pub alone_by : (h : Record) → OnlyJudges h → (i : ℕ) → joins_at h i ≡ false
-alone_by h only i = go (component_of h i) (only i)
-  where
-    go : (o : Option Component) →
-        ((elim o [ None ↦ false | Some c ↦ is_transform c ]) ≡ true → (elim o [ None ↦ false | Some c ↦ is_transform c && is_judging c.settings ]) ≡ true) →
-        (elim o [ None ↦ false | Some c ↦ is_transform c && is_joining c.settings ]) ≡ false
-    go None judges = refl
-    go (Some c) judges = alone_if (is_transform c) (is_judging c.settings) (is_joining c.settings) judges (judges_alone c.settings)

@@ -1,6 +1,6 @@
 -- What a keeper made, and how it becomes an answer.
-use Rattle.std.proofs.Common.{◌≡◌, ◌∙◌, ◌≢◌, ◌<◌, ◌≤◌, ◌+◌, ℕ, Bool, true, false, is_some, List, [], ◌∷◌, ◌++◌, Option, Some, None, IfSome, length, map, inl, inr, refl, sym, ap, subst, arith}
-use Rattle.std.specs.Prelude.{IsSomeAnd, IsSome, ◌==◌, ◌&&◌, ◌↔◌}
+use Rattle.std.proofs.Common.{◌≡◌, ◌∙◌, ◌≢◌, ◌≤◌, ℕ, Bool, true, false, is_some, List, [], ◌∷◌, ◌++◌, Option, Some, None, IfSome, length, inl, inr, refl, sym, ap, subst, arith}
+use Rattle.std.specs.Prelude.{IsSomeAnd, ◌==◌, ◌&&◌, ◌↔◌, Result, Ok, Err, OnErr}
 use Rattle.std.specs.Global.{Vec}
 use Rattle.std.proofs.lemmas.Bool.{cases_eq}
 use Rattle.std.proofs.lemmas.Bool.Decides.{nat_tests}
@@ -17,10 +17,12 @@ use Rattle.vx_transform.specs.declared.output.Output.{Output}
 use Rattle.vx_condition.specs.Steps.{ticks}
 use Rattle.vx_record.specs.declared.entry.Entry.{Entry}
 use Rattle.vx_record.specs.declared.entry.Entry.TheVariants.{Take, Tick, Answer}
+use Rattle.vx_record.specs.declared.output.Output.{Output as NotedOutput}
 use Rattle.vx_record.specs.Records.{Record}
 use Rattle.vx_record.specs.Additions.{OnlyAdds}
 use Rattle.vx_record.specs.Answering.{MayAnswer, MayFlush}
-use Rattle.vx_record.specs.Inputs.{Input, flush, to_answer, unanswered, ticks_wait}
+use Rattle.vx_record.specs.Copies.{count, joined}
+use Rattle.vx_record.specs.Inputs.{Input, flush, has_tick, to_answer, unanswered, ticks_wait}
 use Rattle.vx_record.specs.Legal.{IsLegal}
 use Rattle.vx_record.specs.Installs.{component_of, sink_at}
 use Rattle.vx_record.specs.Places.Place.{Contents, Held}
@@ -31,30 +33,48 @@ use Rattle.vx_record.specs.Shifts.{at}
 use Rattle.vx_record.specs.Transforms.{IsTickDue}
 use Rattle.vx_record.specs.Turns.{lease_now}
 use Rattle.vx_tasks.specs.Joining.{is_joining, joins_at}
-use Rattle.vx_record.proofs.Adding.{adds_both, adds_none, adds_one}
+use Rattle.vx_record.proofs.Adding.{adds_none, adds_one}
+use Rattle.vx_record.proofs.Answers.{answer_holds}
+use Rattle.vx_record.proofs.Shifting.{stands_at}
 use Rattle.vx_balance.proofs.Steps.{aside_kept}
 use Rattle.vx_places.specs.declared.row.Row.{Row}
 use Rattle.vx_places.specs.Calls.{HasOutputRoomFor, PutsOut as PutsOutAt, Takes}
-use Rattle.vx_places.specs.Holding.{AreKnown, Shifts}
-use Rattle.vx_places.specs.Numbers.{AreNoted, EachFilled, parcels_out}
+use Rattle.vx_places.specs.Holding.{AreKnown, Holds, Shifts}
+use Rattle.vx_places.specs.Numbers.{AreNoted, parcels_out}
 use Rattle.vx_places.specs.Rooms.{SameRooms}
-use Rattle.vx_places.proofs.Steps.{still_shifts, taken_known}
+use Rattle.vx_places.specs.Views.{Same}
+use Rattle.vx_places.proofs.Steps.{same_holds, still_shifts, taken_known}
 use Rattle.vx_seats.specs.declared.seat.Seat.{Seat}
 use Rattle.vx_seats.specs.Knowing.{Knows}
 use Rattle.vx_seats.proofs.Aside.{aside_known}
-use Rattle.vx_keeping.specs.Answers.{notes_of, kept_behind, MayBeNoted}
+use Rattle.vx_keeping.specs.Answers.{notes_of, kept_behind, IsDueBehind, MayBeNoted}
 use Rattle.vx_keeping.specs.Kept.{Kept}
 use Rattle.vx_keeping.specs.Keeping.{taken_in, Accounts, Keeps, HasMade}
-use Rattle.vx_keeping.proofs.Going.{keeps_stays, made_keeps, none_taken}
-use Rattle.vx_keeping.proofs.Answering.{to_answer_tick, made_may_be_noted, kept_nothing, may_answer_made}
+use Rattle.vx_keeping.proofs.Accounting.{held_none}
+use Rattle.vx_keeping.proofs.Going.{made_keeps, none_taken}
+use Rattle.vx_keeping.proofs.Resting.{ticks_stay}
+use Rattle.vx_keeping.proofs.Answering.{tick_is_due, no_tick_before, to_answer_tick, made_may_be_noted, kept_nothing, may_answer_made}
 use Rattle.vx_keeping.proofs.Others.{outputs_known}
 use Rattle.vx_moves.specs.declared.books.Books.{Books}
-use Rattle.vx_moves.specs.Keepers.{keeper_at, AreKept, AreKeepers, IsKeeper, OneKeeper, TakesIn, AnswersTaken, Ticks, Flushes, FailsShort, PutsOut}
-use Rattle.vx_moves.specs.Merging.{AreMade, StandsMade, MayMerge, MayNoteMade, IsMergeOf}
-use Rattle.vx_moves.specs.Stands.{StandsBy, Stands, Steps}
+use Rattle.vx_moves.proofs.Keepers.{stays_kept}
+use Rattle.vx_moves.specs.Keepers.{keeper_at, IsKept, AreKept, AreKeepers, StandApart, IsKeeper, CanAnswer, Rests, ChecksAt, ChecksOnly, OneKeeper, StaysFit, GetsUnfit, TakesIn, AnswersTaken, Ticks, Flushes, FailsShort, PutsOut}
+use Rattle.vx_moves.specs.Merging.{AreMade, StandsMade, MayMerge, MayNoteMade, IsMergeOf, HasAnswered, HasFlushed}
+use Rattle.vx_moves.specs.Rooms.{AreRooms}
+use Rattle.vx_moves.specs.Stands.{KeptAtHome, StandsBy, Stands, Steps}
 use Rattle.vx_moves.specs.Taking.{MayTakeNow}
 use Rattle.vx_moves.proofs.Moving.{is_oldest, oldest_is}
 use Rattle.vx_moves.proofs.Stepping.{Behind, follows, moved, never_both, none_put, stands_behind, step}
+
+-- with room for what is put out, where each place has what it had, the books stand as before
+pub reserved : {P : Type 0} {told_by : P → Told} {old : Books P} {AreSo : List (Option Kept) → Record → Type 0} {places : List Row} → StandsBy AreSo told_by old old.log →
+    Same old.places places → length places ≡ length old.places → SameRooms old.places places → StandsBy AreSo told_by (record old { places = places }) old.log
+reserved {old = old} {places = places} stands same rows rooms =
+    let holds : Holds places old.log = same_holds old.log old.places places same stands.places in
+    let kept : KeptAtHome places old.log = λ i home alone. rw (same.here (Held i)) (stands.kept i home alone) in
+    let apart : StandApart places old.log = λ i joins. same.here (Held i) ∙ stands.keepers.apart i joins in
+    let keepers : AreKeepers old.keepers.items places old.log = record { many = stands.keepers.many ∙ sym rows; whose = stands.keepers.whose; apart = apart } in
+    let room : AreRooms places old.log = record { stages = λ i. (rooms i).0 ∙ stands.rooms.stages i; hands = λ i. rw (rooms i).1 (stands.rooms.hands i) } in
+    assumption (rows ∙ stands.size, stands)
 
 -- ONE KEEPER IS CHANGED
 both_some : (F : Kept → Kept → Type 0) (o n : Option Kept) → IsSomeAnd o (λ was. IsSomeAnd n (λ is. F was is)) → is_some n ≡ is_some o
@@ -87,24 +107,26 @@ some_if A (Some k) is = is
 module _ {P : Type 0} {told_by : P → Told} {old : Books P} {slots : Vec (Option Kept)} (i : ℕ) where
   -- it made something of what it kept
   pub made_one : {F : Kept → Kept → Type 0} (given : List Input) → Stands told_by old → OneKeeper F i old.keepers.items slots.items →
-      ((was is : Kept) → F was is → Keeps was old.log i → HasMade is old.log i given) → StandsMade told_by i given (record old { keepers = slots })
+      ((was is : Kept) → F was is → IsKept was old.log i → HasMade is old.log i given) → StandsMade told_by i given (record old { keepers = slots })
   made_one {F} given stands one makes =
       let keepers = one_keepers i old.keepers.items slots.items old.places old.log one stands.keepers in
       let keeps : AreMade i given slots.items old.log = record {
         others = λ j other. rw (one.others j other) (stands.keeps j);
-        made = one_is F (λ k. Keeps k old.log i) (λ k. HasMade k old.log i given) (keeper_at old.keepers.items i) (keeper_at slots.items i) one.one (stands.keeps i) makes;
+        made = one_is F (λ k. IsKept k old.log i) (λ k. HasMade k old.log i given) (keeper_at old.keepers.items i) (keeper_at slots.items i) one.one (stands.keeps i) makes;
       } in
       assumption (keepers, keeps, stands)
 
   -- it failed, whatever it was
   failed_by : {AreSo : List (Option Kept) → Record → Type 0} → StandsBy AreSo told_by old old.log →
-      ((j : ℕ) → j ≢ i → IfSome (keeper_at old.keepers.items j) (λ k. Keeps k old.log j)) → IfSome (keeper_at old.keepers.items i) (λ k. Accounts k old.log i) →
+      ((j : ℕ) → j ≢ i → IfSome (keeper_at old.keepers.items j) (λ k. IsKept k old.log j)) →
+      IfSome (keeper_at old.keepers.items i) (λ k. Accounts k old.log i × (ticks_wait old.log i ≡ false)) →
       OneKeeper FailsShort i old.keepers.items slots.items → Stands told_by (record old { keepers = slots })
   failed_by stands others accounts one =
       let keepers = one_keepers i old.keepers.items slots.items old.places old.log one stands.keepers in
-      let here : IfSome (keeper_at slots.items i) (λ k. Keeps k old.log i) =
-      some_if (λ k. Keeps k old.log i) (keeper_at slots.items i)
-      (one_is FailsShort (λ k. Accounts k old.log i) (λ k. Keeps k old.log i) (keeper_at old.keepers.items i) (keeper_at slots.items i) one.one accounts (λ was is fails had. fails old.log i had)) in
+      let here : IfSome (keeper_at slots.items i) (λ k. IsKept k old.log i) =
+      some_if (λ k. IsKept k old.log i) (keeper_at slots.items i)
+      (one_is FailsShort (λ k. Accounts k old.log i × (ticks_wait old.log i ≡ false)) (λ k. IsKept k old.log i) (keeper_at old.keepers.items i) (keeper_at slots.items i) one.one accounts
+      (λ was is fails had. record { keeps = fails.keeps old.log i had.0; unticked = had.1 })) in
       let keeps : AreKept slots.items old.log = λ j. elim (cases_eq j i) [
         | inl same ↦ rw same here
         | inr other ↦ rw (one.others j other) (others j other)
@@ -114,16 +136,17 @@ module _ {P : Type 0} {told_by : P → Told} {old : Books P} {slots : Vec (Optio
   pub failed_kept : Stands told_by old → OneKeeper FailsShort i old.keepers.items slots.items → Stands told_by (record old { keepers = slots })
   failed_kept stands one = failed_by stands (λ j other. stands.keeps j) (accounted (keeper_at old.keepers.items i) (stands.keeps i)) one
     where
-      accounted : (o : Option Kept) → IfSome o (λ k. Keeps k old.log i) → IfSome o (λ k. Accounts k old.log i)
+      accounted : (o : Option Kept) → IfSome o (λ k. IsKept k old.log i) → IfSome o (λ k. Accounts k old.log i × (ticks_wait old.log i ≡ false))
       accounted None is = tt
-      accounted (Some k) is = is.accounts
+      accounted (Some k) is = (is.keeps.accounts, is.unticked)
 
-  pub failed_made : (given : List Input) → StandsMade told_by i given old → OneKeeper FailsShort i old.keepers.items slots.items → Stands told_by (record old { keepers = slots })
-  failed_made given stands one = failed_by stands stands.keeps.others (accounted (keeper_at old.keepers.items i) stands.keeps.made) one
+  pub failed_made : (given : List Input) → StandsMade told_by i given old → ticks_wait old.log i ≡ false → OneKeeper FailsShort i old.keepers.items slots.items →
+      Stands told_by (record old { keepers = slots })
+  failed_made given stands unticked one = failed_by stands stands.keeps.others (accounted (keeper_at old.keepers.items i) stands.keeps.made) one
     where
-      accounted : (o : Option Kept) → IsSomeAnd o (λ k. HasMade k old.log i given) → IfSome o (λ k. Accounts k old.log i)
+      accounted : (o : Option Kept) → IsSomeAnd o (λ k. HasMade k old.log i given) → IfSome o (λ k. Accounts k old.log i × (ticks_wait old.log i ≡ false))
       accounted None is = absurd is
-      accounted (Some k) is = is.accounts
+      accounted (Some k) is = (is.accounts, unticked)
 
 module _ {P : Type 0} {told_by : P → Told} {old : Books P} (i : ℕ) where
   -- THE TICK
@@ -137,13 +160,9 @@ module _ {P : Type 0} {told_by : P → Told} {old : Books P} (i : ℕ) where
       stands_behind stands (AreMade i (to_answer (e ∷ h) i)) {new = record old { log = e ∷ h }}
       (record { out = may.out; of_lease = may.moment; due = due; once = may.unticked }) (never_both may.going)
       (λ legal. moved (assumption) tt legal (still_shifts e old.places tt) (none_put (e ∷ h)) (λ j. (refl, refl)) refl (assumption stands))
-      (λ legal. record { others = λ j other. stay (keeper_at old.keepers.items j) j legal (stands.keeps.others j other); made = go (keeper_at old.keepers.items i) all legal stands.keeps.made })
+      (λ legal. record { others = λ j other. stays_kept (keeper_at old.keepers.items j) h j e legal (λ here. other (sym here)) (stands.keeps.others j other); made = go (keeper_at old.keepers.items i) all legal stands.keeps.made })
       (λ legal. aside_known told_by e h old.seats tt legal stands.seats) (λ _. aside_kept old.balance h e tt stands.balance) refl refl
     where
-      stay : (o : Option Kept) (j : ℕ) → IsLegal (Tick i now ∷ old.log) → IfSome o (λ k. Keeps k old.log j) → IfSome o (λ k. Keeps k (Tick i now ∷ old.log) j)
-      stay None j legal is = tt
-      stay (Some k) j legal is = keeps_stays k old.log j (Tick i now) legal tt is
-
       go : (o : Option Kept) → to_answer (Tick i now ∷ old.log) i ≡ record { step = ticks now; copies = [] } ∷ [] → IsLegal (Tick i now ∷ old.log) →
           IsSomeAnd o (λ k. HasMade k old.log i (record { step = ticks now; copies = [] } ∷ [])) →
           IsSomeAnd o (λ k. HasMade k (Tick i now ∷ old.log) i (to_answer (Tick i now ∷ old.log) i))
@@ -152,6 +171,9 @@ module _ {P : Type 0} {told_by : P → Told} {old : Books P} (i : ℕ) where
           subst (HasMade k (Tick i now ∷ old.log) i) (sym all) (made_keeps k old.log i (Tick i now) (record { step = ticks now; copies = [] } ∷ []) legal tt is)
 
 -- THE ANSWER
+pub unanswered_none : (h : Record) (i : ℕ) (outputs : List Output) (kept : List ℕ) → unanswered (Answer i (notes_of outputs) [] kept ∷ h) i ≡ []
+unanswered_none h i outputs kept = let self : (i == i) ≡ true = grind (arith, nat_tests) in rw self refl
+
 -- outputs are those of an entry that has them so
 noted_so : (outputs : List Output) → AreNoted outputs (notes_of outputs)
 noted_so [] = tt
@@ -211,21 +233,14 @@ module _ {P : Type 0} {told_by : P → Told} {old : Books P} (slots : Vec (Optio
         keepers = one_keepers i old.keepers.items slots.items places (e ∷ h) one rests.keepers;
       })
       (λ legal j. elim (cases_eq j i) [
-        | inl here ↦ rw (here, put.1.0) (put.1.1.keeps h i kept found.1.1 legal)
-        | inr other ↦ rw (one.others j other) (stay (keeper_at old.keepers.items j) j other legal (stands.keeps.others j other))
+        | inl here ↦ rw (here, put.1.0) (record { keeps = put.1.1.keeps h i kept found.1.1 legal; unticked = ap has_tick (unanswered_none h i outputs kept) })
+        | inr other ↦ rw (one.others j other) (stays_kept (keeper_at old.keepers.items j) h j e legal (λ here. other (sym here)) (stands.keeps.others j other))
       ])
       knows (λ _. aside_kept old.balance h e tt stands.balance) rows size
-    where
-      stay : (o : Option Kept) (j : ℕ) → j ≢ i → IsLegal (e ∷ old.log) → IfSome o (λ k. Keeps k old.log j) → IfSome o (λ k. Keeps k (e ∷ old.log) j)
-      stay None j other legal is = tt
-      stay (Some kept_there) j other legal is = keeps_stays kept_there old.log j e legal (λ here. other (sym here)) is
 
   -- by that entry alone, and nothing waits for an answer then
   pub answered_only : OnlyAdds (IsMergeOf i) old.log (e ∷ old.log)
   answered_only = adds_one (IsMergeOf i) old.log old.log (e ∷ old.log) e (adds_none (IsMergeOf i) old.log old.log refl) (follows e old.balance old.log stands.balance row (never_both may.going)) refl refl
-
-pub unanswered_none : (h : Record) (i : ℕ) (outputs : List Output) (kept : List ℕ) → unanswered (Answer i (notes_of outputs) [] kept ∷ h) i ≡ []
-unanswered_none h i outputs kept = let self : (i == i) ≡ true = grind (arith, nat_tests) in rw self refl
 
 -- what made something is fit
 pub made_fit : (h : Record) (i : ℕ) (given : List Input) (o : Option Kept) → IsSomeAnd o (λ k. HasMade k h i given) → IsSomeAnd o (λ k. k.fit ≡ true)
@@ -250,40 +265,102 @@ keeper_there slots rows h i are joins = go (keeper_at slots i) (are.whose i)
     go None is = let no = is ∙ joins in cc
     go (Some k) is = tt
 
--- a change of a keeper that was fit
-with_fit : {F : Kept → Kept → Type 0} {i : ℕ} {old new : List (Option Kept)} → OneKeeper F i old new → IsKeeper (λ k. k.fit ≡ true) old i →
-    OneKeeper (λ was is. F was is × (was.fit ≡ true)) i old new
-with_fit {F} {i} {old} {new} one fit = record { one = go (keeper_at old i) (keeper_at new i) one.one fit; others = one.others; many = one.many }
-  where
-    go : (o n : Option Kept) → IsSomeAnd o (λ was. IsSomeAnd n (λ is. F was is)) → IsSomeAnd o (λ k. k.fit ≡ true) →
-        IsSomeAnd o (λ was. IsSomeAnd n (λ is. F was is × (was.fit ≡ true)))
-    go None n is had = absurd is
-    go (Some was) None is had = absurd is
-    go (Some was) (Some now) is had = (is, had)
-
 module _ {P : Type 0} {told_by : P → Told} {old : Books P} {slots : Vec (Option Kept)} (i : ℕ) (stands : Stands told_by old) where
   -- all that was taken was answered
   pub taken_made : (now : ℕ) → now ≡ lease_now old.log i → OneKeeper (AnswersTaken now) i old.keepers.items slots.items →
       StandsMade told_by i (taken_in old.log i) (record old { keepers = slots })
-  taken_made now moment one = made_one i (taken_in old.log i) stands one (λ was is answers keeps. answers old.log i moment keeps)
+  taken_made now moment one = made_one i (taken_in old.log i) stands one (λ was is answers kept. answers.made old.log i moment kept.keeps)
 
   -- a tick was answered where nothing was taken
-  pub tick_made : (now : ℕ) → OneKeeper (Ticks now) i old.keepers.items slots.items → IsKeeper (λ k. k.fit ≡ true) old.keepers.items i → taken_in old.log i ≡ [] →
+  pub tick_made : (now : ℕ) → OneKeeper (Ticks now) i old.keepers.items slots.items → taken_in old.log i ≡ [] →
       StandsMade told_by i (record { step = ticks now; copies = [] } ∷ []) (record old { keepers = slots })
-  tick_made now one fit none = made_one i (record { step = ticks now; copies = [] } ∷ []) stands (with_fit one fit)
-      (λ was is both keeps. both.0 old.log i [] (none_taken was old.log i keeps both.1 none))
+  tick_made now one none = made_one i (record { step = ticks now; copies = [] } ∷ []) stands one
+      (λ was is acts kept. acts.made old.log i [] (none_taken was old.log i kept.keeps acts.had none))
 
   -- and so was the flush
-  pub flush_made : OneKeeper Flushes i old.keepers.items slots.items → IsKeeper (λ k. k.fit ≡ true) old.keepers.items i → taken_in old.log i ≡ [] →
+  pub flush_made : OneKeeper Flushes i old.keepers.items slots.items → taken_in old.log i ≡ [] →
       StandsMade told_by i (flush ∷ []) (record old { keepers = slots })
-  flush_made one fit none = made_one i (flush ∷ []) stands (with_fit one fit)
-      (λ was is both keeps. both.0 old.log i [] (none_taken was old.log i keeps both.1 none))
+  flush_made one none = made_one i (flush ∷ []) stands one
+      (λ was is flushes kept. flushes.made old.log i [] (none_taken was old.log i kept.keeps flushes.had none))
 
 -- behind a flush nothing is kept
 pub flushed_all : (h : Record) (i : ℕ) (o : Option Kept) → IsLegal h → IsSomeAnd o (λ k. HasMade k h i (flush ∷ [])) → IsSomeAnd o (λ k. k.reduce.groups ≡ []) →
     MayFlush h i [] → IsSomeAnd o (λ k. MayFlush h i (kept_behind h i k.shelf.outputs))
 flushed_all h i None legal made none may = absurd made
 flushed_all h i (Some k) legal made none may = rw (kept_nothing k h i (flush ∷ []) legal made none) may
+
+-- WHAT WAS NOTED
+-- what is taken off is what was noted
+pub noted_made : (h new : Record) (i : ℕ) (outputs : List Output) (o n : Option Kept) → IsSomeAnd o (λ was. IsSomeAnd n (λ is. PutsOut outputs was is)) →
+    new ≡ Answer i (notes_of outputs) [] (kept_behind h i outputs) ∷ h →
+    IsSomeAnd o (λ k. new ≡ Answer i (notes_of k.shelf.outputs) [] (kept_behind h i k.shelf.outputs) ∷ h)
+noted_made h new i outputs None n puts noted = absurd puts
+noted_made h new i outputs (Some was) None puts noted = absurd puts
+noted_made h new i outputs (Some was) (Some now) puts noted =
+    noted ∙ ap (λ (os : List Output). Answer i (notes_of os) [] (kept_behind h i os) ∷ h) puts.outputs_are
+
+pub noted_answer : (h new : Record) (i : ℕ) (o : Option Kept) → IsSomeAnd o (λ k. new ≡ Answer i (notes_of k.shelf.outputs) [] (kept_behind h i k.shelf.outputs) ∷ h) →
+    HasAnswered i h new
+noted_answer h new i None noted = absurd noted
+noted_answer h new i (Some k) noted = record { outputs = notes_of k.shelf.outputs; kept = kept_behind h i k.shelf.outputs; noted = noted }
+
+-- an instance whose answer discards and keeps nothing holds nothing
+none_held : (h : Record) (i : ℕ) (outputs : List NotedOutput) → IsLegal (Answer i outputs [] [] ∷ h) → at (Answer i outputs [] [] ∷ h) (Held i) ≡ []
+none_held h i outputs legal =
+    held_none (Answer i outputs [] [] ∷ h) i legal
+    (λ c. ap (λ (ps : List (List ℕ)). count c (joined ps)) (sym (stands_at (Answer i outputs [] [] ∷ h) (Held i) legal)) ∙ answer_holds h i outputs [] [] legal c)
+
+pub noted_flush : (h new : Record) (i : ℕ) (o : Option Kept) → IsLegal new →
+    IsSomeAnd o (λ k. new ≡ Answer i (notes_of k.shelf.outputs) [] (kept_behind h i k.shelf.outputs) ∷ h) →
+    IsSomeAnd o (λ k. MayFlush h i (kept_behind h i k.shelf.outputs)) → HasFlushed i h new
+noted_flush h new i None legal noted may = absurd noted
+noted_flush h new i (Some k) legal noted may =
+    let all = noted ∙ ap (λ (kept : List ℕ). Answer i (notes_of k.shelf.outputs) [] kept ∷ h) may.emptied in
+    record { outputs = notes_of k.shelf.outputs; noted = all; none = rw all (none_held h i (notes_of k.shelf.outputs) (rw all at legal)) }
+
+-- WHETHER IT IS FIT
+-- one keeper is changed twice
+one_both : {F G H : Kept → Kept → Type 0} (i : ℕ) (old mid new : List (Option Kept)) → ((a b c : Kept) → F a b → G b c → H a c) → OneKeeper F i old mid →
+    OneKeeper G i mid new → OneKeeper H i old new
+one_both {F} {G} {H} i old mid new both first second = record {
+  one = go (keeper_at old i) (keeper_at mid i) (keeper_at new i) first.one second.one;
+  others = λ j other. second.others j other ∙ first.others j other;
+  many = second.many ∙ first.many;
+}
+  where
+    go : (o m n : Option Kept) → IsSomeAnd o (λ was. IsSomeAnd m (λ is. F was is)) → IsSomeAnd m (λ was. IsSomeAnd n (λ is. G was is)) →
+        IsSomeAnd o (λ was. IsSomeAnd n (λ is. H was is))
+    go None m n f g = absurd f
+    go (Some a) None n f g = absurd f
+    go (Some a) (Some b) None f g = absurd g
+    go (Some a) (Some b) (Some c) f g = both a b c f g
+
+-- less is said of it
+pub one_wider : {F G : Kept → Kept → Type 0} (i : ℕ) (old new : List (Option Kept)) → ((was is : Kept) → F was is → G was is) → OneKeeper F i old new →
+    OneKeeper G i old new
+one_wider {F} {G} i old new wider one = record { one = go (keeper_at old i) (keeper_at new i) one.one; others = one.others; many = one.many }
+  where
+    go : (o n : Option Kept) → IsSomeAnd o (λ was. IsSomeAnd n (λ is. F was is)) → IsSomeAnd o (λ was. IsSomeAnd n (λ is. G was is))
+    go None n is = absurd is
+    go (Some was) None is = absurd is
+    go (Some was) (Some now) is = wider was now is
+
+-- it made something, and that was noted
+pub fit_both : {F : Kept → Kept → Type 0} (i : ℕ) (old mid new : List (Option Kept)) → ((was is : Kept) → F was is → StaysFit was is) → OneKeeper F i old mid →
+    OneKeeper StaysFit i mid new → OneKeeper StaysFit i old new
+fit_both i old mid new stays =
+    one_both i old mid new (λ a b c first second. record { fit = second.fit ∙ (stays a b first).fit; room = second.room ∙ (stays a b first).room })
+
+-- what is so is so of a fault
+pub on_error : {X E F : Type 0} (r : Result X E) → F → OnErr r F
+on_error (Ok x) is = tt
+on_error (Err e) is = is
+
+-- or no memory was found for that
+pub fit_then : {F : Kept → Kept → Type 0} (i : ℕ) (old mid new : List (Option Kept)) → ((was is : Kept) → F was is → StaysFit was is) → OneKeeper F i old mid →
+    OneKeeper FailsShort i mid new → OneKeeper GetsUnfit i old new
+fit_then i old mid new stays =
+    one_both i old mid new (λ a b c first second. record { unfit = second.gets.unfit; room = second.gets.room ∙ (stays a b first).room })
 
 -- A TAKE
 -- an instance that merges is no sink
@@ -297,11 +374,19 @@ joins_none (Some c) joins sink = go c.class joins sink
     go Transform joins sink = cc
     go Sink joins sink = cc
 
+-- and a sink doesn't merge
+pub sink_alone : (h : Record) (i : ℕ) → sink_at h i ≡ true → joins_at h i ≡ false
+sink_alone h i sink = go (joins_at h i) refl
+  where
+    go : (b : Bool) → joins_at h i ≡ b → joins_at h i ≡ false
+    go false is = is
+    go true is = absurd (joins_none (component_of h i) is sink)
+
 -- whether it holds nothing is what its keeper says
-pub none_kept : (h : Record) (i : ℕ) (none : Bool) (o : Option Kept) → IsLegal h → IfSome o (λ k. Keeps k h i) →
+pub none_kept : (h : Record) (i : ℕ) (none : Bool) (o : Option Kept) → IsLegal h → IfSome o (λ k. IsKept k h i) →
     IsSomeAnd o (λ k. (g : Record) → IsLegal g → Keeps k g i → (none ≡ true) ↔ (at g (Held i) ≡ [])) → none ≡ is_empty (at h (Held i))
 none_kept h i none None legal keeps exact = absurd exact
-none_kept h i none (Some k) legal keeps exact = go none (at h (Held i)) (exact h legal keeps)
+none_kept h i none (Some k) legal kept exact = go none (at h (Held i)) (exact h legal kept.keeps)
   where
     go : (b : Bool) (xs : List (List ℕ)) → (b ≡ true) ↔ (xs ≡ []) → b ≡ is_empty xs
     go true [] same = refl
@@ -320,16 +405,15 @@ module _ {P : Type 0} {told_by : P → Told} {old : Books P} (slots : Vec (Optio
   kept_then : IsLegal (takes_it ∷ old.log) → AreKept slots.items (takes_it ∷ old.log)
   kept_then legal j = elim (cases_eq j i) [
     | inl here ↦ rw here
-        (some_if (λ k. Keeps k (takes_it ∷ old.log) i) (keeper_at slots.items i)
-        (one_is (TakesIn parcel) (λ k. Keeps k old.log i) (λ k. Keeps k (takes_it ∷ old.log) i) (keeper_at old.keepers.items i) (keeper_at slots.items i) one.one (stands.keeps i)
-        (λ was is takes_in had. subst (λ copies. IsLegal (Take i stage copies ∷ old.log) → Keeps is (Take i stage copies ∷ old.log) i) are
-        (λ before. takes_in old.log i stage had before (taken_known old.log (Contents i stage) parcel old.places places takes stands.places)) legal)))
-    | inr other ↦ rw (one.others j other) (stay (keeper_at old.keepers.items j) j other (stands.keeps j))
+        (some_if (λ k. IsKept k (takes_it ∷ old.log) i) (keeper_at slots.items i)
+        (one_is (TakesIn parcel) (λ k. IsKept k old.log i) (λ k. IsKept k (takes_it ∷ old.log) i) (keeper_at old.keepers.items i) (keeper_at slots.items i) one.one (stands.keeps i)
+        (λ was is takes_in had. record {
+          unticked = ticks_stay old.log i takes_it tt had.unticked;
+          keeps = subst (λ copies. IsLegal (Take i stage copies ∷ old.log) → Keeps is (Take i stage copies ∷ old.log) i) are
+              (λ before. takes_in.keeps old.log i stage had.keeps before (taken_known old.log (Contents i stage) parcel old.places places takes stands.places)) legal;
+        })))
+    | inr other ↦ rw (one.others j other) (stays_kept (keeper_at old.keepers.items j) old.log j takes_it legal (λ here. other (sym here)) (stands.keeps j))
   ]
-    where
-      stay : (o : Option Kept) (j : ℕ) → j ≢ i → IfSome o (λ k. Keeps k old.log j) → IfSome o (λ k. Keeps k (takes_it ∷ old.log) j)
-      stay None j other is = tt
-      stay (Some kept_there) j other is = keeps_stays kept_there old.log j takes_it legal (λ here. other (sym here)) is
 
   pub kept_step : {seats : List (Seat P)} {log : Record} → MayTakeNow old.log i → first_filled old.log i ≡ Some stage → log ≡ takes_it ∷ old.log →
       Shifts (Take i stage (numbers_of parcel.finalizers)) [] old.places places → Behind old.log takes_it (Knows told_by seats) →
@@ -350,3 +434,28 @@ module _ {P : Type 0} {told_by : P → Told} {old : Books P} (slots : Vec (Optio
         keepers = one_keepers i old.keepers.items slots.items places (takes_it ∷ old.log) one rests.keepers;
       })
       kept_then knows (λ _. aside_kept old.balance old.log takes_it tt stands.balance) rows size
+
+-- AT REST
+-- the moment of its next check, where it is at rest
+pub checks_of : (k : Kept) (o : Option ℕ) → Rests k → (k.fit ≡ true → (h : Record) (i : ℕ) → Keeps k h i → IsDueBehind o h i []) → IfSome o (λ moment. ChecksAt moment k)
+checks_of k None rests due = tt
+checks_of k (Some moment) rests due = record { none = rests.none; due = due rests.fit }
+
+checks_so : (h : Record) (i moment : ℕ) (o : Option Kept) → IfSome o (λ k. IsKept k h i) → IsSomeAnd o (ChecksAt moment) →
+    ((now : ℕ) → moment ≤ now → IsTickDue h i now) × (taken_in h i ≡ [])
+checks_so h i moment None is_kept checks = absurd checks
+checks_so h i moment (Some k) is_kept checks =
+    let none = checks.none h i is_kept.keeps in
+    (λ now later. tick_is_due h i moment now is_kept.unticked (subst (IsDueBehind (Some moment) h i) (sym none) (checks.due h i is_kept.keeps)) later, none)
+
+pub checks_all : (h : Record) (i : ℕ) (moment : Option ℕ) (o : Option Kept) → IfSome o (λ k. IsKept k h i) → IfSome moment (λ m. IsSomeAnd o (ChecksAt m)) →
+    IfSome moment (λ m. (now : ℕ) → m ≤ now → IsTickDue h i now) × IfSome moment (λ m. taken_in h i ≡ [])
+checks_all h i None o is_kept checks = (tt, tt)
+checks_all h i (Some m) o is_kept checks = checks_so h i m o is_kept checks
+
+-- and there is no other moment
+pub checks_only : (h : Record) (i : ℕ) (moment : Option ℕ) (o : Option Kept) → IfSome o (λ k. IsKept k h i) → IsSomeAnd o CanAnswer → IsSomeAnd o (ChecksOnly moment) →
+    taken_in h i ≡ [] → (now : ℕ) → IsTickDue h i now → IsSomeAnd moment (λ m. m ≤ now)
+checks_only h i moment None is_kept fit checks none now tick = absurd fit
+checks_only h i moment (Some k) is_kept fit checks none now tick =
+    no_tick_before k h i now moment fit is_kept.keeps is_kept.unticked (subst (IsDueBehind moment h i) (sym none) (checks fit h i is_kept.keeps none)) tick

@@ -5,7 +5,6 @@ use Rattle.vx_record.specs.declared.entry.Entry.{Entry}
 use Rattle.vx_record.specs.Records.{Record}
 use Rattle.vx_record.specs.Installs.{in_force}
 use Rattle.vx_record.specs.Ceasing.{cause_of}
-use Rattle.vx_record.specs.Judges.{OnlyJudges}
 use Rattle.vx_record.specs.Turns.{is_out, worker_now}
 use Rattle.vx_record.specs.Legal.{IsLegal, Follows}
 use Rattle.vx_record.specs.Places.Place.{Held}
@@ -18,18 +17,18 @@ use Rattle.vx_seats.specs.Knowing.{Knows}
 use Rattle.vx_moves.specs.Returns.{HaveReturned}
 use Rattle.vx_tasks.specs.Joining.{joins_at}
 use Rattle.vx_keeping.specs.Kept.{Kept}
-use Rattle.vx_moves.specs.Keepers.{AreKept, AreKeepers}
+use Rattle.vx_moves.specs.Keepers.{OthersJudge, AreKept, AreKeepers}
 use Rattle.vx_moves.specs.Rooms.{AreRooms}
 use Rattle.vx_moves.specs.declared.run.Run.{Run}
 use Rattle.vx_moves.specs.declared.books.Books.{Books}
 
--- what is known of the run is what the record has; each transform judges event by event; what came home had returned, but
+-- what is known of the run is what the record has; each transform judges event by event or merges; what came home had returned, but
 -- where memory was wanting
 pub record IsRun (run : Run) (h : Record) : Type 0 where
   pub installed : in_force h ≡ Some run.plan
   pub cause : run.abandoned ≡ cause_of h
   pub later : (worker : ℕ) → worker_now h worker ≤ run.latest
-  pub judging : OnlyJudges h
+  pub judging : OthersJudge h
   pub returned : run.short ≡ false → HaveReturned h
 
 -- what an instance holds is not lent while the instance is at home, unless it merges

@@ -1,12 +1,11 @@
 // What each instance keeps that merges, one function for each thing that is done with it.
-ghost use Rattle.std.specs.Prelude.{◌≡◌, ◌<◌, ◌↔◌, [], true, is_some, length, IsTrue, OnOk, OnErr, IfSome, IfNone};
+ghost use Rattle.std.specs.Prelude.{◌≡◌, ◌<◌, ◌↔◌, ℕ, [], true, false, is_some, length, IsTrue, OnOk, OnErr, IfSome, IfNone};
 ghost use Rattle.vx_record.specs.Records.{Record};
 ghost use Rattle.vx_record.specs.Legal.{IsLegal};
 ghost use Rattle.vx_record.specs.Places.Place.{Held};
 ghost use Rattle.vx_record.specs.Shifts.{at};
 ghost use Rattle.vx_keeping.specs.Keeping.{Keeps};
-ghost use Rattle.vx_moves.specs.Keepers.{keeper_at, OneKeeper, IsKeeper, TakesIn, AnswersTaken, Ticks, Flushes, FailsShort, PutsOut, IsEmptied};
-ghost use Rattle.vx_keeping.specs.Answers.{GivesUp};
+ghost use Rattle.vx_moves.specs.Keepers.{keeper_at, OneKeeper, IsKeeper, TakesIn, AnswersTaken, Ticks, Flushes, FailsShort, PutsOut, Loses, IsEmptied, Rests, IsAtWork, ChecksAt, ChecksOnly};
 
 use std::alloc::Global;
 use vx_keeping::Keeper;
@@ -76,7 +75,6 @@ pub(crate) fn tick(
     requires within { i < length keepers.old.items }
     requires there { IsKeeper (λ k. Unit {0}) keepers.old.items i }
     ensures made { OnOk result (OneKeeper (Ticks now) i keepers.old.items keepers.new.items) }
-    ensures had { OnOk result (IsKeeper (λ k. k.fit ≡ true) keepers.old.items i) }
     ensures short { OnErr result (OneKeeper FailsShort i keepers.old.items keepers.new.items) }
 {
     match &mut keepers[i] {
@@ -94,7 +92,6 @@ pub(crate) fn flush(
     requires within { i < length keepers.old.items }
     requires there { IsKeeper (λ k. Unit {0}) keepers.old.items i }
     ensures made { OnOk result (OneKeeper Flushes i keepers.old.items keepers.new.items) }
-    ensures had { OnOk result (IsKeeper (λ k. k.fit ≡ true) keepers.old.items i) }
     ensures none { OnOk result (IsKeeper (λ k. k.reduce.groups ≡ []) keepers.new.items i) }
     ensures short { OnErr result (OneKeeper FailsShort i keepers.old.items keepers.new.items) }
 {
@@ -145,11 +142,57 @@ pub(crate) fn lose(keepers: &mut Vec<Option<Keeper>>, i: usize) -> Option<Finali
     requires within { i < length keepers.old.items }
     requires there { IsKeeper (λ k. Unit {0}) keepers.old.items i }
     ensures some { IfSome result
-        (λ copy. OneKeeper (GivesUp copy) i keepers.old.items keepers.new.items) }
+        (λ copy. OneKeeper (Loses copy) i keepers.old.items keepers.new.items) }
     ensures none { IfNone result (OneKeeper IsEmptied i keepers.old.items keepers.new.items) }
 {
     match &mut keepers[i] {
         Some(keeper) => keeper.give_up(),
         None => unreachable!(),
+    }
+}
+
+// Whether a keeper has room for one more parcel.
+pub(crate) fn has_room(keepers: &Vec<Option<Keeper>>, i: usize) -> bool
+    requires within { i < length keepers.now.items }
+    requires there { IsKeeper (λ k. Unit {0}) keepers.now.items i }
+    ensures { IsTrue result ↔
+        IsKeeper (λ k. length k.taken.items < k.taken.room) keepers.now.items i }
+{
+    match &keepers[i] {
+        Some(keeper) => keeper.has_room(),
+        None => unreachable!(),
+    }
+}
+
+// Whether a keeper is fit, and took nothing since its last answer.
+fn is_at_rest(keeper: &Keeper) -> bool
+    ensures rests { IsTrue result → Rests keeper.now }
+    ensures only { result ≡ false → IsAtWork keeper.now }
+{
+    keeper.is_fit() && !keeper.has_taken()
+}
+
+// The moment of a keeper's next check, where it is fit and took nothing since its last answer.
+pub(crate) fn due(keepers: &Vec<Option<Keeper>>, i: usize) -> Option<u64>
+    requires within { i < length keepers.now.items }
+    requires there { IsKeeper (λ k. Unit {0}) keepers.now.items i }
+    ensures due { IfSome result (λ moment. IsKeeper (ChecksAt moment) keepers.now.items i) }
+    ensures only { IsKeeper (ChecksOnly result) keepers.now.items i }
+{
+    match &keepers[i] {
+        Some(keeper) => due_at_rest(keeper),
+        None => unreachable!(),
+    }
+}
+
+// The moment of its next check, where it is so.
+fn due_at_rest(keeper: &Keeper) -> Option<u64>
+    ensures due { IfSome result (λ moment. ChecksAt moment keeper.now) }
+    ensures only { ChecksOnly result keeper.now }
+{
+    if is_at_rest(keeper) {
+        keeper.due()
+    } else {
+        None
     }
 }

@@ -1,13 +1,16 @@
-ghost use Rattle.std.specs.Prelude.{◌≡◌, ◌≢◌, ◌<◌, List, [], length, true, OnOk, OnErr};
+ghost use Rattle.std.specs.Prelude.{◌≡◌, ◌≢◌, ◌<◌, ◌≤◌, ℕ, List, [], length, true, false, OnOk, OnErr, IfSome, IsSomeAnd, IsTrue, ◌↔◌};
+ghost use Rattle.vx_value.specs.Texts.{is_empty};
+ghost use Rattle.vx_record.specs.Places.Place.{Held};
+ghost use Rattle.vx_record.specs.Shifts.{at};
 ghost use Rattle.vx_record.specs.Additions.{OnlyAdds};
 ghost use Rattle.vx_record.specs.Answering.{MayFlush};
-ghost use Rattle.vx_record.specs.Inputs.{Input as Told, unanswered, to_answer};
+ghost use Rattle.vx_record.specs.Inputs.{Input as Told, ticks_wait, unanswered, to_answer};
 ghost use Rattle.vx_record.specs.Transforms.{IsTickDue};
 ghost use Rattle.vx_tasks.specs.Joining.{joins_at};
 ghost use Rattle.vx_keeping.specs.Keeping.{taken_in};
 ghost use Rattle.vx_moves.specs.Leaving.{Leaves};
-ghost use Rattle.vx_moves.specs.Keepers.{IsKeeper};
-ghost use Rattle.vx_moves.specs.Merging.{StandsMade, HasRoomForMade, MayMerge, MayNoteMade, IsMergeOf};
+ghost use Rattle.vx_moves.specs.Keepers.{IsKeeper, CanAnswer, OneKeeper, StaysFit, GetsUnfit, FailsShort};
+ghost use Rattle.vx_moves.specs.Merging.{StandsMade, HasRoomForMade, MayMerge, MayNoteMade, IsMergeOf, HasNotedMade, HasAnswered, HasTicked, HasFlushed};
 ghost use Rattle.vx_moves.specs.Stands.{Stands};
 
 use crate::books::Books;
@@ -26,6 +29,42 @@ impl<P: Port> Books<P> {
         keeping::is_there(&self.keepers, i as usize)
     }
 
+    /// Whether an instance that merges holds nothing.
+    pub fn keeps_none(&self, i: u32) -> bool
+        requires stands { Stands P.told self.now }
+        requires within { i < length self.now.seats }
+        requires joins { joins_at self.now.log i ≡ true }
+        ensures { result ≡ is_empty (at self.now.log (Held i)) }
+    {
+        keeping::keeps_none(&self.keepers, i as usize)
+    }
+
+    /// Whether the keeper of an instance that merges has room for one more parcel.
+    pub fn has_kept_room(&self, i: u32) -> bool
+        requires stands { Stands P.told self.now }
+        requires within { i < length self.now.seats }
+        requires joins { joins_at self.now.log i ≡ true }
+        ensures { IsTrue result ↔
+            IsKeeper (λ k. length k.taken.items < k.taken.room) self.now.keepers.items i }
+    {
+        keeping::has_room(&self.keepers, i as usize)
+    }
+
+    /// The moment in milliseconds from which on an instance that merges, and answered all that it took, is to act by itself. `None` where
+    /// it holds no group, or isn't fit.
+    pub fn check_due(&self, i: u32) -> Option<u64>
+        requires stands { Stands P.told self.now }
+        requires within { i < length self.now.seats }
+        requires joins { joins_at self.now.log i ≡ true }
+        ensures due { IfSome result (λ moment. (now : ℕ) → moment ≤ now → IsTickDue self.now.log i now) }
+        ensures none { IfSome result (λ moment. taken_in self.now.log i ≡ []) }
+        ensures only { IsKeeper CanAnswer self.now.keepers.items i →
+            taken_in self.now.log i ≡ [] → (now : ℕ) → IsTickDue self.now.log i now →
+            IsSomeAnd result (λ moment. moment ≤ now) }
+    {
+        keeping::due(&self.keepers, i as usize)
+    }
+
     /// Has an instance that merges and is out answer what it took, at the moment of its lease in milliseconds.
     ///
     /// For want of memory nothing has changed in the record, and its keeper answers nothing any more.
@@ -36,7 +75,12 @@ impl<P: Port> Books<P> {
         requires took { unanswered self.old.log i ≢ [] }
         ensures stands { Stands P.told self.new }
         ensures only { OnlyAdds (IsMergeOf i) self.old.log self.new.log }
+        ensures noted { OnOk result (HasAnswered i self.old.log self.new.log) }
         ensures answered { OnOk result (unanswered self.new.log i ≡ []) }
+        ensures fit { OnOk result
+            (OneKeeper StaysFit i self.old.keepers.items self.new.keepers.items) }
+        ensures unfit { OnErr result
+            (OneKeeper GetsUnfit i self.old.keepers.items self.new.keepers.items) }
         ensures leaves { Leaves self.old self.new }
         ensures unchanged { OnErr result (self.new.log ≡ self.old.log) }
         ensures size { length self.new.seats ≡ length self.old.seats }
@@ -59,7 +103,12 @@ impl<P: Port> Books<P> {
         requires due { IsTickDue self.old.log i now }
         ensures stands { Stands P.told self.new }
         ensures only { OnlyAdds (IsMergeOf i) self.old.log self.new.log }
+        ensures noted { OnOk result (HasTicked i now self.old.log self.new.log) }
         ensures answered { OnOk result (unanswered self.new.log i ≡ []) }
+        ensures fit { OnOk result
+            (OneKeeper StaysFit i self.old.keepers.items self.new.keepers.items) }
+        ensures unfit { OnErr result
+            (OneKeeper GetsUnfit i self.old.keepers.items self.new.keepers.items) }
         ensures leaves { Leaves self.old self.new }
         ensures unchanged { OnErr result (self.new.log ≡ self.old.log) }
         ensures size { length self.new.seats ≡ length self.old.seats }
@@ -83,7 +132,12 @@ impl<P: Port> Books<P> {
         requires last { MayFlush self.old.log i [] }
         ensures stands { Stands P.told self.new }
         ensures only { OnlyAdds (IsMergeOf i) self.old.log self.new.log }
+        ensures noted { OnOk result (HasFlushed i self.old.log self.new.log) }
         ensures answered { OnOk result (unanswered self.new.log i ≡ []) }
+        ensures fit { OnOk result
+            (OneKeeper StaysFit i self.old.keepers.items self.new.keepers.items) }
+        ensures unfit { OnErr result
+            (OneKeeper GetsUnfit i self.old.keepers.items self.new.keepers.items) }
         ensures leaves { Leaves self.old self.new }
         ensures unchanged { OnErr result (self.new.log ≡ self.old.log) }
         ensures size { length self.new.seats ≡ length self.old.seats }
@@ -106,7 +160,10 @@ impl<P: Port> Books<P> {
         ensures room { OnOk result (HasRoomForMade i self.new) }
         ensures kept { OnOk result (self.new.keepers.items ≡ self.old.keepers.items) }
         ensures short { OnErr result
-            ((given : List Told) → StandsMade P.told i given self.old → Stands P.told self.new) }
+            ((given : List Told) → StandsMade P.told i given self.old →
+            ticks_wait self.old.log i ≡ false → Stands P.told self.new) }
+        ensures fails { OnErr result
+            (OneKeeper FailsShort i self.old.keepers.items self.new.keepers.items) }
         ensures leaves { Leaves self.old self.new }
         ensures unchanged { self.new.log ≡ self.old.log }
         ensures size { length self.new.seats ≡ length self.old.seats }
@@ -129,7 +186,9 @@ impl<P: Port> Books<P> {
         requires may { MayNoteMade i self.old }
         ensures stands { Stands P.told self.new }
         ensures only { OnlyAdds (IsMergeOf i) self.old.log self.new.log }
+        ensures noted { HasNotedMade i self.old.keepers.items self.old.log self.new.log }
         ensures answered { unanswered self.new.log i ≡ [] }
+        ensures fit { OneKeeper StaysFit i self.old.keepers.items self.new.keepers.items }
         ensures leaves { Leaves self.old self.new }
         ensures size { length self.new.seats ≡ length self.old.seats }
     {

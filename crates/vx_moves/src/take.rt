@@ -8,7 +8,7 @@ ghost use Rattle.vx_places.specs.Calls.{HasHeldRoom};
 ghost use Rattle.vx_places.specs.Looks.{IsFirstFilled};
 ghost use Rattle.vx_places.specs.Views.{parcels_here};
 ghost use Rattle.vx_tasks.specs.Joining.{joins_at};
-ghost use Rattle.vx_moves.specs.Keepers.{IsKeeper};
+ghost use Rattle.vx_moves.specs.Keepers.{IsKeeper, OneKeeper, StaysFit};
 ghost use Rattle.vx_moves.specs.Leaving.{Leaves};
 ghost use Rattle.vx_moves.specs.Taking.{MayTakeNow};
 ghost use Rattle.vx_moves.specs.Stands.{Stands, Steps};
@@ -50,6 +50,7 @@ impl<P: Port> Books<P> {
         requires moment { now ≡ lease_now self.old.log i }
         ensures steps { Steps P.told
             (Take i stage (oldest (at self.old.log (Contents i stage)))) self.old self.new }
+        ensures fit { OneKeeper StaysFit i self.old.keepers.items self.new.keepers.items }
         ensures leaves { Leaves self.old self.new }
     {
         let first = keeping::keeps_none(&self.keepers, i as usize);

@@ -1,8 +1,3 @@
-use Rattle.std.proofs.Common.{refl}
-use Rattle.vx_status.specs.declared.outcome.Outcome.TheVariants.{Abandoned}
-use Rattle.vx_record.proofs.Adding.{adds_none}
-use Rattle.vx_moves.specs.Spends.{IsSpendOf}
-use Rattle.vx_moves.proofs.Leaving.{each_stays}
 use Rattle.vx_moves.proofs.Spending.{spends_both}
 use Rattle.vx_moves.proofs.books.Books.give_up_keeper.Goals as goal
 

@@ -5,7 +5,7 @@ use Rattle.vx_record.specs.Stages.{stages_of}
 use Rattle.vx_places.proofs.Firsts.{first_filled_is}
 use Rattle.vx_places.proofs.Making.{held_says}
 use Rattle.vx_moves.specs.Keepers.{keeper_at}
-use Rattle.vx_moves.proofs.Merging.{keeper_there, kept_step, none_kept}
+use Rattle.vx_moves.proofs.Merging.{keeper_there, kept_step, none_kept, one_wider}
 use Rattle.vx_moves.proofs.books.Books.take_kept.Goals as goal
 
 pub keeps_none-first-requires-clause-there : goal.keeps_none-first-requires-clause-there
@@ -31,3 +31,6 @@ returns-clause-steps g c =
     c.take_away-parcel.ensures.shifts
     (c.took.ensures.knows d.log c.args.stage _ none c.requires.moment s.seats)
     c.take_away-parcel.ensures.size c.took.ensures.size c.take_away-parcel.ensures.rooms
+
+pub returns-clause-fit : goal.returns-clause-fit
+returns-clause-fit g c = one_wider c.args.i c.args.self.now.keepers.items c.keep.new.keepers.items (λ was is takes. takes.stays) c.keep.ensures.took
