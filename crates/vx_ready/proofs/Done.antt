@@ -12,6 +12,10 @@ use Rattle.vx_record.specs.Lists.{buffered, held}
 use Rattle.vx_record.specs.Owing.{owes, all_noticed, is_source_done, is_worker_done, is_done}
 use Rattle.vx_record.specs.Places.Place.{Held}
 use Rattle.vx_record.specs.Routing.{is_dry, is_sent, is_ending}
+use Rattle.vx_record.specs.Legal.{IsLegal}
+use Rattle.vx_record.specs.Shifts.{at}
+use Rattle.vx_record.proofs.Shifting.{stands_at}
+use Rattle.vx_tasks.specs.Joining.{joins_at}
 use Rattle.vx_places.specs.Calls.{IsKept}
 use Rattle.vx_places.specs.Looks.{HasEmptyBuffer, HoldsMany}
 use Rattle.vx_places.specs.Views.{parcels_here}
@@ -20,21 +24,22 @@ use Rattle.vx_places.proofs.Recorded.{buffer_is, holds_is}
 use Rattle.vx_seats.specs.declared.seat.Seat.{Seat}
 use Rattle.vx_moves.specs.declared.books.Books.{Books}
 use Rattle.vx_moves.specs.Stands.{Stands}
-use Rattle.vx_moves.proofs.Keepers.{alone_by}
 use Rattle.vx_ready.specs.Asking.{IsSettled}
 use Rattle.vx_ready.proofs.Knowing.{at_home, owes_none, seat_there}
 use Rattle.vx_ready.proofs.Testing.{same_tests, empty_tests}
 
--- what an instance at home holds isn't lent
-kept_at : {P : Type 0} (told_by : P → Told) (books : Books P) (stands : Stands told_by books) (i : ℕ) (seat : Seat P) (at : slice_get books.seats i ≡ Some seat) → i < length books.seats → IsSettled books i → IsKept books.places i
-kept_at told_by books stands i seat at within settled =
-    go (parcels_here books.places (Held i)) refl (stands.kept i (at_home told_by books stands i seat at settled).1.home (alone_by books.log stands.run.judging i))
+-- what an instance at home holds that doesn't merge isn't lent
+kept_at : {P : Type 0} (told_by : P → Told) (books : Books P) (stands : Stands told_by books) (i : ℕ) (seat : Seat P) (there : slice_get books.seats i ≡ Some seat) → i < length books.seats → IsSettled books i →
+    joins_at books.log i ≡ false → IsKept books.places i
+kept_at told_by books stands i seat there within settled alone =
+    go (parcels_here books.places (Held i)) refl (stands.kept i (at_home told_by books stands i seat there settled).1.home alone)
   where
     go : (o : Option (List Parcel)) → parcels_here books.places (Held i) ≡ o → IsSome o → IsKept books.places i
     go None there is = cc
     go (Some parcels) there is = (held_says books.places i (let size = stands.size in omega (arith, size, within))).0 parcels there
 
-pub kept_there : {P : Type 0} (told_by : P → Told) (books : Books P) (stands : Stands told_by books) (i : ℕ) → i < length books.seats → IsSettled books i → IsKept books.places i
+pub kept_there : {P : Type 0} (told_by : P → Told) (books : Books P) (stands : Stands told_by books) (i : ℕ) → i < length books.seats → IsSettled books i →
+    joins_at books.log i ≡ false → IsKept books.places i
 kept_there told_by books stands i within settled = let there = seat_there books.seats i within in kept_at told_by books stands i there.0 there.1 within settled
 
 pub unbuffered_is : {P : Type 0} (told_by : P → Told) (books : Books P) (i : ℕ) (empty : Bool) → Stands told_by books → (empty ≡ true) ↔ HasEmptyBuffer books.places i → empty ≡ is_empty (buffered books.log i)
@@ -46,8 +51,12 @@ unbuffered_is told_by books i empty stands says =
 pub held_is : {P : Type 0} (told_by : P → Told) (books : Books P) (i n : ℕ) → Stands told_by books → HoldsMany books.places i n → n ≡ length (held books.log i)
 held_is told_by books i n stands many = holds_is books.log books.places i n stands.legal stands.places many
 
+-- what stands in its hand by the list of it
+pub none_held : (h : Record) (i : ℕ) → IsLegal h → is_empty (at h (Held i)) ≡ is_empty (held h i)
+none_held h i legal = ap (λ (qs : List (List ℕ)). is_empty qs) (sym (stands_at h (Held i) legal))
+
 -- as many as none
-none_tests : {X : Type 0} (xs : List X) (n : ℕ) → n ≡ length xs → (n == 0) ≡ is_empty xs
+pub none_tests : {X : Type 0} (xs : List X) (n : ℕ) → n ≡ length xs → (n == 0) ≡ is_empty xs
 none_tests [] n same = ap (λ k. k == 0) same
 none_tests (x ∷ xs) n same = grind (arith, nat_tests, same)
 
@@ -82,11 +91,11 @@ worker_tests false true true false = refl
 worker_tests false true false none = refl
 worker_tests false false sent none = refl
 
-pub vacant_is : (h : Record) (i n : ℕ) (empty sent both result : Bool) → empty ≡ is_empty (buffered h i) → sent ≡ is_sent h i → n ≡ length (held h i) → both ≡ (empty && sent) → result ≡ (both && (n == 0)) →
+pub vacant_is : (h : Record) (i : ℕ) (empty sent none both result : Bool) → empty ≡ is_empty (buffered h i) → sent ≡ is_sent h i → none ≡ is_empty (held h i) → both ≡ (empty && sent) → result ≡ (both && none) →
     result ≡ (is_empty (buffered h i) && is_sent h i && is_empty (held h i))
-vacant_is h i n empty sent both result empty_is sent_is many both_is result_is =
+vacant_is h i empty sent none both result empty_is sent_is none_is both_is result_is =
     let both_so : both ≡ (is_empty (buffered h i) && is_sent h i) = both_is ∙ ap (λ b. b && sent) empty_is ∙ ap (λ b. is_empty (buffered h i) && b) sent_is in
-    result_is ∙ ap (λ b. b && (n == 0)) both_so ∙ ap (λ b. is_empty (buffered h i) && is_sent h i && b) (none_tests (held h i) n many)
+    result_is ∙ ap (λ b. b && none) both_so ∙ ap (λ b. is_empty (buffered h i) && is_sent h i && b) none_is
 
 pub worker_done_is : (h : Record) (i : ℕ) (vacant ending : Bool) → vacant ≡ (is_empty (buffered h i) && is_sent h i && is_empty (held h i)) → ending ≡ is_ending h i → (vacant && ending) ≡ is_worker_done h i
 worker_done_is h i vacant ending vacant_is ending_is =

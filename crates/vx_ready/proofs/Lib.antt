@@ -9,3 +9,4 @@ pub mod Failing
 pub mod Closed
 pub mod Emptied
 pub mod Working
+pub mod Checking

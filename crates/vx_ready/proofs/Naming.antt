@@ -15,6 +15,7 @@ use Rattle.vx_record.specs.Records.{Record}
 use Rattle.vx_record.specs.Copies.{contains, count, counting, joined}
 use Rattle.vx_record.specs.Installs.{Wiring, wiring, wired, told, source_at, is_marked}
 use Rattle.vx_record.specs.Judges.{is_judging}
+use Rattle.vx_tasks.specs.Joining.{is_joining}
 use Rattle.vx_record.specs.Lists.{waiting}
 use Rattle.vx_record.specs.Routing.{wired_targets, drains, is_dry, all_dry, is_sent, routes, all_ports, is_named, is_ending}
 use Rattle.vx_record.proofs.Ceasing.{unmarked}
@@ -40,18 +41,20 @@ served_at (d ∷ rest) zero c all at = let same : d ≡ c = cc in ap is_served (
 served_at (d ∷ rest) (suc k) c all at = served_at rest k c (and_right (is_served d) (all_served rest) all) at
 
 -- a transform puts out on few ports
-judge_tests : (device judging few : Bool) → ((device && false) || (judging && not device && few) || false || false) ≡ true → few ≡ true
-judge_tests device judging few is = grind arith
+judge_tests : (device judging joining few : Bool) →
+    ((device && false) || (judging && not device && few) || false || false || (joining && not device && few)) ≡ true → few ≡ true
+judge_tests device judging joining few is = grind arith
 
-served_tests : (class : Class) (device judging few generating swallowing : Bool) →
-    ((device && not (transform_class class)) || (transform_class class && judging && not device && few) || (source_class class && generating) || (sink_class class && swallowing)) ≡ true →
+served_tests : (class : Class) (device judging joining few generating swallowing : Bool) →
+    ((device && not (transform_class class)) || (transform_class class && judging && not device && few) || (source_class class && generating) || (sink_class class && swallowing)
+    || (transform_class class && joining && not device && few)) ≡ true →
     (not (transform_class class) || few) ≡ true
-served_tests Source device judging few generating swallowing is = refl
-served_tests Transform device judging few generating swallowing is = judge_tests device judging few is
-served_tests Sink device judging few generating swallowing is = refl
+served_tests Source device judging joining few generating swallowing is = refl
+served_tests Transform device judging joining few generating swallowing is = judge_tests device judging joining few is
+served_tests Sink device judging joining few generating swallowing is = refl
 
 served_so : (c : Component) → is_served c ≡ true → (not (is_transform c) || has_few_ports c) ≡ true
-served_so c = served_tests c.class (has_device c.settings) (is_judging c.settings) (has_few_ports c) (is_generating c.settings) (is_swallowing c.settings)
+served_so c = served_tests c.class (has_device c.settings) (is_judging c.settings) (is_joining c.settings) (has_few_ports c) (is_generating c.settings) (is_swallowing c.settings)
 
 -- TARGETS
 or_contains : (xs ys : List ℕ) (i : ℕ) → (contains xs i || contains ys i) ≡ contains (xs ++ ys) i

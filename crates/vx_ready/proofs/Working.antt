@@ -1,24 +1,30 @@
 -- An instance that has something to do has work in the record, and one that hasn't has none.
-use Rattle.std.proofs.Common.{◌≡◌, ◌∙◌, ℕ, ◌<◌, ◌≤◌, Bool, true, false, ◌&&◌, ◌||◌, List, [], length, Option, Some, None, IfSome, IfNone, IsSomeAnd, inl, inr, refl, sym, ap, subst, arith}
+use Rattle.std.proofs.Common.{◌≡◌, ◌∙◌, ℕ, ◌<◌, ◌≤◌, Bool, true, false, ◌&&◌, ◌||◌, ◌⊎◌, List, [], length, Option, Some, None, IfSome, IfNone, IsSomeAnd, inl, inr, refl, sym, ap, subst, arith}
 use Rattle.std.specs.Prelude.{not, nat_le, slice_get, if◌then◌else◌}
-use Rattle.std.proofs.lemmas.Bool.{and_from as both, and_right as second_off, or_left as first_on, or_right as second_on}
+use Rattle.std.proofs.lemmas.Bool.{and_from as both, and_parts, and_right as second_off, or_left as first_on, or_right as second_on}
 use Rattle.std.proofs.lemmas.Bool.Decides.{nat_tests}
 use Rattle.vx_ends.specs.Told.{Told}
 use Rattle.vx_value.specs.Texts.{is_empty}
 use Rattle.vx_plan.specs.declared.class.Class.{Class}
 use Rattle.vx_plan.specs.declared.class.Class.TheVariants.{Source, Transform, Sink}
 use Rattle.vx_plan.specs.declared.component.Component.{Component}
-use Rattle.vx_plan.specs.Components.{is_source, is_sink}
+use Rattle.vx_plan.specs.Components.{is_source, is_transform, is_sink}
 use Rattle.vx_record.specs.Records.{Record}
 use Rattle.vx_record.specs.Confirms.{is_confirm_due}
 use Rattle.vx_record.specs.Installs.{component_of, source_at, transform_at, sink_at, device_at, is_closed}
 use Rattle.vx_record.specs.Lists.{buffered, held}
 use Rattle.vx_record.specs.Owing.{is_done, is_source_done, is_worker_done}
 use Rattle.vx_record.specs.Ready.{can_read, is_close_due, is_source_ready, is_attempt_due, can_take, is_sink_ready, is_flush_due, is_transform_ready, is_ready, source_waits, sink_waits, waits_until}
+use Rattle.vx_record.specs.Legal.{IsLegal}
+use Rattle.vx_record.specs.Places.Place.{Held}
+use Rattle.vx_record.specs.Ready.{IsReady}
 use Rattle.vx_record.specs.Routing.{is_sent, is_ending}
+use Rattle.vx_record.specs.Shifts.{at}
+use Rattle.vx_record.specs.Transforms.{IsTickDue}
 use Rattle.vx_record.specs.SinkBatches.{is_batch_closed, retry_from}
 use Rattle.vx_record.proofs.Ceasing.{unabandoned}
 use Rattle.vx_seats.specs.declared.seat.Seat.{Seat}
+use Rattle.vx_tasks.specs.Joining.{is_joining, joins_at}
 use Rattle.vx_tasks.specs.declared.work.Job.{Job}
 use Rattle.vx_tasks.specs.declared.work.Job.TheVariants as job
 use Rattle.vx_moves.specs.declared.books.Books.{Books}
@@ -27,6 +33,7 @@ use Rattle.vx_moves.specs.Stands.{Stands}
 use Rattle.vx_ready.specs.Asking.{source_class, transform_class, sink_class, IsSettled, IsUsable, IsOpen}
 use Rattle.vx_ready.specs.Jobs.{IsLeasable, IsSourceJob, IsTransformJob, IsSinkJob, IsJob}
 use Rattle.vx_ready.proofs.Closed.{closed_filled, not_empty}
+use Rattle.vx_ready.proofs.Done.{none_held}
 use Rattle.vx_ready.proofs.Emptied.{holds_none}
 use Rattle.vx_ready.proofs.Knowing.{Runs, known, runs, source_is, transform_is, sink_is, home, going, at_home, owes_none, seat_there}
 
@@ -87,6 +94,19 @@ sink_job_ready h i now job.Attempt is = first_on (is_attempt_due h i now || can_
 sink_job_ready h i now job.Judge is = absurd is
 sink_job_ready h i now job.Close is = second_on (is_attempt_due h i now || can_take h i now) (is_close_due h i) is
 
+-- an instance that merges is a transform
+pub joins_transform : (h : Record) (i : ℕ) → joins_at h i ≡ true → transform_at h i ≡ true
+joins_transform h i joins = go (component_of h i) joins
+  where
+    go : (o : Option Component) → (elim o [ None ↦ false | Some c ↦ is_transform c && is_joining c.settings ]) ≡ true → (elim o [ None ↦ false | Some c ↦ is_transform c ]) ≡ true
+    go None is = cc
+    go (Some c) is = (and_parts (is_transform c) (is_joining c.settings) is).0
+
+transform_of : (class : Class) → transform_class class ≡ true → class ≡ Transform
+transform_of Source is = cc
+transform_of Transform is = refl
+transform_of Sink is = cc
+
 -- an instance is what the class of its seat is
 module _ {P : Type 0} (told_by : P → Told) (books : Books P) (stands : Stands told_by books) (i : ℕ) (seat : Seat P) (there : slice_get books.seats i ≡ Some seat) where
   pub source_so : seat.class ≡ Source → source_at books.log i ≡ true
@@ -113,19 +133,22 @@ module _ {P : Type 0} (told_by : P → Told) (books : Books P) (stands : Stands 
     settled = subst (λ (o : Option (Seat P)). IfSome o (λ s. s.facts.owing ≡ false)) (sym there) (home told_by books stands i seat there settled).1.1;
   }
 
-  leasable : (now : ℕ) → is_ready books.log i now ≡ true → IsLeasable books i now
-  leasable now ready = record {
+  leasable_by : (now : ℕ) → IsReady books.log i now → IsLeasable books i now
+  leasable_by now ready = record {
     may = λ worker later. record {
       home = (at_home told_by books stands i seat there settled).1.home;
       unretired = sym (known told_by books stands i seat there).facts.retired ∙ usable.unretired;
       settled = owes_none told_by books stands i seat there settled;
-      ready = inl ready;
+      ready = ready;
       later = later;
       unpolled = refl;
     };
     going = unabandoned books.log (going told_by books stands i seat there settled);
     fit = fit_there;
   }
+
+  leasable : (now : ℕ) → is_ready books.log i now ≡ true → IsLeasable books i now
+  leasable now ready = leasable_by now (inl ready)
 
   runs_as : (class : Class) → seat.class ≡ class → Runs books.log i class
   runs_as class is = subst (Runs books.log i) is (runs told_by books stands i seat there)
@@ -154,11 +177,68 @@ module _ {P : Type 0} (told_by : P → Told) (books : Books P) (stands : Stands 
   pub transform_works : (now : ℕ) (work : Job) → seat.class ≡ Transform → IsTransformJob books.log i work → IsJob books.log i now work
   transform_works now work is does = inr (inl (transform_so told_by books stands i seat there is, does))
 
+  -- one that merges is a transform
+  joins_class : joins_at books.log i ≡ true → seat.class ≡ Transform
+  joins_class joins = transform_of seat.class (transform_is told_by books stands i seat there ∙ joins_transform books.log i joins)
+
+  merge_leased : (now : ℕ) → joins_at books.log i ≡ true → is_sent books.log i ≡ true →
+      ((not (is_empty (buffered books.log i)) || is_flush_due books.log i) ≡ true) ⊎ IsTickDue books.log i now → IsLeasable books i now
+  merge_leased now joins sent (inl some) =
+      leasable now (transform_ready books.log i now (runs_as Transform (joins_class joins))
+      ∙ both (is_sent books.log i) (not (is_empty (buffered books.log i)) || is_flush_due books.log i) sent some)
+  merge_leased now joins sent (inr due) = leasable_by now (inr (record { sent = sent; due = due }))
+
+  merge_unready : (now : ℕ) → joins_at books.log i ≡ true → is_transform_ready books.log i ≡ false → is_ready books.log i now ≡ false
+  merge_unready now joins none = transform_ready books.log i now (runs_as Transform (joins_class joins)) ∙ none
+
   pub sink_works : (now : ℕ) (work : Job) → seat.class ≡ Sink → IsSinkJob books.log i now work → IsJob books.log i now work
   sink_works now work is does = inr (inr (sink_so told_by books stands i seat there is, does))
 
 pub close_there : {P : Type 0} (told_by : P → Told) (books : Books P) (stands : Stands told_by books) (i : ℕ) → i < length books.seats → IsSettled books i → IsOpen books i → device_at books.log i ≡ true → is_done books.log i ≡ is_close_due books.log i
 close_there told_by books stands i within settled open_at = let there = seat_there books.seats i within in close_is told_by books stands i there.0 there.1 settled open_at
+
+-- WHO MERGES
+pub merge_there : {P : Type 0} (told_by : P → Told) (books : Books P) (stands : Stands told_by books) (i : ℕ) → i < length books.seats → IsSettled books i → IsOpen books i →
+    (now : ℕ) → joins_at books.log i ≡ true → is_sent books.log i ≡ true →
+    ((not (is_empty (buffered books.log i)) || is_flush_due books.log i) ≡ true) ⊎ IsTickDue books.log i now → IsLeasable books i now
+merge_there told_by books stands i within settled open_at = let there = seat_there books.seats i within in merge_leased told_by books stands i there.0 there.1 settled open_at
+
+pub unready_there : {P : Type 0} (told_by : P → Told) (books : Books P) (stands : Stands told_by books) (i : ℕ) → i < length books.seats → IsSettled books i → IsOpen books i →
+    (now : ℕ) → joins_at books.log i ≡ true → is_transform_ready books.log i ≡ false → is_ready books.log i now ≡ false
+unready_there told_by books stands i within settled open_at = let there = seat_there books.seats i within in merge_unready told_by books stands i there.0 there.1 settled open_at
+
+-- where nothing is buffered, and it isn't to be flushed, it has no work but a tick
+pub no_inputs : (h : Record) (i : ℕ) → (not (is_empty (buffered h i)) || is_flush_due h i) ≡ false → is_transform_ready h i ≡ false
+no_inputs h i none = second_off (is_sent h i) (not (is_empty (buffered h i)) || is_flush_due h i) none
+
+-- when it is to be flushed
+flush_bare : (ending empty none : Bool) → none ≡ true → false ≡ (ending && empty && not none)
+flush_bare true true true is = refl
+flush_bare true false true is = refl
+flush_bare false true true is = refl
+flush_bare false false true is = refl
+flush_bare ending empty false is = cc
+
+flush_filled : (ending empty none : Bool) → empty ≡ false → false ≡ (ending && empty && not none)
+flush_filled true false none is = refl
+flush_filled false false none is = refl
+flush_filled ending true none is = cc
+
+flush_ending : (ending empty none : Bool) → empty ≡ true → none ≡ false → ending ≡ (ending && empty && not none)
+flush_ending true true false empty_is none_is = refl
+flush_ending false true false empty_is none_is = refl
+flush_ending ending false none empty_is none_is = cc
+flush_ending ending empty true empty_is none_is = cc
+
+pub unflushed_bare : (h : Record) (i : ℕ) → IsLegal h → is_empty (at h (Held i)) ≡ true → false ≡ is_flush_due h i
+unflushed_bare h i legal none = flush_bare (is_ending h i) (is_empty (buffered h i)) (is_empty (held h i)) (sym (none_held h i legal) ∙ none)
+
+pub unflushed_filled : (h : Record) (i : ℕ) → is_empty (buffered h i) ≡ false → false ≡ is_flush_due h i
+unflushed_filled h i some = flush_filled (is_ending h i) (is_empty (buffered h i)) (is_empty (held h i)) some
+
+pub flushed_ending : (h : Record) (i : ℕ) (ending : Bool) → IsLegal h → is_empty (at h (Held i)) ≡ false → is_empty (buffered h i) ≡ true → ending ≡ is_ending h i → ending ≡ is_flush_due h i
+flushed_ending h i ending legal some none is =
+    is ∙ flush_ending (is_ending h i) (is_empty (buffered h i)) (is_empty (held h i)) none (sym (none_held h i legal) ∙ some)
 
 -- one without a port never is
 pub close_never : (h : Record) (i : ℕ) → device_at h i ≡ false → false ≡ is_close_due h i
@@ -168,11 +248,12 @@ close_never h i off = sym (ap (λ b. b && not (is_closed h i) && is_done h i) of
 pub unsent_there : (h : Record) (i : ℕ) → is_sent h i ≡ false → is_transform_ready h i ≡ false
 unsent_there h i is = ap (λ b. b && (not (is_empty (buffered h i)) || is_flush_due h i)) is
 
-pub idle_there : {P : Type 0} (told_by : P → Told) (books : Books P) (stands : Stands told_by books) (i : ℕ) → i < length books.seats → IsSettled books i → transform_at books.log i ≡ true → is_empty (buffered books.log i) ≡ true → is_transform_ready books.log i ≡ false
-idle_there told_by books stands i within settled transform empty =
+pub idle_there : {P : Type 0} (told_by : P → Told) (books : Books P) (stands : Stands told_by books) (i : ℕ) → i < length books.seats → IsSettled books i → transform_at books.log i ≡ true → joins_at books.log i ≡ false →
+    is_empty (buffered books.log i) ≡ true → is_transform_ready books.log i ≡ false
+idle_there told_by books stands i within settled transform alone empty =
     let h = books.log in
     let there = seat_there books.seats i within in
-    let bare : held h i ≡ [] = holds_none h i stands.legal (unabandoned h (going told_by books stands i there.0 there.1 settled)) transform (stands.run.judging i transform) (owes_none told_by books stands i there.0 there.1 settled) in
+    let bare : held h i ≡ [] = holds_none h i stands.legal (unabandoned h (going told_by books stands i there.0 there.1 settled)) transform (stands.run.judging i transform alone) (owes_none told_by books stands i there.0 there.1 settled) in
     nothing_due (is_sent h i) (is_ending h i) (is_empty (buffered h i)) (is_empty (held h i)) empty (ap (λ (qs : List (List ℕ)). is_empty qs) bare)
 
 -- a moment that has come, and one that hasn't

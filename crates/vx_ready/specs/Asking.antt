@@ -8,6 +8,7 @@ use Rattle.vx_plan.specs.Components.{is_source, is_transform, is_sink, port_name
 use Rattle.vx_plan.specs.Options.{has_device}
 use Rattle.vx_record.specs.Judges.{is_judging}
 use Rattle.vx_sourcecore.specs.Lines.{is_generating, is_swallowing}
+use Rattle.vx_tasks.specs.Joining.{is_joining}
 use Rattle.vx_seats.specs.declared.seat.Seat.{Seat}
 use Rattle.vx_moves.specs.declared.books.Books.{Books}
 
@@ -47,6 +48,10 @@ has_few_ports c = nat_le (length (port_names c)) 65
 abbrev pub is_judge : Component → Bool
 is_judge c = is_transform c && is_judging c.settings && not (has_device c.settings) && has_few_ports c
 
+-- whether it is a transform that merges, without a port of its own, and puts out on few
+abbrev pub is_merger : Component → Bool
+is_merger c = is_transform c && is_joining c.settings && not (has_device c.settings) && has_few_ports c
+
 -- whether it is a source that makes its lines itself
 abbrev pub is_generator : Component → Bool
 is_generator c = is_source c && is_generating c.settings
@@ -57,15 +62,15 @@ is_hole c = is_sink c && is_swallowing c.settings
 
 -- whether it is one of these
 abbrev pub is_served : Component → Bool
-is_served c = is_ported c || is_judge c || is_generator c || is_hole c
+is_served c = is_ported c || is_judge c || is_generator c || is_hole c || is_merger c
 
 -- whether each of some is
 abbrev pub all_served : List Component → Bool
 all_served [] = true
 all_served (c ∷ rest) = is_served c && all_served rest
 
--- each component of the plan works with a port, judges event by event, makes its lines itself or writes nothing, and there
--- are fewer than 2^32 instances
+-- each component of the plan works with a port, judges event by event, merges, makes its lines itself or writes nothing, and
+-- there are fewer than 2^32 instances
 pub record IsServed {P : Type 0} (books : Books P) : Type 0 where
   pub served : all_served books.run.plan.components ≡ true
   pub few : length books.seats < 2 ^ 32

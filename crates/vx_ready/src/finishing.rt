@@ -1,10 +1,11 @@
 // Whether an instance has nothing more to do.
-ghost use Rattle.std.specs.Prelude.{◌≡◌, ◌<◌, ◌&&◌, length, true};
+ghost use Rattle.std.specs.Prelude.{◌≡◌, ◌<◌, ◌&&◌, length, true, false};
 ghost use Rattle.vx_record.specs.Installs.{source_at};
 ghost use Rattle.vx_record.specs.Lists.{buffered, held};
 ghost use Rattle.vx_record.specs.Owing.{is_source_done as is_source_done_at, is_worker_done as is_worker_done_at, is_done as is_done_at};
 ghost use Rattle.vx_record.specs.Routing.{is_sent as is_sent_at};
 ghost use Rattle.vx_value.specs.Texts.{is_empty};
+ghost use Rattle.vx_tasks.specs.Joining.{joins_at};
 ghost use Rattle.vx_moves.specs.Stands.{Stands};
 ghost use Rattle.vx_ready.specs.Asking.{IsServed, IsSettled};
 
@@ -62,7 +63,7 @@ fn is_vacant<P: Port>(books: &Books<P>, i: u32) -> bool
         && is_empty (held books.now.log i)) }
 {
     let sent = both(is_unbuffered(books, i), is_sent(books, i));
-    let none = count_held(books, i) == 0;
+    let none = holds_none(books, i);
     both(sent, none)
 }
 
@@ -75,11 +76,26 @@ pub(crate) fn is_unbuffered<P: Port>(books: &Books<P>, i: u32) -> bool
     books.places.is_empty_buffer(i)
 }
 
-/// How many parcels an instance at home holds.
+/// Whether an instance at home holds nothing.
+pub fn holds_none<P: Port>(books: &Books<P>, i: u32) -> bool
+    requires stands { Stands P.told books.now }
+    requires within { i < length books.now.seats }
+    requires settled { IsSettled books.now i }
+    ensures { result ≡ is_empty (held books.now.log i) }
+{
+    if books.merges(i) {
+        books.keeps_none(i)
+    } else {
+        count_held(books, i) == 0
+    }
+}
+
+/// How many parcels an instance at home holds that doesn't merge.
 pub(crate) fn count_held<P: Port>(books: &Books<P>, i: u32) -> usize
     requires stands { Stands P.told books.now }
     requires within { i < length books.now.seats }
     requires settled { IsSettled books.now i }
+    requires alone { joins_at books.now.log i ≡ false }
     ensures { result ≡ length (held books.now.log i) }
 {
     books.places.holds(i)

@@ -3,6 +3,7 @@ ghost use Rattle.std.specs.Prelude.{◌≡◌, ◌<◌, length, true, false, IfS
 ghost use Rattle.vx_record.specs.Installs.{source_at, transform_at, sink_at};
 ghost use Rattle.vx_record.specs.Ready.{is_close_due as is_close_due_at, is_source_ready, is_sink_ready, is_transform_ready, is_ready};
 ghost use Rattle.vx_record.specs.SinkBatches.{is_batch_closed as is_batch_closed_at};
+ghost use Rattle.vx_tasks.specs.Joining.{joins_at};
 ghost use Rattle.vx_moves.specs.Stands.{Stands};
 ghost use Rattle.vx_ready.specs.Asking.{IsServed, IsHome, IsSettled, IsUsable, IsOpen};
 ghost use Rattle.vx_ready.specs.Jobs.{IsLeasable, IsJob, IsSourceJob, IsTransformJob, IsSinkJob};
@@ -19,9 +20,9 @@ use vx_tasks::Job;
 /// What an instance has to do at a moment, in milliseconds: a source is read while it can be, and what is to be confirmed is
 /// confirmed first once it can't; a transform judges what is buffered, once all that it put out is on its way; a sink attempts its
 /// batch once that is closed and has waited behind its last failed attempt, and takes more before it is closed. An instance with a
-/// port that has nothing more to do is closed. `None` where there is nothing to do, where the instance isn't at home, or may owe
-/// something for want of memory, where its port is closed for good or may have given what no entry tells, where it ended, and where
-/// the run was given up.
+/// port that has nothing more to do is closed. `None` where there is nothing to do, where the instance merges, where it isn't at home,
+/// or may owe something for want of memory, where its port is closed for good or may have given what no entry tells, where it ended,
+/// and where the run was given up.
 pub fn first_job<P: Port>(books: &Books<P>, i: u32, now: u64) -> Option<Job>
     requires stands { Stands P.told books.now }
     requires within { i < length books.now.seats }
@@ -29,13 +30,17 @@ pub fn first_job<P: Port>(books: &Books<P>, i: u32, now: u64) -> Option<Job>
     ensures some { IfSome result (λ job. IsJob books.now.log i now job) }
     ensures leasable { IfSome result (λ job. IsLeasable books.now i now) }
     ensures settled { IfSome result (λ job. IsSettled books.now i) }
-    ensures none { IsSettled books.now i → IsOpen books.now i →
+    ensures alone { IfSome result (λ job. joins_at books.now.log i ≡ false) }
+    ensures none { IsSettled books.now i → IsOpen books.now i → joins_at books.now.log i ≡ false →
         IfNone result (is_ready books.now.log i now ≡ false) }
 {
     if !is_settled(books, i) {
         return None;
     }
     if !is_open(books, i) {
+        return None;
+    }
+    if books.merges(i) {
         return None;
     }
     match books.seats.get(i).class {
@@ -102,12 +107,13 @@ fn source_job<P: Port>(books: &Books<P>, i: u32, now: u64) -> Option<Job>
     None
 }
 
-/// What a transform has to do.
+/// What a transform has to do that judges event by event.
 fn transform_job<P: Port>(books: &Books<P>, i: u32) -> Option<Job>
     requires stands { Stands P.told books.now }
     requires within { i < length books.now.seats }
     requires settled { IsSettled books.now i }
     requires transform { transform_at books.now.log i ≡ true }
+    requires alone { joins_at books.now.log i ≡ false }
     ensures some { IfSome result (λ job. IsTransformJob books.now.log i job) }
     ensures none { IfNone result (is_transform_ready books.now.log i ≡ false) }
 {

@@ -1,7 +1,9 @@
 // The moment for which an instance waits.
-ghost use Rattle.std.specs.Prelude.{◌≡◌, ◌<◌, length, true, None, IfSome};
+ghost use Rattle.std.specs.Prelude.{◌≡◌, ◌<◌, ◌≤◌, ℕ, length, true, None, IfSome, IsSomeAnd};
 ghost use Rattle.vx_record.specs.Installs.{sink_at};
-ghost use Rattle.vx_record.specs.Ready.{source_waits as source_waits_at, sink_waits as sink_waits_at, waits_until as waits_until_at};
+ghost use Rattle.vx_record.specs.Ready.{IsTickReady, source_waits as source_waits_at, sink_waits as sink_waits_at, waits_until as waits_until_at};
+ghost use Rattle.vx_tasks.specs.Joining.{joins_at};
+ghost use Rattle.vx_moves.specs.Keepers.{CanAnswer, IsKeeper};
 ghost use Rattle.vx_moves.specs.Stands.{Stands};
 ghost use Rattle.vx_ready.specs.Asking.{IsServed, IsSettled, IsOpen};
 ghost use Rattle.vx_ready.specs.Jobs.{is_full as is_full_by, times_out as times_out_by};
@@ -9,7 +11,7 @@ ghost use Rattle.vx_ready.specs.Jobs.{is_full as is_full_by, times_out as times_
 use crate::batches::{failed_before, is_last, retry_from};
 use crate::finishing::count_held;
 use crate::jobs::{is_open, is_settled};
-use crate::sources::{either, gives_more};
+use crate::sources::{either, gives_more, is_sent};
 use vx_ends::Port;
 use vx_moves::Books;
 use vx_plan::Class;
@@ -38,6 +40,35 @@ pub fn waits_until<P: Port>(books: &Books<P>, i: u32) -> Option<u64>
         Class::Transform => None,
         Class::Sink => sink_waits(books, i),
     }
+}
+
+/// The moment of the next check of an instance at home that merges and holds a group, in milliseconds: from then on it is to act by
+/// itself. `None` of any other instance, and where it took something that it hasn't answered, or not all that it put out is on its way.
+pub fn checks_at<P: Port>(books: &Books<P>, i: u32) -> Option<u64>
+    requires stands { Stands P.told books.now }
+    requires within { i < length books.now.seats }
+    ensures due { IfSome result
+        (λ moment. (now : ℕ) → moment ≤ now → IsTickReady books.now.log i now) }
+    ensures joins { IfSome result (λ moment. joins_at books.now.log i ≡ true) }
+    ensures settled { IfSome result (λ moment. IsSettled books.now i) }
+    ensures open { IfSome result (λ moment. IsOpen books.now i) }
+    ensures only { IsSettled books.now i → IsOpen books.now i →
+        joins_at books.now.log i ≡ true → IsKeeper CanAnswer books.now.keepers.items i →
+        (now : ℕ) → IsTickReady books.now.log i now → IsSomeAnd result (λ moment. moment ≤ now) }
+{
+    if !is_settled(books, i) {
+        return None;
+    }
+    if !is_open(books, i) {
+        return None;
+    }
+    if !books.merges(i) {
+        return None;
+    }
+    if !is_sent(books, i) {
+        return None;
+    }
+    books.check_due(i)
 }
 
 /// The moment from which on a source may be read, if it can be once it has rested.

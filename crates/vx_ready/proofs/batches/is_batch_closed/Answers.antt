@@ -2,7 +2,11 @@ use Rattle.std.proofs.Common.{◌∙◌, sym, refl, ap, true, false, ◌||◌, a
 use Rattle.vx_record.specs.SinkBatches.{is_last_batch}
 use Rattle.vx_ready.proofs.Closed.{closed_some}
 use Rattle.vx_ready.proofs.Knowing.{going, owes_none}
+use Rattle.vx_moves.proofs.Merging.{sink_alone}
 use Rattle.vx_ready.proofs.batches.is_batch_closed.Goals as goal
+
+pub count_held-held-requires-clause-alone : goal.count_held-held-requires-clause-alone
+count_held-held-requires-clause-alone g c = sink_alone c.args.books.now.log c.args.i c.requires.sink
 
 pub returns-then-due : goal.returns-then-due
 returns-then-due g c =

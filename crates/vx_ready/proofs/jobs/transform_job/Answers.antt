@@ -7,4 +7,4 @@ returns-then-not-is_sent-clause-none g c = unsent_there c.args.books.now.log c.a
 
 pub returns-then-is_unbuffered-clause-none : goal.returns-then-is_unbuffered-clause-none
 returns-then-is_unbuffered-clause-none g c =
-    idle_there g.P.Port.told c.args.books.now c.requires.stands c.args.i c.requires.within c.requires.settled c.requires.transform (sym c.is_unbuffered.ensures ∙ c.if-is_unbuffered.true)
+    idle_there g.P.Port.told c.args.books.now c.requires.stands c.args.i c.requires.within c.requires.settled c.requires.transform c.requires.alone (sym c.is_unbuffered.ensures ∙ c.if-is_unbuffered.true)

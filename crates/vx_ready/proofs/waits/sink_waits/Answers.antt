@@ -2,7 +2,11 @@ use Rattle.std.proofs.Common.{◌∙◌, sym, ap, ◌<◌, ◌||◌, length, ari
 use Rattle.vx_record.specs.Lists.{held}
 use Rattle.vx_ready.proofs.Closed.{ready_is, waits_again, waits_ended, waits_for_none}
 use Rattle.vx_ready.proofs.Knowing.{going, owes_none}
+use Rattle.vx_moves.proofs.Merging.{sink_alone}
 use Rattle.vx_ready.proofs.waits.sink_waits.Goals as goal
+
+pub count_held-held-requires-clause-alone : goal.count_held-held-requires-clause-alone
+count_held-held-requires-clause-alone g c = sink_alone c.args.books.now.log c.args.i c.requires.sink
 
 pub returns-then-held-eq0 : goal.returns-then-held-eq0
 returns-then-held-eq0 g c = waits_for_none c.args.books.now.log c.args.i c.count_held-held.result c.count_held-held.ensures c.if-held-eq0.true
