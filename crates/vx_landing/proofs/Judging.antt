@@ -1,5 +1,5 @@
 -- A transform that judged comes home: what it answers, and what is left once that was noted.
-use Rattle.std.proofs.Common.{◌≡◌, ◌∙◌, ℕ, ◌<◌, Bool, true, false, List, [], ◌∷◌, ◌++◌, length, map, None, IfSome, refl, sym, ap, subst}
+use Rattle.std.proofs.Common.{◌≡◌, ◌∙◌, ℕ, ◌<◌, Bool, true, false, List, [], ◌∷◌, ◌++◌, length, map, None, IfSome, IsSome, refl, sym, ap, subst}
 use Rattle.std.specs.Prelude.{◌||◌, Ok, Err, OnOk, OnErr, Result, is_err, slice_get}
 use Rattle.vx_ends.specs.Told.{Told}
 use Rattle.vx_ledger.specs.Copies.{numbers_of}
@@ -26,6 +26,7 @@ use Rattle.vx_record.proofs.Judged.{runner_transforms}
 use Rattle.vx_record.proofs.Judges.{filtered_there}
 use Rattle.vx_places.specs.Numbers.{numbers}
 use Rattle.vx_places.specs.Rooms.{SameRooms}
+use Rattle.vx_places.specs.Views.{parcels_here}
 use Rattle.vx_counts.proofs.Once.{itself}
 use Rattle.vx_tasks.specs.declared.landing.Done.TheVariants as done
 use Rattle.vx_tasks.specs.declared.task.Task.{Task}
@@ -39,6 +40,7 @@ use Rattle.vx_moves.specs.declared.books.Books.{Books}
 use Rattle.vx_moves.specs.declared.run.Run.{Run}
 use Rattle.vx_moves.specs.Spends.{MaySpendAll}
 use Rattle.vx_moves.specs.Stands.{Stands}
+use Rattle.vx_moves.proofs.Keepers.{seen_alone}
 use Rattle.vx_landing.specs.Failures.{LacksBirth}
 use Rattle.vx_landing.specs.Landings.{ComesBehind, HasAnsweredBy, HasLanded, IsBackWith, IsOwingNow, IsWellLanded, Owes, done_entries}
 use Rattle.vx_landing.specs.Standing.{IsWellAt, IsFedAt}
@@ -78,8 +80,9 @@ may_filter h log i ports legal noted going judge =
 
 module _ {P : Type 0} {told_by : P → Told} {old : Books P} {i : ℕ} (stands : Stands told_by old) where
   -- who may answer judges
-  pub may_judge : {ports : List ℕ} → MayAnswerNow old.log i ports → judge_at old.log i ≡ true
-  may_judge now = stands.run.judging i (runner_transforms old.log i now.may.rule now.may.follows)
+  pub may_judge : {ports : List ℕ} → IsSome (parcels_here old.places (Held i)) → MayAnswerNow old.log i ports → judge_at old.log i ≡ true
+  may_judge kept now =
+      stands.run.judging i (runner_transforms old.log i now.may.rule now.may.follows) (seen_alone old.places old.log i stands.keepers.apart kept)
 
   module _ {task : Task P} {ports : List ℕ} (b : IsBackWith told_by old i task (done.Judged ports)) where
     -- what was judged may be answered

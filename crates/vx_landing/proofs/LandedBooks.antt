@@ -193,7 +193,7 @@ module _ {P : Type 0} {told_by : P → Told} {old : Books P} {landing : Landing 
 
 -- WHO IS OUT
 -- entries of an instance's task leave who else is out
-others_out : (i j : ℕ) (old new : Record) → j ≢ i → OnlyAdds (IsFor i) old new → is_out new j ≡ is_out old j
+pub others_out : (i j : ℕ) (old new : Record) → j ≢ i → OnlyAdds (IsFor i) old new → is_out new j ≡ is_out old j
 others_out i j old new other adds = carry (IsFor i) (λ k. is_out k j ≡ is_out old j) step old new adds refl
   where
     step : (h : Record) (e : Entry) → Follows h e → IsFor i h e → is_out h j ≡ is_out old j → is_out (e ∷ h) j ≡ is_out old j

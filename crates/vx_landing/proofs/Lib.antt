@@ -8,3 +8,4 @@ pub mod Seating
 pub mod Serving
 pub mod ToldOut
 pub mod Deciding
+pub mod Merged

@@ -71,14 +71,14 @@ deeds_none h i none =
     record { birth = two.0; spends = two.1 }
 
 -- with what it discarded, and what it took
-entries_none : (h : Record) (i : ℕ) → OwesDeeds h i → owes_discards h i ≡ false → owes_entries h i ≡ false
+pub entries_none : (h : Record) (i : ℕ) → OwesDeeds h i → owes_discards h i ≡ false → owes_entries h i ≡ false
 entries_none h i deeds discards =
     or_from (owes_birth h i || owes_spends_in h h i) (owes_discards h i) (or_from (owes_birth h i) (owes_spends_in h h i) deeds.birth deeds.spends) discards
 
 pub owes_none : (h : Record) (i : ℕ) → owes_entries h i ≡ false → owes_answer h i ≡ false → owes h i ≡ false
 owes_none h i entries answer = or_from (owes_entries h i) (owes_answer h i) entries answer
 
-owes_parts : (h : Record) (i : ℕ) → owes h i ≡ false → (owes_entries h i ≡ false) × (owes_answer h i ≡ false)
+pub owes_parts : (h : Record) (i : ℕ) → owes h i ≡ false → (owes_entries h i ≡ false) × (owes_answer h i ≡ false)
 owes_parts h i none = or_parts (owes_entries h i) (owes_answer h i) none
 
 -- what is owed, by how many were born and how many are to be, by what was decided and discarded, by what is spent, and by whether an answer is
@@ -116,7 +116,7 @@ each_less h e (p ∷ ps) none =
     or_from (unspent_of (e ∷ h) p) (list_any (unspent_of (e ∷ h)) ps) (unspent_less h e p two.0) (each_less h e ps two.1)
 
 -- so an entry that neither bears, reads nor attempts leaves what is owed of what was done
-deeds_on : (h : Record) (e : Entry) (i : ℕ) → births_in i e ≡ [] → fruitful (e ∷ h) i ≡ fruitful h i → decided (e ∷ h) i ≡ decided h i → OwesDeeds h i → OwesDeeds (e ∷ h) i
+pub deeds_on : (h : Record) (e : Entry) (i : ℕ) → births_in i e ≡ [] → fruitful (e ∷ h) i ≡ fruitful h i → decided (e ∷ h) i ≡ decided h i → OwesDeeds h i → OwesDeeds (e ∷ h) i
 deeds_on h e i unborn read tried was = record { birth = rw (unborn, append-nil, read) was.birth; spends = rw tried (each_less h e (decided h i) was.spends) }
 
 -- and a confirm does what was discarded too

@@ -1,3 +1,4 @@
 pub mod Failures
 pub mod Landings
+pub mod Merging
 pub mod Standing

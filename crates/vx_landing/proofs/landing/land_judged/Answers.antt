@@ -16,7 +16,7 @@ spend_all_held-requires-clause-may g c =
     let books = c.args.books.now in
     let now = r.may (unabandoned books.log (none_known g.P.Port.told books r.stands (sym c.is_some.ensures ∙ c.if-is_some.false))) in
     let steps = c.in-Ok.ensures.steps in
-    may_filter books.log c.answer.new.self.log c.args.i c.args.ports.now steps.stands.legal steps.noted (rw steps.noted now.going) (may_judge r.stands now)
+    may_filter books.log c.answer.new.self.log c.args.i c.args.ports.now steps.stands.legal steps.noted (rw steps.noted now.going) (may_judge r.stands r.kept now)
 
 pub returns-then-is_some-clause-answered : goal.returns-then-is_some-clause-answered
 returns-then-is_some-clause-answered g c =
