@@ -1,7 +1,7 @@
 -- A hub as it begins.
-use Rattle.std.proofs.Common.{◌≡◌, ◌≢◌, ◌∙◌, ℕ, zero, suc, ◌+◌, ◌<◌, ◌≤◌, inl, inr, Bool, true, false, List, [], ◌∷◌, ◌++◌, Option, Some, None, IfSome, length, refl, sym, ap, subst, arith, get_or}
-use Rattle.std.specs.Prelude.{is_some, ◌^◌, ◌&&◌, if◌then◌else◌, map, IsSomeAnd, slice_get, slice_set, vec_capacity}
-use Rattle.std.proofs.lemmas.List.{length-append}
+use Rattle.std.proofs.Common.{◌≡◌, ◌≢◌, ◌∙◌, ℕ, zero, suc, ◌+◌, ◌<◌, ◌≤◌, inl, inr, Bool, true, false, List, [], ◌∷◌, ◌++◌, Option, Some, None, IfSome, IsSome, length, refl, sym, ap, subst, arith, get_or}
+use Rattle.std.specs.Global.{Vec}
+use Rattle.std.specs.Prelude.{◌^◌, ◌&&◌, if◌then◌else◌, map, IsSomeAnd, slice_get, slice_set, vec_capacity}
 use Rattle.std.proofs.lemmas.Bool.{and_from, cases_eq, cases_lt}
 use Rattle.std.proofs.lemmas.List.{length_push}
 use Rattle.std.proofs.lemmas.Option.{IfSome_then, slice_get_past, slice_get_read, slice_get-get_or}
@@ -18,8 +18,8 @@ use Rattle.vx_record.specs.declared.entry.Entry.TheVariants.{Install}
 use Rattle.vx_record.specs.Records.{Record}
 use Rattle.vx_record.specs.Generating.{lines_at_once}
 use Rattle.vx_record.specs.Installs.{component_of, told, device_at}
-use Rattle.vx_record.specs.Judges.{is_judging, OnlyJudges}
-use Rattle.vx_record.specs.Places.Place.{Outputs, Held}
+use Rattle.vx_record.specs.Judges.{is_judging}
+use Rattle.vx_record.specs.Places.Place.{Held}
 use Rattle.vx_record.specs.Reads.{all_ended}
 use Rattle.vx_record.specs.Starting.{first_instances}
 use Rattle.vx_record.specs.Wirings.{begun}
@@ -31,13 +31,11 @@ use Rattle.vx_sourcecore.proofs.Keeping.{fresh_abreast}
 use Rattle.vx_sourcecore.proofs.MakingKept.{generator_fresh}
 use Rattle.vx_balance.proofs.Steps.{aside_kept}
 use Rattle.vx_counts.proofs.Begun.{begun_first, begun_stays}
-use Rattle.vx_transform.specs.declared.output.Output.{Output}
-use Rattle.vx_places.specs.Numbers.{parcels_out}
-use Rattle.vx_places.specs.Views.{row_at, here_if, outputs_if, outputs_here, parcels_here}
+use Rattle.vx_places.specs.Views.{row_at, parcels_here}
 use Rattle.vx_places.specs.declared.row.Row.{Row}
 use Rattle.vx_places.specs.Holding.{Holds}
 use Rattle.vx_places.specs.Rooms.{rooms_at, rooms_if, held_room}
-use Rattle.vx_places.proofs.Steps.{holds_step, still_shifts, same_holds, none_holds}
+use Rattle.vx_places.proofs.Steps.{holds_step, still_shifts}
 use Rattle.vx_tasks.specs.declared.task.Role.{Role}
 use Rattle.vx_tasks.specs.declared.task.Role.TheVariants.{Source, Generator, Sink, Blackhole, Transform, Merge, Unfit}
 use Rattle.vx_tasks.specs.Home.{StandsAt, HasCome, IsAtHome}
@@ -49,16 +47,17 @@ use Rattle.vx_seats.proofs.Staying.{written, other_seat}
 use Rattle.vx_moves.specs.declared.books.Books.{Books}
 use Rattle.vx_tasks.specs.Joining.{joins_at}
 use Rattle.vx_keeping.specs.Kept.{Kept}
-use Rattle.vx_moves.specs.Keepers.{keeper_at}
-use Rattle.vx_moves.proofs.Keepers.{alone_by}
+use Rattle.vx_moves.specs.Keepers.{keeper_at, OthersJudge}
+use Rattle.vx_landing.proofs.Lending.{room_lent}
 use Rattle.vx_moves.specs.Rooms.{planned_rooms, hand_of, IsHandOf}
 use Rattle.vx_moves.specs.Stands.{Stands}
 use Rattle.vx_hub.specs.declared.hub.Hub.{Hub}
 use Rattle.vx_hub.specs.declared.making.Room.{Room}
 use Rattle.vx_hub.specs.declared.parts.Named.{Named}
-use Rattle.vx_hub.specs.Beginning.{IsBegun, at_once, IsWorkerFor, IsRoleFor, IsRoleBut, AreFor, HasRoomFor, HaveRooms, AreVacant, AreRoledFrom, AreSeatedFrom}
-use Rattle.vx_hub.specs.Making.{AreFree, IsUntouched, AreUntouched, IsPickerFor, ArePickers, is_served, all_served}
-use Rattle.vx_hub.specs.Standing.{AreSources, IsHub}
+use Rattle.vx_hub.specs.Beginning.{IsBegun, at_once, IsWorkerFor, IsRoleFor, IsRoleBut, AreFor, HasRoomFor, HaveRooms, AreRoledFrom, AreSeatedFrom}
+use Rattle.vx_hub.specs.Making.{AreSlots, IsUntouched, AreUntouched, IsPickerFor, ArePickers, is_served, all_served}
+use Rattle.vx_hub.specs.Standing.{AreSources, AreMergers, IsHub, merges}
+use Rattle.vx_hub.proofs.Kept.{slots_at, slots_size, whose_if, kept_if, hand_says, hand_seen, alone_room, joined_room}
 use Rattle.vx_hub.proofs.Resting.{with_some, if_there, pushed}
 use Rattle.vx_hub.proofs.Served.{serves, served_at}
 
@@ -183,8 +182,9 @@ whole_role (Generator maker) None c but of = but
 whole_role (Sink codec) None c but of = but
 whole_role Blackhole None c but of = but
 whole_role (Transform p) None c but of = absurd but
-whole_role Merge None c but of = absurd but
-whole_role Unfit None c but of = cc
+whole_role Merge None c but of = but
+whole_role Unfit None c but (inl other) = let is = but.0 in cc
+whole_role Unfit None c but (inr merging) = let alone = but.1 in cc
 whole_role role (Some p) c but of = of.1
 
 pub whole_roles : (components : List Component) (roles : List Role) (pickers : List (Option Picker)) (roled : List Role) →
@@ -219,7 +219,7 @@ fit_role (Generator maker) c is = λ e. cc
 fit_role (Sink codec) c is = λ e. cc
 fit_role Blackhole c is = λ e. cc
 fit_role (Transform picker) c is = λ e. cc
-fit_role Merge c is = absurd is
+fit_role Merge c is = λ e. cc
 fit_role Unfit c is = absurd is
 
 -- what it keeps stands for nothing
@@ -229,7 +229,7 @@ bare_role (Generator maker) c is = tt
 bare_role (Sink codec) c is = tt
 bare_role Blackhole c is = tt
 bare_role (Transform picker) c is = is.1
-bare_role Merge c is = absurd is
+bare_role Merge c is = tt
 bare_role Unfit c is = absurd is
 
 -- of an instance nothing is had at first, be there a port or not
@@ -278,7 +278,7 @@ module _ {plan : Plan} (accepted : IsPlan plan) (i : ℕ) {c : Component}
   come_first (Sink codec) is = rw runs is
   come_first Blackhole is = rw runs is
   come_first (Transform picker) is = rw runs is.0
-  come_first Merge is = absurd is
+  come_first Merge is = ap (λ (o : Option Component). elim o as (λ _. Bool) [ None ↦ false | Some d ↦ merges d ]) runs ∙ is
   come_first Unfit is = absurd is
 
 module _ {P : Type 0} {told_by : P → Told} {plan : Plan} (accepted : IsPlan plan) (once : Bool) where
@@ -309,18 +309,7 @@ module _ {P : Type 0} {told_by : P → Told} {plan : Plan} (accepted : IsPlan pl
   }
 
 -- PLACES
-none_out : (outputs : List Output) → Some (parcels_out outputs) ≡ Some [] → outputs ≡ []
-none_out [] is = refl
-none_out (output ∷ rest) is = cc
-
-none_there : (rows : List Row) (i : ℕ) → parcels_here rows (Outputs i) ≡ Some [] → outputs_here rows i ≡ []
-none_there rows i = go (row_at rows i)
-  where
-    go : (o : Option Row) → here_if (Outputs i) o ≡ Some [] → outputs_if o ≡ []
-    go None is = refl
-    go (Some row) is = none_out row.outputs.items is
-
-module _ {plan : Plan} (accepted : IsPlan plan) (once : Bool) (now : ℕ) (rows : List Row) (vacant : AreVacant rows)
+module _ {plan : Plan} (accepted : IsPlan plan) (once : Bool) (now : ℕ) (rows : List Row) (holds : Holds rows [])
     (rooms : HaveRooms plan.components rows) (size : length rows ≡ length plan.components) where
   in_place : (i : ℕ) → component_of (begun plan once now) i ≡ slice_get plan.components i
   in_place i = component_in_place (begun plan once now) plan i (begun_legal plan once now accepted) refl
@@ -328,7 +317,7 @@ module _ {plan : Plan} (accepted : IsPlan plan) (once : Bool) (now : ℕ) (rows 
   holds_first : Holds rows (begun plan once now)
   holds_first = holds_step [] (Install 0 plan once (first_instances 0 plan.components) now) [] rows rows (begun_legal plan once now accepted)
       (still_shifts (Install 0 plan once (first_instances 0 plan.components) now) rows tt)
-      (λ event copy among. absurd among) (same_holds [] [] rows (record { here = vacant; outputs = λ i. none_there rows i (vacant (Outputs i)) }) none_holds)
+      (λ event copy among. absurd among) holds
 
   planned_first : (i : ℕ) (o : Option Component) → slice_get plan.components i ≡ o →
       (planned_rooms (begun plan once now) i ≡ map (λ (stage : Stage). stage.max_events) (elim o [ None ↦ [] | Some c ↦ stages c ]))
@@ -342,67 +331,55 @@ module _ {plan : Plan} (accepted : IsPlan plan) (once : Bool) (now : ℕ) (rows 
       IfSome (held_room rows i) (IsHandOf (begun plan once now) i)
   room_first i = elim (cases_lt i (length rows)) [
     | inl l ↦ with_some (slice_get plan.components i) (rooms i l) (λ c there has.
-        let planned = planned_first i (Some c) there in (has.stages ∙ sym planned.0, rw has.hand (sym planned.1)))
+        let planned = planned_first i (Some c) there in
+        (has.stages ∙ sym planned.0, IfSome_then (held_room rows i) (hand_says (merges c) (hand_of c) (held_room rows i) has.hand) (λ n is. is ∙ sym planned.1)))
     | inr past ↦
         let gone = slice_get_past rows i past in
         (ap rooms_if gone ∙ sym (planned_first i None (slice_get_past plan.components i (omega (arith, past, size)))).0, rw gone tt)
   ]
 
+  -- what an instance holds is seen exactly where it doesn't merge
+  joins_first : (i : ℕ) → joins_at (begun plan once now) i ≡ (elim (slice_get plan.components i) [ None ↦ false | Some c ↦ merges c ])
+  joins_first i = ap (λ (o : Option Component). elim o as (λ _. Bool) [ None ↦ false | Some c ↦ merges c ]) (in_place i)
+
+  seen_first : (i : ℕ) → joins_at (begun plan once now) i ≡ false → IsSome (parcels_here rows (Held i))
+  seen_first i alone = elim (cases_lt i (length rows)) [
+    | inl l ↦ with_some (slice_get plan.components i) (rooms i l) (λ c there has.
+        let not_merging : merges c ≡ false = sym (joins_first i ∙ ap (λ (o : Option Component). elim o as (λ _. Bool) [ None ↦ false | Some d ↦ merges d ]) there) ∙ alone in
+        hand_seen i (hand_of c) (row_at rows i) (alone_room (merges c) (hand_of c) (held_room rows i) has.hand not_merging))
+    | inr past ↦ rw (slice_get_past rows i past) refl
+  ]
+
+  apart_first : (i : ℕ) → joins_at (begun plan once now) i ≡ true → parcels_here rows (Held i) ≡ None
+  apart_first i joins = elim (cases_lt i (length rows)) [
+    | inl l ↦ with_some (slice_get plan.components i) (rooms i l) (λ c there has.
+        let merging : merges c ≡ true = sym (joins_first i ∙ ap (λ (o : Option Component). elim o as (λ _. Bool) [ None ↦ false | Some d ↦ merges d ]) there) ∙ joins in
+        room_lent rows i l (joined_room (merges c) (hand_of c) (held_room rows i) has.hand merging))
+    | inr past ↦
+        let none = ap (λ (o : Option Component). elim o as (λ _. Bool) [ None ↦ false | Some d ↦ merges d ]) (slice_get_past plan.components i (omega (arith, past, size))) in
+        let no : false ≡ true = sym (joins_first i ∙ none) ∙ joins in cc
+  ]
+
 -- TRANSFORMS
 judges_if : (o : Option Component) → IfSome o (λ c. is_served c ≡ true) → (elim o [ None ↦ false | Some c ↦ is_transform c ]) ≡ true →
-    (elim o [ None ↦ false | Some c ↦ is_transform c && is_judging c.settings ]) ≡ true
-judges_if None served is = cc
-judges_if (Some c) served is = and_from (is_transform c) (is_judging c.settings) is (serves c served is)
+    (elim o [ None ↦ false | Some c ↦ merges c ]) ≡ false → (elim o [ None ↦ false | Some c ↦ is_transform c && is_judging c.settings ]) ≡ true
+judges_if None served is alone = cc
+judges_if (Some c) served is alone = and_from (is_transform c) (is_judging c.settings) is (serves c served is alone)
 
--- each judges event by event
-judging_first : (plan : Plan) (once : Bool) (now : ℕ) → IsPlan plan → all_served plan.components ≡ true → OnlyJudges (begun plan once now)
+-- each that doesn't merge judges event by event
+judging_first : (plan : Plan) (once : Bool) (now : ℕ) → IsPlan plan → all_served plan.components ≡ true → OthersJudge (begun plan once now)
 judging_first plan once now accepted served i = let h = begun plan once now in judges_if (component_of h i)
     (rw (component_in_place h plan i (begun_legal plan once now accepted) refl) (if_there (slice_get plan.components i) (λ c there. served_at plan.components i c served there)))
-
--- WHAT NOBODY KEEPS
-pub free_at : (slots : List (Option Kept)) → AreFree slots → (i : ℕ) → keeper_at slots i ≡ None
-free_at [] free i = refl
-free_at (slot ∷ rest) free zero = free.0
-free_at (slot ∷ rest) free (suc i) = free_at rest free.1 i
-
-pub free_by : (slots : List (Option Kept)) → ((i : ℕ) → is_some (keeper_at slots i) ≡ false) → AreFree slots
-free_by [] none = tt
-free_by (None ∷ rest) none = (refl, free_by rest (λ i. none (suc i)))
-free_by (Some k ∷ rest) none = let no = none zero in absurd cc
-
--- so many of some are there, all of them free, and there is room for the others
-pub record AreFreeTo (n i capacity : ℕ) (slots : List (Option Kept)) : Type 0 where
-  pub many : length slots ≡ i
-  pub free : AreFree slots
-  pub room : n ≤ capacity
-
-free_behind : (slots : List (Option Kept)) → AreFree slots → AreFree (slots ++ None ∷ [])
-free_behind [] free = (refl, tt)
-free_behind (slot ∷ rest) free = (free.0, free_behind rest free.1)
-
-pub one_free_more : (n i was now : ℕ) (slots all : List (Option Kept)) → all ≡ slots ++ None ∷ [] → now ≡ was → AreFreeTo n i was slots → AreFreeTo n (i + 1) now all
-one_free_more n i was now slots all is same to = record {
-  many = let one = ap length is in omega (arith, one, length-append slots (None ∷ []), to.many);
-  free = rw is (free_behind slots to.free);
-  room = omega (arith, same, to.room);
-}
-
-pub last_free : (slots : List (Option Kept)) (slot : Option Kept) → AreFree (slots ++ slot ∷ []) → AreFree slots × (slot ≡ None)
-last_free [] slot free = (tt, free.0)
-last_free (first ∷ rest) slot free = let more = last_free rest slot free.1 in ((free.0, more.0), more.1)
-
-false_true : false ≡ true → ⊥
-false_true same = cc
 
 -- ALL OF IT
 module _ {P : Type 0} {told_by : P → Told} {plan : Plan} {once : Bool} {now : ℕ} {room : Room P}
     {seats : List (Seat P)} (accepted : IsPlan plan) (few : length plan.components < 2 ^ 32)
-    (served : all_served plan.components ≡ true) (made : HasRoomFor plan room) (fresh : AreFresh told_by plan once seats)
+    (served : all_served plan.components ≡ true) (made : HasRoomFor plan room) (keepers : Vec (Option Kept)) (slots : AreSlots plan.components keepers.items) (fresh : AreFresh told_by plan once seats)
     (knows : Knows told_by seats (begun plan once now)) where
   abbrev books_first : Record → Books P
   books_first log = record {
     places = room.places;
-    keepers = room.keepers;
+    keepers = keepers;
     seats = seats;
     balance = room.balance;
     run = record { plan = plan; abandoned = None; latest = now; short = false };
@@ -415,26 +392,29 @@ module _ {P : Type 0} {told_by : P → Told} {plan : Plan} {once : Bool} {now : 
   stands_first : Stands told_by (books_first (begun plan once now))
   stands_first = record {
     legal = begun_legal plan once now accepted;
-    places = holds_first accepted once now room.places made.vacant made.rooms made.places_size;
+    places = holds_first accepted once now room.places made.holds made.rooms made.places_size;
     seats = knows;
     balance = aside_kept room.balance [] (Install 0 plan once (first_instances 0 plan.components) now) tt made.balance;
     run = record { installed = refl; cause = refl; later = λ worker. omega arith; judging = judging_first plan once now accepted served; returned = λ fed. tt };
     size = made.places_size ∙ sym fresh.size;
-    kept = λ i home alone. rw (made.vacant (Held i)) refl;
-    rooms = let each = room_first accepted once now room.places made.vacant made.rooms made.places_size in
+    kept = λ i home alone. seen_first accepted once now room.places made.holds made.rooms made.places_size i alone;
+    rooms = let each = room_first accepted once now room.places made.holds made.rooms made.places_size in
         record { stages = λ i. (each i).0; hands = λ i. (each i).1 };
     begun = begun_stays (joins_at (begun plan once now)) (Install 0 plan once (first_instances 0 plan.components) now) [] (begun_legal plan once now accepted) tt (begun_first (joins_at (begun plan once now)));
     keepers = record {
-      many = made.slots ∙ sym made.places_size;
-      whose = λ i. ap is_some (free_at room.keepers.items made.free i) ∙ sym (alone_by (begun plan once now) (judging_first plan once now accepted served) i);
-      apart = λ i joins. absurd (false_true (sym (alone_by (begun plan once now) (judging_first plan once now accepted served) i) ∙ joins));
+      many = slots_size plan.components keepers.items slots ∙ sym made.places_size;
+      whose = λ i. whose_if (slice_get plan.components i) (keeper_at keepers.items i) (slots_at plan.components keepers.items slots i)
+          ∙ sym (joins_first accepted once now room.places made.holds made.rooms made.places_size i);
+      apart = apart_first accepted once now room.places made.holds made.rooms made.places_size;
     };
-    keeps = λ i. rw (free_at room.keepers.items made.free i) tt;
+    keeps = λ i. kept_if (begun plan once now) i (slice_get plan.components i) (keeper_at keepers.items i)
+        (in_place accepted once now room.places made.holds made.rooms made.places_size i) (slots_at plan.components keepers.items slots i) refl refl refl;
   }
 
   pub hub_first : (hub : Hub P) {log : Record} → log ≡ begun plan once now → hub.books ≡ books_first log →
-      length seats ≤ vec_capacity hub.ports → hub.ports.items ≡ [] → AreSources plan.components (length seats) hub.sources.items → IsHub told_by hub
-  hub_first hub first is berths none sources = record {
+      length seats ≤ vec_capacity hub.ports → hub.ports.items ≡ [] → AreSources plan.components (length seats) hub.sources.items →
+      AreMergers plan.components (length seats) hub.mergers.items → IsHub told_by hub
+  hub_first hub first is berths none sources mergers = record {
     stands = rw (is, first) stands_first;
     served = rw (is, first) (record { served = served; few = let same = fresh.size in omega (arith, same, few) });
     lent = rw (is, first) (λ i l out. cc);
@@ -445,4 +425,5 @@ module _ {P : Type 0} {told_by : P → Told} {plan : Plan} {once : Bool} {now : 
     berths = rw is berths;
     none = none;
     sources = rw is sources;
+    mergers = rw is mergers;
   }

@@ -1,8 +1,8 @@
 -- What giving a run up leaves, which instances may end, and what is told of them.
 use borrow.Author.Count.{below_more}
 use Rattle.std.proofs.Common.{◌≡◌, ◌∙◌, ◌↔◌, ℕ, ◌+◌, ◌<◌, ◌⊎◌, inl, inr, Bool, true, false, List, [], ◌∷◌, Option, Some, None, IfSome, IfNone, IsSome, length, refl, sym, ap, subst, arith}
-use Rattle.std.specs.Prelude.{◌==◌, not, is_some, IsSomeAnd, slice_get}
-use Rattle.std.proofs.lemmas.Bool.{cases_eq, eqb-true, or_cases, or_left, or_right}
+use Rattle.std.specs.Prelude.{◌==◌, ◌&&◌, not, is_some, IsSomeAnd, slice_get}
+use Rattle.std.proofs.lemmas.Bool.{and_from, and_parts, cases_eq, eqb-true, or_cases, or_left, or_right}
 use Rattle.std.proofs.lemmas.Bool.Decides.{nat_tests}
 use Rattle.vx_ends.specs.Told.{Told}
 use Rattle.vx_status.specs.declared.outcome.Outcome.{Outcome}
@@ -21,9 +21,11 @@ use Rattle.vx_record.specs.Copies.{IsLive, next_copy}
 use Rattle.vx_record.specs.Ending.{MayClose, MayRetire}
 use Rattle.vx_record.specs.Installs.{component_of, device_at, is_closed, is_retired}
 use Rattle.vx_record.specs.Legal.{Follows, IsLegal}
-use Rattle.vx_record.specs.Lists.{is_bare}
+use Rattle.vx_value.specs.Texts.{is_empty}
+use Rattle.vx_record.specs.Lists.{held, is_bare}
 use Rattle.vx_record.specs.Owing.{is_done}
 use Rattle.vx_record.specs.Places.{Place, owner}
+use Rattle.vx_record.specs.Places.Place.{Held}
 use Rattle.vx_record.specs.Shifts.{at}
 use Rattle.vx_record.specs.Turns.{is_out}
 use Rattle.vx_record.proofs.Adding.{adds_both, adds_narrower, adds_wider, carry}
@@ -34,9 +36,11 @@ use Rattle.vx_balance.specs.Balances.{Balances}
 use Rattle.vx_balance.specs.Live.{live_in, live_copies}
 use Rattle.vx_balance.proofs.Settling.{settled_closes}
 use Rattle.vx_balance.proofs.Sums.{sum_some}
-use Rattle.vx_places.specs.Looks.{IsBare}
+use Rattle.vx_record.proofs.Shifting.{stands_at}
+use Rattle.vx_places.specs.Looks.{IsBare, IsClear}
 use Rattle.vx_places.specs.Rooms.{SameRooms}
-use Rattle.vx_places.proofs.Recorded.{bare_is_bare}
+use Rattle.vx_places.proofs.Recorded.{bare_is_bare, clear_bare_is}
+use Rattle.vx_tasks.specs.Joining.{joins_at}
 use Rattle.vx_tasks.specs.declared.task.Task.{Task}
 use Rattle.vx_seats.specs.declared.seat.Seat.{Seat}
 use Rattle.vx_seats.specs.Knowing.{HasHome, IsKnown}
@@ -45,10 +49,10 @@ use Rattle.vx_moves.specs.declared.books.Books.{Books}
 use Rattle.vx_moves.specs.Leaving.{Leaves}
 use Rattle.vx_moves.specs.Spends.{IsSpendOf, OnlySpends}
 use Rattle.vx_moves.specs.Stands.{Stands, Steps}
-use Rattle.vx_moves.proofs.Keepers.{alone_by}
 use Rattle.vx_moves.proofs.Moving.{seen_kept}
 use Rattle.vx_ready.specs.Asking.{IsSettled}
 use Rattle.vx_ready.proofs.Knowing.{known, runs}
+use Rattle.vx_ready.proofs.Testing.{empty_tests, same_tests}
 use Rattle.vx_landing.proofs.Answering.{none_known, over_known}
 use Rattle.vx_landing.proofs.LandedBooks.{over_stays}
 use Rattle.vx_hub.specs.Ending.{GivesUpOf, GivesUp, IsGivenUp, Rests, IsClosing, ClosesDown, GivesUpAt, GivesUpBelow}
@@ -233,14 +237,32 @@ module _ {P : Type 0} {told_by : P → Told} {books : Books P} (stands : Stands 
   may_close device unshut over = record { device = device; unclosed = sym k.facts.closed ∙ unshut; over = inr over }
 
   -- where the run was given up what is closing may end bare, and only bare
-  pub bare_may : IsClosing books i → is_some books.run.abandoned ≡ true → IsBare books.places i → MayRetire books.log i
-  bare_may closing over bare = may_end closing
-      (inr (over_known told_by books stands over, (bare_is_bare books.log books.places i stands.legal stands.places).0 bare))
+  pub bare_may : IsClosing books i → is_some books.run.abandoned ≡ true → is_bare books.log i ≡ true → MayRetire books.log i
+  bare_may closing over bare = may_end closing (inr (over_known told_by books stands over, bare))
 
-  pub bare_not : i < length books.seats → (IsBare books.places i → ⊥) → MayRetire books.log i → ⊥
-  bare_not within none may =
-      none ((bare_is_bare books.log books.places i stands.legal stands.places).1
-      (seen_kept books.places i (rw stands.size within) (stands.kept i may.home (alone_by books.log stands.run.judging i))) (retired_bare books.log i stands.legal may))
+  pub bare_not : is_bare books.log i ≡ false → MayRetire books.log i → ⊥
+  bare_not some may = let bare = retired_bare books.log i stands.legal may in cc
+
+  -- what is closing is at home
+  pub closing_home : IsClosing books i → is_out books.log i ≡ false
+  closing_home closing = home_is.0 (rw there at closing.home)
+
+  -- nothing stands at it exactly where nothing is seen and, if it merges, nothing is kept
+  pub bare_seen : i < length books.seats → is_out books.log i ≡ false → joins_at books.log i ≡ false → (b : Bool) → (b ≡ true) ↔ IsBare books.places i → b ≡ is_bare books.log i
+  bare_seen within home alone b says =
+      let law = bare_is_bare books.log books.places i stands.legal stands.places in
+      let kept = seen_kept books.places i (rw stands.size within) (stands.kept i home alone) in
+      same_tests b (is_bare books.log i) (λ on. law.0 (says.0 on), λ bare. says.1 (law.1 kept bare))
+
+  pub bare_kept : (clear none : Bool) → (clear ≡ true) ↔ IsClear books.places i → none ≡ is_empty (at books.log (Held i)) → (clear && none) ≡ is_bare books.log i
+  bare_kept clear none says is =
+      let law = clear_bare_is books.log books.places i stands.legal stands.places in
+      let same = ap (λ (qs : List (List ℕ)). is_empty qs) (sym (stands_at books.log (Held i) stands.legal)) in
+      let tests = empty_tests (held books.log i) in
+      same_tests (clear && none) (is_bare books.log i) (
+        λ both. let parts = and_parts clear none both in law.0 (says.0 parts.0, tests.0 (sym same ∙ sym is ∙ parts.1)),
+        λ bare. let parts = law.1 bare in and_from clear none (says.1 parts.0) (is ∙ same ∙ tests.1 parts.1),
+      )
 
   -- a run that wasn't given up
   module _ (none : is_some books.run.abandoned ≡ false) where

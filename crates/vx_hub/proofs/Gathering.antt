@@ -30,6 +30,7 @@ use Rattle.vx_places.proofs.Recorded.{many}
 use Rattle.vx_tasks.specs.declared.work.Job.{Job}
 use Rattle.vx_tasks.specs.declared.work.Job.TheVariants as job
 use Rattle.vx_tasks.specs.Out.{IsGiven}
+use Rattle.vx_moves.proofs.Keepers.{seen_alone}
 use Rattle.vx_moves.specs.declared.books.Books.{Books}
 use Rattle.vx_moves.specs.declared.run.Run.{Run}
 use Rattle.vx_moves.specs.Leaving.{Leaves}
@@ -99,7 +100,8 @@ module _ {P : Type 0} {told_by : P → Told} where
       only_takes = gathering.only_takes;
       few = few;
       unclosed = λ sink. let plain = sink_untransforming books.log i sink in let transform = gathering.transform in cc;
-      unticked = λ transform. none_ticks books.log i stands.legal (stands.run.judging i transform);
+      unticked = λ transform. none_ticks books.log i stands.legal
+          (stands.run.judging i transform (seen_alone books.places books.log i stands.keepers.apart (kept_here books.places i gathering.kept)));
     }
 
     pub has_hand : HasHeldRoom books.places i

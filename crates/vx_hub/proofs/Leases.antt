@@ -16,7 +16,7 @@ use Rattle.vx_record.specs.Additions.{OnlyAdds}
 use Rattle.vx_record.specs.Ceasing.{cause_of}
 use Rattle.vx_record.specs.Confirms.{is_confirm_due}
 use Rattle.vx_record.specs.Installs.{device_at, is_closed, is_retired, sink_at, transform_at}
-use Rattle.vx_record.specs.Judges.{OnlyJudges}
+use Rattle.vx_record.specs.Judges.{judge_at}
 use Rattle.vx_record.specs.Legal.{Follows, IsLegal}
 use Rattle.vx_record.specs.Lists.{held}
 use Rattle.vx_record.specs.Makers.{IsBy}
@@ -58,10 +58,10 @@ use Rattle.vx_moves.specs.Leaving.{Leaves}
 use Rattle.vx_moves.specs.Rooms.{IsHandOf}
 use Rattle.vx_moves.specs.Stands.{Stands, Steps}
 use Rattle.vx_moves.specs.Taking.{MayTakeNow}
-use Rattle.vx_moves.proofs.Keepers.{alone_by}
+use Rattle.vx_moves.proofs.Keepers.{seen_alone}
 use Rattle.vx_moves.proofs.Leaving.{each_stays}
 use Rattle.vx_moves.proofs.Stepping.{follows}
-use Rattle.vx_ready.specs.Asking.{IsServed}
+use Rattle.vx_ready.specs.Asking.{IsServed, IsSettled, IsOpen}
 use Rattle.vx_ready.specs.Jobs.{IsJob}
 use Rattle.vx_ready.proofs.Closed.{closed_filled}
 use Rattle.vx_ready.proofs.Emptied.{holds_none}
@@ -108,7 +108,7 @@ module _ {P : Type 0} {told_by : P → Told} {books : Books P} (stands : Stands 
         (retired_closed books.log i stands.legal retired device)
     retired_unready retired (inr none) = done_unready books.log i now stands.legal none (retired_final books.log i stands.legal going retired).done
 
-    none_at : NoneFoundAt books now i → is_ready books.log i now ≡ false
+    none_at : (IsSettled books i → IsOpen books i → is_ready books.log i now ≡ false) → is_ready books.log i now ≡ false
     none_at none =
         let facts = (known told_by books stands i seat there).facts in
         let w : IsWellAt seat = rw there at (well.seats i) in
@@ -121,14 +121,20 @@ module _ {P : Type 0} {told_by : P → Told} {books : Books P} (stands : Stands 
           ]
         ]
 
+-- so it is of one that was asked
+pub none_ready_at : {P : Type 0} {told_by : P → Told} {books : Books P} (now i : ℕ) → Stands told_by books → IsWell books → books.run.abandoned ≡ None →
+    books.run.latest ≤ now → i < length books.seats → is_out books.log i ≡ false → (IsSettled books i → IsOpen books i → is_ready books.log i now ≡ false) → is_ready books.log i now ≡ false
+none_ready_at {books = books} now i stands well kept latest within home none =
+    let seat = seat_there books.seats i within in none_at stands well kept now latest i within home seat.0 seat.1 none
+
 -- each instance below a number was asked
 abbrev pub NoneBelow : {P : Type 0} → Books P → ℕ → ℕ → Type 0
 NoneBelow books now n = (i : ℕ) → i < n → NoneFoundAt books now i
 
 pub none_ready : {P : Type 0} {told_by : P → Told} {books : Books P} (now n : ℕ) → Stands told_by books →
     books.run.latest ≤ now → length books.seats ≤ n → NoneBelow books now n → NoneReady books now
-none_ready {books = books} now n stands latest most below well kept i within home =
-    let seat = seat_there books.seats i within in none_at stands well kept now latest i within home seat.0 seat.1 (below i (omega (arith, within, most)))
+none_ready {books = books} now n stands latest most below well kept i within home alone =
+    let seat = seat_there books.seats i within in none_at stands well kept now latest i within home seat.0 seat.1 (λ settled usable. below i (omega (arith, within, most)) settled usable alone)
 
 -- WHAT IS OWED
 -- by a lease, or a take of a sink, an instance owes nothing more
@@ -361,7 +367,8 @@ module _ {P : Type 0} {told_by : P → Told} {i worker now : ℕ} {task : Task P
   gathering : IsKept mid.places i → owes old.log i ≡ false → abandoned old.log ≡ false → transform_at old.log i ≡ true → IsGathering mid i now
   gathering kept settled going transform =
       let legal = legal_both in
-      let judges : OnlyJudges (Lease i worker now 0 ∷ old.log) = rw lent.steps.noted at lent.steps.stands.run.judging in record {
+      let apart = seen_alone mid.places mid.log i lent.steps.stands.keepers.apart (kept_here mid.places i kept) in
+      let judge : judge_at (Lease i worker now 0 ∷ old.log) i ≡ true = rw lent.steps.noted at (lent.steps.stands.run.judging i (rw lent.steps.noted transform) apart) in record {
         transform = rw lent.steps.noted transform;
         going = rw lent.steps.noted going;
         out = rw (lent.steps.noted, itself i);
@@ -370,7 +377,7 @@ module _ {P : Type 0} {told_by : P → Told} {i worker now : ℕ} {task : Task P
         settled = rw lent.steps.noted (discards_leased old.log i worker now (owes_neither old.log i settled).0);
         kept = kept;
         held = rw (lent.steps.noted, itself i) (ap length (sym (stands_at old.log (Held i) legal.1)
-            ∙ holds_none old.log i legal.1 going transform (judges i transform) settled));
+            ∙ holds_none old.log i legal.1 going transform judge settled));
       }
 
   gathers : (work : Job) → IsKept mid.places i → owes old.log i ≡ false → cause_of old.log ≡ None →
@@ -405,7 +412,7 @@ module _ {P : Type 0} {told_by : P → Told} {i worker now : ℕ} {task : Task P
       let later = stands.run.later worker in
       let may = ready.leasable.may worker (omega (arith, later, latest)) in
       let rows = stands.size in let size = lent.steps.size in let now_rows = lent.steps.stands.size in let within = ready.within in
-      let kept = still_kept old.places mid.places i (omega (arith, rows, within)) (lent.rooms i).1 (stands.kept i may.home (alone_by old.log stands.run.judging i)) in (
+      let kept = still_kept old.places mid.places i (omega (arith, rows, within)) (lent.rooms i).1 (stands.kept i may.home ready.alone) in (
         kept,
         gathers work (kept_at mid.places i (omega (arith, now_rows, size, within)) kept) may.settled
             (sym stands.run.cause ∙ ready.settled.going) ready.works,
@@ -420,7 +427,7 @@ module _ {P : Type 0} {told_by : P → Told} {i worker now : ℕ} {task : Task P
       (rw lent.steps.noted (discards_leased old.log i worker now owes.0), rw lent.steps.noted owes.1)
 
   -- WHAT IS HANDED OUT
-  module _ {two new : Books P} {done : Job} (line : Filled Parcel) (stood : Stands told_by old) (well : IsWell old)
+  module _ {two new : Books P} {done : Job} (line : Filled Parcel) (stood : Stands told_by old) (alone : joins_at old.log i ≡ false) (well : IsWell old)
       (was : LentWhileOut old) (gathered : HasGathered told_by i mid two done)
       (stands : Stands told_by new) (none : parcels_here new.places (Held i) ≡ None) (rooms : LendsRoom i line.room two.places new.places)
       (log : new.log ≡ two.log) (seats : new.seats ≡ two.seats) (run : new.run ≡ two.run) where
@@ -428,7 +435,7 @@ module _ {P : Type 0} {told_by : P → Told} {i worker now : ℕ} {task : Task P
     gone = gone_all two.log gathered.only
 
     left : IfSome (slice_get mid.seats i) IsWellAt × (is_unfit task.role ≡ false)
-    left = left_says told_by i task old.log (slice_get old.seats i) (slice_get mid.seats i) lent.seats.one (alone_by old.log stood.run.judging i) (well.seats i) (stood.seats.each i)
+    left = left_says told_by i task old.log (slice_get old.seats i) (slice_get mid.seats i) lent.seats.one alone (well.seats i) (stood.seats.each i)
 
     size : length new.seats ≡ length old.seats
     size = ap length seats ∙ (gathered.size ∙ lent.steps.size)
@@ -482,7 +489,7 @@ module _ {P : Type 0} {told_by : P → Told} {i worker now : ℕ} {task : Task P
         settled = gathered.settled;
         untaken = gathered.untaken;
         fit = left.1;
-        alone = alone_by two.log gathered.stands.run.judging i;
+        alone = seen_alone two.places two.log i gathered.stands.keepers.apart gathered.kept;
       });
       room = rw log room;
       only = rw log made;

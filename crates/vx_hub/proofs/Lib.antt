@@ -1,9 +1,13 @@
 mod Endings
-mod Served
-mod Judging
 mod Fresh
 mod Gathering
+mod Judging
+mod Kept
+mod Mergers
 mod Resting
+mod Served
+mod Sooner
+mod Tasks
 pub mod Begun
 pub mod Coming
 pub mod Leases
@@ -11,8 +15,6 @@ pub mod Listing
 pub mod Moving
 pub mod Remaining
 pub mod Running
-mod Sooner
 pub mod Unready
 pub mod Waiting
 pub mod Wiring
-mod Tasks

@@ -1,18 +1,14 @@
--- The sources of a plan are listed one by one.
+-- Those of a kind among the components of a plan are listed one by one.
 use Rattle.std.proofs.Common.{◌≡◌, ◌∙◌, get_or, ℕ, zero, suc, ◌+◌, ◌<◌, ◌≤◌, Bool, true, false, List, [], ◌∷◌, ◌++◌, length, Option, Some, None, IfSome, IsSomeAnd, inl, inr, refl, sym, ap, subst, arith}
 use Rattle.std.specs.Prelude.{slice_get}
 use Rattle.std.proofs.lemmas.Bool.{cases_eq}
-use Rattle.vx_plan.specs.Components.{is_source}
-use Rattle.vx_plan.specs.declared.class.Class.{Class}
-use Rattle.vx_plan.specs.declared.class.Class.TheVariants.{Source, Transform, Sink}
 use Rattle.vx_plan.specs.declared.component.Component.{Component}
-use Rattle.vx_ready.specs.Asking.{source_class}
-use Rattle.vx_hub.specs.Standing.{IsAmong, AreSources}
+use Rattle.vx_hub.specs.Standing.{IsAmong, AreThose}
 
 -- those before a number are listed, and no other
-pub record AreSourcesTo (components : List Component) (m : ℕ) (sources : List ℕ) : Type 0 where
-  pub all : (i : ℕ) → i < m → IfSome (slice_get components i) (λ c. is_source c ≡ true → IsAmong sources i)
-  pub only : (k : ℕ) → IfSome (slice_get sources k) (λ i. (i < length components) × IsSomeAnd (slice_get components i) (λ c. is_source c ≡ true))
+pub record AreThoseTo (is_of : Component → Bool) (components : List Component) (m : ℕ) (those : List ℕ) : Type 0 where
+  pub all : (i : ℕ) → i < m → IfSome (slice_get components i) (λ c. is_of c ≡ true → IsAmong those i)
+  pub only : (k : ℕ) → IfSome (slice_get those k) (λ i. (i < length components) × IsSomeAnd (slice_get components i) (λ c. is_of c ≡ true))
 
 still_there : (xs : List ℕ) (x k i : ℕ) → slice_get xs k ≡ Some i → slice_get (xs ++ x ∷ []) k ≡ Some i
 still_there [] x k i at = cc
@@ -33,26 +29,26 @@ with_some : {X : Type 0} (F G : X → Type 0) (o : Option X) → ((x : X) → F 
 with_some F G None leads is = tt
 with_some F G (Some x) leads is = leads x is
 
-module _ (components : List Component) (m : ℕ) (c : Component) (at : slice_get components m ≡ Some c) (sources : List ℕ) (are : AreSourcesTo components m sources) where
-  pub sources_skip : is_source c ≡ false → AreSourcesTo components (m + 1) sources
-  sources_skip other = record {
+module _ (is_of : Component → Bool) (components : List Component) (m : ℕ) (c : Component) (at : slice_get components m ≡ Some c) (those : List ℕ) (are : AreThoseTo is_of components m those) where
+  pub those_skip : is_of c ≡ false → AreThoseTo is_of components (m + 1) those
+  those_skip other = record {
     all = λ i l. elim (cases_eq i m) [
-      | inl same ↦ subst (λ (o : Option Component). IfSome o (λ d. is_source d ≡ true → IsAmong sources i)) (sym (ap (slice_get components) same ∙ at)) (λ source. let clash : true ≡ false = sym source ∙ other in let never : ⊥ = cc in absurd never)
+      | inl same ↦ subst (λ (o : Option Component). IfSome o (λ d. is_of d ≡ true → IsAmong those i)) (sym (ap (slice_get components) same ∙ at)) (λ is_one. let clash : true ≡ false = sym is_one ∙ other in let never : ⊥ = cc in absurd never)
       | inr less ↦ are.all i (omega (arith, l, less))
     ];
     only = are.only;
   }
 
-  pub sources_more : (more : List ℕ) → more ≡ sources ++ m ∷ [] → is_source c ≡ true → m < length components → AreSourcesTo components (m + 1) more
-  sources_more more is source within = rw is (record {
+  pub those_more : (more : List ℕ) → more ≡ those ++ m ∷ [] → is_of c ≡ true → m < length components → AreThoseTo is_of components (m + 1) more
+  those_more more is is_one within = rw is (record {
     all = λ i l. elim (cases_eq i m) [
-      | inl same ↦ subst (λ (o : Option Component). IfSome o (λ d. is_source d ≡ true → IsAmong (sources ++ m ∷ []) i)) (sym (ap (slice_get components) same ∙ at))
-          (λ again. (length sources, last_there sources m ∙ ap Some (sym same)))
-      | inr less ↦ with_some (λ d. is_source d ≡ true → IsAmong sources i) (λ d. is_source d ≡ true → IsAmong (sources ++ m ∷ []) i) (slice_get components i)
-          (λ d was is_one. let among = was is_one in (among.0, still_there sources m among.0 i among.1)) (are.all i (omega (arith, l, less)))
+      | inl same ↦ subst (λ (o : Option Component). IfSome o (λ d. is_of d ≡ true → IsAmong (those ++ m ∷ []) i)) (sym (ap (slice_get components) same ∙ at))
+          (λ again. (length those, last_there those m ∙ ap Some (sym same)))
+      | inr less ↦ with_some (λ d. is_of d ≡ true → IsAmong those i) (λ d. is_of d ≡ true → IsAmong (those ++ m ∷ []) i) (slice_get components i)
+          (λ d was is_one. let among = was is_one in (among.0, still_there those m among.0 i among.1)) (are.all i (omega (arith, l, less)))
     ];
-    only = λ k. each_more (λ i. (i < length components) × IsSomeAnd (slice_get components i) (λ d. is_source d ≡ true)) sources m k are.only
-        (within, subst (λ (o : Option Component). IsSomeAnd o (λ d. is_source d ≡ true)) (sym at) source);
+    only = λ k. each_more (λ i. (i < length components) × IsSomeAnd (slice_get components i) (λ d. is_of d ≡ true)) those m k are.only
+        (within, subst (λ (o : Option Component). IsSomeAnd o (λ d. is_of d ≡ true)) (sym at) is_one);
   })
 
 before_end : (cs : List Component) (j : ℕ) (d : Component) → slice_get cs j ≡ Some d → j < length cs
@@ -60,17 +56,17 @@ before_end [] j d there = cc
 before_end (e ∷ cs) zero d there = omega arith
 before_end (e ∷ cs) (suc j) d there = let below = before_end cs j d there in omega (arith, below)
 
-pub sources_all : (components : List Component) (m : ℕ) (sources : List ℕ) → length components ≤ m → AreSourcesTo components m sources → AreSources components (length components) sources
-sources_all components m sources most are = record {
+pub those_all : (is_of : Component → Bool) (components : List Component) (m : ℕ) (those : List ℕ) → length components ≤ m → AreThoseTo is_of components m those → AreThose is_of components (length components) those
+those_all is_of components m those most are = record {
   all = λ i. go i (slice_get components i) refl;
   only = are.only;
 }
   where
-    go : (i : ℕ) (o : Option Component) → slice_get components i ≡ o → IfSome o (λ c. is_source c ≡ true → IsAmong sources i)
+    go : (i : ℕ) (o : Option Component) → slice_get components i ≡ o → IfSome o (λ c. is_of c ≡ true → IsAmong those i)
     go i None at = tt
     go i (Some c) at =
         let below = before_end components i c at in
-        subst (λ (o : Option Component). IfSome o (λ d. is_source d ≡ true → IsAmong sources i)) at (are.all i (omega (arith, below, most)))
+        subst (λ (o : Option Component). IfSome o (λ d. is_of d ≡ true → IsAmong those i)) at (are.all i (omega (arith, below, most)))
 
 -- the component in a place is there
 pub component_at : (components items : List Component) (i : ℕ) (c : Component) → items ≡ components → i < length items → c ≡ get_or items i c → slice_get components i ≡ Some c
@@ -80,11 +76,3 @@ component_at components items i c same l is = subst (λ (cs : List Component). s
     got [] j below at = absurd (omega arith)
     got (d ∷ ds) zero below at = ap Some (sym at)
     got (d ∷ ds) (suc j) below at = got ds j (omega (arith, below)) at
-
-pub class_says : (c : Component) (b : Bool) → b ≡ source_class c.class → is_source c ≡ b
-class_says c b is = go c.class is
-  where
-    go : (k : Class) → b ≡ source_class k → (elim k [ Source ↦ true | Transform ↦ false | Sink ↦ false ]) ≡ b
-    go Source e = sym e
-    go Transform e = sym e
-    go Sink e = sym e

@@ -9,21 +9,23 @@ use Rattle.vx_record.specs.Records.{Record}
 use Rattle.vx_record.specs.Copies.{IsLive, count}
 use Rattle.vx_record.specs.Installs.{started}
 use Rattle.vx_record.specs.Legal.{IsClosed}
+use Rattle.vx_record.specs.Lists.{held}
 use Rattle.vx_record.specs.Places.{Place, owner}
+use Rattle.vx_record.specs.Places.Place.{Outputs, Waiting, Contents, Held}
 use Rattle.vx_record.specs.Shifts.{at}
+use Rattle.vx_record.proofs.Senders.{retired_home}
 use Rattle.vx_record.proofs.After.{notice_tells}
 use Rattle.vx_record.proofs.Counts.{counting_after}
 use Rattle.vx_record.proofs.Hands.{nowhere}
 use Rattle.vx_record.proofs.Lasting.{stays_bare}
 use Rattle.vx_record.proofs.LegalNotices.{one_notice_at_last, notice_at_once}
 use Rattle.vx_record.proofs.OnePlace.{one_place}
-use Rattle.vx_record.proofs.Senders.{retired_home}
 use Rattle.vx_record.proofs.Shifting.{stands_at}
 use Rattle.vx_balance.proofs.Settling.{settled_closes}
-use Rattle.vx_places.specs.Looks.{AreBare, AreEnded}
+use Rattle.vx_places.specs.Looks.{AreEnded, IsClear}
 use Rattle.vx_places.specs.Views.{here_if, parcels_here}
-use Rattle.vx_places.proofs.Looking.{bare_ended}
-use Rattle.vx_places.proofs.Recorded.{bare_is_bare}
+use Rattle.vx_places.proofs.Recorded.{clear_bare_is}
+use Rattle.vx_keeping.proofs.Resting.{holds_nothing}
 use Rattle.vx_tasks.specs.declared.task.Task.{Task}
 use Rattle.vx_tasks.specs.Home.{IsAtHome}
 use Rattle.vx_tasks.specs.Telling.{IsTold, IsToldButGiven}
@@ -34,17 +36,18 @@ use Rattle.vx_seats.specs.Calls.{IsClosedBy}
 use Rattle.vx_seats.specs.Staying.{OneSeat, IsLeft}
 use Rattle.vx_moves.specs.declared.books.Books.{Books}
 use Rattle.vx_moves.specs.Stands.{Stands}
-use Rattle.vx_moves.proofs.Keepers.{alone_by}
-use Rattle.vx_moves.proofs.Moving.{seen_kept}
+use Rattle.vx_moves.specs.Keepers.{keeper_at}
 use Rattle.vx_ready.specs.Asking.{IsServed}
 use Rattle.vx_ready.proofs.Counting.{started_are}
 use Rattle.vx_ready.proofs.Knowing.{known}
 use Rattle.vx_ready.proofs.Testing.{empty_tests}
 use Rattle.vx_hub.specs.declared.parts.Numbered.{Numbered}
 use Rattle.vx_hub.specs.Ending.{IsOver}
+use Rattle.vx_hub.specs.Making.{AreBare}
 use Rattle.vx_hub.specs.Remains.{AllSpent, AreNumbered, AreHome, IsPortOf, ArePortsOf, AreClosed, AreTold, HasEnded, AreToldButGiven}
 use Rattle.vx_hub.specs.Standing.{IsFed, IsFedAt}
 use Rattle.vx_hub.proofs.Endings.{home_is, live_is, retired_closed}
+use Rattle.vx_hub.proofs.Kept.{bare_by, none_numbers}
 use Rattle.vx_hub.proofs.Resting.{some_then, with_some, if_there}
 
 -- PORTS IN THEIR ORDER
@@ -80,23 +83,33 @@ module _ {P : Type 0} {told_by : P → Told} {books : Books P} (stands : Stands 
   within i l = let size = stands.seats.size in omega (arith, size, l)
 
   -- nothing stands anywhere
-  bare_all : AreBare books.places
-  bare_all i there =
+  clear_there : (i : ℕ) → i < length books.places → IsClear books.places i × (held books.log i ≡ [])
+  clear_there i there =
       let retired = over i (within i (rw (← stands.size) there)) in
-      (bare_is_bare books.log books.places i stands.legal stands.places).1
-      (seen_kept books.places i there (stands.kept i (retired_home books.log i stands.legal retired) (alone_by books.log stands.run.judging i))) (stays_bare books.log i stands.legal retired)
+      (clear_bare_is books.log books.places i stands.legal stands.places).1 (stays_bare books.log i stands.legal retired)
 
-  pub may_end : AreEnded books.places
-  may_end = bare_ended books.places bare_all
+  none_seen : (p : Place) → parcels_here books.places p ≡ Some [] → at books.log p ≡ []
+  none_seen p none = sym (rw none at (stands.places.stand p))
 
-  vacant_at : (p : Place) → parcels_here books.places p ≡ Some []
-  vacant_at p = elim (cases_lt (owner p) (length books.places)) [
-    | inl there ↦ bare_all (owner p) there p refl
-    | inr past ↦ ap (here_if p) (slice_get_past books.places (owner p) past)
-  ]
+  none_there : (p : Place) → owner p < length books.places → at books.log p ≡ []
+  none_there (Outputs i) there = none_seen (Outputs i) ((clear_there i there).0 (Outputs i) refl refl)
+  none_there (Waiting i t) there = none_seen (Waiting i t) ((clear_there i there).0 (Waiting i t) refl refl)
+  none_there (Contents i s) there = none_seen (Contents i s) ((clear_there i there).0 (Contents i s) refl refl)
+  none_there (Held i) there = sym (stands_at books.log (Held i) stands.legal) ∙ (clear_there i there).1
 
   none_at : (p : Place) → at books.log p ≡ []
-  none_at p = sym (rw (vacant_at p) at (stands.places.stand p))
+  none_at p = elim (cases_lt (owner p) (length books.places)) [
+    | inl there ↦ none_there p there
+    | inr past ↦ none_seen p (ap (here_if p) (slice_get_past books.places (owner p) past))
+  ]
+
+  pub may_end : AreEnded books.places
+  may_end i there p owned = IfSome_then (parcels_here books.places p) (stands.places.stand p) (λ parcels same. none_numbers parcels (same ∙ none_at p))
+
+  -- nor is anything kept
+  pub slots_end : AreBare books.keepers.items
+  slots_end = bare_by books.keepers.items (λ i. IfSome_then (keeper_at books.keepers.items i) (stands.keeps i) (λ k kept.
+      (holds_nothing k books.log i stands.legal kept.keeps.accounts).1 (none_at (Held i))))
 
   -- so each copy was split or spent
   spent_all : AllSpent books.log

@@ -23,7 +23,7 @@ use Rattle.vx_landing.proofs.Seating.{each_flags}
 use Rattle.vx_hub.specs.declared.hub.Hub.{Hub}
 use Rattle.vx_hub.specs.Ending.{Rests}
 use Rattle.vx_moves.specs.declared.run.Run.{Run}
-use Rattle.vx_hub.specs.Standing.{AreSources, IsHub, IsWell, IsFed}
+use Rattle.vx_hub.specs.Standing.{AreSources, AreMergers, IsHub, IsWell, IsFed}
 
 -- OPTIONS AND LISTS
 -- what is said of what an option has
@@ -127,6 +127,7 @@ module _ {P : Type 0} where
           berths = omega (arith, size, berths);
           none = is.none;
           sources = rw (rests.plan, size) is.sources;
+          mergers = rw (rests.plan, size) is.mergers;
         }
 
     -- so it does when a task came home
@@ -137,4 +138,5 @@ module _ {P : Type 0} where
         let berths : length books.seats ≤ vec_capacity hub.ports = omega (arith, size, room) in
         let fed : IsFed books = home.fed is.fed in
         let sources : AreSources books.run.plan.components (length books.seats) hub.sources.items = rw (ap (λ (r : Run). r.plan) home.run, home.size) is.sources in
-        assumption (berths, fed, well, sources, home, is)
+        let mergers : AreMergers books.run.plan.components (length books.seats) hub.mergers.items = rw (ap (λ (r : Run). r.plan) home.run, home.size) is.mergers in
+        assumption (berths, fed, well, sources, mergers, home, is)

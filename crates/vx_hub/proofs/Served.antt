@@ -22,6 +22,8 @@ use Rattle.vx_record.proofs.SourceEnds.{source_done}
 use Rattle.vx_record.proofs.Vacant.{is_empty_of, unbuffered}
 use Rattle.vx_record.proofs.WorkerEnds.{worker_done}
 use Rattle.vx_sourcecore.specs.Lines.{is_generating, is_swallowing}
+use Rattle.vx_tasks.specs.Joining.{is_joining}
+use Rattle.vx_hub.specs.Standing.{merges}
 use Rattle.vx_ready.specs.Asking.{source_class, transform_class, sink_class, has_few_ports, is_served, all_served}
 
 -- COMPONENTS
@@ -37,19 +39,20 @@ served_at [] i c all at = cc
 served_at (d ∷ rest) zero c all at = let same : d ≡ c = cc in ap is_served (sym same) ∙ (and_parts (is_served d) (all_served rest) all).0
 served_at (d ∷ rest) (suc i) c all at = served_at rest i c (and_parts (is_served d) (all_served rest) all).1 at
 
--- a transform judges
-judge_tests : (device judging few : Bool) → ((device && false) || (judging && not device && few) || false || false) ≡ true → judging ≡ true
-judge_tests device judging few is = grind arith
+-- a transform judges that doesn't merge
+judge_tests : (device judging few joining : Bool) → ((device && false) || (judging && not device && few) || false || false || (joining && not device && few)) ≡ true → joining ≡ false → judging ≡ true
+judge_tests device judging few joining is alone = grind (arith, is, alone)
 
-served_tests : (class : Class) (device judging few generating swallowing : Bool) →
-    ((device && not (transform_class class)) || (transform_class class && judging && not device && few) || (source_class class && generating) || (sink_class class && swallowing)) ≡ true →
-    transform_class class ≡ true → judging ≡ true
-served_tests Source device judging few generating swallowing is transform = cc
-served_tests Transform device judging few generating swallowing is transform = judge_tests device judging few is
-served_tests Sink device judging few generating swallowing is transform = cc
+served_tests : (class : Class) (device judging few generating swallowing joining : Bool) →
+    ((device && not (transform_class class)) || (transform_class class && judging && not device && few) || (source_class class && generating) || (sink_class class && swallowing)
+    || (transform_class class && joining && not device && few)) ≡ true →
+    transform_class class ≡ true → (transform_class class && joining) ≡ false → judging ≡ true
+served_tests Source device judging few generating swallowing joining is transform alone = cc
+served_tests Transform device judging few generating swallowing joining is transform alone = judge_tests device judging few joining is alone
+served_tests Sink device judging few generating swallowing joining is transform alone = cc
 
-pub serves : (c : Component) → is_served c ≡ true → is_transform c ≡ true → is_judging c.settings ≡ true
-serves c = served_tests c.class (has_device c.settings) (is_judging c.settings) (has_few_ports c) (is_generating c.settings) (is_swallowing c.settings)
+pub serves : (c : Component) → is_served c ≡ true → is_transform c ≡ true → merges c ≡ false → is_judging c.settings ≡ true
+serves c = served_tests c.class (has_device c.settings) (is_judging c.settings) (has_few_ports c) (is_generating c.settings) (is_swallowing c.settings) (is_joining c.settings)
 
 -- INSTANCES
 -- what is done has no work, if it is a transform

@@ -1,11 +1,12 @@
 -- The soonest of the moments for which instances wait.
-use Rattle.std.proofs.Common.{◌≡◌, ◌∙◌, ◌⊎◌, ℕ, zero, suc, ◌+◌, ◌<◌, ◌≤◌, length, Option, Some, None, IfSome, inl, inr, sym, subst, arith}
-use Rattle.std.specs.Prelude.{min}
+use Rattle.std.proofs.Common.{◌≡◌, ◌∙◌, ◌⊎◌, ℕ, zero, suc, ◌+◌, true, ◌<◌, ◌≤◌, length, Option, Some, None, IfSome, inl, inr, sym, subst, arith}
+use Rattle.std.specs.Prelude.{min, IsSomeAnd}
 use Rattle.std.proofs.lemmas.Bool.{cases_eq}
-use Rattle.vx_record.specs.Ready.{waits_until}
+use Rattle.vx_record.specs.Ready.{IsTickReady, waits_until}
+use Rattle.vx_tasks.specs.Joining.{joins_at}
 use Rattle.vx_moves.specs.declared.books.Books.{Books}
 use Rattle.vx_ready.specs.Asking.{IsSettled, IsOpen}
-use Rattle.vx_hub.specs.Waiting.{WaitsAt, SomeoneWaits, IsSoonest, sooner}
+use Rattle.vx_hub.specs.Waiting.{WaitsAt, SomeoneWaits, SomeoneChecks, IsSoonest, sooner}
 
 -- of those below a number and of one more
 below_or : (F : ℕ → Type 0) (n i : ℕ) → i < n + 1 → ((i < n) → F i) → F n → F i
@@ -60,3 +61,29 @@ module _ {P : Type 0} (books : Books P) where
     λ i moment l waits. below_or (λ j. WaitsAt books j moment → min x m ≤ moment) n i l (λ less here. let later = some.1 i moment less here in omega (arith, later))
         (λ here. let same = one_moment n m moment found here in omega (arith, same)) waits,
   )
+
+  -- what one that merges tells of itself
+  pub check_of : (i : ℕ) → i < length books.seats → (found : Option ℕ) → IfSome found (λ moment. (now : ℕ) → moment ≤ now → IsTickReady books.log i now) →
+      IfSome found (λ moment. joins_at books.log i ≡ true) → IfSome found (SomeoneChecks books)
+  check_of i within None due joins = tt
+  check_of i within (Some m) due joins = record { who = i; within = within; joins = joins; due = due }
+
+  -- and one more
+  pub check_more : (soonest found : Option ℕ) → IfSome soonest (SomeoneChecks books) → IfSome found (SomeoneChecks books) → IfSome (sooner soonest found) (SomeoneChecks books)
+  check_more None found some more = more
+  check_more (Some x) None some more = some
+  check_more (Some x) (Some m) some more = elim (one_of x m) [
+    | inl same ↦ subst (λ (s : ℕ). SomeoneChecks books s) (sym same) some
+    | inr same ↦ subst (λ (s : ℕ). SomeoneChecks books s) (sym same) more
+  ]
+
+-- what is reached by one of two moments is reached by the sooner one
+pub by_first : (a b : Option ℕ) (now : ℕ) → IsSomeAnd a (λ m. m ≤ now) → IsSomeAnd (sooner a b) (λ m. m ≤ now)
+by_first None b now is = absurd is
+by_first (Some x) None now is = is
+by_first (Some x) (Some y) now is = omega (arith, is)
+
+pub by_second : (a b : Option ℕ) (now : ℕ) → IsSomeAnd b (λ m. m ≤ now) → IsSomeAnd (sooner a b) (λ m. m ≤ now)
+by_second None b now is = is
+by_second (Some x) None now is = absurd is
+by_second (Some x) (Some y) now is = omega (arith, is)

@@ -92,7 +92,7 @@ module _ {P : Type 0} {told_by : P → Told} {books : Books P} (stands : Stands 
   pub none_of_class : (is_of : Record → ℕ → Bool) → ((i : ℕ) → is_of books.log i ≡ true → source_at books.log i ≡ false) →
       NoneFilled is_of books now (length books.seats) → NoneFound is_of books now (length books.seats)
   none_of_class is_of others asked i within is = elim (asked i within) [
-    | inl unfilled ↦ λ settled usable. unfilled_unready i within (others i is) unfilled
+    | inl unfilled ↦ λ settled usable alone. unfilled_unready i within (others i is) unfilled
     | inr none ↦ none is
   ]
 
@@ -156,7 +156,7 @@ module _ {P : Type 0} {told_by : P → Told} {books : Books P} (stands : Stands 
     where
       go : (o : Option Component) → component_of books.log i ≡ o → (elim o [ None ↦ false | Some c ↦ is_source c ]) ≡ false →
           ((elim o [ None ↦ false | Some c ↦ is_sink c ]) ≡ true → NoneFoundAt books now i) → ((elim o [ None ↦ false | Some c ↦ is_transform c ]) ≡ true → NoneFoundAt books now i) → NoneFoundAt books now i
-      go None is nil s t = λ settled usable. ap (λ (o : Option Component). elim o [ None ↦ false | Some c ↦ elim c.class [ Source ↦ is_source_ready books.log i now | Transform ↦ is_transform_ready books.log i | Sink ↦ is_sink_ready books.log i now ] ]) is
+      go None is nil s t = λ settled usable alone. ap (λ (o : Option Component). elim o [ None ↦ false | Some c ↦ elim c.class [ Source ↦ is_source_ready books.log i now | Transform ↦ is_transform_ready books.log i | Sink ↦ is_sink_ready books.log i now ] ]) is
       go (Some c) is nil s t = by_class c.class nil s t
         where
           by_class : (k : Class) → (elim k [ Source ↦ true | Transform ↦ false | Sink ↦ false ]) ≡ false →

@@ -9,7 +9,6 @@ use Rattle.vx_plan.specs.Numbers.{reader_numbers}
 use Rattle.vx_plan.specs.Options.{file_read, decoding, demo_of, encoding, has_device, reading_interval, type_name}
 use Rattle.vx_plan.specs.Targets.{acknowledged}
 use Rattle.vx_record.specs.Copies.{counting}
-use Rattle.vx_record.specs.Places.{Place}
 use Rattle.vx_pick.specs.Picks.{Picks, StandsFor}
 use Rattle.vx_pick.specs.declared.picker.Picker.{Picker}
 use Rattle.vx_sourcecore.specs.declared.source.SourceCore.{SourceCore}
@@ -21,15 +20,14 @@ use Rattle.vx_counts.specs.Meets.{Meets}
 use Rattle.vx_balance.specs.Balances.{Balances}
 use Rattle.vx_places.specs.declared.row.Row.{Row}
 use Rattle.vx_places.specs.Rooms.{rooms_at, held_room}
-use Rattle.vx_places.specs.Views.{parcels_here}
+use Rattle.vx_places.specs.Holding.{Holds}
 use Rattle.vx_tasks.specs.declared.task.Role.{Role}
 use Rattle.vx_tasks.specs.declared.task.Role.TheVariants.{Source, Generator, Sink, Blackhole, Transform, Merge, Unfit}
 use Rattle.vx_seats.specs.declared.seat.Seat.{Seat}
 use Rattle.vx_seats.specs.Beginning.{AreNew, HasBorneNone}
 use Rattle.vx_seats.specs.Knowing.{IsFittedTo}
 use Rattle.vx_moves.specs.Rooms.{hand_of}
-use Rattle.vx_hub.specs.Making.{AreFree}
-use Rattle.vx_hub.specs.Standing.{AreSources}
+use Rattle.vx_hub.specs.Standing.{AreSources, AreMergers, merges}
 use Rattle.vx_hub.specs.declared.making.Room.{Room}
 use Rattle.vx_hub.specs.declared.parts.Named.{Named}
 
@@ -80,7 +78,7 @@ IsRoleFor (Generator maker) c = IsGeneratorFor c.settings maker
 IsRoleFor (Sink codec) c = encoding c.settings ≡ Some codec
 IsRoleFor Blackhole c = is_swallowing c.settings ≡ true
 IsRoleFor (Transform picker) c = Picks c.settings picker × StandsFor picker []
-IsRoleFor Merge c = ⊥
+IsRoleFor Merge c = merges c ≡ true
 IsRoleFor Unfit c = ⊥
 
 -- but for what a transform picks by, which comes with the parts
@@ -90,8 +88,8 @@ IsRoleBut (Generator maker) c = IsGeneratorFor c.settings maker
 IsRoleBut (Sink codec) c = encoding c.settings ≡ Some codec
 IsRoleBut Blackhole c = is_swallowing c.settings ≡ true
 IsRoleBut (Transform picker) c = ⊥
-IsRoleBut Merge c = ⊥
-IsRoleBut Unfit c = is_transform c ≡ true
+IsRoleBut Merge c = merges c ≡ true
+IsRoleBut Unfit c = (is_transform c ≡ true) × (merges c ≡ false)
 
 -- a role with what its component picks by, if it is a transform's
 abbrev pub IsRoled : List Role → List (Option Picker) → ℕ → Role → Type 0
@@ -114,18 +112,19 @@ rooms_in = map (λ (stage : Stage). stage.max_events)
 abbrev pub rooms_of : Component → List ℕ
 rooms_of c = rooms_in (stages c)
 
--- an instance has the rooms of a component
+-- an instance has the rooms of a component; of one that merges a keeper elsewhere has what it holds
 pub record HasRoomsOf (rows : List Row) (i : ℕ) (c : Component) : Type 0 where
   pub stages : rooms_at rows i ≡ rooms_of c
-  pub hand : held_room rows i ≡ Some (hand_of c)
+  pub hand : held_room rows i ≡ (if merges c then None else Some (hand_of c))
+
+-- there is an instance of a component more, and the others have the rooms that they had
+pub record AddsPlace (c : Component) (old new : List Row) : Type 0 where
+  pub one : HasRoomsOf new (length old) c
+  pub others : (i : ℕ) → i < length old → (rooms_at new i ≡ rooms_at old i) × (held_room new i ≡ held_room old i)
 
 -- each that is there has those of the component in its place
 abbrev pub HaveRooms : List Component → List Row → Type 0
 HaveRooms components rows = (i : ℕ) → i < length rows → IsSomeAnd (slice_get components i) (HasRoomsOf rows i)
-
--- nothing stands anywhere
-abbrev pub AreVacant : List Row → Type 0
-AreVacant rows = (p : Place) → parcels_here rows p ≡ Some []
 
 -- what a hub needs memory for is there, for each component of a plan
 pub record HasRoomFor {P : Type 0} (plan : Plan) (room : Room P) : Type 0 where
@@ -134,14 +133,13 @@ pub record HasRoomFor {P : Type 0} (plan : Plan) (room : Room P) : Type 0 where
   pub roles : AreFor IsRoleBut plan.components room.roles.items
   pub roles_size : length room.roles.items ≡ length plan.components
   pub balance : Balances room.balance []
-  pub vacant : AreVacant room.places
+  pub holds : Holds room.places []
   pub rooms : HaveRooms plan.components room.places
   pub places_size : length room.places ≡ length plan.components
-  pub slots : length room.keepers.items ≡ length plan.components
-  pub free : AreFree room.keepers.items
   pub berths : length plan.components ≤ vec_capacity room.ports
   pub none : room.ports.items ≡ []
   pub sources : AreSources plan.components (length plan.components) room.sources.items
+  pub mergers : AreMergers plan.components (length plan.components) room.mergers.items
 
 -- a seat has the role and the port in its place, and else is as it was
 abbrev pub IsSeated : {P : Type 0} → List (Seat P) → List Role → List (Named P) → ℕ → Seat P → Type 0

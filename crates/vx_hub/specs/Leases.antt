@@ -11,6 +11,7 @@ use Rattle.vx_places.specs.Marks.{IsUnfilled}
 use Rattle.vx_places.specs.Views.{parcels_here}
 use Rattle.vx_tasks.specs.declared.work.Job.TheVariants as job
 use Rattle.vx_tasks.specs.declared.work.Work.{Work}
+use Rattle.vx_tasks.specs.Joining.{joins_at}
 use Rattle.vx_tasks.specs.Out.{MayReadNow, MayCloseNow, IsGiven, HasLeft}
 use Rattle.vx_moves.specs.Leaving.{Leaves}
 use Rattle.vx_moves.specs.Rooms.{IsHandOf}
@@ -32,16 +33,17 @@ use Rattle.vx_landing.specs.Landings.{HasTask}
 use Rattle.vx_hub.specs.Standing.{IsWell, LentWhileOut, OthersKeep}
 use Rattle.vx_hub.specs.Collecting.{IsCollecting, IsGathering, IsTakeOf}
 
--- an instance may be leased at a moment, and has this to do
+-- an instance that doesn't merge may be leased at a moment, and has this to do
 pub record IsReadyFor {P : Type 0} (books : Books P) (now i : ℕ) (job : Job) : Type 0 where
   pub within : i < length books.seats
   pub works : IsJob books.log i now job
   pub leasable : IsLeasable books i now
   pub settled : IsSettled books i
+  pub alone : joins_at books.log i ≡ false
 
--- an instance at home that owes nothing, and whose port isn't closed, has nothing to do
+-- an instance at home that owes nothing, that doesn't merge, and whose port isn't closed, has nothing to do
 abbrev pub NoneFoundAt : {P : Type 0} → Books P → ℕ → ℕ → Type 0
-NoneFoundAt books now i = IsSettled books i → IsOpen books i → is_ready books.log i now ≡ false
+NoneFoundAt books now i = IsSettled books i → IsOpen books i → joins_at books.log i ≡ false → is_ready books.log i now ≡ false
 
 -- no instance of a class below a number has
 abbrev pub NoneFound : {P : Type 0} → (Record → ℕ → Bool) → Books P → ℕ → ℕ → Type 0
@@ -69,14 +71,15 @@ pub record GoesFirst {P : Type 0} (books : Books P) (now i : ℕ) : Type 0 where
   pub sinks : sink_at books.log i ≡ false → NoneFound sink_at books now (length books.seats)
   pub transforms : source_at books.log i ≡ true → NoneFound transform_at books now (length books.seats)
 
--- no instance at home has anything to do, in a run that wasn't given up and where memory was never wanting
+-- no instance at home that doesn't merge has anything to do, in a run that wasn't given up and where memory was never wanting
 abbrev pub NoneReady : {P : Type 0} → Books P → ℕ → Type 0
 NoneReady books now =
-    IsWell books → books.run.abandoned ≡ None → (i : ℕ) → i < length books.seats → is_out books.log i ≡ false → is_ready books.log i now ≡ false
+    IsWell books → books.run.abandoned ≡ None → (i : ℕ) → i < length books.seats → is_out books.log i ≡ false → joins_at books.log i ≡ false →
+    is_ready books.log i now ≡ false
 
--- no instance at home has work at a moment, in a run that wasn't given up
+-- no instance at home that doesn't merge has work at a moment, in a run that wasn't given up
 abbrev pub NoneHasWork : Record → ℕ → Type 0
-NoneHasWork h now = cause_of h ≡ None → (i : ℕ) → i < length (started h) → is_out h i ≡ false → is_ready h i now ≡ false
+NoneHasWork h now = cause_of h ≡ None → (i : ℕ) → i < length (started h) → is_out h i ≡ false → joins_at h i ≡ false → is_ready h i now ≡ false
 
 -- whether a job is a sink's that takes before it leaves
 abbrev pub takes_first : Job → Bool

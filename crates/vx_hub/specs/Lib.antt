@@ -2,8 +2,10 @@ pub mod Beginning
 pub mod Collecting
 pub mod Ending
 pub mod Failures
+pub mod Kinds
 pub mod Leases
 pub mod Making
+pub mod Merges
 pub mod Pushing
 pub mod Remains
 pub mod Standing

@@ -1,5 +1,5 @@
 -- What a hub is made of.
-use Rattle.std.specs.Prelude.{◌≡◌, ℕ, true, false, List, [], ◌∷◌, Option, Some, None, IfSome}
+use Rattle.std.specs.Prelude.{◌≡◌, ◌⊎◌, ℕ, true, false, List, [], ◌∷◌, Option, Some, None, IfSome}
 use Rattle.vx_ends.specs.Told.{Told, Fits}
 use Rattle.vx_ends.specs.declared.port_spec.PortSpec.{PortSpec}
 use Rattle.vx_plan.specs.declared.component.Component.{Component}
@@ -8,10 +8,15 @@ use Rattle.vx_plan.specs.Components.{is_transform}
 use Rattle.vx_pick.specs.declared.picker.Picker.{Picker}
 use Rattle.vx_pick.specs.Picks.{Picks, StandsFor}
 use Rattle.vx_record.specs.Records.{Record}
-use Rattle.vx_record.specs.Installs.{in_force}
+use Rattle.vx_record.specs.Installs.{in_force, component_of}
 pub use Rattle.vx_ready.specs.Asking.{is_ported, is_judge, is_served, all_served}
 use Rattle.vx_tasks.specs.Telling.{HasCounted}
-use Rattle.vx_keeping.specs.Kept.{Kept}
+use Rattle.vx_record.specs.Inputs.{inputs}
+use Rattle.vx_record.specs.Places.Place.{Held}
+use Rattle.vx_record.specs.Shifts.{at}
+use Rattle.vx_keeping.specs.Kept.{Kept, copies_kept}
+use Rattle.vx_keeping.specs.Keeping.{Keeps}
+use Rattle.vx_hub.specs.Standing.{merges}
 use Rattle.vx_hub.specs.declared.parts.Named.{Named}
 
 -- nothing went through a port, it wasn't started, its counts are 0 where they are exact, and it is made for that
@@ -36,9 +41,9 @@ AreUntouched told_by needs [] (named ∷ rest) = ⊥
 AreUntouched told_by needs (component ∷ components) (named ∷ rest) =
     IsUntouched (needs component) (told_by named.port) × AreUntouched told_by needs components rest
 
--- a transform has what picks by its settings and saw no event, and what is none has nothing
+-- a transform that judges has what picks by its settings and saw no event; one that merges, and what is none, has nothing
 abbrev pub IsPickerFor : Component → Option Picker → Type 0
-IsPickerFor c None = is_transform c ≡ false
+IsPickerFor c None = (is_transform c ≡ false) ⊎ (merges c ≡ true)
 IsPickerFor c (Some picker) = (is_transform c ≡ true) × (Picks c.settings picker × StandsFor picker [])
 
 -- so has each component in its place
@@ -48,11 +53,30 @@ ArePickers [] (picker ∷ rest) = ⊥
 ArePickers (component ∷ components) [] = ⊥
 ArePickers (component ∷ components) (picker ∷ rest) = IsPickerFor component picker × ArePickers components rest
 
--- each component of the plan in force works with a port, judges event by event, makes its lines itself or writes nothing
+-- each component of the plan in force works with a port, judges event by event, merges, makes its lines itself or writes nothing
 abbrev pub AreServed : Record → Type 0
 AreServed h = IfSome (in_force h) (λ (plan : Plan). all_served plan.components ≡ true)
 
--- there is a keeper in none of some slots
-abbrev pub AreFree : List (Option Kept) → Type 0
-AreFree [] = Unit {0}
-AreFree (slot ∷ rest) = (slot ≡ None) × AreFree rest
+-- what an instance keeps as it begins, if its component merges: it can answer, and has nothing, as in each record in which the instance
+-- runs that component, was given nothing and holds nothing
+pub record IsKeeperFor (c : Component) (k : Kept) : Type 0 where
+  pub merging : merges c ≡ true
+  pub fit : k.fit ≡ true
+  pub keeps : (h : Record) (i : ℕ) → component_of h i ≡ Some c → inputs h i ≡ [] → at h (Held i) ≡ [] → Keeps k h i
+
+-- an instance that merges has that, and no other
+abbrev pub IsSlotFor : Component → Option Kept → Type 0
+IsSlotFor c None = merges c ≡ false
+IsSlotFor c (Some k) = IsKeeperFor c k
+
+-- so has each component in its place
+abbrev pub AreSlots : List Component → List (Option Kept) → Type 0
+AreSlots [] [] = Unit {0}
+AreSlots [] (slot ∷ rest) = ⊥
+AreSlots (component ∷ components) [] = ⊥
+AreSlots (component ∷ components) (slot ∷ rest) = IsSlotFor component slot × AreSlots components rest
+
+-- no copy is kept in any of some slots
+abbrev pub AreBare : List (Option Kept) → Type 0
+AreBare [] = Unit {0}
+AreBare (slot ∷ rest) = IfSome slot (λ k. copies_kept k ≡ []) × AreBare rest

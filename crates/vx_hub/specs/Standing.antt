@@ -1,13 +1,14 @@
 -- What a hub stands for.
-use Rattle.std.specs.Prelude.{◌≡◌, ◌≢◌, ◌<◌, ◌≤◌, ℕ, true, false, List, [], length, Some, IsSome, IfSome, IsSomeAnd, slice_get, vec_capacity}
+use Rattle.std.specs.Prelude.{◌≡◌, ◌≢◌, ◌<◌, ◌≤◌, ◌&&◌, ℕ, Bool, true, false, List, [], length, Some, IsSome, IfSome, IsSomeAnd, slice_get, vec_capacity}
 use Rattle.vx_ends.specs.Told.{Told}
-use Rattle.vx_plan.specs.Components.{is_source}
+use Rattle.vx_plan.specs.Components.{is_source, is_transform}
 use Rattle.vx_plan.specs.declared.component.Component.{Component}
 use Rattle.vx_record.specs.Additions.{OnlyAdds}
 use Rattle.vx_record.specs.Installs.{in_force, started}
 use Rattle.vx_record.specs.Legal.{IsLegal}
 use Rattle.vx_record.specs.Records.{Record}
 use Rattle.vx_seats.specs.declared.seat.Seat.{Seat}
+use Rattle.vx_tasks.specs.Joining.{is_joining}
 use Rattle.vx_moves.specs.Stands.{Stands}
 use Rattle.vx_ready.specs.Asking.{IsServed}
 use Rattle.vx_hub.specs.declared.hub.Hub.{Hub}
@@ -17,10 +18,22 @@ pub use Rattle.vx_landing.specs.Standing.{IsWellAt, IsWell, LentWhileOut, IsFedA
 abbrev pub IsAmong : List ℕ → ℕ → Type 0
 IsAmong numbers i = (k : ℕ) × (slice_get numbers k ≡ Some i)
 
--- these are the sources among components, each of which is one of so many instances
-pub record AreSources (components : List Component) (n : ℕ) (sources : List ℕ) : Type 0 where
-  pub all : (i : ℕ) → IfSome (slice_get components i) (λ c. is_source c ≡ true → IsAmong sources i)
-  pub only : (k : ℕ) → IfSome (slice_get sources k) (λ i. (i < n) × IsSomeAnd (slice_get components i) (λ c. is_source c ≡ true))
+-- these are those of a kind among components, each of which is one of so many instances
+pub record AreThose (is_of : Component → Bool) (components : List Component) (n : ℕ) (those : List ℕ) : Type 0 where
+  pub all : (i : ℕ) → IfSome (slice_get components i) (λ c. is_of c ≡ true → IsAmong those i)
+  pub only : (k : ℕ) → IfSome (slice_get those k) (λ i. (i < n) × IsSomeAnd (slice_get components i) (λ c. is_of c ≡ true))
+
+-- these are the sources
+abbrev pub AreSources : List Component → ℕ → List ℕ → Type 0
+AreSources = AreThose is_source
+
+-- whether a component is a transform that merges
+abbrev pub merges : Component → Bool
+merges c = is_transform c && is_joining c.settings
+
+-- these are the transforms that merge
+abbrev pub AreMergers : List Component → ℕ → List ℕ → Type 0
+AreMergers = AreThose merges
 
 -- the hub stands for its record: its books do, what is held is lent while it is out, and all is well unless a call answered
 -- `Fatal`; there is room for the ports at the end
@@ -34,6 +47,7 @@ pub record IsHub {P : Type 0} (told_by : P → Told) (hub : Hub P) : Type 0 wher
   pub berths : length hub.books.seats ≤ vec_capacity hub.ports
   pub none : hub.ports.items ≡ []
   pub sources : AreSources hub.books.run.plan.components (length hub.books.seats) hub.sources.items
+  pub mergers : AreMergers hub.books.run.plan.components (length hub.books.seats) hub.mergers.items
 
 -- a seat has the task that it had, or still none
 abbrev pub SameTask : {P : Type 0} → Seat P → Seat P → Type 0

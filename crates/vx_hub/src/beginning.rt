@@ -10,6 +10,7 @@ ghost use Rattle.vx_hub.specs.Making.{is_served, all_served};
 ghost use Rattle.vx_moves.specs.Rooms.{hand_of};
 ghost use Rattle.vx_hub.specs.Beginning.{IsBegun, IsSourceFor, IsRoleBut, IsWorkerFor, is_working, AreFor, rooms_of, rooms_in};
 
+use crate::making::merges;
 use std::alloc::Global;
 use vx_counts::Counts;
 use vx_demo::DemoSettings;
@@ -225,6 +226,9 @@ fn make_role(alloc: Global, component: &Component) -> Result<Role, WantOfMemory>
     requires { is_served component.now ≡ true }
     ensures { IfOk result (λ role. IsRoleBut role component.now) }
 {
+    if merges(component) {
+        return Ok(Role::Merge);
+    }
     match component.class {
         Class::Transform => Ok(Role::Unfit),
         Class::Source | Class::Sink => make_worker(alloc, &component.settings),

@@ -41,7 +41,7 @@ fn soonest<P: Port>(books: &Books<P>) -> Option<u64>
 }
 
 /// The sooner of two moments, if there are any.
-fn sooner(a: Option<u64>, b: Option<u64>) -> Option<u64>
+pub(crate) fn sooner(a: Option<u64>, b: Option<u64>) -> Option<u64>
     ensures { result ≡ sooner_of a b }
 {
     match (a, b) {

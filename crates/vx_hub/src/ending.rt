@@ -5,6 +5,7 @@ ghost use Rattle.vx_record.specs.Additions.{OnlyAdds};
 ghost use Rattle.vx_record.specs.Abandoning.{abandoned};
 ghost use Rattle.vx_record.specs.Ceasing.{cause_of};
 ghost use Rattle.vx_record.specs.Ending.{MayRetire, HasReason};
+ghost use Rattle.vx_record.specs.Lists.{is_bare as is_bare_at};
 ghost use Rattle.vx_record.specs.Turns.{is_out};
 ghost use Rattle.vx_moves.specs.Stands.{Stands};
 ghost use Rattle.vx_ready.specs.Asking.{IsServed};
@@ -144,12 +145,26 @@ fn may_retire<P: Port>(books: &Books<P>, i: u32) -> bool
         return false;
     }
     if books.run.abandoned.is_some() {
-        return books.places.is_bare(i);
+        return is_bare(books, i);
     }
     if !is_settled(books, i) {
         return false;
     }
     is_done(books, i)
+}
+
+/// Whether nothing stands at an instance at home.
+fn is_bare<P: Port>(books: &Books<P>, i: u32) -> bool
+    requires stands { Stands P.told books.now }
+    requires within { i < length books.now.seats }
+    requires home { is_out books.now.log i ≡ false }
+    ensures { result ≡ is_bare_at books.now.log i }
+{
+    if books.merges(i) {
+        books.places.is_clear(i) && books.keeps_none(i)
+    } else {
+        books.places.is_bare(i)
+    }
 }
 
 /// Whether the task of an instance is at home, its port, if it has one, is closed for good, and it hasn't ended.

@@ -15,4 +15,6 @@ pub struct Hub<P: Port> {
     pub ports: Vec<Numbered<P>>,
     /// The instances that are sources.
     pub sources: Vec<u32>,
+    /// The instances that merge.
+    pub mergers: Vec<u32>,
 }

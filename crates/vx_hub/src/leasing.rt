@@ -39,9 +39,9 @@ impl<P: Port> Hub<P> {
         }
     }
 
-    /// Hands out the task of an instance that has work, to a worker: a sink before a transform, and both before a source. Any number
-    /// may be out. It takes no memory.
-    /// `None` exactly where no instance at home has work at that moment, or a call answered `Fatal`, or the run was given up;
+    /// Hands out the task of an instance that has work and doesn't merge, to a worker: a sink before a transform, and both before a
+    /// source. Any number may be out. It takes no memory.
+    /// `None` exactly where no such instance at home has work at that moment, or a call answered `Fatal`, or the run was given up;
     /// nothing has changed then.
     ///
     /// The lease is of the moment `now`, in milliseconds; where a call before told a later one, it is of that still.

@@ -2,6 +2,7 @@
 #![tactic(auto)]
 
 mod beginning;
+mod checks;
 mod collecting;
 mod dropping;
 mod due;
@@ -12,6 +13,7 @@ mod land;
 mod laws;
 mod leasing;
 mod making;
+mod merging;
 mod parts;
 mod pushing;
 mod ready;
@@ -22,5 +24,9 @@ mod telling;
 pub use fatal::Fatal;
 pub use hub::Hub;
 pub use laws::engine_laws;
-pub use parts::{Named, NamedList, NewRefused, Numbered, NumberedList, Parts, PickerList};
+pub use making::merges;
+pub use parts::{
+    KeeperList, Named, NamedList, NewRefused, Numbered, NumberedList, Parts, PickerList,
+};
 pub use remains::Remains;
+pub use slots::end_keepers;

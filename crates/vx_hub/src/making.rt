@@ -1,29 +1,26 @@
-ghost use Rattle.std.specs.Prelude.{◌≡◌, ◌<◌, ◌+◌, ◌^◌, length, true, false, slice_set, IfOk, IfErr, OnOk, OnErr};
+ghost use Rattle.std.specs.Prelude.{◌≡◌, ◌<◌, ◌+◌, ◌^◌, [], length, true, false, slice_set, IfOk, IfErr, OnOk, OnErr};
 ghost use Rattle.vx_tasks.specs.declared.task.Role.{Role};
 ghost use Rattle.vx_plan.specs.Accepted.{IsPlan};
-ghost use Rattle.vx_moves.specs.Rooms.{hand_of};
+ghost use Rattle.vx_tasks.specs.Joining.{is_joining};
 ghost use Rattle.vx_record.specs.Wirings.{begun};
-ghost use Rattle.vx_places.specs.Views.{Same};
-ghost use Rattle.vx_places.specs.Rooms.{AddsRooms};
-ghost use Rattle.vx_hub.specs.Beginning.{HasRoomFor, HaveRooms, AreVacant, AreRoledFrom, AreSeatedFrom, rooms_of};
+ghost use Rattle.vx_places.specs.Holding.{Holds};
+ghost use Rattle.vx_hub.specs.Beginning.{AddsPlace, HasRoomFor, HaveRooms, AreRoledFrom, AreSeatedFrom};
 ghost use Rattle.vx_plan.specs.Ports.{port_of};
-ghost use Rattle.vx_hub.specs.Making.{all_served, AreUntouched, ArePickers};
-ghost use Rattle.vx_ready.specs.Asking.{source_class};
-ghost use Rattle.vx_hub.specs.Standing.{AreSources, IsHub};
+ghost use Rattle.vx_hub.specs.Making.{all_served, AreUntouched, ArePickers, AreSlots};
+ghost use Rattle.vx_hub.specs.Standing.{AreThose, IsHub, merges as merges_by};
+ghost use Rattle.vx_hub.specs.Kinds.{kind_test};
 
 use crate::beginning::{hand, make_roles, make_seats, stage_rooms};
 use crate::hub::Hub;
 use crate::parts::{Named, NewRefused, Numbered, Parts};
-use crate::slots::{end_slots, free_slots};
 use std::alloc::Global;
 use vx_balance::Balance;
 use vx_ends::Port;
 use vx_history::History;
-use vx_keeping::Keeper;
 use vx_moves::{Books, Run};
 use vx_pick::Picker;
 use vx_places::Places;
-use vx_plan::{Class, Component, Plan};
+use vx_plan::{Class, Component, Plan, Settings};
 use vx_seats::{Seat, Seats};
 use vx_tasks::{Role, Task};
 use vx_value::WantOfMemory;
@@ -35,13 +32,13 @@ pub struct Room<P> {
     pub balance: Balance,
     pub ports: Vec<Numbered<P>>,
     pub places: Places,
-    pub keepers: Vec<Option<Keeper>>,
     pub sources: Vec<u32>,
+    pub mergers: Vec<u32>,
 }
 
 impl<P: Port> Hub<P> {
     /// A hub with one instance for each component of a plan, whose record has their install. Each component works with a port, judges
-    /// event by event, makes its lines itself, or takes what comes and writes nothing.
+    /// event by event, merges events, makes its lines itself, or takes what comes and writes nothing.
     ///
     /// It is refused for want of memory alone, and then gives back what it was to be made of.
     pub fn new(alloc: Global, parts: Parts<P>, now: u64) -> Result<Self, NewRefused<P>>
@@ -52,6 +49,7 @@ impl<P: Port> Hub<P> {
         requires accepted { IsPlan parts.plan }
         requires served { all_served parts.plan.components ≡ true }
         requires pickers { ArePickers parts.plan.components parts.pickers }
+        requires keepers { AreSlots parts.plan.components parts.keepers }
         ensures hub { IfOk result (IsHub P.told) }
         ensures first { IfOk result (λ hub. hub.books.log ≡ begun parts.plan parts.once now) }
         ensures sound { IfOk result (λ hub. hub.fatal ≡ false) }
@@ -76,54 +74,74 @@ fn make_room<P: Port>(alloc: Global, plan: &Plan) -> Result<Room<P>, WantOfMemor
     let roles = make_roles(alloc, plan)?;
     let balance = Balance::new(alloc)?;
     let ports = Vec::with_capacity(alloc, plan.components.len())?;
-    let sources = make_sources(alloc, plan)?;
-    let keepers = free_slots(alloc, plan.components.len())?;
-    match make_places(alloc, plan) {
-        Ok(places) => Ok(Room {
-            seats,
-            roles,
-            balance,
-            ports,
-            places,
-            keepers,
-            sources,
-        }),
-        Err(WantOfMemory) => {
-            end_slots(keepers);
-            Err(WantOfMemory)
-        }
-    }
+    let sources = numbers_of(alloc, plan, Kind::Source)?;
+    let mergers = numbers_of(alloc, plan, Kind::Merger)?;
+    let places = make_places(alloc, plan)?;
+    Ok(Room {
+        seats,
+        roles,
+        balance,
+        ports,
+        places,
+        sources,
+        mergers,
+    })
 }
 
-/// The instances of a plan that are sources, in order.
-fn make_sources(alloc: Global, plan: &Plan) -> Result<Vec<u32>, WantOfMemory>
+/// Of which instances the numbers are kept.
+#[derive(Clone, Copy)]
+pub(crate) enum Kind {
+    Source,
+    Merger,
+}
+
+/// The instances of a plan that are of a kind, in order.
+fn numbers_of(alloc: Global, plan: &Plan, kind: Kind) -> Result<Vec<u32>, WantOfMemory>
     requires { length plan.now.components < 2 ^ 32 }
     ensures { IfOk result
-        (λ sources. AreSources plan.now.components (length plan.now.components) sources.items) }
+        (λ those. AreThose (kind_test kind) plan.now.components (length plan.now.components)
+        those.items) }
 {
-    let mut sources = Vec::new(alloc);
+    let mut those = Vec::new(alloc);
     let components = plan.components.as_slice();
     for i in 0..components.len() {
-        if is_source(components[i].class) {
-            match sources.push(i as u32) {
+        if is_of(&components[i], kind) {
+            match those.push(i as u32) {
                 Ok(()) => {}
                 Err(_) => return Err(WantOfMemory),
             }
         }
     }
-    Ok(sources)
+    Ok(those)
 }
 
-/// Whether a class is that of sources.
-fn is_source(class: Class) -> bool
-    ensures { result ≡ source_class class }
+/// Whether a component is of a kind.
+fn is_of(component: &Component, kind: Kind) -> bool
+    ensures { result ≡ kind_test kind component.now }
 {
-    matches!(class, Class::Source)
+    match kind {
+        Kind::Source => matches!(component.class, Class::Source),
+        Kind::Merger => merges(component),
+    }
+}
+
+/// Whether a component is a transform that merges.
+pub fn merges(component: &Component) -> bool
+    ensures { result ≡ merges_by component.now }
+{
+    matches!(component.class, Class::Transform) && joins(&component.settings)
+}
+
+/// Whether a transform of these settings merges.
+fn joins(settings: &Settings) -> bool
+    ensures { result ≡ is_joining settings.now }
+{
+    matches!(settings, Settings::Reduce { .. })
 }
 
 /// The places of the instances of a plan, at which nothing stands.
 fn make_places(alloc: Global, plan: &Plan) -> Result<Places, WantOfMemory>
-    ensures vacant { IfOk result AreVacant }
+    ensures holds { IfOk result (λ places. Holds places []) }
     ensures rooms { IfOk result (HaveRooms plan.now.components) }
     ensures size { IfOk result (λ places. length places ≡ length plan.now.components) }
 {
@@ -142,13 +160,15 @@ fn make_places(alloc: Global, plan: &Plan) -> Result<Places, WantOfMemory>
 
 /// Adds the places of the instance of a component. For want of memory nothing has changed.
 fn add_place(alloc: Global, places: &mut Places, component: &Component) -> Result<(), WantOfMemory>
-    ensures same { OnOk result (Same places.old places.new) }
+    ensures holds { OnOk result (Holds places.old [] → Holds places.new []) }
     ensures size { OnOk result (length places.new ≡ length places.old + 1) }
-    ensures rooms { OnOk result
-        (AddsRooms (rooms_of component.now) (hand_of component.now) places.old places.new) }
+    ensures adds { OnOk result (AddsPlace component.now places.old places.new) }
     ensures unchanged { OnErr result (places.new ≡ places.old) }
 {
     let rooms = stage_rooms(alloc, component)?;
+    if merges(component) {
+        return places.add_keeper(alloc, rooms.as_slice());
+    }
     places.add(alloc, rooms.as_slice(), hand(component) as usize)
 }
 
@@ -161,6 +181,7 @@ fn begin<P: Port>(alloc: Global, parts: Parts<P>, room: Room<P>, now: u64) -> Hu
     requires accepted { IsPlan parts.plan }
     requires served { all_served parts.plan.components ≡ true }
     requires pickers { ArePickers parts.plan.components parts.pickers }
+    requires keepers { AreSlots parts.plan.components parts.keepers }
     requires room { HasRoomFor parts.plan room }
     ensures hub { IsHub P.told result }
     ensures first { result.books.log ≡ begun parts.plan parts.once now }
@@ -173,6 +194,7 @@ fn begin<P: Port>(alloc: Global, parts: Parts<P>, room: Room<P>, now: u64) -> Hu
         once,
         ports,
         pickers,
+        keepers,
     } = parts;
     let Room {
         seats,
@@ -180,8 +202,8 @@ fn begin<P: Port>(alloc: Global, parts: Parts<P>, room: Room<P>, now: u64) -> Hu
         balance,
         ports: berths,
         places,
-        keepers,
         sources,
+        mergers,
     } = room;
     let seats = Seats::new(seat_all(seats, role_all(roles, pickers.into_vec()), ports.into_vec()));
     let mut log = History::new();
@@ -196,7 +218,7 @@ fn begin<P: Port>(alloc: Global, parts: Parts<P>, room: Room<P>, now: u64) -> Hu
         alloc,
         books: Books {
             places,
-            keepers,
+            keepers: keepers.into_vec(),
             seats,
             balance,
             run,
@@ -205,6 +227,7 @@ fn begin<P: Port>(alloc: Global, parts: Parts<P>, room: Room<P>, now: u64) -> Hu
         fatal: false,
         ports: berths,
         sources,
+        mergers,
     }
 }
 

@@ -1,3 +1,8 @@
+ghost use Rattle.std.specs.Prelude.{◌≡◌};
+ghost use Rattle.vx_hub.specs.Making.{AreBare};
+
+use crate::slots::end_keepers;
+use vx_keeping::Keeper;
 use vx_pick::Picker;
 use vx_plan::Plan;
 use vx_value::{ItemList, Text};
@@ -25,20 +30,40 @@ pub type NumberedList<P> = ItemList<Numbered<P>>;
 /// What each component of a plan picks by, in their order, if it is a transform.
 pub type PickerList = ItemList<Option<Picker>>;
 
-/// What a hub is made of: the plan, and a port and what it picks by for each component, in the order of the components. In the place of
-/// a component that needs no port, as a transform, a source that makes its lines itself or a black hole, stands one that is made for
-/// none.
-#[derive(Drop)]
+/// What each component of a plan keeps as it begins, in their order, if it merges events. It can't be dropped: `end_keepers` ends it.
+pub type KeeperList = ItemList<Option<Keeper>>;
+
+/// What a hub is made of: the plan, and for each component, in the order of the components, a port, what it picks by and what it
+/// keeps. In the place of a component that needs no port, as a transform, a source that makes its lines itself or a black hole, stands
+/// one that is made for none. It can't be dropped: a keeper can't.
 pub struct Parts<P> {
     pub plan: Plan,
     /// Whether files end where they end now.
     pub once: bool,
     pub ports: NamedList<P>,
     pub pickers: PickerList,
+    pub keepers: KeeperList,
+}
+
+impl<P> Parts<P> {
+    /// The ports alone, where no keeper has a copy. It takes no memory.
+    pub fn into_ports(self) -> NamedList<P>
+        requires { AreBare self.keepers }
+        ensures { result ≡ self.ports }
+    {
+        let Parts {
+            plan: _,
+            once: _,
+            ports,
+            pickers: _,
+            keepers,
+        } = self;
+        end_keepers(keepers);
+        ports
+    }
 }
 
 /// A hub that wasn't made for want of memory, and what it was to be made of.
-#[derive(Drop)]
 pub struct NewRefused<P> {
     pub parts: Parts<P>,
 }

@@ -46,6 +46,7 @@ impl<P: Port> Hub<P> {
             fatal: _,
             ports,
             sources: _,
+            mergers: _,
         } = self;
         let Books {
             places,

@@ -1,32 +1,24 @@
 // The slots for what instances keep that merge.
-ghost use Rattle.std.specs.Prelude.{◌≡◌, length, IfOk};
-ghost use Rattle.vx_hub.specs.Making.{AreFree};
+ghost use Rattle.vx_hub.specs.Making.{AreBare};
 
-use std::alloc::Global;
+use crate::parts::KeeperList;
 use vx_keeping::Keeper;
-use vx_value::WantOfMemory;
 
-// So many slots, in none of which there is a keeper.
-pub(crate) fn free_slots(alloc: Global, n: usize) -> Result<Vec<Option<Keeper>>, WantOfMemory>
-    ensures many { IfOk result (λ slots. length slots.items ≡ n) }
-    ensures free { IfOk result (λ slots. AreFree slots.items) }
+/// Ends a list of keepers, none of which has a copy. It takes no memory.
+pub fn end_keepers(keepers: KeeperList)
+    requires { AreBare keepers }
 {
-    let mut slots = Vec::with_capacity(alloc, n)?;
-    for _ in 0..n {
-        slots.push_reserved(None);
-    }
-    Ok(slots)
+    end_slots(keepers.into_vec());
 }
 
-// Ends slots in none of which there is a keeper. It takes no memory.
+// Ends slots in none of which a copy is kept. It takes no memory.
 pub(crate) fn end_slots(slots: Vec<Option<Keeper>>)
-    requires { AreFree slots.items }
+    requires { AreBare slots.items }
 {
     let mut rest = slots;
     while let Some(slot) = rest.pop() {
-        match slot {
-            None => {}
-            Some(_) => unreachable!(),
+        if let Some(keeper) = slot {
+            keeper.end();
         }
     }
     rest.destroy_empty();

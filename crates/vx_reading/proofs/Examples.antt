@@ -7,6 +7,7 @@ use Rattle.toml.specs.Data.{Data, string, integer, boolean, array, table, item, 
 use Rattle.toml.specs.Parse.{parse_document}
 use Rattle.vx_subst.specs.Pieces.{Bare, pieces_after, piece_of, form_of, bare, braced, with_default, behind}
 use Rattle.vx_subst.specs.Replaced.{replaced, first_lacking, becomes, lacks, text_of, lacking}
+use Rattle.vx_condition.specs.declared.how.How.TheVariants.{Sum, ConcatNewline}
 use Rattle.vx_plan.specs.Components.{acknowledges, stages}
 use Rattle.vx_plan.specs.First.{first_configuration, first_plan}
 use Rattle.vx_json.specs.declared.codec.Codec.TheVariants as codec
@@ -15,7 +16,7 @@ use Rattle.vx_plan.specs.declared.component.Component.{Component}
 use Rattle.vx_plan.specs.declared.compression.Compression.TheVariants as compression
 use Rattle.vx_plan.specs.declared.read_from.ReadFrom.TheVariants.{Beginning}
 use Rattle.vx_plan.specs.declared.settings.Settings.{Settings}
-use Rattle.vx_plan.specs.declared.settings.Settings.TheVariants.{FileIn, DemoLogs, FileOut, Blackhole}
+use Rattle.vx_plan.specs.declared.settings.Settings.TheVariants.{FileIn, DemoLogs, Reduce, FileOut, Blackhole}
 use Rattle.vx_plan.specs.declared.sink_settings.SinkSettings.{SinkSettings}
 use Rattle.vx_plan.specs.declared.when_full.WhenFull.TheVariants.{Block, Overflow}
 use Rattle.vx_reading.specs.Findings.{findings, found, whole, precedes}
@@ -393,3 +394,59 @@ path_is_lacking : findings (one_option (codes "sinks") (one_option (codes "f") (
     (member (codes "encoding") (one_option (codes "codec") (string (codes "text"))) file_type))))
     ≡ found (record { section = 3; name = codes "f" }) (codes "sinks.f.path") MissingOption ∷ []
 path_is_lacking = refl
+
+-- a document whose one transform merges events
+abbrev merging : Members → Data
+merging options = one_option (codes "transforms") (one_option (codes "t") (table options))
+
+abbrev reduce_type : Members
+reduce_type = member (codes "type") (string (codes "reduce")) no_members
+
+-- what it is where it says no more, and where it does
+abbrev merging_by : Members → Settings → Type 0
+merging_by options settings = (findings (merging options) ≡ []) × (map settings_by (plan_of (merging options)).components ≡ settings ∷ [])
+
+bare_reduce : merging_by reduce_type (Reduce [] None None 30000 1000 [])
+bare_reduce = (refl, refl)
+
+abbrev two_strategies : Members
+two_strategies = member (codes "count") (string (codes "sum")) (member (codes "message") (string (codes "concat_newline")) no_members)
+
+abbrev more_of_reduce : Members
+more_of_reduce =
+    member (codes "ends_when") (string (codes "exists(.last)"))
+    (member (codes "expire_after_ms") (integer (pos 1))
+    (member (codes "flush_period_ms") (integer (pos 9007199254740992))
+    (member (codes "group_by") (array (item (string (codes ".id")) (item (string (codes "a.b")) no_items)))
+    (member (codes "merge_strategies") (table two_strategies) reduce_type))))
+
+whole_reduce : merging_by more_of_reduce
+    (Reduce ((codes "id" ∷ []) ∷ (codes "a" ∷ codes "b" ∷ []) ∷ []) None (Some (codes "exists(.last)")) 1 9007199254740992
+    (record { field = codes "count"; how = Sum } ∷ record { field = codes "message"; how = ConcatNewline } ∷ []))
+whole_reduce = (refl, refl)
+
+-- a fault at the transform
+abbrev transform_fault : Word → Finding
+transform_fault name = found (record { section = 2; name = codes "t" }) (codes "transforms.t." ++ name) BadValue
+
+-- periods that are too short or too long, a path that is none, and the two conditions together
+no_period : findings (merging (member (codes "expire_after_ms") (integer (pos 0)) reduce_type)) ≡ transform_fault (codes "expire_after_ms") ∷ []
+no_period = refl
+
+long_period : findings (merging (member (codes "flush_period_ms") (integer (pos 9007199254740993)) reduce_type)) ≡ transform_fault (codes "flush_period_ms") ∷ []
+long_period = refl
+
+no_path : findings (merging (member (codes "group_by") (array (item (string (codes "a..b")) no_items)) reduce_type)) ≡ transform_fault (codes "group_by") ∷ []
+no_path = refl
+
+both_conditions : findings (merging (member (codes "ends_when") (string (codes "exists(.a)")) (member (codes "starts_when") (string (codes "exists(.b)")) reduce_type)))
+    ≡ transform_fault (codes "starts_when") ∷ []
+both_conditions = refl
+
+-- no strategy, and strategies that stand in no table
+no_strategy : findings (merging (member (codes "merge_strategies") (one_option (codes "a") (string (codes "append"))) reduce_type))
+    ≡ transform_fault (codes "merge_strategies.a") ∷ []
+no_strategy = refl
+
+strategies_as_text : findings (merging (member (codes "merge_strategies") (string (codes "sum")) reduce_type)) ≡ transform_fault (codes "merge_strategies") ∷ []
+strategies_as_text = refl

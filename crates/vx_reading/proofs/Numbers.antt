@@ -3,10 +3,10 @@ use Rattle.std.proofs.Common.{◌≡◌, ◌≤◌, ℕ, ℤ, pos, negsuc, Bool,
 use Rattle.std.specs.Prelude.{◌&&◌, if◌then◌else◌, codes, option_and_then, unwrap_or}
 use Rattle.std.proofs.lemmas.Bool.Decides.{nat_tests}
 use Rattle.toml.specs.Data.{Data, as_integer, get}
-use Rattle.vx_plan.proofs.Tests.{and_both}
+use Rattle.vx_plan.proofs.Tests.{and_both, and_made}
 use Rattle.vx_reading.specs.Judging.{between, whole_in}
-use Rattle.vx_reading.specs.Options.{most_whole, most_keys}
-use Rattle.vx_reading.specs.Plans.{rate_of, keys_of}
+use Rattle.vx_reading.specs.Options.{most_whole, most_keys, most_period}
+use Rattle.vx_reading.specs.Plans.{rate_of, keys_of, expire_of, flush_of}
 
 -- a number is between two
 record IsBetween (least most n : ℕ) : Type 0 where
@@ -55,3 +55,23 @@ keys_some value = (keys_between value).some
 
 pub keys_few : (value : Data) → keys_of value ≤ most_keys
 keys_few value = (keys_between value).few
+
+-- so the tests of both ends pass
+told_least : (least n : ℕ) → least ≤ n → nat_le least n ≡ true
+told_least least n le = grind (arith, nat_tests)
+
+told_between : (least most n : ℕ) → IsBetween least most n → (nat_le least n && nat_le n most) ≡ true
+told_between least most n is = and_made (nat_le least n) (nat_le n most) (told_least least n is.some) (told_least n most is.few)
+
+expire_between : (value : Data) → IsBetween 1 most_period (expire_of value)
+expire_between value = read_between 1 most_period 30000 (get (codes "expire_after_ms") value) (record { some = omega arith; few = omega arith })
+
+flush_between : (value : Data) → IsBetween 1 most_period (flush_of value)
+flush_between value = read_between 1 most_period 1000 (get (codes "flush_period_ms") value) (record { some = omega arith; few = omega arith })
+
+-- the two periods of a reduce are a millisecond at least, and no longer than may be said
+pub expire_told : (value : Data) → (nat_le 1 (expire_of value) && nat_le (expire_of value) most_period) ≡ true
+expire_told value = told_between 1 most_period (expire_of value) (expire_between value)
+
+pub flush_told : (value : Data) → (nat_le 1 (flush_of value) && nat_le (flush_of value) most_period) ≡ true
+flush_told value = told_between 1 most_period (flush_of value) (flush_between value)

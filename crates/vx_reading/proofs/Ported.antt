@@ -1,7 +1,7 @@
--- Each component of a plan that was read works with a port, or is a filter, a route of few ways, a source that makes its lines, or a
--- sink that writes nothing.
+-- Each component of a plan that was read works with a port, or is a transform that picks or merges, a source that makes its lines, or
+-- a sink that writes nothing.
 use Rattle.std.proofs.Common.{◌≡◌, ◌≤◌, inl, inr, Bool, true, List, [], ◌∷◌, ◌++◌, length, false, Option, Some, None, Ok, refl, sym, ap, subst, ◌∙◌, arith}
-use Rattle.std.specs.Prelude.{◌||◌, nat_le}
+use Rattle.std.specs.Prelude.{◌&&◌, ◌||◌, nat_le}
 use Rattle.std.specs.List.{AllByRecursion, list_all, flat_map}
 use Rattle.std.proofs.lemmas.Bool.Decides.{nat_tests}
 use Rattle.vx_value.specs.declared.variable.Variable.{Variable}
@@ -13,17 +13,17 @@ use Rattle.vx_plan.specs.declared.global.Global.{Global}
 use Rattle.vx_plan.specs.declared.plan.Plan.{Plan}
 use Rattle.vx_plan.proofs.Tests.{and_made}
 use Rattle.vx_reading.specs.declared.kind.Kind.{Kind}
-use Rattle.vx_reading.specs.declared.kind.Kind.TheVariants.{Stdin, FileIn, DemoLogs, Filter, Route, Sample, Dedupe, Console, FileOut, Blackhole}
+use Rattle.vx_reading.specs.declared.kind.Kind.TheVariants.{Stdin, FileIn, DemoLogs, Filter, Route, Sample, Dedupe, Reduce, Console, FileOut, Blackhole}
 use Rattle.vx_reading.specs.Components.{Part, parts, kind_of}
 use Rattle.vx_reading.specs.Findings.{findings}
 use Rattle.vx_reading.specs.Made.{is_made}
-use Rattle.vx_reading.specs.Options.{kind_class}
-use Rattle.vx_reading.specs.Plans.{component, component_of, global_of, ways_of, rate_of, keys_of}
+use Rattle.vx_reading.specs.Options.{kind_class, most_period}
+use Rattle.vx_reading.specs.Plans.{component, component_of, global_of, ways_of, rate_of, keys_of, expire_of, flush_of}
 use Rattle.vx_reading.specs.Reading.{IsReading, IsPlanOf}
 use Rattle.vx_reading.proofs.Accepted.{kind_class_of}
 use Rattle.vx_reading.proofs.Few.{none_left}
 use Rattle.vx_reading.proofs.Generating.{has_lines, lines_there}
-use Rattle.vx_reading.proofs.Numbers.{rate_some, keys_some, keys_few}
+use Rattle.vx_reading.proofs.Numbers.{rate_some, keys_some, keys_few, expire_told, flush_told}
 use Rattle.vx_reading.proofs.Routes.{few_ways}
 
 few_told : (n : _) → n ≤ 64 → nat_le n 64 ≡ true
@@ -65,19 +65,31 @@ kind_made whole part Route same few lines = go part.class same
   where
     go : (class : Class) → same_class Transform class ≡ true → is_made (record (component whole part Route) { class = class }) ≡ true
     go Source e = cc
-    go Transform e = ap (λ (b : Bool). b || false || false) (few_told (length (ways_of part.value)) (few refl))
+    go Transform e = ap (λ (b : Bool). b || false || false || false) (few_told (length (ways_of part.value)) (few refl))
     go Sink e = cc
 kind_made whole part Sample same few lines = go part.class same
   where
     go : (class : Class) → same_class Transform class ≡ true → is_made (record (component whole part Sample) { class = class }) ≡ true
     go Source e = cc
-    go Transform e = ap (λ (b : Bool). b || false || false) (some_told (rate_of part.value) (rate_some part.value))
+    go Transform e = ap (λ (b : Bool). b || false || false || false) (some_told (rate_of part.value) (rate_some part.value))
     go Sink e = cc
 kind_made whole part Dedupe same few lines = go part.class same
   where
     go : (class : Class) → same_class Transform class ≡ true → is_made (record (component whole part Dedupe) { class = class }) ≡ true
     go Source e = cc
-    go Transform e = ap (λ (b : Bool). b || false || false) (and_made (nat_le 1 (keys_of part.value)) (nat_le (keys_of part.value) 1000000) (some_told (keys_of part.value) (keys_some part.value)) (most_told (keys_of part.value) (keys_few part.value)))
+    go Transform e = ap (λ (b : Bool). b || false || false || false) (and_made (nat_le 1 (keys_of part.value)) (nat_le (keys_of part.value) 1000000) (some_told (keys_of part.value) (keys_some part.value)) (most_told (keys_of part.value) (keys_few part.value)))
+    go Sink e = cc
+kind_made whole part Reduce same few lines = go part.class same
+  where
+    expire : Bool
+    expire = nat_le 1 (expire_of part.value) && nat_le (expire_of part.value) most_period
+
+    flush : Bool
+    flush = nat_le 1 (flush_of part.value) && nat_le (flush_of part.value) most_period
+
+    go : (class : Class) → same_class Transform class ≡ true → is_made (record (component whole part Reduce) { class = class }) ≡ true
+    go Source e = cc
+    go Transform e = ap (λ (b : Bool). b || false || false) (and_made expire flush (expire_told part.value) (flush_told part.value))
     go Sink e = cc
 kind_made whole part Console same few lines = go part.class same
   where

@@ -7,7 +7,7 @@ use Rattle.toml.specs.Data.{Data, Items, no_items, item, Members, no_members, me
 use Rattle.vx_reading.specs.declared.trouble.Trouble.{Trouble}
 use Rattle.vx_reading.specs.declared.trouble.Trouble.TheVariants.{UnknownOption, BadValue, TooMany}
 use Rattle.vx_reading.specs.Made.{is_unbroken}
-use Rattle.vx_reading.specs.Options.{Place, Alone, Within, Either, Each, Shape, Truth, AnyText, OneOf, Texts, Whole, Condition, Stages, Lines, OneFile, FixedText, Paths, Names, Row, covers, fits_place}
+use Rattle.vx_reading.specs.Options.{Place, Alone, Within, Either, Each, Any, Shape, Truth, AnyText, OneOf, Texts, Whole, Condition, Stages, Lines, OneFile, FixedText, Paths, Names, Row, covers, fits_place}
 
 -- a name and the value under it
 pub record Pair : Type 0 where
@@ -38,6 +38,7 @@ is_within group (Alone name) = false
 is_within group (Within other name) = same_text other group
 is_within group (Either other name) = same_text other group
 is_within group (Each other most) = same_text other group
+is_within group (Any other) = same_text other group
 
 abbrev pub is_group : List Row → Word → Bool
 is_group rows group = list_any (λ (r : Row). is_within group r.place) rows
@@ -168,13 +169,13 @@ path_spelled text = elim (path_names text) [ None ↦ None | Some names ↦ if n
 abbrev pub is_path : Data → Bool
 is_path value = elim (as_str value) [ None ↦ false | Some text ↦ is_some (path_spelled text) ]
 
--- whether a list has values, and each is one
-abbrev pub are_paths : List Data → Bool
-are_paths items = not (is_empty items) && list_all is_path items
+-- whether a list has at least so many values, and each is one
+abbrev pub are_paths : ℕ → List Data → Bool
+are_paths least items = nat_le least (length items) && list_all is_path items
 
 -- whether a value is such a list
-abbrev pub is_paths : Data → Bool
-is_paths value = elim (as_array value) [ None ↦ false | Some items ↦ are_paths (items_in items) ]
+abbrev pub is_paths : ℕ → Data → Bool
+is_paths least value = elim (as_array value) [ None ↦ false | Some items ↦ are_paths least (items_in items) ]
 
 -- whether a value is a list of texts
 abbrev pub is_names : Data → Bool
@@ -192,7 +193,7 @@ fits (Stages most) value = fits_stages most (stages_in value)
 fits Lines value = if is_lines value then None else Some BadValue
 fits OneFile value = if is_one_file value then None else Some BadValue
 fits FixedText value = if is_fixed value then None else Some BadValue
-fits Paths value = if is_paths value then None else Some BadValue
+fits (Paths least) value = if is_paths least value then None else Some BadValue
 fits Names value = if is_names value then None else Some BadValue
 
 -- the row of what is given at a place

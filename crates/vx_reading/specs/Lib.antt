@@ -1,3 +1,4 @@
+pub mod Strategies
 pub mod Options
 pub mod Judging
 pub mod Components

@@ -4,9 +4,10 @@ use Rattle.std.specs.List.{list_all}
 use Rattle.vx_value.specs.Texts.{Word, is_empty}
 use Rattle.vx_plan.specs.declared.component.Component.{Component}
 use Rattle.vx_plan.specs.declared.settings.Settings.{Settings}
-use Rattle.vx_plan.specs.declared.settings.Settings.TheVariants.{DemoLogs, Filter, Route, Sample, Dedupe, Blackhole}
+use Rattle.vx_plan.specs.declared.settings.Settings.TheVariants.{DemoLogs, Filter, Route, Sample, Dedupe, Reduce, Blackhole}
 use Rattle.vx_plan.specs.Components.{is_source, is_transform, is_sink}
 use Rattle.vx_plan.specs.Options.{has_device}
+use Rattle.vx_reading.specs.Options.{most_period}
 
 -- whether it works with a port, and is no transform
 abbrev pub is_ported : Component → Bool
@@ -20,6 +21,12 @@ is_picking (Route ways reroute) = nat_le (length ways) 64
 is_picking (Sample rate exclude) = nat_le 1 rate
 is_picking (Dedupe fields most) = nat_le 1 most && nat_le most 1000000
 is_picking other = false
+
+-- whether options are those of a reduce whose two periods are a millisecond at least, and no longer than may be said
+abbrev pub is_merging : Settings → Bool
+is_merging (Reduce group_by starts_when ends_when expire flush strategies) =
+    (nat_le 1 expire && nat_le expire most_period) && (nat_le 1 flush && nat_le flush most_period)
+is_merging other = false
 
 -- whether a text has no line feed
 abbrev pub is_unbroken : Word → Bool
@@ -38,4 +45,4 @@ is_swallowing other = false
 -- a component works with a port, or is such a transform, such a source or such a sink
 abbrev pub is_made : Component → Bool
 is_made c =
-    is_ported c || (is_transform c && is_picking c.settings) || (is_source c && is_generating c.settings) || (is_sink c && is_swallowing c.settings)
+    is_ported c || (is_transform c && is_picking c.settings) || (is_transform c && is_merging c.settings) || (is_source c && is_generating c.settings) || (is_sink c && is_swallowing c.settings)

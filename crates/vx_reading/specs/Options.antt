@@ -1,24 +1,27 @@
 -- Which options there are: tables of rows, read by the same definitions whatever they hold.
-use Rattle.std.specs.Prelude.{ℕ, ◌^◌, ◌-◌, Bool, true, false, not, ◌&&◌, ◌||◌, ◌==◌, Option, Some, None, List, [], ◌∷◌, ◌++◌, length, codes, find, nat_le}
+use Rattle.std.specs.Prelude.{ℕ, ◌^◌, ◌-◌, Bool, true, false, not, ◌&&◌, ◌||◌, ◌==◌, Option, Some, None, List, [], ◌∷◌, ◌++◌, length, map, codes, find, nat_le}
 use Rattle.std.specs.List.{list_all}
 use Rattle.vx_value.specs.Texts.{Word, same_text}
 use Rattle.vx_plan.specs.declared.class.Class.{Class}
 use Rattle.vx_plan.specs.declared.class.Class.TheVariants.{Source, Transform, Sink}
 pub use Rattle.vx_plan.specs.Accepted.{same_class}
 use Rattle.vx_reading.specs.declared.kind.Kind.{Kind}
-use Rattle.vx_reading.specs.declared.kind.Kind.TheVariants.{Stdin, FileIn, DemoLogs, Filter, Route, Sample, Dedupe, Console, FileOut, Blackhole}
+use Rattle.vx_reading.specs.declared.kind.Kind.TheVariants.{Stdin, FileIn, DemoLogs, Filter, Route, Sample, Dedupe, Reduce, Console, FileOut, Blackhole}
+use Rattle.vx_reading.specs.Strategies.{hows, how_name}
 
 -- where an option stands in a table: by itself; in a table of its own, whose name comes first; in either way, by itself under the
--- first name, or in a table of that name under the second; or under each name in a table of its own, so many times at most
+-- first name, or in a table of that name under the second; under each name that a port may have in a table of its own, so many times
+-- at most; or under any name in a table of its own
 pub data Place : Type 0 where
   Alone : Word → Place
   Within : Word → Word → Place
   Either : Word → Word → Place
   Each : Word → ℕ → Place
+  Any : Word → Place
 
 -- what a value has to be: a truth, a text, one of some texts, a list of texts, at most so many, a whole number between two, both
 -- among them, a condition, the stages of a buffer, at most so many, a list of some texts without line feeds, a list of one text that is
--- no pattern, a text that is no template, a list of some texts that are paths of fields, or a list of texts
+-- no pattern, a text that is no template, a list of texts that are paths of fields, at least so many, or a list of texts
 pub data Shape : Type 0 where
   Truth : Shape
   AnyText : Shape
@@ -30,7 +33,7 @@ pub data Shape : Type 0 where
   Lines : Shape
   OneFile : Shape
   FixedText : Shape
-  Paths : Shape
+  Paths : ℕ → Shape
   Names : Shape
 
 -- an option: where it stands, what its value has to be, and whether it has to be there
@@ -43,12 +46,13 @@ pub record Row : Type 0 where
 abbrev pub dot : ℕ
 dot = 46
 
--- the names of a place, joined by a dot; of an option that stands in either way, or under each name, the first
+-- the names of a place, joined by a dot; of an option that stands in either way, or under names of its own, the first
 abbrev pub place_path : Place → Word
 place_path (Alone name) = name
 place_path (Within group name) = group ++ dot ∷ name
 place_path (Either group name) = group
 place_path (Each group most) = group
+place_path (Any group) = group
 
 -- whether the option of a place is the one that is given at another, where it stands by itself or in a table
 abbrev pub covers : Place → Place → Bool
@@ -58,6 +62,8 @@ covers (Either g a) (Alone b) = same_text g b
 covers (Either g a) (Within h b) = same_text g h && same_text a b
 covers (Each g most) (Alone b) = same_text g b
 covers (Each g most) (Within h b) = same_text g h
+covers (Any g) (Alone b) = same_text g b
+covers (Any g) (Within h b) = same_text g h
 covers _ _ = false
 
 -- a letter or a digit of ASCII, `_` or `-`
@@ -73,14 +79,15 @@ is_name name = (nat_le 1 (length name) && nat_le (length name) 64) && list_all i
 abbrev pub is_route_name : Word → Bool
 is_route_name name = is_name name && not (same_text name (codes "_unmatched"))
 
--- whether what is given may stand there by the place of its option: what has names of its own stands in a table, under names that
--- ports may have
+-- whether what is given may stand there by the place of its option: what has names of its own stands in a table, and where they are
+-- those of ports, under names that ports may have
 abbrev pub fits_place : Place → Place → Bool
 fits_place (Each group most) (Alone name) = false
 fits_place (Each group most) (Within other name) = is_route_name name
+fits_place (Any group) (Alone name) = false
 fits_place option place = true
 
--- how often an option may be given that has names of its own
+-- how often an option may be given that has the names of ports
 abbrev pub most_at : Place → Option ℕ
 most_at (Each group most) = Some most
 most_at other = None
@@ -191,7 +198,7 @@ exclude_row = record { place = Alone (codes "exclude"); shape = Condition; requi
 
 -- the values by which events repeat each other
 abbrev pub match_row : Row
-match_row = record { place = Within (codes "fields") (codes "match"); shape = Paths; required = false }
+match_row = record { place = Within (codes "fields") (codes "match"); shape = Paths 1; required = false }
 
 -- or the fields that don't count for that
 abbrev pub ignore_row : Row
@@ -204,6 +211,34 @@ most_keys = 1000000
 -- how many it keeps
 abbrev pub keys_row : Row
 keys_row = record { place = Within (codes "cache") (codes "num_events"); shape = Whole 1 most_keys; required = false }
+
+-- the values that tell the groups of a reduce apart
+abbrev pub group_by_row : Row
+group_by_row = record { place = Alone (codes "group_by"); shape = Paths 0; required = false }
+
+-- which events begin a group
+abbrev pub starts_row : Row
+starts_row = record { place = Alone (codes "starts_when"); shape = Condition; required = false }
+
+-- or which end one
+abbrev pub ends_row : Row
+ends_row = record { place = Alone (codes "ends_when"); shape = Condition; required = false }
+
+-- how many milliseconds a reduce may say
+abbrev pub most_period : ℕ
+most_period = 2 ^ 53
+
+-- how many milliseconds behind its last event a group is put out
+abbrev pub expire_row : Row
+expire_row = record { place = Alone (codes "expire_after_ms"); shape = Whole 1 most_period; required = false }
+
+-- how many lie between two checks of that
+abbrev pub flush_row : Row
+flush_row = record { place = Alone (codes "flush_period_ms"); shape = Whole 1 most_period; required = false }
+
+-- how fields are merged, each under the name of its field
+abbrev pub strategies_row : Row
+strategies_row = record { place = Any (codes "merge_strategies"); shape = OneOf (map how_name hows); required = false }
 
 -- what a source does with its texts
 abbrev pub format_row : Row
@@ -274,6 +309,7 @@ rows_of Filter = type_row ∷ inputs_row ∷ condition_row ∷ []
 rows_of Route = type_row ∷ inputs_row ∷ route_row ∷ reroute_row ∷ []
 rows_of Sample = type_row ∷ inputs_row ∷ rate_row ∷ exclude_row ∷ []
 rows_of Dedupe = type_row ∷ inputs_row ∷ match_row ∷ ignore_row ∷ keys_row ∷ []
+rows_of Reduce = type_row ∷ inputs_row ∷ group_by_row ∷ starts_row ∷ ends_row ∷ expire_row ∷ flush_row ∷ strategies_row ∷ []
 rows_of Console = type_row ∷ inputs_row ∷ target_row ∷ codec_row ∷ acknowledgements_row ∷ buffer_row ∷ batch_events_row ∷ batch_timeout_row ∷ retries_row ∷ first_wait_row ∷ longest_wait_row ∷ []
 rows_of FileOut = type_row ∷ inputs_row ∷ path_row ∷ compression_row ∷ codec_row ∷ acknowledgements_row ∷ buffer_row ∷ batch_events_row ∷ batch_timeout_row ∷ retries_row ∷ first_wait_row ∷ longest_wait_row ∷ []
 rows_of Blackhole = type_row ∷ inputs_row ∷ print_interval_row ∷ acknowledgements_row ∷ buffer_row ∷ batch_events_row ∷ batch_timeout_row ∷ retries_row ∷ first_wait_row ∷ longest_wait_row ∷ []
@@ -286,11 +322,12 @@ pub record Exclusion : Type 0 where
 -- those of a type
 abbrev pub exclusion_of : Kind → Option Exclusion
 exclusion_of Dedupe = Some (record { earlier = ignore_row.place; later = match_row.place })
+exclusion_of Reduce = Some (record { earlier = ends_row.place; later = starts_row.place })
 exclusion_of other = None
 
 -- the types, each with the table in which it stands and its name
 abbrev pub kinds : List Kind
-kinds = Stdin ∷ FileIn ∷ DemoLogs ∷ Filter ∷ Route ∷ Sample ∷ Dedupe ∷ Console ∷ FileOut ∷ Blackhole ∷ []
+kinds = Stdin ∷ FileIn ∷ DemoLogs ∷ Filter ∷ Route ∷ Sample ∷ Dedupe ∷ Reduce ∷ Console ∷ FileOut ∷ Blackhole ∷ []
 
 abbrev pub kind_class : Kind → Class
 kind_class Stdin = Source
@@ -300,6 +337,7 @@ kind_class Filter = Transform
 kind_class Route = Transform
 kind_class Sample = Transform
 kind_class Dedupe = Transform
+kind_class Reduce = Transform
 kind_class Console = Sink
 kind_class FileOut = Sink
 kind_class Blackhole = Sink
@@ -312,6 +350,7 @@ kind_name Filter = codes "filter"
 kind_name Route = codes "route"
 kind_name Sample = codes "sample"
 kind_name Dedupe = codes "dedupe"
+kind_name Reduce = codes "reduce"
 kind_name Console = codes "console"
 kind_name FileOut = codes "file"
 kind_name Blackhole = codes "blackhole"

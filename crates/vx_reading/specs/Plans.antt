@@ -4,6 +4,7 @@ use Rattle.std.specs.List.{flat_map}
 use Rattle.vx_value.specs.Texts.{Word, same_text}
 use Rattle.vx_condition.specs.declared.dedupe_fields.DedupeFields.{DedupeFields}
 use Rattle.vx_condition.specs.declared.dedupe_fields.DedupeFields.TheVariants.{Match, Ignore}
+use Rattle.vx_condition.specs.declared.strategy.Strategy.{Strategy}
 use Rattle.toml.specs.Data.{Data, Items, get, as_str, as_array, as_bool}
 use Rattle.vx_json.specs.declared.codec.Codec.{Codec}
 use Rattle.vx_json.specs.declared.codec.Codec.TheVariants as codec
@@ -23,11 +24,12 @@ use Rattle.vx_plan.specs.declared.settings.Settings.TheVariants as settings
 use Rattle.vx_plan.specs.declared.sink_settings.SinkSettings.{SinkSettings}
 pub use Rattle.vx_plan.specs.Graphs.{nodes_of}
 use Rattle.vx_reading.specs.declared.kind.Kind.{Kind}
-use Rattle.vx_reading.specs.declared.kind.Kind.TheVariants.{Stdin, FileIn, DemoLogs, Filter, Route, Sample, Dedupe, Console, FileOut, Blackhole}
+use Rattle.vx_reading.specs.declared.kind.Kind.TheVariants.{Stdin, FileIn, DemoLogs, Filter, Route, Sample, Dedupe, Reduce, Console, FileOut, Blackhole}
 use Rattle.vx_reading.specs.Components.{Part, parts, kind_of}
 use Rattle.vx_reading.specs.Judging.{Pair, pairs_in, items_in, whole_in, path_spelled}
-use Rattle.vx_reading.specs.Options.{most_length, most_whole, most_keys, most_print_interval, most_batch, most_seconds}
+use Rattle.vx_reading.specs.Options.{most_length, most_whole, most_keys, most_period, most_print_interval, most_batch, most_seconds}
 use Rattle.vx_reading.specs.Stages.{buffer_of}
+use Rattle.vx_reading.specs.Strategies.{how_named}
 
 -- a text, or another where it isn't given
 abbrev pub text_or : Word → Option Word → Word
@@ -196,6 +198,31 @@ fields_of value =
 abbrev pub keys_of : Data → ℕ
 keys_of value = whole_within (codes "cache") (codes "num_events") 1 most_keys 5000 value
 
+-- the paths among some values
+abbrev pub paths_of : Option Items → List (List Word)
+paths_of None = []
+paths_of (Some items) = flat_map path_in (items_in items)
+
+-- the paths of the values that tell the groups of a reduce apart: none where it doesn't say
+abbrev pub group_by_of : Data → List (List Word)
+group_by_of value = paths_of (option_and_then as_array (get (codes "group_by") value))
+
+-- how many milliseconds behind its last event a group is put out: 30,000 where a reduce doesn't say
+abbrev pub expire_of : Data → ℕ
+expire_of value = whole_at (codes "expire_after_ms") 1 most_period 30000 value
+
+-- how many lie between two checks of that: 1,000 where it doesn't say
+abbrev pub flush_of : Data → ℕ
+flush_of value = whole_at (codes "flush_period_ms") 1 most_period 1000 value
+
+-- how a field is merged, where a value names a way
+abbrev pub strategy_in : Pair → List Strategy
+strategy_in p = elim (option_and_then how_named (as_str p.value)) [ None ↦ [] | Some how ↦ record { field = p.name; how = how } ∷ [] ]
+
+-- how a reduce merges fields, by the bytes of their names
+abbrev pub strategies_of : Data → List Strategy
+strategies_of value = elim (get (codes "merge_strategies") value) [ None ↦ [] | Some inner ↦ flat_map strategy_in (pairs_in inner) ]
+
 -- with how many parcels a batch of a sink is closed: with one where it doesn't say
 abbrev pub batch_events_of : Data → ℕ
 batch_events_of value = whole_within (codes "batch") (codes "max_events") 1 most_batch 1 value
@@ -239,6 +266,8 @@ settings_of global value Filter = settings.Filter (condition_at (codes "conditio
 settings_of global value Route = settings.Route (ways_of value) (is_rerouted value)
 settings_of global value Sample = settings.Sample (rate_of value) (condition_given (codes "exclude") value)
 settings_of global value Dedupe = settings.Dedupe (fields_of value) (keys_of value)
+settings_of global value Reduce =
+    settings.Reduce (group_by_of value) (condition_given (codes "starts_when") value) (condition_given (codes "ends_when") value) (expire_of value) (flush_of value) (strategies_of value)
 settings_of global value Console =
     settings.Console (target_named (text_at (codes "target") value)) (codec_named (text_within (codes "encoding") (codes "codec") value)) (sink_of global value)
 settings_of global value FileOut =
@@ -255,6 +284,7 @@ inputs_for Filter value = inputs_of value
 inputs_for Route value = inputs_of value
 inputs_for Sample value = inputs_of value
 inputs_for Dedupe value = inputs_of value
+inputs_for Reduce value = inputs_of value
 inputs_for Console value = inputs_of value
 inputs_for FileOut value = inputs_of value
 inputs_for Blackhole value = inputs_of value

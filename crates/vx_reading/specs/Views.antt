@@ -14,13 +14,14 @@ use Rattle.vx_reading.specs.declared.shape.Shape.TheVariants as shapes
 use Rattle.vx_reading.specs.Components.{Part}
 use Rattle.vx_reading.specs.Findings.{Owner}
 use Rattle.vx_reading.specs.Judging.{Given, Pair}
-use Rattle.vx_reading.specs.Options.{Place, Alone, Within, Either, Each, Shape, Truth, AnyText, OneOf, Texts, Whole, Condition, Stages, Lines, OneFile, FixedText, Paths, Names, Row, Exclusion}
+use Rattle.vx_reading.specs.Options.{Place, Alone, Within, Either, Each, Any, Shape, Truth, AnyText, OneOf, Texts, Whole, Condition, Stages, Lines, OneFile, FixedText, Paths, Names, Row, Exclusion}
 
 abbrev pub place_view : place.Place → Place
 place_view (places.Alone name) = Alone name.now
 place_view (places.Within group name) = Within group.now name.now
 place_view (places.Either group name) = Either group.now name.now
 place_view (places.Each group most) = Each group.now most
+place_view (places.Any group) = Any group.now
 
 abbrev pub shape_view : shape.Shape → Shape
 shape_view shapes.Truth = Truth
@@ -33,7 +34,7 @@ shape_view (shapes.Stages most) = Stages most
 shape_view shapes.Lines = Lines
 shape_view shapes.OneFile = OneFile
 shape_view shapes.FixedText = FixedText
-shape_view shapes.Paths = Paths
+shape_view (shapes.Paths least) = Paths least
 shape_view shapes.Names = Names
 
 abbrev pub row_view : row.Row → Row

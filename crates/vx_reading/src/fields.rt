@@ -59,7 +59,7 @@ fn push_spelled(alloc: Global, paths: &mut PathList, value: &Value) -> Result<()
 }
 
 /// The paths among some values.
-fn paths_of(alloc: Global, values: &[Value]) -> Result<PathList, WantOfMemory>
+pub(crate) fn paths_of(alloc: Global, values: &[Value]) -> Result<PathList, WantOfMemory>
     ensures { IfOk result (λ paths. paths ≡ flat_map path_in (items_in (items_view values.now))) }
 {
     let mut paths = PathList::new(alloc);

@@ -26,27 +26,27 @@ pub(crate) fn covers(option: Place<'_>, given: Place<'_>) -> bool
     match option {
         Place::Alone(a) => match given {
             Place::Alone(b) => same_text(a, b),
-            Place::Within(_, _) | Place::Either(_, _) | Place::Each(_, _) => false,
+            Place::Within(_, _) | Place::Either(_, _) | Place::Each(_, _) | Place::Any(_) => false,
         },
         Place::Within(g, a) => match given {
             Place::Within(h, b) => same_text(g, h) && same_text(a, b),
-            Place::Alone(_) | Place::Either(_, _) | Place::Each(_, _) => false,
+            Place::Alone(_) | Place::Either(_, _) | Place::Each(_, _) | Place::Any(_) => false,
         },
         Place::Either(g, a) => match given {
             Place::Alone(b) => same_text(g, b),
             Place::Within(h, b) => same_text(g, h) && same_text(a, b),
-            Place::Either(_, _) | Place::Each(_, _) => false,
+            Place::Either(_, _) | Place::Each(_, _) | Place::Any(_) => false,
         },
-        Place::Each(g, _) => match given {
+        Place::Each(g, _) | Place::Any(g) => match given {
             Place::Alone(b) => same_text(g, b),
             Place::Within(h, _) => same_text(g, h),
-            Place::Either(_, _) | Place::Each(_, _) => false,
+            Place::Either(_, _) | Place::Each(_, _) | Place::Any(_) => false,
         },
     }
 }
 
-/// Whether what is given may stand there by the place of its option: what has names of its own stands in a table, under names that
-/// ports may have.
+/// Whether what is given may stand there by the place of its option: what has names of its own stands in a table, and where they are
+/// those of ports, under names that ports may have.
 pub(crate) fn fits_place(option: Place<'_>, given: Place<'_>) -> bool
     ensures { result ≡ fits_place (place_view option.entry) (place_view given.entry) }
 {
@@ -54,19 +54,23 @@ pub(crate) fn fits_place(option: Place<'_>, given: Place<'_>) -> bool
         Place::Each(_, _) => match given {
             Place::Alone(_) => false,
             Place::Within(_, name) => is_route_name(name),
-            Place::Either(_, _) | Place::Each(_, _) => true,
+            Place::Either(_, _) | Place::Each(_, _) | Place::Any(_) => true,
+        },
+        Place::Any(_) => match given {
+            Place::Alone(_) => false,
+            Place::Within(_, _) | Place::Either(_, _) | Place::Each(_, _) | Place::Any(_) => true,
         },
         Place::Alone(_) | Place::Within(_, _) | Place::Either(_, _) => true,
     }
 }
 
-/// How often an option may be given that has names of its own.
+/// How often an option may be given that has the names of ports.
 pub(crate) fn most_at(place: Place<'_>) -> Option<usize>
     ensures { result ≡ most_at (place_view place.entry) }
 {
     match place {
         Place::Each(_, most) => Some(most),
-        Place::Alone(_) | Place::Within(_, _) | Place::Either(_, _) => None,
+        Place::Alone(_) | Place::Within(_, _) | Place::Either(_, _) | Place::Any(_) => None,
     }
 }
 
@@ -76,9 +80,10 @@ fn is_within(group: &str, place: Place<'_>) -> bool
 {
     match place {
         Place::Alone(_) => false,
-        Place::Within(other, _) | Place::Either(other, _) | Place::Each(other, _) => {
-            same_text(other, group)
-        }
+        Place::Within(other, _)
+        | Place::Either(other, _)
+        | Place::Each(other, _)
+        | Place::Any(other) => same_text(other, group),
     }
 }
 

@@ -285,23 +285,23 @@ fn has_paths(alloc: Global, items: &[Value]) -> Result<bool, WantOfMemory>
     Ok(true)
 }
 
-/// Whether there are some values, and each is the text of a path.
-#[tactic(auto, using(crate::proofs::Lists::no_items))]
-fn are_paths(alloc: Global, items: &[Value]) -> Result<bool, WantOfMemory>
-    ensures { IfOk result (λ b. b ≡ are_paths (items_in (items_view items.now))) }
+/// Whether there are at least so many values, and each is the text of a path.
+#[tactic(auto, using(crate::proofs::Lists::items_in_length))]
+fn are_paths(alloc: Global, least: usize, items: &[Value]) -> Result<bool, WantOfMemory>
+    ensures { IfOk result (λ b. b ≡ are_paths least (items_in (items_view items.now))) }
 {
-    if items.is_empty() {
+    if items.len() < least {
         return Ok(false);
     }
     has_paths(alloc, items)
 }
 
-/// Whether a value is a list of such texts, one at least.
-fn is_paths(alloc: Global, value: &Value) -> Result<bool, WantOfMemory>
-    ensures { IfOk result (λ b. b ≡ is_paths (view value.now)) }
+/// Whether a value is a list of such texts, at least so many.
+fn is_paths(alloc: Global, least: usize, value: &Value) -> Result<bool, WantOfMemory>
+    ensures { IfOk result (λ b. b ≡ is_paths least (view value.now)) }
 {
     match value.as_array() {
-        Some(items) => are_paths(alloc, items.as_slice()),
+        Some(items) => are_paths(alloc, least, items.as_slice()),
         None => Ok(false),
     }
 }
@@ -316,12 +316,12 @@ fn is_names(value: &Value) -> bool
     }
 }
 
-/// What is wrong with a value that should be a list of paths.
-fn fits_paths(alloc: Global, value: &Value) -> Result<Option<Trouble>, WantOfMemory>
+/// What is wrong with a value that should be a list of paths, at least so many.
+fn fits_paths(alloc: Global, least: usize, value: &Value) -> Result<Option<Trouble>, WantOfMemory>
     ensures { IfOk result
-        (λ trouble. trouble ≡ (if is_paths (view value.now) then None else Some BadValue)) }
+        (λ trouble. trouble ≡ (if is_paths least (view value.now) then None else Some BadValue)) }
 {
-    if is_paths(alloc, value)? {
+    if is_paths(alloc, least, value)? {
         Ok(None)
     } else {
         Ok(Some(Trouble::BadValue))
@@ -349,7 +349,7 @@ fn fits(alloc: Global, shape: Shape, value: &Value) -> Result<Option<Trouble>, W
         Shape::Lines if is_lines(value) => Ok(None),
         Shape::OneFile if is_one_file(value) => Ok(None),
         Shape::FixedText if is_fixed(value) => Ok(None),
-        Shape::Paths => fits_paths(alloc, value),
+        Shape::Paths(least) => fits_paths(alloc, least, value),
         Shape::Names if is_names(value) => Ok(None),
         _ => Ok(Some(Trouble::BadValue)),
     }

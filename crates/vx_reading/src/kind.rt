@@ -15,6 +15,8 @@ pub(crate) enum Kind {
     Sample,
     /// A transform that discards repeats.
     Dedupe,
+    /// A transform that merges events into groups.
+    Reduce,
     /// A sink that writes to standard output or standard error.
     Console,
     /// A sink that appends to a file.

@@ -14,6 +14,7 @@ mod graphs;
 mod judging;
 mod kind;
 mod laws;
+mod merging;
 mod options;
 mod owner;
 mod pair;

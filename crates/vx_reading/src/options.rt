@@ -191,7 +191,7 @@ static DEDUPE_ROWS: [Row; 5] = [
     INPUTS_ROW,
     Row {
         place: MATCH_PLACE,
-        shape: Shape::Paths,
+        shape: Shape::Paths(1),
         required: false,
     },
     Row {
@@ -202,6 +202,61 @@ static DEDUPE_ROWS: [Row; 5] = [
     Row {
         place: Place::Within("cache", "num_events"),
         shape: Shape::Whole(1, MOST_KEYS),
+        required: false,
+    },
+];
+
+/// The events that begin a group.
+const STARTS_PLACE: Place<'static> = Place::Alone("starts_when");
+
+/// Or those that end one.
+const ENDS_PLACE: Place<'static> = Place::Alone("ends_when");
+
+/// How many milliseconds a transform that merges events may say: 2^53.
+pub(crate) const MOST_PERIOD: u64 = 0x20_0000_0000_0000;
+
+/// The options of a transform that merges events into groups.
+static REDUCE_ROWS: [Row; 8] = [
+    TYPE_ROW,
+    INPUTS_ROW,
+    Row {
+        place: Place::Alone("group_by"),
+        shape: Shape::Paths(0),
+        required: false,
+    },
+    Row {
+        place: STARTS_PLACE,
+        shape: Shape::Condition,
+        required: false,
+    },
+    Row {
+        place: ENDS_PLACE,
+        shape: Shape::Condition,
+        required: false,
+    },
+    Row {
+        place: Place::Alone("expire_after_ms"),
+        shape: Shape::Whole(1, MOST_PERIOD),
+        required: false,
+    },
+    Row {
+        place: Place::Alone("flush_period_ms"),
+        shape: Shape::Whole(1, MOST_PERIOD),
+        required: false,
+    },
+    Row {
+        place: Place::Any("merge_strategies"),
+        shape: Shape::OneOf(&[
+            "discard",
+            "retain",
+            "sum",
+            "max",
+            "min",
+            "concat",
+            "concat_newline",
+            "concat_raw",
+            "array",
+        ]),
         required: false,
     },
 ];
@@ -366,6 +421,7 @@ pub(crate) fn rows_of(kind: Kind) -> &'static [Row]
         Kind::Route => &ROUTE_ROWS,
         Kind::Sample => &SAMPLE_ROWS,
         Kind::Dedupe => &DEDUPE_ROWS,
+        Kind::Reduce => &REDUCE_ROWS,
         Kind::Console => &CONSOLE_ROWS,
         Kind::FileOut => &FILE_OUT_ROWS,
         Kind::Blackhole => &BLACKHOLE_ROWS,
@@ -380,6 +436,10 @@ pub(crate) fn exclusion_of(kind: Kind) -> Option<Exclusion>
         Kind::Dedupe => Some(Exclusion {
             earlier: IGNORE_PLACE,
             later: MATCH_PLACE,
+        }),
+        Kind::Reduce => Some(Exclusion {
+            earlier: ENDS_PLACE,
+            later: STARTS_PLACE,
         }),
         _ => None,
     }
@@ -404,6 +464,7 @@ pub(crate) fn kind_named(class: Class, name: &str) -> Option<Kind>
         Class::Transform if same_text("route", name) => Some(Kind::Route),
         Class::Transform if same_text("sample", name) => Some(Kind::Sample),
         Class::Transform if same_text("dedupe", name) => Some(Kind::Dedupe),
+        Class::Transform if same_text("reduce", name) => Some(Kind::Reduce),
         Class::Sink if same_text("console", name) => Some(Kind::Console),
         Class::Sink if same_text("file", name) => Some(Kind::FileOut),
         Class::Sink if same_text("blackhole", name) => Some(Kind::Blackhole),

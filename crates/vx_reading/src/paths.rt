@@ -28,7 +28,8 @@ pub(crate) fn option_path(alloc: Global, lead: &str, place: Place<'_>) -> Result
     let mut out = String::new(alloc);
     push(&mut out, lead)?;
     match place {
-        Place::Alone(name) | Place::Either(name, _) | Place::Each(name, _) => push(&mut out, name)?,
+        Place::Alone(name) | Place::Either(name, _) | Place::Each(name, _) | Place::Any(name) =>
+            push(&mut out, name)?,
         Place::Within(group, name) => {
             push(&mut out, group)?;
             push(&mut out, ".")?;

@@ -9,4 +9,6 @@ pub(crate) enum Place<'a> {
     Either(&'a str, &'a str),
     /// In a table of that name, under each name that a port may have, so many times at most.
     Each(&'a str, usize),
+    /// In a table of that name, under any name.
+    Any(&'a str),
 }

@@ -9,8 +9,9 @@ ghost use Rattle.vx_reading.specs.Views.{pair_view, part_view, parts_view};
 use crate::fields::fields_of;
 use crate::judging::whole_in;
 use crate::kind::Kind;
+use crate::merging::{group_by_of, strategies_of};
 use crate::options::{
-    MOST_BATCH, MOST_KEYS, MOST_LENGTH, MOST_PRINT_INTERVAL, MOST_SECONDS, MOST_WHOLE,
+    MOST_BATCH, MOST_KEYS, MOST_LENGTH, MOST_PERIOD, MOST_PRINT_INTERVAL, MOST_SECONDS, MOST_WHOLE,
 };
 use crate::pair::{Pair, pairs_in};
 use crate::part::{Part, kind_of};
@@ -158,6 +159,7 @@ fn inputs_for(alloc: Allocator, kind: Kind, table: &Value) -> Result<TextList, W
         | Kind::Route
         | Kind::Sample
         | Kind::Dedupe
+        | Kind::Reduce
         | Kind::Console
         | Kind::FileOut
         | Kind::Blackhole => inputs_of(alloc, table),
@@ -500,6 +502,14 @@ fn settings_of(
         Kind::Dedupe => Ok(Settings::Dedupe {
             fields: fields_of(alloc, table)?,
             cache_num_events: keys_of(table),
+        }),
+        Kind::Reduce => Ok(Settings::Reduce {
+            group_by: group_by_of(alloc, table)?,
+            starts_when: condition_given(alloc, "starts_when", table)?,
+            ends_when: condition_given(alloc, "ends_when", table)?,
+            expire_after_ms: whole_at("expire_after_ms", 1, MOST_PERIOD, 30_000, table),
+            flush_period_ms: whole_at("flush_period_ms", 1, MOST_PERIOD, 1_000, table),
+            merge_strategies: strategies_of(alloc, table)?,
         }),
         Kind::Console => Ok(Settings::Console {
             target: target_named(text_at("target", table)),

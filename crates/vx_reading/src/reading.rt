@@ -27,7 +27,8 @@ use vx_value::VariableList;
 #[derive(Drop)]
 pub struct ReadPlan {
     pub plan: Plan,
-    /// The conditions of each component of the plan, in order: of a filter one, of a route one for each way, and none of what has none.
+    /// The conditions of each component of the plan, in order: of a filter one, of a route one for each way, of a sample or a reduce the
+    /// one that it may have, and none of others.
     pub conditions: ConditionLists,
 }
 

@@ -21,8 +21,8 @@ pub(crate) enum Shape {
     OneFile,
     /// A text in which no `{` stands.
     FixedText,
-    /// A list of texts, one at least, of which each is the path of a field.
-    Paths,
+    /// A list of texts, at least so many, of which each is the path of a field.
+    Paths(usize),
     /// A list of texts.
     Names,
 }

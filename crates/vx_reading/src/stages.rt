@@ -40,7 +40,8 @@ pub(crate) fn stages_for(kind: Kind, table: &Value) -> &[Value]
         | Kind::Filter
         | Kind::Route
         | Kind::Sample
-        | Kind::Dedupe => &[],
+        | Kind::Dedupe
+        | Kind::Reduce => &[],
         Kind::Console | Kind::FileOut | Kind::Blackhole => stages_of(table),
     }
 }
@@ -166,7 +167,8 @@ fn room_of(alloc: Global, part: Part<'_>) -> Result<u64, WantOfMemory>
             | Kind::Filter
             | Kind::Route
             | Kind::Sample
-            | Kind::Dedupe,
+            | Kind::Dedupe
+            | Kind::Reduce,
         )
         | None => Ok(0),
     }

@@ -1,6 +1,6 @@
 -- What a run adds to its record is of moments that its clock gave.
 use Rattle.std.proofs.Common.{◌≡◌, ◌∙◌, ◌⊎◌, inl, inr, ℕ, Bool, true, false, ◌∷◌, ◌++◌, Option, Some, None, refl, sym, subst, arith}
-use Rattle.std.specs.Prelude.{max, ◌&&◌, nat_lt, if◌then◌else◌, IfSome, IfNone}
+use Rattle.std.specs.Prelude.{max, ◌&&◌, nat_lt, if◌then◌else◌, Result, Ok, Err, IfSome, IfNone, OnErr}
 use Rattle.vx_record.specs.declared.abandon_cause.AbandonCause.{AbandonCause}
 use Rattle.vx_record.specs.declared.abandon_cause.AbandonCause.TheVariants.{Grace}
 use Rattle.vx_record.specs.declared.entry.Entry.{Entry}
@@ -26,6 +26,7 @@ use Rattle.vx_hub.specs.Collecting.{IsTakeOf}
 use Rattle.vx_hub.specs.Ending.{GivesUp}
 use Rattle.vx_hub.specs.Failures.{abandon_cause}
 use Rattle.vx_hub.specs.Leases.{HasLeased}
+use Rattle.vx_hub.specs.Merges.{IsMergeAt, HasDoneOne}
 use Rattle.vx_hub.specs.Pushing.{IsMoveOf}
 use Rattle.vx_hub.specs.declared.fatal.Fatal.{Fatal}
 use Rattle.vx_hub.specs.declared.fatal.Fatal.TheVariants as fatal
@@ -150,8 +151,38 @@ module _ (Gave : ℕ → Type 0) where
       (one_on (IsTimely Gave) old lease (legal_before leased.added (lease ∷ old) (subst IsLegal leased.is legal)) (gave, refl))
       (adds_wider (IsTakeOf i) (IsTimely Gave) (takes i) (lease ∷ old) new leased)
 
+  merges : (i now : ℕ) → Gave now → (h : Record) (e : Entry) → IsMergeAt i now h e → IsTimely Gave h e
+  merges i now gave h (entry.Take j s copies) kind = tt
+  merges i now gave h (entry.Tick j moment) kind = subst Gave (sym kind.1) gave
+  merges i now gave h (entry.Answer j outputs discarded kept) kind = tt
+  merges i now gave h (entry.Home j) kind = tt
+  merges i now gave h e kind = absurd kind
+
+  -- an instance that merges did what there was to do
+  pub merged_on : (now : ℕ) (old new : Record) → Gave now → IsLegal new → HasDoneOne 0 now old new → OnlyAdds (IsTimely Gave) old new
+  merged_on now old new gave legal did =
+      let lease = entry.Lease did.who 0 now 0 in
+      adds_both (IsTimely Gave) old (lease ∷ old) new
+      (one_on (IsTimely Gave) old lease (legal_before did.noted.added (lease ∷ old) (subst IsLegal did.noted.is legal)) (gave, refl))
+      (adds_wider (IsMergeAt did.who now) (IsTimely Gave) (merges did.who now gave) (lease ∷ old) new did.noted)
+
   pub timely_both : (old mid new : Record) → OnlyAdds (IsTimely Gave) old mid → OnlyAdds (IsTimely Gave) mid new → OnlyAdds (IsTimely Gave) old new
   timely_both = adds_both (IsTimely Gave)
+
+  -- whatever it answers
+  pub merge_on : {E : Type 0} (now : ℕ) (merged : Result Bool E) (old new : Record) → Gave now → IsLegal new → (merged ≡ Ok true → HasDoneOne 0 now old new) → OnErr merged (HasDoneOne 0 now old new) →
+      (merged ≡ Ok false → new ≡ old) → OnlyAdds (IsTimely Gave) old new
+  merge_on now (Ok true) old new gave legal did short same = merged_on now old new gave legal (did refl)
+  merge_on now (Ok false) old new gave legal did short same = adds_none (IsTimely Gave) old new (same refl)
+  merge_on now (Err e) old new gave legal did short same = merged_on now old new gave legal short
+
+  -- the latest moment behind it
+  pub merge_moment : {E : Type 0} (now latest new : ℕ) (merged : Result Bool E) → Gave now → Gave latest → (merged ≡ Ok false → new ≡ latest) →
+      (merged ≡ Ok false) ⊎ (new ≡ max now latest) → Gave new
+  merge_moment now latest new merged gave had same which = elim which [
+    | inl none ↦ subst Gave (sym (same none)) had
+    | inr is ↦ subst Gave (sym is) (latest_of now latest gave had)
+  ]
 
   -- what one turn adds
   pub turned_on : (old drained moved new : Record) → OnlyAdds (IsTimely Gave) old drained → OnlyAdds IsTimeless drained moved → OnlyAdds (IsTimely Gave) moved new → OnlyAdds (IsTimely Gave) old new

@@ -1,6 +1,6 @@
--- What each component of a plan picks by, from the first to the last.
+-- What each component of a plan picks by or keeps, from the first to the last.
 use Rattle.std.proofs.Common.{◌≡◌, ◌∙◌, ℕ, zero, suc, ◌+◌, true, List, [], ◌∷◌, ◌++◌, take, drop, map, reverse, Option, Some, sym, ap, subst, arith}
-use Rattle.std.specs.Prelude.{slice_get}
+use Rattle.std.specs.Prelude.{slice_get, IfSome}
 use Rattle.std.specs.List.{list_all}
 use Rattle.std.proofs.lemmas.Bool.{and_parts}
 use Rattle.std.proofs.lemmas.List.{reverse-append}
@@ -9,7 +9,8 @@ use Rattle.vx_plan.specs.declared.component.Component.{Component}
 use Rattle.vx_pick.specs.declared.picker.Picker.{Picker}
 use Rattle.vx_reading.specs.Conditions.{conditions_by}
 use Rattle.vx_reading.specs.Made.{is_made}
-use Rattle.vx_hub.specs.Making.{IsPickerFor, ArePickers}
+use Rattle.vx_keeping.specs.Kept.{Kept, copies_kept}
+use Rattle.vx_hub.specs.Making.{IsPickerFor, ArePickers, IsSlotFor, AreSlots, AreBare}
 
 -- the conditions from a component on
 lists_at : (cs : List Component) (i : ℕ) (c : Component) → slice_get cs i ≡ Some c → map conditions_by (drop i cs) ≡ conditions_by c ∷ map conditions_by (drop (suc i) cs)
@@ -32,19 +33,49 @@ next_list cs i c left rest list at so parts =
 pub one_left : (cs : List Component) (i : ℕ) (c : Component) (left : List (List Word)) → slice_get cs i ≡ Some c → reverse left ≡ map conditions_by (drop i cs) → left ≡ [] → ⊥
 one_left cs i c left at so none = let empty : [] ≡ conditions_by c ∷ map conditions_by (drop (suc i) cs) = ap reverse (sym none) ∙ (so ∙ lists_at cs i c at) in cc
 
--- each of the first components has what it picks by, and so has one more
-pickers_to : (cs : List Component) (i : ℕ) (c : Component) (ps : List (Option Picker)) (p : Option Picker) → slice_get cs i ≡ Some c → ArePickers (take i cs) ps → IsPickerFor c p → ArePickers (take (suc i) cs) (ps ++ p ∷ [])
-pickers_to [] i c ps p at all one = cc
-pickers_to (d ∷ cs) zero c [] p at all one = let same : d ≡ c = cc in (subst (λ (x : Component). IsPickerFor x p) (sym same) one, tt)
-pickers_to (d ∷ cs) zero c (q ∷ ps) p at all one = absurd all
-pickers_to (d ∷ cs) (suc i) c [] p at all one = absurd all
-pickers_to (d ∷ cs) (suc i) c (q ∷ ps) p at all one = (all.0, pickers_to cs i c ps p at all.1 one)
+-- where two lists are told of in their order, and each of the first components has what it is to have, so has one more
+module _ {X : Type 0} (IsFor : Component → X → Type 0) (AreFor : List Component → List X → Type 0)
+    (none : AreFor [] [])
+    (both : (c : Component) (cs : List Component) (x : X) (xs : List X) → IsFor c x → AreFor cs xs → AreFor (c ∷ cs) (x ∷ xs))
+    (one : (c : Component) (cs : List Component) (x : X) (xs : List X) → AreFor (c ∷ cs) (x ∷ xs) → IsFor c x)
+    (rest : (c : Component) (cs : List Component) (x : X) (xs : List X) → AreFor (c ∷ cs) (x ∷ xs) → AreFor cs xs)
+    (short : (x : X) (xs : List X) → AreFor [] (x ∷ xs) → ⊥)
+    (long : (c : Component) (cs : List Component) → AreFor (c ∷ cs) [] → ⊥) where
+  all_to : (cs : List Component) (i : ℕ) (c : Component) (xs : List X) (x : X) → slice_get cs i ≡ Some c → AreFor (take i cs) xs → IsFor c x → AreFor (take (suc i) cs) (xs ++ x ∷ [])
+  all_to [] i c xs x at all is = cc
+  all_to (d ∷ cs) zero c [] x at all is = let same : d ≡ c = cc in both d [] x [] (subst (λ (e : Component). IsFor e x) (sym same) is) none
+  all_to (d ∷ cs) zero c (y ∷ xs) x at all is = absurd (short y xs all)
+  all_to (d ∷ cs) (suc i) c [] x at all is = absurd (long d (take i cs) all)
+  all_to (d ∷ cs) (suc i) c (y ∷ xs) x at all is =
+      both d (take (suc i) cs) y (xs ++ x ∷ []) (one d (take i cs) y xs all) (all_to cs i c xs x at (rest d (take i cs) y xs all) is)
 
+  all_more : (cs : List Component) (i : ℕ) (c : Component) (xs more : List X) (x : X) → more ≡ xs ++ x ∷ [] → slice_get cs i ≡ Some c →
+      AreFor (take i cs) xs → IsFor c x → AreFor (take (i + 1) cs) more
+  all_more cs i c xs more x told at all is =
+      let next : suc i ≡ i + 1 = omega arith in
+      subst (λ (n : ℕ). AreFor (take n cs) more) next (subst (λ (os : List X). AreFor (take (suc i) cs) os) (sym told) (all_to cs i c xs x at all is))
+
+-- so it is of what they pick by
 pub picker_more : (cs : List Component) (i : ℕ) (c : Component) (ps more : List (Option Picker)) (p : Option Picker) → more ≡ ps ++ p ∷ [] → slice_get cs i ≡ Some c →
     ArePickers (take i cs) ps → IsPickerFor c p → ArePickers (take (i + 1) cs) more
-picker_more cs i c ps more p is at all one =
-    let next : suc i ≡ i + 1 = omega arith in
-    subst (λ (n : ℕ). ArePickers (take n cs) more) next (subst (λ (os : List (Option Picker)). ArePickers (take (suc i) cs) os) (sym is) (pickers_to cs i c ps p at all one))
+picker_more = all_more IsPickerFor ArePickers tt (λ c cs x xs is all. (is, all)) (λ c cs x xs all. all.0) (λ c cs x xs all. all.1) (λ x xs all. all) (λ c cs all. all)
+
+-- and of what they keep
+pub slot_more : (cs : List Component) (i : ℕ) (c : Component) (ks more : List (Option Kept)) (k : Option Kept) → more ≡ ks ++ k ∷ [] → slice_get cs i ≡ Some c →
+    AreSlots (take i cs) ks → IsSlotFor c k → AreSlots (take (i + 1) cs) more
+slot_more = all_more IsSlotFor AreSlots tt (λ c cs x xs is all. (is, all)) (λ c cs x xs all. all.0) (λ c cs x xs all. all.1) (λ x xs all. all) (λ c cs all. all)
+
+-- where no copy is kept, none is with one more that has none
+bare_behind : (ks : List (Option Kept)) (k : Option Kept) → AreBare ks → IfSome k (λ (kept : Kept). copies_kept kept ≡ []) → AreBare (ks ++ k ∷ [])
+bare_behind [] k all bare = (bare, tt)
+bare_behind (first ∷ ks) k all bare = (all.0, bare_behind ks k all.1 bare)
+
+pub bare_more : (ks more : List (Option Kept)) (k : Option Kept) → more ≡ ks ++ k ∷ [] → AreBare ks → IfSome k (λ (kept : Kept). copies_kept kept ≡ []) → AreBare more
+bare_more ks more k told all bare = subst AreBare (sym told) (bare_behind ks k all bare)
+
+-- what begins with none has none
+pub bare_none : (ks : List (Option Kept)) → ks ≡ [] → AreBare ks
+bare_none ks is = subst AreBare (sym is) tt
 
 -- each of them is made of what was read
 pub made_at : (cs : List Component) (i : ℕ) (c : Component) → slice_get cs i ≡ Some c → list_all is_made cs ≡ true → is_made c ≡ true

@@ -1,4 +1,4 @@
--- Each component of a plan that was read works with a port, judges event by event, makes its lines itself or writes nothing.
+-- Each component of a plan that was read works with a port, judges event by event, merges, makes its lines itself or writes nothing.
 use Rattle.std.proofs.Common.{◌≡◌, ℕ, ◌+◌, ◌≤◌, Bool, true, false, List, [], ◌∷◌, ◌++◌, map, length, refl, ◌∙◌, ap, arith}
 use Rattle.std.specs.Prelude.{◌&&◌, ◌||◌, not, nat_le, codes}
 use Rattle.std.specs.List.{list_all}
@@ -15,9 +15,10 @@ use Rattle.vx_plan.specs.Components.{is_source, is_transform, is_sink, port_name
 use Rattle.vx_plan.specs.Options.{has_device, transform_ports}
 use Rattle.vx_record.specs.Judges.{is_judging}
 use Rattle.vx_sourcecore.specs.Lines.{is_generating, is_swallowing}
-use Rattle.vx_ready.specs.Asking.{has_few_ports, is_judge, is_generator, is_hole}
+use Rattle.vx_tasks.specs.Joining.{is_joining}
+use Rattle.vx_ready.specs.Asking.{has_few_ports, is_judge, is_merger, is_generator, is_hole}
 use Rattle.vx_hub.specs.Making.{is_served, all_served}
-use Rattle.vx_reading.specs.Made.{is_ported, is_picking, is_generating as read_generating, is_swallowing as read_swallowing, is_made}
+use Rattle.vx_reading.specs.Made.{is_ported, is_picking, is_merging, is_generating as read_generating, is_swallowing as read_swallowing, is_made}
 
 le_test : (m n : ℕ) → m ≤ n → nat_le m n ≡ true
 le_test m n l = grind (arith, nat_tests)
@@ -46,20 +47,35 @@ judge_of c Transform of transform picking =
 judge_of c Source of transform picking = cc
 judge_of c Sink of transform picking = cc
 
--- one fact of four is also one of four others, if each is
-second : (b c d : Bool) → c ≡ true → (b || c || d) ≡ true
-second true c d is = refl
-second false c d is = ap (λ (v : Bool). v || d) is
+-- what merges so joins, without a device, and is put out on one port
+merging_joins : (s : Settings) → is_merging s ≡ true → (is_joining s && not (has_device s) && nat_le (length (transform_ports s)) 65) ≡ true
+merging_joins (settings.Reduce group_by starts_when ends_when expire flush strategies) is = refl
+merging_joins other is = cc
 
-third : (b d : Bool) → d ≡ true → (b || d) ≡ true
-third true d is = refl
-third false d is = is
+merger_of : (c : Component) (class : Class) → c.class ≡ class → is_transform c ≡ true → is_merging c.settings ≡ true → is_merger c ≡ true
+merger_of c Transform of transform merging =
+    let rest = merging_joins c.settings merging in
+    let names : port_names c ≡ transform_ports c.settings = ap (λ (k : Class). elim k [ Source ↦ [] ∷ [] | Transform ↦ transform_ports c.settings | Sink ↦ [] ]) of in
+    ap (λ (b : Bool). b && is_joining c.settings && not (has_device c.settings) && has_few_ports c) transform
+    ∙ ap (λ (ns : List _). is_joining c.settings && not (has_device c.settings) && nat_le (length ns) 65) names ∙ rest
+merger_of c Source of transform merging = cc
+merger_of c Sink of transform merging = cc
 
-one_of : (a b c d y z w : Bool) → (b ≡ true → y ≡ true) → (c ≡ true → z ≡ true) → (d ≡ true → w ≡ true) → (a || b || c || d) ≡ true → (a || y || z || w) ≡ true
-one_of true b c d y z w f g h is = refl
-one_of false true c d y z w f g h is = ap (λ (v : Bool). v || z || w) (f refl)
-one_of false false true d y z w f g h is = second y z w (g refl)
-one_of false false false d y z w f g h is = third (y || z) w (h is)
+-- one fact of five is also one of five others, if each is
+either : (b d : Bool) → d ≡ true → (b || d) ≡ true
+either true d is = refl
+either false d is = is
+
+first : (b d : Bool) → b ≡ true → (b || d) ≡ true
+first b d is = ap (λ (v : Bool). v || d) is
+
+one_of : (a b m c d y z w v : Bool) → (b ≡ true → y ≡ true) → (m ≡ true → v ≡ true) → (c ≡ true → z ≡ true) → (d ≡ true → w ≡ true) →
+    (a || b || m || c || d) ≡ true → (a || y || z || w || v) ≡ true
+one_of true b m c d y z w v f k g h is = refl
+one_of false true m c d y z w v f k g h is = first (y || z || w) v (first (y || z) w (first y z (f refl)))
+one_of false false true c d y z w v f k g h is = either (y || z || w) v (k refl)
+one_of false false false true d y z w v f k g h is = first (y || z || w) v (first (y || z) w (either y z (g refl)))
+one_of false false false false d y z w v f k g h is = first (y || z || w) v (either (y || z) w (h is))
 
 -- options that were read are those of a source that makes its lines, or of a sink that writes nothing
 generating : (s : Settings) → read_generating s ≡ true → is_generating s ≡ true
@@ -72,8 +88,10 @@ swallowing other is = cc
 
 made_serves : (c : Component) → is_made c ≡ true → is_served c ≡ true
 made_serves c made =
-    one_of (is_ported c) (is_transform c && is_picking c.settings) (is_source c && read_generating c.settings) (is_sink c && read_swallowing c.settings) (is_judge c) (is_generator c) (is_hole c)
+    one_of (is_ported c) (is_transform c && is_picking c.settings) (is_transform c && is_merging c.settings) (is_source c && read_generating c.settings) (is_sink c && read_swallowing c.settings)
+    (is_judge c) (is_generator c) (is_hole c) (is_merger c)
     (λ is. let both = and_parts (is_transform c) (is_picking c.settings) is in judge_of c c.class refl both.0 both.1)
+    (λ is. let both = and_parts (is_transform c) (is_merging c.settings) is in merger_of c c.class refl both.0 both.1)
     (λ is. let both = and_parts (is_source c) (read_generating c.settings) is in ap (λ (b : Bool). b && is_generating c.settings) both.0 ∙ generating c.settings both.1)
     (λ is. let both = and_parts (is_sink c) (read_swallowing c.settings) is in ap (λ (b : Bool). b && is_swallowing c.settings) both.0 ∙ swallowing c.settings both.1)
     made

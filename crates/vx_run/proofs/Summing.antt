@@ -1,16 +1,16 @@
 -- What is printed of what the instances counted.
-use Rattle.std.proofs.Common.{◌≡◌, ◌∙◌, ◌⊎◌, inl, inr, ℕ, ◌+◌, append_assoc, Bool, true, false, List, [], ◌∷◌, ◌++◌, Option, Some, None, length, refl, sym, ap, subst, arith}
+use Rattle.std.proofs.Common.{◌≡◌, ◌∙◌, ◌⊎◌, inl, inr, ℕ, ◌+◌, append_assoc, Bool, true, false, List, [], ◌∷◌, ◌++◌, Option, Some, None, refl, sym, ap, subst, arith}
 use Rattle.std.specs.Prelude.{◌&&◌, if◌then◌else◌, IsSomeAnd}
 use Rattle.std.specs.List.{flat_map}
 use Rattle.std.proofs.lemmas.List.{append-nil}
 use Rattle.vx_value.specs.Texts.{Word}
 use Rattle.vx_value.specs.declared.variable.Variable.{Variable}
-use Rattle.vx_ends.specs.Told.{Grows, Rose}
+use Rattle.vx_ends.specs.Told.{Rose}
 use Rattle.vx_ends.specs.declared.world.Config.{Config}
 use Rattle.vx_plan.specs.declared.class.Class.{Class}
 use Rattle.vx_plan.specs.declared.component.Component.{Component}
 use Rattle.vx_record.specs.Copies.{counting}
-use Rattle.vx_record.specs.Installs.{component_of, in_force, started}
+use Rattle.vx_record.specs.Installs.{component_of, in_force}
 use Rattle.vx_record.specs.Records.{Record}
 use Rattle.vx_record.specs.Tallies.{tally}
 use Rattle.vx_record.specs.declared.tally.Tally.{Tally}
@@ -21,7 +21,7 @@ use Rattle.vx_cli.specs.declared.fault.Fault.{Fault}
 use Rattle.vx_cli.specs.declared.fault.Fault.TheVariants.{Usage, ConfigRead, ConfigRefused, Numbers, SourceFailed, ConfirmFailed, PrintFailed, WantOfMemory}
 use Rattle.vx_hub.specs.Telling.{IsNameOf, IsClassOf}
 use Rattle.vx_run.specs.Answers.{AsksRun, AsksStats, ButForMemory, IsAnswer, IsUnready}
-use Rattle.vx_run.specs.Showing.{AsksAny, IsFollowed, IsShown, IsShownFirst, IsSummary, IsTold, IsToldValid, IsUntold, IsUnprinted, is_summed, is_unready, line_of, lines_of, summary_for, summary_of}
+use Rattle.vx_run.specs.Showing.{IsFollowed, IsShown, IsShownFirst, IsSummary, IsTold, IsUntold, IsUnprinted, is_summed, is_unready, line_of, lines_of, summary_for, summary_of}
 use Rattle.vx_hub.specs.declared.parts.Numbered.{Numbered}
 use Rattle.vx_plan.specs.declared.plan.Plan.{Plan}
 use Rattle.vx_run.specs.Running.{AllRead, AllReadOrLost, HasAll, HasAllAsked, HasInstalled, IsInstalled, IsOnlyJudged, IsReadOut, IsUnbegun, NoneMissing}

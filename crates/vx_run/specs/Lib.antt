@@ -2,6 +2,7 @@ pub mod Answers
 pub mod Calling
 pub mod Completeness
 pub mod Judging
+pub mod Merging
 pub mod Moments
 pub mod Running
 pub mod Telling

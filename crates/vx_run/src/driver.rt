@@ -42,8 +42,9 @@ pub(crate) fn drive<R: Wait, P: Port, C: Clock>(rt: &R, alloc: Global, hub: &mut
 /// How long, in milliseconds, a run rests at the most where nobody has work.
 const REST: u64 = 20;
 
-/// One turn: drains sinks, and then moves parcels on. Where there are none to move, it does an instance's work, or ends an instance where
-/// none has work. Where none may end either, it rests.
+/// One turn: drains sinks, and then moves parcels on. Where there are none to move, it has an instance that merges do what there is to
+/// do; unless that gives something to move on, it does an instance's work too, or ends an instance where none has work. Where there was
+/// nothing to do, it rests.
 ///
 /// A source is so read only where nothing waits that can move, since a read may wait for long.
 fn turn<P: Port, C: Clock>(alloc: Global, hub: &mut Hub<P>, clock: &C)
@@ -57,25 +58,28 @@ fn turn<P: Port, C: Clock>(alloc: Global, hub: &mut Hub<P>, clock: &C)
     if move_parcels(hub) {
         return;
     }
+    let merged = merge(hub, clock);
+    if merged && hub.pending().is_some() {
+        return;
+    }
     let now = clock.now();
     if lease(alloc, hub, clock, now) {
         return;
     }
-    if retire(hub) {
+    if retire(hub) || merged {
         return;
     }
     rest(hub, clock, now);
 }
 
-/// Waits until the soonest moment for which an instance waits, and not for long.
+/// Waits until the soonest moment for which an instance waits or from which on one is to act by itself, and not for long.
 fn rest<P: Port, C: Clock>(hub: &Hub<P>, clock: &C, now: u64)
     requires { IsHub P.told hub.now }
 {
     let longest = now.saturating_add(REST);
-    match hub.due() {
-        Some(due) => clock.rest(due.min(longest)),
-        None => clock.rest(longest),
-    }
+    let due = hub.due().unwrap_or(longest);
+    let check = hub.next_check().unwrap_or(longest);
+    clock.rest(due.min(check).min(longest));
 }
 
 /// Lets sinks take and write what they have, though parcels wait to be moved: a look at all that wait behind full buffers costs.
@@ -139,6 +143,24 @@ fn lease<P: Port, C: Clock>(alloc: Global, hub: &mut Hub<P>, clock: &C, now: u64
             true
         }
         None => false,
+    }
+}
+
+/// Has an instance that merges events answer what it took, act by itself or put out what is left, if one has to. Tells whether one
+/// had.
+fn merge<P: Port, C: Clock>(hub: &mut Hub<P>, clock: &C) -> bool
+    requires hub { IsHub P.told hub.old }
+    requires moment { C.gave clock.now hub.old.books.run.latest }
+    ensures hub { IsHub P.told hub.new }
+    ensures on { OnlyAdds (IsTimely (C.gave clock.now)) hub.old.books.log hub.new.books.log }
+    ensures moment { C.gave clock.now hub.new.books.run.latest }
+{
+    match hub.merge(WORKER, clock.now()) {
+        Ok(merged) => merged,
+        Err(fatal) => {
+            give_up(hub, fatal);
+            true
+        }
     }
 }
 

@@ -5,10 +5,12 @@ mod completeness;
 mod driver;
 mod ended;
 mod judging;
+mod merging;
 mod preparing;
 mod running;
 mod telling;
 mod top;
+mod transforms;
 mod validating;
 
 pub use completeness::{

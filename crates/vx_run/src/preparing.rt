@@ -1,33 +1,29 @@
 ghost use Rattle.std.specs.Prelude.{◌≡◌, ◌≢◌, ◌↔◌, ◌<◌, ◌^◌, [], ◌∷◌, length, map, true, false, Ok, Err, Some, None, IfOk, IfErr, IfSome, IsSomeAnd, OnOk, OnErr};
 ghost use Rattle.vx_ends.specs.Texts.{IsTextAt};
 ghost use Rattle.std.specs.List.{list_all};
-ghost use Rattle.vx_value.specs.Texts.{Word};
 ghost use Rattle.vx_ends.specs.Silent.{told_if};
 ghost use Rattle.vx_ends.specs.Told.{Grows, Rose};
 ghost use Rattle.vx_ends.specs.declared.call.Call.TheVariants as call;
 ghost use Rattle.vx_plan.specs.Accepted.{IsPlan};
 ghost use Rattle.vx_plan.specs.Ports.{port_of};
-ghost use Rattle.vx_hub.specs.Making.{IsUntouched, AreUntouched, IsPickerFor, ArePickers, all_served};
-ghost use Rattle.vx_pick.specs.declared.picker.Picker.TheVariants as Picker;
+ghost use Rattle.vx_hub.specs.Making.{IsUntouched, AreUntouched, ArePickers, AreSlots, AreBare, all_served};
 ghost use Rattle.vx_reading.specs.Answers.{HasConditions};
-ghost use Rattle.vx_reading.specs.Conditions.{conditions_by};
 ghost use Rattle.vx_reading.specs.Made.{is_made};
 ghost use Rattle.vx_reading.specs.Reading.{IsReading};
 ghost use Rattle.vx_run.specs.Answers.{IsPlanAt, IsUnready, IsUnread, IsMisread};
 ghost use Rattle.vx_run.specs.Calling.{HasBegun, HasCalledFor, call_of, port_calls, run_calls};
 
+use crate::transforms::{Transforms, make_transforms};
 use std::alloc::Global;
 use vx_cli::Fault;
-use vx_condition::{Condition, ConditionList};
 use vx_ends::{Port, PortSpec, Trouble, World};
-use vx_hub::{Named, NamedList, Parts, PickerList};
-use vx_pick::{Dedupe, Filter, Picker, Route, Sample};
-use vx_plan::{Component, Plan, Settings};
-use vx_reading::{ConditionLists, PlanFault, ReadPlan, read_plan};
+use vx_hub::{Named, NamedList, Parts, end_keepers};
+use vx_plan::{Component, Plan};
+use vx_reading::{PlanFault, ReadPlan, read_plan};
 use vx_value::{Bytes, Text, VariableList, WantOfMemory};
 
 /// What a run of the configuration at a path is made of: its plan, a port for each component that has a device, and what each transform
-/// picks by. With `once` the ports of files end with what these have. Where there is none, a fault tells why.
+/// picks by or keeps. With `once` the ports of files end with what these have. Where there is none, a fault tells why.
 pub fn prepare<W: World>(
     alloc: Global,
     file: &Text,
@@ -42,6 +38,8 @@ pub fn prepare<W: World>(
     ensures accepted { IfOk result (λ parts. IsPlan parts.plan) }
     ensures served { IfOk result (λ parts. all_served parts.plan.components ≡ true) }
     ensures pickers { IfOk result (λ parts. ArePickers parts.plan.components parts.pickers) }
+    ensures keepers { IfOk result (λ parts. AreSlots parts.plan.components parts.keepers) }
+    ensures bare { IfOk result (λ parts. AreBare parts.keepers) }
     ensures ports { IfOk result (λ parts. length parts.ports ≡ length parts.plan.components) }
     ensures untouched { IfOk result
         (λ parts. AreUntouched (told_if W.Port.told)
@@ -58,7 +56,7 @@ pub fn prepare<W: World>(
     ensures texts { W.texts world.new ≡ W.texts world.old }
 {
     let ReadPlan { plan, conditions } = plan_at(alloc, file, environment, world)?;
-    let Ok(pickers) = pickers(alloc, &plan, conditions) else {
+    let Ok(Transforms { pickers, keepers }) = make_transforms(alloc, &plan, conditions) else {
         return Err(Fault::WantOfMemory);
     };
     match ports(alloc, &plan, once, world) {
@@ -67,8 +65,12 @@ pub fn prepare<W: World>(
             once,
             ports,
             pickers,
+            keepers,
         }),
-        Err(WantOfMemory) => Err(Fault::WantOfMemory),
+        Err(WantOfMemory) => {
+            end_keepers(keepers);
+            Err(Fault::WantOfMemory)
+        }
     }
 }
 
@@ -126,82 +128,6 @@ fn plan_of(alloc: Global, bytes: &Bytes, environment: &VariableList) -> Result<R
         Ok(read) => Ok(read),
         Err(PlanFault::WantOfMemory) => Err(Fault::WantOfMemory),
         Err(fault) => Err(Fault::ConfigRefused(fault)),
-    }
-}
-
-/// What each component of a plan picks by, in order, if it is a transform.
-fn pickers(
-    alloc: Global,
-    plan: &Plan,
-    conditions: ConditionLists,
-) -> Result<PickerList, WantOfMemory>
-    requires conditions { conditions ≡ map conditions_by plan.now.components }
-    requires made { list_all is_made plan.now.components ≡ true }
-    ensures { IfOk result (ArePickers plan.now.components) }
-{
-    let mut conditions = conditions.into_vec();
-    conditions.as_mut_slice().reverse();
-    let mut pickers = PickerList::new(alloc);
-    for component in plan.components.as_slice() {
-        let Some(list) = conditions.pop() else {
-            unreachable!();
-        };
-        let picker = picker_of(alloc, component, list)?;
-        match pickers.push(picker) {
-            Ok(()) => {}
-            Err(_) => return Err(WantOfMemory),
-        }
-    }
-    Ok(pickers)
-}
-
-/// What a component picks by that has these conditions, if it is a transform.
-fn picker_of(
-    alloc: Global,
-    component: &Component,
-    conditions: ConditionList,
-) -> Result<Option<Picker>, WantOfMemory>
-    requires conditions { conditions ≡ conditions_by component.now }
-    requires made { is_made component.now ≡ true }
-    ensures { IfOk result (IsPickerFor component.now) }
-{
-    match component.settings.copy(alloc)? {
-        Settings::Filter { .. } => Ok(filter_of(conditions)),
-        Settings::Route {
-            reroute_unmatched,
-            ..
-        } => Ok(Some(Picker::Route(Route::new(conditions, reroute_unmatched)))),
-        Settings::Sample { rate, .. } => {
-            let exclude = last_of(conditions);
-            Ok(Some(Picker::Sample(Sample::new(rate, exclude))))
-        }
-        Settings::Dedupe {
-            fields,
-            cache_num_events,
-        } => {
-            let dedupe = Dedupe::new(alloc, fields, cache_num_events)?;
-            Ok(Some(Picker::Dedupe(dedupe)))
-        }
-        _ => Ok(None),
-    }
-}
-
-/// The last of some conditions, if there is one.
-fn last_of(conditions: ConditionList) -> Option<Condition>
-    ensures some { (text : Word) → conditions ≡ text ∷ [] → result ≡ Some text }
-    ensures none { conditions ≡ [] → result ≡ None }
-{
-    let mut conditions = conditions;
-    conditions.pop()
-}
-
-/// The filter by the last of some conditions, if there is one.
-fn filter_of(conditions: ConditionList) -> Option<Picker>
-    ensures { (text : Word) → conditions ≡ text ∷ [] → result ≡ Some (Picker.Filter text) }
-{
-    match last_of(conditions) {
-        Some(condition) => Some(Picker::Filter(Filter::new(condition))),
-        None => None,
     }
 }
 

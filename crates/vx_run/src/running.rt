@@ -4,7 +4,7 @@ ghost use Rattle.vx_plan.specs.Accepted.{IsPlan};
 ghost use Rattle.vx_plan.specs.Ports.{port_of};
 ghost use Rattle.vx_record.specs.Installs.{started};
 ghost use Rattle.vx_record.specs.TallyLists.{tallies_of};
-ghost use Rattle.vx_hub.specs.Making.{AreUntouched, ArePickers, all_served};
+ghost use Rattle.vx_hub.specs.Making.{AreUntouched, ArePickers, AreSlots, AreBare, all_served};
 ghost use Rattle.vx_hub.specs.Remains.{HasEnded, AreNumbered, AreClosed};
 ghost use Rattle.vx_hub.specs.Standing.{IsHub, IsSameRun, GoesOn};
 ghost use Rattle.vx_value.specs.Texts.{Word};
@@ -24,7 +24,7 @@ use std::sync::Wait;
 use vx_cli::{CliFault, Command, Fault, read_words, summary_line};
 use vx_ends::{Clock, Port, Printer, World};
 use vx_history::History;
-use vx_hub::{Hub, NumberedList, Parts, Remains, engine_laws};
+use vx_hub::{Hub, NewRefused, NumberedList, Parts, Remains, engine_laws};
 use vx_record::{Entry, TallyList};
 use vx_value::{Bytes, Text, TextList, VariableList, WantOfMemory};
 
@@ -163,6 +163,8 @@ fn begin<R: Wait, P: Port, C: Clock>(
     requires accepted { IsPlan parts.plan }
     requires served { all_served parts.plan.components ≡ true }
     requires pickers { ArePickers parts.plan.components parts.pickers }
+    requires keepers { AreSlots parts.plan.components parts.keepers }
+    requires bare { AreBare parts.keepers }
     ensures judged { IsJudged result.history result.fault }
     ensures told { IsTrueTo P.told result.history result.ports result.fault }
     ensures returned { AllReturned result.history result.fault }
@@ -178,7 +180,10 @@ fn begin<R: Wait, P: Port, C: Clock>(
 {
     match Hub::new(alloc, parts, clock.now()) {
         Ok(hub) => finish(rt, alloc, hub, stats, clock),
-        Err(_) => unbegun(alloc, Some(Fault::WantOfMemory)),
+        Err(NewRefused { parts }) => {
+            let _ports = parts.into_ports();
+            unbegun(alloc, Some(Fault::WantOfMemory))
+        }
     }
 }
 

@@ -1,6 +1,6 @@
 use Rattle.std.proofs.Common.{◌∙◌, inl, sym}
 use Rattle.vx_ready.proofs.Knowing.{seat_there}
-use Rattle.vx_hub.proofs.Endings.{closing_so, may_end, bare_may, bare_not, unsettled_not, undone_not}
+use Rattle.vx_hub.proofs.Endings.{closing_so, may_end, bare_may, bare_not, closing_home, unsettled_not, undone_not}
 use Rattle.vx_hub.proofs.ending.may_retire.Goals as goal
 
 pub returns-then-not-is_closing-clause-not : goal.returns-then-not-is_closing-clause-not
@@ -9,11 +9,15 @@ returns-then-not-is_closing-clause-not g c off well may = let there = seat_there
 
 pub returns-then-is_some-clause-may : goal.returns-then-is_some-clause-may
 returns-then-is_some-clause-may g c bare = let there = seat_there c.args.books.now.seats c.args.i c.requires.within in
-    bare_may c.requires.stands c.args.i there.1 (c.is_closing.ensures.yes c.if-not-is_closing.false) (sym c.is_some.ensures ∙ c.if-is_some.true) (c.is_bare.ensures.bare.0 bare)
+    bare_may c.requires.stands c.args.i there.1 (c.is_closing.ensures.yes c.if-not-is_closing.false) (sym c.is_some.ensures ∙ c.if-is_some.true) (sym c.is_bare.ensures ∙ bare)
 
 pub returns-then-is_some-clause-not : goal.returns-then-is_some-clause-not
 returns-then-is_some-clause-not g c off well = let there = seat_there c.args.books.now.seats c.args.i c.requires.within in
-    bare_not c.requires.stands c.args.i there.1 c.requires.within (λ bare. let on = c.is_bare.ensures.bare.1 bare in cc)
+    bare_not c.requires.stands c.args.i there.1 (sym c.is_bare.ensures ∙ off)
+
+pub is_bare-requires-clause-home : goal.is_bare-requires-clause-home
+is_bare-requires-clause-home g c = let there = seat_there c.args.books.now.seats c.args.i c.requires.within in
+    closing_home c.requires.stands c.args.i there.1 (c.is_closing.ensures.yes c.if-not-is_closing.false)
 
 pub returns-then-not-is_settled-clause-not : goal.returns-then-not-is_settled-clause-not
 returns-then-not-is_settled-clause-not g c off well may = let there = seat_there c.args.books.now.seats c.args.i c.requires.within in

@@ -24,5 +24,5 @@ returns-clause-hub g c =
     let all : AreFresh g.P.Port.told plan c.args.parts.once c.new-seats.result = rw c.new-seats.ensures.same fresh in
     let noted = c.note.ensures ∙ ap (λ (h : Record). Install 0 plan c.args.parts.once (first_instances 0 plan.components) c.args.now ∷ h) c.new-log.ensures in
     let size = all.size in
-    hub_first c.requires.accepted c.requires.few c.requires.served room all
-    (c.new-seats.ensures.knows plan c.args.parts.once c.args.now c.requires.accepted fresh) _ noted refl (omega (arith, size, room.berths)) room.none (rw all.size room.sources)
+    hub_first c.requires.accepted c.requires.few c.requires.served room c.into_vec-3.result (rw c.into_vec-3.ensures c.requires.keepers) all
+    (c.new-seats.ensures.knows plan c.args.parts.once c.args.now c.requires.accepted fresh) _ noted refl (omega (arith, size, room.berths)) room.none (rw all.size room.sources) (rw all.size room.mergers)

@@ -1,9 +1,9 @@
-use Rattle.std.proofs.Common.{◌≡◌, ◌∙◌, length, ap, arith}
+use Rattle.std.proofs.Common.{◌≡◌, length, ap, arith}
 use Rattle.vx_plan.specs.declared.plan.Plan.{Plan}
 use Rattle.vx_hub.proofs.making.make_room.Goals as goal
 
-pub returns-in-Ok : goal.returns-in-Ok
-returns-in-Ok g c =
+pub returns : goal.returns
+returns g c =
     let same : length c.plan.inside.components ≡ length c.args.plan.now.components = ap (λ (plan : Plan). length plan.components) c.plan.view_is in
     record {
       seats = c.in_ok-seats.ensures.begun;
@@ -11,12 +11,11 @@ returns-in-Ok g c =
       roles = c.in_ok-roles.ensures.begun;
       roles_size = c.in_ok-roles.ensures.size;
       balance = c.in_ok-balance.ensures;
-      vacant = c.in-Ok.ensures.vacant;
-      rooms = c.in-Ok.ensures.rooms;
-      places_size = c.in-Ok.ensures.size;
-      slots = c.in_ok-keepers.ensures.many ∙ c.len-2.ensures ∙ same;
-      free = c.in_ok-keepers.ensures.free;
+      holds = c.in_ok-places.ensures.holds;
+      rooms = c.in_ok-places.ensures.rooms;
+      places_size = c.in_ok-places.ensures.size;
       berths = omega (arith, c.in_ok-ports.ensures.capacity, c.len.ensures, same);
       none = c.in_ok-ports.ensures.items;
       sources = c.in_ok-sources.ensures;
+      mergers = c.in_ok-mergers.ensures;
     }

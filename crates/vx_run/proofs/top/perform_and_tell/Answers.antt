@@ -1,5 +1,3 @@
-use Rattle.std.proofs.Common.{Option}
-use Rattle.vx_cli.specs.declared.fault.Fault.{Fault}
 use Rattle.vx_run.specs.Running.{IsReadOut, NoneMissing}
 use Rattle.vx_run.proofs.Called.{called_kept}
 use Rattle.vx_run.proofs.Summing.{keeps, missing_short, read_short_of, summary_kept}

@@ -1,4 +1,4 @@
-use Rattle.std.proofs.Common.{◌≡◌, Option, Some, length}
+use Rattle.std.proofs.Common.{◌≡◌, Option, length}
 use Rattle.vx_ends.specs.Silent.{told_if}
 use Rattle.vx_cli.specs.declared.fault.Fault.{Fault}
 use Rattle.vx_run.specs.Answers.{IsAnswer}

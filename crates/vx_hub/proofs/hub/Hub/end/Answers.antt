@@ -1,14 +1,8 @@
-use Rattle.std.proofs.Common.{◌∙◌}
-use Rattle.vx_hub.proofs.Remaining.{may_end, home_all, ended_all, ports_say}
-use Rattle.vx_moves.proofs.Keepers.{alone_by}
-use Rattle.vx_hub.proofs.Begun.{free_by}
+use Rattle.vx_hub.proofs.Remaining.{may_end, slots_end, home_all, ended_all, ports_say}
 use Rattle.vx_hub.proofs.hub.Hub.end.Goals as goal
 
 pub end_slots-requires : goal.end_slots-requires
-end_slots-requires g c =
-    let books = c.args.self.books in
-    let stands = c.requires.hub.stands in
-    free_by books.keepers.items (λ i. stands.keepers.whose i ∙ alone_by books.log stands.run.judging i)
+end_slots-requires g c = let hub = c.requires.hub in slots_end hub.stands hub.served c.requires.over
 
 pub end-requires : goal.end-requires
 end-requires g c = let hub = c.requires.hub in may_end hub.stands hub.served c.requires.over
