@@ -17,6 +17,8 @@ OBJECTS = LINES + 'decoding.codec = "json"\n'
 MESSAGES = '[sinks.out]\ntype = "console"\ninputs = ["in"]\nencoding.codec = "text"\n'
 EVENTS = MESSAGES.replace('"text"', '"json"')
 THINNED = str(TOP / "examples" / "thinned.toml")
+REDUCED = str(TOP / "examples" / "reduced.toml")
+TRACES = TOP / "examples" / "traces.log"
 FILTERED = EVENTS.replace('["in"]', '["f"]')
 
 
@@ -285,6 +287,82 @@ def thinned():
     check("events that are thinned", seen == (0, wanted, b""), (seen[0], len(seen[1]), len(wanted), seen[2]))
 
 
+# A reduce by two paths, each way to merge with a field of its name, and how groups begin and end.
+MERGING = FILTERED + '[transforms.f]\ntype = "reduce"\ninputs = ["in"]\ngroup_by = ["id", ".at.zone"]\nexpire_after_ms = 3600000\nmerge_strategies.id = "array"\n'
+WAYS = {
+    "discard": lambda held, new: held,
+    "retain": lambda held, new: held if new is None else new,
+    "sum": lambda held, new: max(LEAST, min(GREATEST, held + new)) if are(int, held, new) else held,
+    "max": lambda held, new: max(held, new) if are(int, held, new) else held,
+    "min": lambda held, new: min(held, new) if are(int, held, new) else held,
+    "concat": lambda held, new: held + " " + new if are(str, held, new) else held,
+    "concat_newline": lambda held, new: held + "\n" + new if are(str, held, new) else held,
+    "concat_raw": lambda held, new: held + new if are(str, held, new) else held,
+    "array": lambda held, new: [*held, new],
+}
+LEAST, GREATEST = -(2**63), 2**63 - 1
+MIXED = [None, True, 0, 1, -7, GREATEST, LEAST, "", "a", "b c", [1], {"x": "y"}]
+CUTS = {"without conditions": "", "that events begin": "starts_when = '.mark == true'\n", "that events end": "ends_when = '.mark == true'\n"}
+
+
+def are(kind, *values):
+    """Whether values are all of a kind, where a truth is no number."""
+    return all(type(value) is kind for value in values)
+
+
+def key_of(event):
+    """What tells the group of an event: the texts of two values, of which each may be missing."""
+    at = event["at"] if are(dict, event.get("at")) else {}
+    return tuple(json.dumps(some[name]) if name in some else None for some, name in [(event, "id"), (at, "zone")])
+
+
+def merged_by(events, begins, ends):
+    """The events that a reduce puts out, whose groups marked events begin or end."""
+    groups, out = {}, []
+    for event in events:
+        key, is_marked = key_of(event), event.get("mark") is True
+        if begins and is_marked and key in groups:
+            out.append(groups.pop(key))
+        group = groups.setdefault(key, {})
+        for name, value in event.items():
+            if name not in group:
+                group[name] = [value] if name == "array" else value
+            elif name not in ("id", "at"):
+                group[name] = WAYS.get(name, WAYS["sum"])(group[name], value)
+        if ends and is_marked:
+            out.append(groups.pop(key))
+    return [*out, *groups.values()]
+
+
+def random_parts(chance):
+    """An event of some group, with some of the fields that are merged."""
+    event = {name: chance.choice(MIXED) for name in [*WAYS, "other"] if chance.random() < 0.5}
+    ids = [{}, {"id": None}, {"id": 1}, {"id": "1"}, {"id": [1, {"a": 2}]}]
+    zones = [{}, {"at": None}, {"at": "zone"}, {"at": {}}, {"at": {"zone": None}}, {"at": {"zone": 1, "n": chance.randrange(9)}}]
+    marks = [{"mark": True}, {"mark": 1}, *[{}] * 8]
+    return {**event, **chance.choice(ids), **chance.choice(zones), **chance.choice(marks), "source_type": "stdin"}
+
+
+def merged():
+    """Events that are merged into groups in each way, and the lines of stack traces."""
+    chance = random.Random(7)
+    events = [random_parts(chance) for _ in range(3000)]
+    given = b"".join(map(written, events))
+    for name, cut in CUTS.items():
+        wanted = merged_by(events, "starts" in cut, "ends" in cut)
+        transformed = tally("transform", "f", taken=len(events), sent=len(wanted))
+        out = b"".join(map(written, wanted))
+        counts = reading(given, lines=len(events), events=len(events)) + transformed + writing(out, len(wanted))
+        text = MERGING + "".join(f'merge_strategies.{it} = "{it}"\n' for it in WAYS) + cut
+        status, seen, errors = outcome_of(OBJECTS + text, given, "--stats")
+        seen = re.sub(rb"batches=\d+ delivered=\d+", b"batches=1 delivered=1", seen)
+        check(f"groups {name}", (status, seen, errors) == (0, out + counts, b""), (status, len(seen), len(out + counts), errors))
+    traces = re.split(r"\n(?![ \t])", TRACES.read_text().removesuffix("\n"))
+    wanted = b"".join(written({"message": it, "source_type": "stdin"}) for it in traces)
+    seen = run(TRACES.read_bytes(), ["--config", REDUCED])
+    check("lines of stack traces", seen == (0, wanted, b""), seen)
+
+
 def components():
     """The counts of components stand by the bytes of their names, whatever the order of the configuration, and so do those of no lines."""
     sinks = '[sinks.b]\ntype = "console"\ntarget = "stderr"\ninputs = ["i*", "in"]\nencoding.codec = "text"\n[sinks.B]\ntype = "blackhole"\ninputs = ["in"]\n'
@@ -296,4 +374,4 @@ def components():
 
 
 if __name__ == "__main__":
-    sys.exit(go_through([objects, messages, lengths, conditions, variables, transforms, thinned, components]))
+    sys.exit(go_through([objects, messages, lengths, conditions, variables, transforms, thinned, merged, components]))

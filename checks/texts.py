@@ -20,6 +20,7 @@ BEFORE_FILTER = SOURCE + SINK + '[transforms.t]\ntype = "filter"\ninputs = ["in"
 BEFORE_ROUTE = SOURCE + SINK + '[transforms.t]\ntype = "route"\ninputs = ["in"]\n'
 BEFORE_SAMPLE = BEFORE_FILTER.replace('"filter"', '"sample"')
 BEFORE_DEDUPE = BEFORE_FILTER.replace('"filter"', '"dedupe"')
+BEFORE_REDUCE = BEFORE_FILTER.replace('"filter"', '"reduce"')
 BEFORE_ROUTED = BEFORE_ROUTE.replace(SINK, "") + "route.a = 'exists(.a)'\n" + BEFORE_INPUTS.replace(SOURCE, "")
 
 # what one line of two bytes comes to
@@ -337,6 +338,42 @@ DEDUPE_OPTIONS = [
     ("cache.num_events = 1000001", "bad value at transforms.t.cache.num_events"),
 ]
 
+# options of a reduce
+REDUCE_OPTIONS = [
+    ("", None),
+    ("group_by = []", None),
+    ("group_by = ['host', '.a.b', '\"x y\".c']", None),
+    ("group_by = 'host'", "bad value at transforms.t.group_by"),
+    ("group_by = ['a..b']", "bad value at transforms.t.group_by"),
+    ("group_by = ['a', 1]", "bad value at transforms.t.group_by"),
+    ("group_by = ['" + 30 * "a." + "a']", None),
+    ("group_by = ['" + 31 * "a." + "a']", "bad value at transforms.t.group_by"),
+    ("starts_when = 'exists(.a)'", None),
+    ("starts_when = 'exists(.a'", "bad value at transforms.t.starts_when"),
+    ("starts_when = 1", "bad value at transforms.t.starts_when"),
+    ("ends_when = { type = 'vrl', source = 'exists(.a)' }", None),
+    ("ends_when = \"match(.a, r'(')\"", "bad value at transforms.t.ends_when"),
+    ("starts_when = 'exists(.a)'\nends_when = 'exists(.b)'", "bad value at transforms.t.starts_when"),
+    ("starts_when = 'exists(.a)'\nends_when = 1", "bad value at transforms.t.ends_when"),
+    ("expire_after_ms = 1", None),
+    ("expire_after_ms = 9007199254740992", None),
+    ("expire_after_ms = 0", "bad value at transforms.t.expire_after_ms"),
+    ("expire_after_ms = 9007199254740993", "bad value at transforms.t.expire_after_ms"),
+    ("expire_after_ms = 1.0", "bad value at transforms.t.expire_after_ms"),
+    ("flush_period_ms = 1", None),
+    ("flush_period_ms = 9007199254740992", None),
+    ("flush_period_ms = -1", "bad value at transforms.t.flush_period_ms"),
+    ("flush_period_ms = 9007199254740993", "bad value at transforms.t.flush_period_ms"),
+    ("[transforms.t.merge_strategies]", None),
+    ("".join(f"merge_strategies.k{k} = 'sum'\n" for k in range(100)), None),
+    ("merge_strategies.'a.b c' = 'concat_newline'\nmerge_strategies.'' = 'array'", None),
+    ("merge_strategies.a = 'append'", "bad value at transforms.t.merge_strategies.a"),
+    ("merge_strategies.a = 1", "bad value at transforms.t.merge_strategies.a"),
+    ("merge_strategies.a.b = 'sum'", "bad value at transforms.t.merge_strategies.a"),
+    ("merge_strategies = 'sum'", "bad value at transforms.t.merge_strategies"),
+    ("max_events = 1", "unknown option transforms.t.max_events"),
+]
+
 # inputs of the sink, where a route has the ports a and _unmatched
 ROUTE_INPUTS = [
     ('inputs = ["t.a"]', None),
@@ -535,7 +572,7 @@ def configurations():
     tables = [
         ("", WHOLE, ""), (SOURCE, COMPONENTS, "\n" + SINK), (BEFORE_OPTIONS, SINK_OPTIONS, "\n"), (BEFORE_OPTIONS, BUFFERS, "\n"), (BEFORE_OPTIONS, BATCHES, "\n"), (BEFORE_OPTIONS, RETRIES, "\n"), (SOURCE, SOURCE_OPTIONS, "\n" + SINK),
         (SOURCE.replace("stdin", "demo_logs"), DEMO_OPTIONS, "\n" + SINK), (BEFORE_OPTIONS.replace("console", "blackhole"), HOLE_OPTIONS, "\n"),
-        (BEFORE_FILTER, FILTER_OPTIONS, "\n"), (BEFORE_ROUTE, ROUTE_OPTIONS, "\n"), (BEFORE_SAMPLE, SAMPLE_OPTIONS, "\n"), (BEFORE_DEDUPE, DEDUPE_OPTIONS, "\n"), (BEFORE_ROUTED, ROUTE_INPUTS, "\n"),
+        (BEFORE_FILTER, FILTER_OPTIONS, "\n"), (BEFORE_ROUTE, ROUTE_OPTIONS, "\n"), (BEFORE_SAMPLE, SAMPLE_OPTIONS, "\n"), (BEFORE_DEDUPE, DEDUPE_OPTIONS, "\n"), (BEFORE_REDUCE, REDUCE_OPTIONS, "\n"), (BEFORE_ROUTED, ROUTE_INPUTS, "\n"),
         (BEFORE_INPUTS, INPUTS, "\n"), ("", FILES, "\n"), ("", TWO_FAULTS, ""), ("", FORMS, ""), ("", NAMES, ""),
         ("", [(graph(rows), why) for rows, why in GRAPHS], ""),
     ]

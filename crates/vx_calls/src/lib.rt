@@ -38,6 +38,8 @@ mod prefixes;
 #[cfg(test)]
 mod probes;
 #[cfg(test)]
+mod readings;
+#[cfg(test)]
 mod schedules;
 #[cfg(test)]
 mod sources;

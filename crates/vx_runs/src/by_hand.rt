@@ -1,4 +1,5 @@
-//! The engine driven by hand: three tasks are out at once, and come home in each order, with parcels moved between.
+//! The engine driven by hand: three tasks are out at once, and come home in each order, with parcels moved between; and runs that are
+//! given up in the midst.
 ghost use Rattle.std.specs.Prelude.{◌≡◌, ◌<◌, ◌^◌, length, true, None, IfOk};
 ghost use Rattle.vx_ends.specs.Silent.{told_if};
 ghost use Rattle.vx_record.specs.Additions.{OnlyAdds};
@@ -15,7 +16,7 @@ use std::alloc::Global;
 use std::process::Abort;
 use std::test::Fail;
 use vx_ends::{Clock, ConfigList, MemoryClock, MemoryPort, MemoryWorld, Port, ScriptedList, World};
-use vx_hub::{Hub, Numbered, NumberedList, Remains};
+use vx_hub::{Hub, NewRefused, Numbered, NumberedList, Remains};
 use vx_plan::Class;
 use vx_record::{AbandonCause, Tally};
 use vx_run::prepare;
@@ -333,7 +334,10 @@ fn hub_of<W: World>(alloc: Global, world: &mut W) -> Result<Hub<Option<W::Port>>
     };
     match Hub::new(alloc, parts, 0) {
         Ok(hub) => Ok(hub),
-        Err(_) => Err(WantOfMemory),
+        Err(NewRefused { parts }) => {
+            let _ports = parts.into_ports();
+            Err(WantOfMemory)
+        }
     }
 }
 
@@ -441,5 +445,66 @@ fn chain_overflows_to_a_second_stage(rt: HostRuntime) -> Result<(), Fail> {
     let hub = hub_of(rt.alloc(), &mut world)?;
     let ports = overflowing(&rt, rt.alloc(), hub, &MemoryClock::new());
     was_given(&rt, &ports, 1, b"a\nd\nb\nc\n");
+    Ok(())
+}
+
+/// A reduce before a console.
+const ONE_REDUCE: &str = "[sources.in]
+type = \"stdin\"
+
+[transforms.r]
+type = \"reduce\"
+inputs = [\"in\"]
+
+[sinks.out]
+type = \"console\"
+inputs = [\"r\"]
+encoding.codec = \"text\"
+";
+
+/// What the reduce counted that took two lines and put out nothing.
+const TWO_TAKEN: Tally = Tally {
+    taken: 2,
+    ..NOTHING
+};
+
+/// Has the instance that merges do what there is to do.
+fn merge_once<R: Abort, P: Port>(rt: &R, hub: &mut Hub<P>)
+    requires { IsHub P.told hub.old }
+    ensures { IsHub P.told hub.new }
+{
+    let did = hub.merge(0, 0).expect(rt, "a merge");
+    assert!(rt; did);
+}
+
+/// A run that is given up while a reduce holds a group of two lines, whose check is due a second later. The ports at its end.
+fn group_given_up<R: Abort, P: Port, C: Clock>(
+    rt: &R,
+    alloc: Global,
+    hub: Hub<P>,
+    clock: &C,
+) -> NumberedList<P>
+    requires { IsHub P.told hub }
+{
+    let mut hub = hub;
+    one_out(rt, alloc, &mut hub, clock, 0);
+    merge_once(rt, &mut hub);
+    assert_eq!(rt; hub.next_check(), Some(1_000));
+    assert!(rt; hub.unspent());
+    assert!(rt; hub.abandoned().is_none());
+    give_up(&mut hub);
+    assert!(rt; !hub.unspent());
+    drive(rt, alloc, &mut hub, clock);
+    counted(rt, &hub, 1, &TWO_TAKEN);
+    let Remains { ports, history: _ } = hub.end();
+    ports
+}
+
+#[test]
+fn a_group_is_held_when_the_run_is_given_up(rt: HostRuntime) -> Result<(), Fail> {
+    let mut world = world(rt.alloc(), ONE_REDUCE, TWICE_TWO)?;
+    let hub = hub_of(rt.alloc(), &mut world)?;
+    let ports = group_given_up(&rt, rt.alloc(), hub, &MemoryClock::new());
+    was_given(&rt, &ports, 2, b"");
     Ok(())
 }

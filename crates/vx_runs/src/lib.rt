@@ -22,6 +22,8 @@ mod json_runs;
 #[cfg(test)]
 mod memory_ends;
 #[cfg(test)]
+mod merging;
+#[cfg(test)]
 mod plans;
 #[cfg(test)]
 mod retries;
