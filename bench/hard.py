@@ -14,8 +14,11 @@ take at most 1.25 times as much longer as n log n does. Where a run takes more t
   one that doesn't answer by failing: nobody reads its pipe, so its first attempt fails, and it waits before the next one. Only once
   all lines were read, with none delivered, a reader comes.
 
-Behind the tables it says which kinds grow faster, and whether a line within the default `max_length` takes more than 50 ms. It needs
-Python 3.11 and the program as `./vector` builds it, and takes two to three minutes.
+Where a table grows faster than that, its last three sizes are run once more under valgrind, which counts instructions: what doesn't
+fit the processor's caches any more takes longer by the same steps, and other work on the machine takes time but counts nothing.
+
+Behind the tables it says which kinds grow faster, by time and by instructions, and whether a line within the default `max_length`
+takes more than 50 ms. It needs Python 3.11, valgrind, and the program as `./vector` builds it, and takes two to three minutes.
 """
 
 import fcntl
@@ -24,6 +27,7 @@ import itertools
 import math
 import os
 import random
+import re
 import socket
 import struct
 import subprocess
@@ -38,6 +42,7 @@ from program import TOP, VECTOR
 
 ROUNDS = 3
 ALLOWANCE = 1.25
+COUNTING = ["valgrind", "--tool=cachegrind", "--cache-sim=no", "--cachegrind-out-file=/dev/null"]
 TOO_LONG = 2
 LONGEST = 102_400
 LINE_LIMIT = 0.05
@@ -112,15 +117,15 @@ class Lines:
         """A name, the codecs, the sizes, the line of a size, how many there are of a size, and whether the time of one is told."""
         self.name, self.codecs, self.sizes, self.line, self.number, self.share = name, codecs, sizes, line, number, share
 
-    def seconds(self, size, folder):
-        """The processor's seconds of a run."""
+    def seconds(self, size, folder, before=()):
+        """The processor's seconds of a run, with these words before its own."""
         configuration, given = folder / "lines.toml", folder / f"{size}.txt"
         configuration.write_text(READING.format(*self.codecs))
         number = self.number(size) if size else 0
         if not given.exists():
             given.write_bytes((self.line(size) + b"\n") * number if number else b"")
         with given.open("rb") as lines:
-            words = [VECTOR, "--config", str(configuration), "--stats"]
+            words = [*before, VECTOR, "--config", str(configuration), "--stats"]
             took, status, told = ended(subprocess.Popen(words, stdin=lines, stdout=subprocess.PIPE, stderr=subprocess.DEVNULL))
         need((status, counted(told, "in", "events"), counted(told, "out", "delivered")) == (0, number, number), (self.name, size, status, told))
         return took
@@ -141,11 +146,11 @@ class Configurations:
         """A name, the sizes, the text of a size, and what its judgement has to begin with."""
         self.name, self.sizes, self.text, self.wanted = name, sizes, text, wanted
 
-    def seconds(self, size, folder):
-        """The processor's seconds of a judgement."""
+    def seconds(self, size, folder, before=()):
+        """The processor's seconds of a judgement, with these words before its own."""
         configuration = folder / f"{size}.toml"
         configuration.write_text(JUDGED + self.text(size) if size else JUDGED)
-        words = [VECTOR, "validate", str(configuration)]
+        words = [*before, VECTOR, "validate", str(configuration)]
         took, status, told = ended(subprocess.Popen(words, stdin=subprocess.DEVNULL, stdout=subprocess.PIPE, stderr=subprocess.STDOUT))
         need(told.startswith(self.wanted if size else VALID), (self.name, size, status, told))
         return took
@@ -287,6 +292,8 @@ KINDS = [
     Configurations("a configuration with many sources, by their number", [625 << k for k in range(5)], sources, b"vector: configuration refused: too many at sources: "),
     Batches(),
 ]
+# (what they wait for differs under valgrind)
+UNCOUNTED = KINDS[-1:]
 
 
 def least(kind, size, folder, rounds):
@@ -309,14 +316,42 @@ def measured(kind, folder):
     return took
 
 
+def instructions(kind, size, folder):
+    """How many instructions a run takes."""
+    told = folder / "counted.txt"
+    kind.seconds(size, folder, [*COUNTING, f"--log-file={told}"])
+    return int(re.search(r"I +refs: +([0-9,]+)", told.read_text())[1].replace(",", ""))
+
+
+def counted_by_size(kind, sizes, folder):
+    """The instructions of these sizes, less those of a start, for one of the parts of a run."""
+    start = instructions(kind, 0, folder)
+    return {size: (instructions(kind, size, folder) - start) / kind.parts(size) for size in sizes}
+
+
 def grows(took):
-    """How many times as long the greatest size takes as that two before, and how many times by n log n."""
+    """How many times as much the greatest size takes as that two before, and how many times by n log n."""
     least, _, most = list(took)[-3:]
     return took[most] / max(took[least], 1e-6), most * math.log(most) / (least * math.log(least))
 
 
+def is_within(took):
+    """Prints how the last two doublings grow, and says whether that is at most like n log n."""
+    seen, by_rule = grows(took)
+    held = seen <= ALLOWANCE * by_rule
+    print(f"{seen:.2f} times as many, n log n {by_rule:.2f} times: {'at most like n log n' if held else 'FASTER than n log n'}", flush=True)
+    return held
+
+
+def tell_counts(counts):
+    """Prints the instructions of some sizes, and says whether they grow at most like n log n."""
+    print("under valgrind, in millions of instructions: " + ", ".join(f"{size}: {count / 1e6:.2f}" for size, count in counts.items()))
+    print("two doublings take ", end="")
+    return is_within(counts)
+
+
 def tell(kind, took):
-    """Prints the table of a kind, and says whether it grows at most like n log n."""
+    """Prints the table of a kind, and says whether its time grows at most like n log n."""
     sizes = list(took)
     times = {size: 1e3 * took[size] for size in sizes}
     print(f"\n{kind.name}")
@@ -342,16 +377,19 @@ def main():
     subprocess.run([str(TOP / "vector"), "--config", str(TOP / "examples/first.toml")], stdin=subprocess.DEVNULL, check=True)
     begun_at = time.monotonic()
     print(f"the best of {ROUNDS} runs, without the start; before: {load()}", flush=True)
-    faster, lines = [], []
+    faster, more, lines = [], [], []
     for kind in KINDS:
         with tempfile.TemporaryDirectory() as folder:
             whole = measured(kind, Path(folder))
-        if not tell(kind, {size: took / kind.parts(size) for size, took in whole.items()}):
-            faster.append(kind.name)
+            if not tell(kind, {size: took / kind.parts(size) for size, took in whole.items()}):
+                faster.append(kind.name)
+                if len(whole) < len(kind.sizes) or kind in UNCOUNTED or not tell_counts(counted_by_size(kind, kind.sizes[-3:], Path(folder))):
+                    more.append(kind.name)
         lines.append(max(kind.line_seconds(size, took) for size, took in whole.items()))
         if lines[-1] > 0:
             tell_line(lines[-1])
-    print(f"\nfaster than n log n: {'; '.join(faster) or 'none'}")
+    print(f"\nfaster than n log n by time: {'; '.join(faster) or 'none'}")
+    print(f"and by instructions, or not counted: {'; '.join(more) or 'none'}")
     tell_line(max(lines))
     print(f"{time.monotonic() - begun_at:.0f} seconds in all; after: {load()}")
 
