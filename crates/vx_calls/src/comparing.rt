@@ -1,5 +1,6 @@
 //! The comparison of texts, with the case that a failure tells, and the texts that are compared.
 
+use itoa::Buffer;
 use std::alloc::Global;
 use std::process::Abort;
 use std::test::Fail;
@@ -21,7 +22,8 @@ pub(crate) fn joined(alloc: Global, parts: &[&str]) -> Result<String, Fail> {
 
 /// A word, and a number behind a blank.
 pub(crate) fn numbered(alloc: Global, word: &str, number: u64) -> Result<String, Fail> {
-    Ok(format!(in alloc; "{word} {number}")?)
+    let mut digits = Buffer::new();
+    joined(alloc, &[word, " ", digits.format(number)])
 }
 
 /// Some texts, each followed by a blank.

@@ -3,7 +3,7 @@
 use std::alloc::Global;
 use std::process::Abort;
 use std::test::Fail;
-use vx_value::{Event, Path, PutFault, Value};
+use vx_value::{Event, Path, PutFault, Text, Value};
 
 /// Checks what a put of a value at a path answers.
 pub(crate) fn has_put_answer(
@@ -24,6 +24,24 @@ pub(crate) fn put(alloc: Global, event: &mut Event, path: &str, value: Value) ->
     let path = Path::read(alloc, path)?;
     event.put(&path, value)?;
     Ok(())
+}
+
+/// The event with a value at a path.
+pub(crate) fn with(alloc: Global, event: Event, path: &str, value: Value) -> Result<Event, Fail> {
+    let mut event = event;
+    put(alloc, &mut event, path, value)?;
+    Ok(event)
+}
+
+/// The event with a text at a path.
+pub(crate) fn with_words(
+    alloc: Global,
+    event: Event,
+    path: &str,
+    words: &str,
+) -> Result<Event, Fail> {
+    let words = Text::copy_of(alloc, words)?;
+    with(alloc, event, path, Value::Words(words))
 }
 
 /// An event with whole numbers at some paths.

@@ -1,6 +1,6 @@
 //! Groups that end, expire and are flushed.
 
-use crate::events::{event_of_wholes, put};
+use crate::events::{event_of_wholes, with, with_words};
 use crate::lists::one;
 use crate::parcels::{bare, close, end};
 use std::alloc::Global;
@@ -44,17 +44,14 @@ fn summing(alloc: Global) -> Result<Reduce, Fail> {
 
 // An event with an identity, a number and a text.
 fn event(alloc: Global, id: i64, n: i64, t: &str) -> Result<Event, Fail> {
-    let mut event = event_of_wholes(alloc, &[(".id", id), (".n", n)])?;
-    let words = Text::copy_of(alloc, t)?;
-    put(alloc, &mut event, ".t", Value::Words(words))?;
-    Ok(event)
+    let event = event_of_wholes(alloc, &[(".id", id), (".n", n)])?;
+    with_words(alloc, event, ".t", t)
 }
 
 // The same as the last one of its group.
 fn last(alloc: Global, id: i64, n: i64, t: &str) -> Result<Event, Fail> {
-    let mut event = event(alloc, id, n, t)?;
-    put(alloc, &mut event, ".last", Value::Truth(true))?;
-    Ok(event)
+    let event = event(alloc, id, n, t)?;
+    with(alloc, event, ".last", Value::Truth(true))
 }
 
 // Gives an event without copies.
@@ -125,11 +122,10 @@ fn a_group_ends(rt: HostRuntime) -> Result<(), Fail> {
 
 // A reduce that joins texts, and whose groups begin with a field `last`.
 fn joining(alloc: Global) -> Result<Reduce, Fail> {
-    let strategy = Strategy {
-        field: Text::copy_of(alloc, "t")?,
-        how: How::Concat,
-    };
-    reduce(alloc, Some("exists(.last)"), None, one(alloc, strategy)?)
+    let field = Text::copy_of(alloc, "t")?;
+    let how = How::Concat;
+    let strategies = one(alloc, Strategy { field, how })?;
+    reduce(alloc, Some("exists(.last)"), None, strategies)
 }
 
 #[test]

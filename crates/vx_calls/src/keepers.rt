@@ -4,7 +4,7 @@ ghost use Rattle.vx_ledger.specs.Ledger.{AreLive, Exchanges};
 ghost use Rattle.vx_keeping.specs.Given.{SameCopies};
 ghost use Rattle.vx_keeping.specs.Kept.{copies_kept};
 
-use crate::events::{event_of_wholes, put};
+use crate::events::{event_of_wholes, with};
 use crate::lists::one;
 use std::alloc::Global;
 use std::process::Abort;
@@ -32,14 +32,17 @@ fn settings(alloc: Global) -> Result<ReduceSettings, Fail> {
 
 // An event with an identity and a number.
 fn event(alloc: Global, id: i64, n: i64) -> Result<SharedEvent, Fail> {
-    Ok(SharedEvent::new(alloc, event_of_wholes(alloc, &[(".id", id), (".n", n)])?)?)
+    let event = event_of_wholes(alloc, &[(".id", id), (".n", n)])?;
+    let shared = SharedEvent::new(alloc, event)?;
+    Ok(shared)
 }
 
 // The same as the last one of its group.
 fn last(alloc: Global, id: i64, n: i64) -> Result<SharedEvent, Fail> {
-    let mut event = event_of_wholes(alloc, &[(".id", id), (".n", n)])?;
-    put(alloc, &mut event, ".last", Value::Truth(true))?;
-    Ok(SharedEvent::new(alloc, event)?)
+    let event = event_of_wholes(alloc, &[(".id", id), (".n", n)])?;
+    let last = with(alloc, event, ".last", Value::Truth(true))?;
+    let shared = SharedEvent::new(alloc, last)?;
+    Ok(shared)
 }
 
 // Has a keeper take an event of a batch of its own.

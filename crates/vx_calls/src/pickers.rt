@@ -1,6 +1,6 @@
 //! Transforms that judge event by event, and the shelf on which they put parcels.
 
-use crate::events::{event_of_wholes, put};
+use crate::events::{event_of_wholes, with_words};
 use crate::lists::{one, two};
 use crate::parcels::{bare, close, end};
 use std::alloc::Global;
@@ -9,14 +9,11 @@ use std::test::Fail;
 use vx_condition::{DedupeFields, parse};
 use vx_pick::{Dedupe, Filter, Picker, Route, Sample};
 use vx_transform::{Output, Shelf, Transform};
-use vx_value::{Event, Path, Text, Value};
+use vx_value::{Event, Path, Text};
 
 // An event with a message.
 fn event(alloc: Global, message: &str) -> Result<Event, Fail> {
-    let mut event = Event::new(alloc);
-    let words = Value::Words(Text::copy_of(alloc, message)?);
-    put(alloc, &mut event, ".message", words)?;
-    Ok(event)
+    with_words(alloc, Event::new(alloc), ".message", message)
 }
 
 // The ports on which a transform puts out an event with a message, or none where it discards it.
@@ -60,6 +57,14 @@ fn answers<R: Abort, T: Transform>(
     Ok(())
 }
 
+// Checks that a transform puts nothing out by itself.
+fn is_silent<R: Abort, T: Transform>(rt: &R, alloc: Global, transform: &mut T) {
+    let mut shelf = Shelf::new(alloc);
+    assert!(rt; transform.tick(alloc, 0, &mut shelf).is_ok());
+    assert!(rt; transform.flush(alloc, &mut shelf).is_ok());
+    close(rt, shelf);
+}
+
 // Checks that a transform with so many ports holds nothing, and does nothing by itself.
 fn is_still<R: Abort, T: Transform>(
     rt: &R,
@@ -67,12 +72,9 @@ fn is_still<R: Abort, T: Transform>(
     transform: &mut T,
     ports: u32,
 ) -> Result<(), Fail> {
-    let mut shelf = Shelf::new(alloc);
     assert_eq!(rt; transform.ports(), ports);
     assert_eq!(rt; transform.due(), None);
-    assert!(rt; transform.tick(alloc, 0, &mut shelf).is_ok());
-    assert!(rt; transform.flush(alloc, &mut shelf).is_ok());
-    close(rt, shelf);
+    is_silent(rt, alloc, transform);
     if let Some(_copy) = transform.surrender() {
         panic!(rt; "a copy was held");
     }
